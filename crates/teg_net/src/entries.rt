@@ -1,0 +1,103 @@
+//! The entries of a net: transitions, places and input lists.
+ghost use Rattle.std.specs.Prelude.{◌≡◌};
+
+use crate::names::Name;
+use std::marker::Model;
+
+/// What a transition is to the outside.
+#[derive(Clone, Copy, Debug, PartialEq, Eq)]
+pub enum Role {
+    /// It fires as soon as its places allow.
+    Internal,
+    /// It also waits for dates from outside, and no place enters it.
+    Input,
+    /// Its firings are what the net delivers.
+    Output,
+}
+
+/// The number of a transition, counted from 0 in the order of the file.
+#[derive(Clone, Copy, Debug, PartialEq, Eq)]
+pub struct TransitionId {
+    pub index: u32,
+}
+
+/// The number of a place, counted from 0 in the order of the file.
+#[derive(Clone, Copy, Debug, PartialEq, Eq)]
+pub struct PlaceId {
+    pub index: u32,
+}
+
+/// A transition (chapter 2).
+#[derive(Debug, Drop)]
+pub struct Transition {
+    pub name: Name,
+    pub role: Role,
+}
+
+/// A place with one upstream and one downstream transition (chapter 2).
+#[derive(Debug, Drop)]
+pub struct Place {
+    pub name: Name,
+    pub from: TransitionId,
+    pub to: TransitionId,
+    /// The holding time, in the user's unit: 0 to 1,000,000,000.
+    pub hold: u64,
+    /// The initial tokens, ready at date 0: 0 to 1,000.
+    pub tokens: u32,
+}
+
+/// How an input list goes on past its end: each date is that of `every` firings before, plus `gap`.
+#[derive(Clone, Copy, Debug, PartialEq, Eq)]
+pub struct Again {
+    /// 1 to 1,000, and at most the length of the list.
+    pub every: u32,
+    /// 0 to 10^12.
+    pub gap: u64,
+}
+
+/// Dates in order of firing number. Contracts see the list; it costs no memory beside it.
+#[derive(Debug, Drop)]
+pub struct DateList {
+    dates: Vec<u64>,
+}
+
+impl Model for DateList {
+    ghost use Rattle.std.specs.Prelude.{List, ℕ};
+
+    ghost Value = { List ℕ };
+
+    ghost view = { λ l. l.dates.items };
+}
+
+impl DateList {
+    /// The dates as a list. It takes no memory.
+    pub fn new(dates: Vec<u64>) -> DateList
+        ensures { result ≡ dates.items }
+    {
+        DateList { dates }
+    }
+
+    /// The dates. It takes no memory.
+    pub fn as_slice(&self) -> &[u64]
+        ensures { result.now ≡ self.now }
+    {
+        &self.dates
+    }
+
+    /// The dates, given back. It takes no memory.
+    pub fn into_vec(self) -> Vec<u64>
+        ensures { result.items ≡ self }
+    {
+        self.dates
+    }
+}
+
+/// The dates before which an input transition cannot fire: the k-th is that of firing k.
+/// Past the list the dates go on by `again`, or the firing never comes.
+#[derive(Debug, Drop)]
+pub struct InputList {
+    pub transition: TransitionId,
+    /// At most 100,000 dates, each 0 to 10^12, which never fall.
+    pub dates: DateList,
+    pub again: Option<Again>,
+}

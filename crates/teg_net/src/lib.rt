@@ -1,0 +1,17 @@
+//! Timed event graphs: their entries, names and rules, and what paths and circuits of them are.
+//!
+//! A [`Net`] is seen by contracts as its three lists (`NetLists`), which keep the rules of `IsNet`.
+//! This crate stands on std alone; what speaks of dates stands in crates above it.
+#![tactic(auto)]
+
+mod circuits;
+mod entries;
+mod memory;
+mod names;
+mod net;
+
+pub use circuits::Circuit;
+pub use entries::{Again, DateList, InputList, Place, PlaceId, Role, Transition, TransitionId};
+pub use memory::OutOfMemory;
+pub use names::{Name, NameRefused};
+pub use net::Net;

@@ -1,0 +1,79 @@
+//! Names of transitions and places.
+ghost use Rattle.std.specs.Prelude.{◌≡◌, ◌↔◌, IsTrue, IsFalse, IfOk, Err};
+ghost use Rattle.std.specs.List.{list_all};
+ghost use Rattle.teg_net.specs.Names.{is_name, is_name_byte};
+
+use std::alloc::Global;
+use std::marker::Model;
+
+/// A text that can name a transition or a place: 1 to 64 bytes, each at least 0x21 and none of
+/// `"`, `,` and 0x7F. Letters past ASCII are allowed. Contracts see its bytes.
+#[derive(Debug, Drop)]
+pub struct Name {
+    text: String,
+}
+
+impl Model for Name {
+    ghost use Rattle.std.specs.Prelude.{List, ℕ, string_bytes, IsTrue};
+    ghost use Rattle.teg_net.specs.Names.{is_name};
+
+    ghost Value = { List ℕ };
+
+    ghost view = { λ n. string_bytes n.text };
+
+    ghost invariant = { λ n. IsTrue (is_name (string_bytes n.text)) };
+}
+
+/// Why a text becomes no name.
+#[derive(Clone, Copy, Debug, PartialEq, Eq)]
+pub enum NameRefused {
+    /// The text is no name.
+    Bad,
+    /// No memory was found for the copy.
+    OutOfMemory,
+}
+
+fn is_name_byte(byte: u8) -> bool
+    ensures { result ≡ is_name_byte byte }
+{
+    0x21 <= byte && byte != b'"' && byte != b',' && byte != 0x7F
+}
+
+fn has_name_bytes(text: &str) -> bool
+    ensures { result ≡ list_all is_name_byte text.now }
+{
+    text.as_bytes().iter().all(|byte| is_name_byte(*byte))
+}
+
+/// Whether the text can be a name.
+pub(crate) fn is_name(text: &str) -> bool
+    ensures { result ≡ is_name text.now }
+{
+    let size = text.len();
+    1 <= size && size <= 64 && has_name_bytes(text)
+}
+
+impl Name {
+    /// A copy of the text. `Bad` comes exactly where the text is no name.
+    pub fn new(alloc: Global, text: &str) -> Result<Name, NameRefused>
+        ensures text { IfOk result (λ name. name ≡ text.now) }
+        ensures name { IfOk result (λ name. IsTrue (is_name name)) }
+        ensures bad { (result ≡ Err NameRefused.Bad) ↔ IsFalse (is_name text.now) }
+    {
+        if !is_name(text) {
+            return Err(NameRefused::Bad);
+        }
+        match String::from_str(alloc, text) {
+            Ok(text) => Ok(Name { text }),
+            Err(_) => Err(NameRefused::OutOfMemory),
+        }
+    }
+
+    /// The text. It takes no memory.
+    pub fn as_str(&self) -> &str
+        ensures text { result.now ≡ self.now }
+        ensures name { IsTrue (is_name self.now) }
+    {
+        self.text.as_str()
+    }
+}

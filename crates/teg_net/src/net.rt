@@ -1,0 +1,66 @@
+//! The net: its three lists under the rules that they keep.
+ghost use Rattle.std.specs.Prelude.{◌≡◌};
+
+use crate::entries::{InputList, Place, Transition};
+use std::marker::Model;
+
+/// A timed event graph (chapter 2) whose lists keep the rules of `IsNet`: 1 to 400 transitions and
+/// at most 4,000 places with names that are distinct among transitions and among places, places
+/// within their limits whose ends are transitions of the net and of which none enters an input,
+/// and at most one list for each input transition, whose dates never fall.
+#[derive(Debug, Drop)]
+pub struct Net {
+    transitions: Vec<Transition>,
+    places: Vec<Place>,
+    inputs: Vec<InputList>,
+}
+
+impl Model for Net {
+    ghost use Rattle.teg_net.specs.Nets.{NetLists, IsNet};
+
+    ghost Value = { NetLists };
+
+    ghost view = { λ n. record { transitions = n.transitions.items; places = n.places.items; inputs = n.inputs.items } };
+
+    ghost invariant = { λ n. IsNet (record { transitions = n.transitions.items; places = n.places.items; inputs = n.inputs.items }) };
+}
+
+impl Net {
+    ghost use Rattle.teg_net.specs.Nets.{NetLists, IsNet};
+
+    /// The net of these lists, which keep the rules of a net. It takes no memory.
+    pub fn new(transitions: Vec<Transition>, places: Vec<Place>, inputs: Vec<InputList>) -> Net
+        requires { IsNet (record { transitions = transitions.items; places = places.items; inputs = inputs.items }) }
+        ensures { result ≡ record { transitions = transitions.items; places = places.items; inputs = inputs.items } }
+    {
+        Net {
+            transitions,
+            places,
+            inputs,
+        }
+    }
+
+    /// The transitions in order. It takes no memory.
+    pub fn transitions(&self) -> &[Transition]
+        ensures value { result.now ≡ self.now.transitions }
+        ensures rules { IsNet self.now }
+    {
+        &self.transitions
+    }
+
+    /// The places in order. It takes no memory.
+    pub fn places(&self) -> &[Place]
+        ensures value { result.now ≡ self.now.places }
+        ensures rules { IsNet self.now }
+    {
+        &self.places
+    }
+
+    /// The input lists in order. It takes no memory.
+    pub fn inputs(&self) -> &[InputList]
+        ensures value { result.now ≡ self.now.inputs }
+        ensures rules { IsNet self.now }
+    {
+        &self.inputs
+    }
+}
