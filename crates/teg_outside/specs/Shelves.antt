@@ -49,3 +49,10 @@ ReadAnswers old new name limit (Err TooLarge) =
     × ReadsGrow old.reads new.reads ((name, limit) ∷ [])
 ReadAnswers old new name limit (Err OutOfMemory) =
     ReadsGrow old.reads new.reads ((name, limit) ∷ []) ⊎ ReadsGrow old.reads new.reads []
+
+-- a told file beyond the limit is refused as such, where no fault rose and memory was found
+abbrev pub LongIsTooLarge : ShelfState → ShelfState → List ℕ → ℕ → Result (Vec ℕ) ShelfFault → Type 0
+LongIsTooLarge old new name limit result =
+    (files : List (List ℕ × List ℕ)) (bytes : List ℕ) →
+    old.files ≡ Some files → file_of files name ≡ Some bytes → limit < length bytes →
+    Rested old.faults new.faults → (result ≡ Err TooLarge) ⊎ (result ≡ Err OutOfMemory)

@@ -89,3 +89,31 @@ impl<R: Files> Shelf for FileShelf<'_, R> {
         answer
     }
 }
+
+#[cfg(test)]
+mod tests {
+    use super::*;
+    use std::test::Fail;
+
+    #[test]
+    fn a_real_file_is_read_whole_up_to_its_limit(rt: HostRuntime) -> Result<(), Fail> {
+        let long = vec![in rt.alloc(); b'x'; 10_000]?;
+        fs::write(&rt, "short", b"12345".as_slice())?;
+        fs::write(&rt, "long", long.as_slice())?;
+        let mut shelf = FileShelf::new(&rt);
+        assert_eq!(rt;
+            shelf.read(rt.alloc(), "short", 5)?.as_slice(),
+            b"12345".as_slice()
+        );
+        assert_eq!(rt;
+            shelf.read(rt.alloc(), "long", 10_000)?.as_slice(),
+            long.as_slice()
+        );
+        let over = shelf.read(rt.alloc(), "long", 9_999).err();
+        assert_eq!(rt; over, Some(ShelfFault::TooLarge));
+        let missing = shelf.read(rt.alloc(), "missing", 5).err();
+        assert_eq!(rt; missing, Some(ShelfFault::Failed));
+        assert_eq!(rt; (shelf.faults, shelf.overlong), (1, 1));
+        Ok(())
+    }
+}

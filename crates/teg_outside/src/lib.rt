@@ -16,6 +16,8 @@ mod memory_sink;
 mod monitor;
 mod shelf;
 mod sink;
+#[cfg(test)]
+mod tests;
 mod writer_sink;
 
 pub use file_shelf::FileShelf;

@@ -109,3 +109,59 @@ impl Shelf for MemoryShelf {
         }
     }
 }
+
+#[cfg(test)]
+mod tests {
+    use super::*;
+    use std::test::Fail;
+
+    // A shelf with one file `a` of five bytes.
+    fn shelf_of_one(alloc: Global, failing: &[u64]) -> Result<MemoryShelf, Fail> {
+        let mut files = Vec::new(alloc);
+        files.push((
+            String::from_str(alloc, "a")?,
+            b"12345".as_slice().to_vec(alloc)?,
+        ))?;
+        Ok(MemoryShelf::new(alloc, files, failing.to_vec(alloc)?))
+    }
+
+    // What the shelf answers, and memory if there was none.
+    fn fault_of<S: Shelf>(
+        shelf: &mut S,
+        alloc: Global,
+        name: &str,
+        limit: usize,
+    ) -> Option<ShelfFault> {
+        shelf.read(alloc, name, limit).err()
+    }
+
+    #[test]
+    fn files_are_found_up_to_their_limit(rt: HostRuntime) -> Result<(), Fail> {
+        let mut shelf = shelf_of_one(rt.alloc(), &[])?;
+        let found = shelf.read(rt.alloc(), "a", 5)?;
+        assert_eq!(rt; found.as_slice(), b"12345".as_slice());
+        assert_eq!(rt;
+            fault_of(&mut shelf, rt.alloc(), "a", 4),
+            Some(ShelfFault::TooLarge)
+        );
+        assert_eq!(rt;
+            fault_of(&mut shelf, rt.alloc(), "b", 5),
+            Some(ShelfFault::Failed)
+        );
+        assert_eq!(rt;
+            (shelf.faults, shelf.overlong, shelf.reads.len()),
+            (1, 1, 3)
+        );
+        Ok(())
+    }
+
+    #[test]
+    fn the_chosen_call_fails(rt: HostRuntime) -> Result<(), Fail> {
+        let mut shelf = shelf_of_one(rt.alloc(), &[2])?;
+        for (call, fault) in [(1, None), (2, Some(ShelfFault::Failed)), (3, None)] {
+            let answer = fault_of(&mut shelf, rt.alloc(), "a", 5);
+            assert_eq!(rt; answer, fault, "at call {call}");
+        }
+        Ok(())
+    }
+}

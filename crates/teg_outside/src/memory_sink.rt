@@ -99,3 +99,33 @@ impl Sink for MemorySink {
         Ok(count)
     }
 }
+
+#[cfg(test)]
+mod tests {
+    use super::*;
+    use std::test::Fail;
+
+    // What the sink answers to this piece.
+    fn written<W: Sink>(sink: &mut W, piece: &[u8]) -> Result<usize, SinkFault> {
+        sink.write(piece)
+    }
+
+    #[test]
+    fn writes_are_bounded_and_the_chosen_call_fails(rt: HostRuntime) -> Result<(), Fail> {
+        let failing = [2u64].as_slice().to_vec(rt.alloc())?;
+        let mut sink = MemorySink::new(rt.alloc(), 3, 7, failing)?;
+        // at most three bytes a call
+        assert_eq!(rt; written(&mut sink, b"abcde"), Ok(3));
+        // an empty piece has no number
+        assert_eq!(rt; written(&mut sink, b""), Ok(0));
+        // the second call fails
+        assert_eq!(rt; written(&mut sink, b"de"), Err(SinkFault::Failed));
+        assert_eq!(rt; written(&mut sink, b"de"), Ok(2));
+        // room for seven bytes
+        assert_eq!(rt; written(&mut sink, b"fgh"), Ok(2));
+        assert_eq!(rt; written(&mut sink, b"h"), Err(SinkFault::Failed));
+        assert_eq!(rt; sink.contents(), b"abcdefg".as_slice());
+        assert_eq!(rt; sink.faults, 2);
+        Ok(())
+    }
+}

@@ -43,3 +43,22 @@ impl<W: Write> Sink for WriterSink<W> {
         Ok(written)
     }
 }
+
+#[cfg(test)]
+mod tests {
+    use super::*;
+    use std::io::Cursor;
+
+    #[test]
+    fn a_writer_of_memory_takes_what_is_written(rt: HostRuntime) {
+        let mut sink = WriterSink::new(Vec::new(rt.alloc()));
+        assert_eq!(rt; sink.write(b"abc"), Ok(3));
+        assert_eq!(rt; sink.write(b""), Ok(0));
+        assert_eq!(rt; sink.inner.as_slice(), b"abc".as_slice());
+        // a writer that is full takes no byte
+        let mut full = WriterSink::new(Cursor::new([0u8; 2]));
+        assert_eq!(rt; full.write(b"abc"), Ok(2));
+        assert_eq!(rt; full.write(b"c"), Err(SinkFault::Failed));
+        assert_eq!(rt; full.faults, 1);
+    }
+}
