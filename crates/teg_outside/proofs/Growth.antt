@@ -1,5 +1,5 @@
 -- Reads and bytes that grew twice.
-use Rattle.std.proofs.Common.{ℕ, ◌≡◌, List, [], ◌++◌, Option, Some, None, refl, sym, ap, subst, ◌∙◌, append_assoc}
+use Rattle.std.proofs.Common.{ℕ, List, [], ◌++◌, Option, Some, None, refl, sym, ap, subst, ◌∙◌, append_assoc}
 use Rattle.std.proofs.lemmas.List.{append-nil}
 use Rattle.teg_outside.specs.Shelves.{ReadsGrow}
 use Rattle.teg_outside.specs.Sinks.{BytesGrow}

@@ -1,8 +1,7 @@
 -- Files beyond a limit.
-use Rattle.std.proofs.Common.{ℕ, ◌≡◌, ◌≤◌, ◌<◌, ◌⊎◌, inl, inr, List, length, Option, Some, Result, Ok, Err, refl, sym, ap, subst, ◌∙◌, arith}
+use Rattle.std.proofs.Common.{ℕ, ◌≡◌, ◌≤◌, ◌<◌, inl, inr, List, length, Option, Some, Result, Ok, Err, refl, sym, ap, subst, ◌∙◌, arith}
 use Rattle.std.specs.Global.{Vec}
-use Rattle.teg_outside.specs.Causes.{Rested}
-use Rattle.teg_outside.specs.Shelves.{ShelfState, file_of, IsFile, ReadAnswers, LongIsTooLarge}
+use Rattle.teg_outside.specs.Shelves.{ShelfState, IsFile, ReadAnswers, LongIsTooLarge}
 use Rattle.teg_outside.specs.declared.shelf.ShelfFault.{ShelfFault}
 use Rattle.teg_outside.specs.declared.shelf.ShelfFault.TheVariants.{Failed, TooLarge, OutOfMemory}
 use Rattle.teg_outside.proofs.Counts.{rose_not_rested}

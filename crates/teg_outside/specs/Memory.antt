@@ -1,5 +1,5 @@
 -- A shelf and a sink in memory, and their own rules.
-use Rattle.std.specs.Prelude.{ℕ, ◌-◌, ◌==◌, ◌≡◌, ◌⊎◌, ◌||◌, nat_le, Bool, true, false, List, [], ◌∷◌, ◌++◌, length, take, min, Option, Some, None, Result, Ok, Err, if◌then◌else◌, String, string_bytes}
+use Rattle.std.specs.Prelude.{ℕ, ◌-◌, ◌==◌, ◌≡◌, ◌⊎◌, nat_le, Bool, List, [], ◌∷◌, ◌++◌, length, take, min, Option, Some, None, Result, Ok, Err, if◌then◌else◌, String, string_bytes}
 use Rattle.std.specs.List.{list_any}
 use Rattle.std.specs.Global.{Vec, Global}
 use Rattle.teg_outside.specs.Causes.{one_more}

@@ -1,5 +1,5 @@
 -- What a monitor prints.
-use Rattle.std.specs.Prelude.{ℕ, ◌==◌, ◌≡◌, Bool, false, List}
+use Rattle.std.specs.Prelude.{ℕ, ◌==◌, ◌≡◌, false, List}
 use Rattle.std.specs.List.{list_any}
 
 -- no byte of the text is a line feed

@@ -140,18 +140,14 @@ mod tests {
         let mut shelf = shelf_of_one(rt.alloc(), &[])?;
         let found = shelf.read(rt.alloc(), "a", 5)?;
         assert_eq!(rt; found.as_slice(), b"12345".as_slice());
-        assert_eq!(rt;
-            fault_of(&mut shelf, rt.alloc(), "a", 4),
-            Some(ShelfFault::TooLarge)
-        );
-        assert_eq!(rt;
-            fault_of(&mut shelf, rt.alloc(), "b", 5),
-            Some(ShelfFault::Failed)
-        );
-        assert_eq!(rt;
-            (shelf.faults, shelf.overlong, shelf.reads.len()),
-            (1, 1, 3)
-        );
+        for (name, limit, fault) in [
+            ("a", 4, Some(ShelfFault::TooLarge)),
+            ("b", 5, Some(ShelfFault::Failed)),
+            ("a", 5, None),
+        ] {
+            let answer = fault_of(&mut shelf, rt.alloc(), name, limit);
+            assert_eq!(rt; answer, fault, "of {name} up to {limit}");
+        }
         Ok(())
     }
 

@@ -114,16 +114,17 @@ mod tests {
     fn writes_are_bounded_and_the_chosen_call_fails(rt: HostRuntime) -> Result<(), Fail> {
         let failing = [2u64].as_slice().to_vec(rt.alloc())?;
         let mut sink = MemorySink::new(rt.alloc(), 3, 7, failing)?;
-        // at most three bytes a call
-        assert_eq!(rt; written(&mut sink, b"abcde"), Ok(3));
-        // an empty piece has no number
-        assert_eq!(rt; written(&mut sink, b""), Ok(0));
-        // the second call fails
-        assert_eq!(rt; written(&mut sink, b"de"), Err(SinkFault::Failed));
-        assert_eq!(rt; written(&mut sink, b"de"), Ok(2));
-        // room for seven bytes
-        assert_eq!(rt; written(&mut sink, b"fgh"), Ok(2));
-        assert_eq!(rt; written(&mut sink, b"h"), Err(SinkFault::Failed));
+        // three bytes a call; an empty piece has no number; the second call fails; room for seven
+        for (piece, answer) in [
+            (b"abcde".as_slice(), Ok(3)),
+            (b"".as_slice(), Ok(0)),
+            (b"de".as_slice(), Err(SinkFault::Failed)),
+            (b"de".as_slice(), Ok(2)),
+            (b"fgh".as_slice(), Ok(2)),
+            (b"h".as_slice(), Err(SinkFault::Failed)),
+        ] {
+            assert_eq!(rt; written(&mut sink, piece), answer, "of {piece:?}");
+        }
         assert_eq!(rt; sink.contents(), b"abcdefg".as_slice());
         assert_eq!(rt; sink.faults, 2);
         Ok(())

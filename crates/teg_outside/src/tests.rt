@@ -2,7 +2,7 @@
 ghost use Rattle.std.specs.Prelude.{◌||◌, nat_lt, length, codes, if◌then◌else◌};
 ghost use Rattle.teg_outside.specs.Shelves.{ShelfState, LongIsTooLarge};
 
-use crate::{Firing, MemoryShelf, Monitor, OutOfMemory, Shelf, ShelfFault};
+use crate::{Firing, Monitor, OutOfMemory, Shelf, ShelfFault};
 use std::alloc::Global;
 use std::test::Fail;
 
@@ -40,8 +40,8 @@ fn a_monitor_prints_what_it_saw(rt: HostRuntime) -> Result<(), Fail> {
     Ok(())
 }
 
-// A read through the bound alone.
-fn read_from<S: Shelf>(
+// A read through the bound alone: what the trait says tells that a long file is too large.
+pub fn read_from<S: Shelf>(
     shelf: &mut S,
     alloc: Global,
     name: &str,
@@ -50,15 +50,4 @@ fn read_from<S: Shelf>(
     ensures { LongIsTooLarge (S.state shelf.old) (S.state shelf.new) name.now limit result }
 {
     shelf.read(alloc, name, limit)
-}
-
-#[test]
-fn a_file_beyond_the_limit_is_too_large(rt: HostRuntime) -> Result<(), Fail> {
-    let mut files = Vec::new(rt.alloc());
-    let bytes = b"12345".as_slice().to_vec(rt.alloc())?;
-    files.push((String::from_str(rt.alloc(), "a")?, bytes))?;
-    let mut shelf = MemoryShelf::new(rt.alloc(), files, Vec::new(rt.alloc()));
-    let answer = read_from(&mut shelf, rt.alloc(), "a", 4).err();
-    assert_eq!(rt; answer, Some(ShelfFault::TooLarge));
-    Ok(())
 }
