@@ -1,4 +1,4 @@
--- What a monitor prints.
+-- Texts that a monitor may print.
 use Rattle.std.specs.Prelude.{ℕ, ◌==◌, ◌≡◌, false, List}
 use Rattle.std.specs.List.{list_any}
 

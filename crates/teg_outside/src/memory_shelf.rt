@@ -125,7 +125,7 @@ mod tests {
         Ok(MemoryShelf::new(alloc, files, failing.to_vec(alloc)?))
     }
 
-    // What the shelf answers, and memory if there was none.
+    // What the shelf answers in place of a file.
     fn fault_of<S: Shelf>(
         shelf: &mut S,
         alloc: Global,
