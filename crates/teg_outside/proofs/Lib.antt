@@ -1,0 +1,4 @@
+pub mod Counts
+pub mod Growth
+pub mod OneLine
+pub mod TooLong

@@ -1,0 +1,5 @@
+pub mod Causes
+pub mod Memory
+pub mod Monitors
+pub mod Shelves
+pub mod Sinks

@@ -1,0 +1,115 @@
+//! The real files.
+ghost use Rattle.std.specs.Prelude.{◌≡◌, ◌≤◌, None, vec_len, IfOk};
+ghost use Rattle.teg_outside.specs.Shelves.{ShelfState};
+
+use crate::{Shelf, ShelfFault};
+use std::alloc::Global;
+use std::fs;
+use std::io::Read;
+use std::rt::Files;
+
+// How many bytes one call of std reads at most.
+const PIECE: usize = 4096;
+
+/// The files of the runtime that it is lent: the trusted edge.
+///
+/// A file is read in pieces, until its end or until more than `limit` bytes came. It tells nothing.
+#[derive(Drop)]
+pub struct FileShelf<'a, R: Files> {
+    rt: &'a R,
+    faults: u64,
+    overlong: u64,
+}
+
+impl<'a, R: Files> FileShelf<'a, R> {
+    /// A shelf of the runtime's files, with both counts at 0. No memory is taken.
+    pub fn new(rt: &'a R) -> Self
+        ensures { ⟦<FileShelf<'a, R> as Shelf>⟧.state result ≡ record {
+          files = None;
+          reads = None;
+          faults = 0;
+          overlong = 0;
+        } }
+    {
+        FileShelf {
+            rt,
+            faults: 0,
+            overlong: 0,
+        }
+    }
+}
+
+// Reads to the end, or until more than `limit` bytes came.
+fn read_up_to<F: Read>(alloc: Global, file: &mut F, limit: usize) -> Result<Vec<u8>, ShelfFault>
+    ensures { IfOk result (λ bytes. vec_len bytes ≤ limit) }
+{
+    let mut bytes = Vec::new(alloc);
+    let mut piece = [0u8; PIECE];
+    loop {
+        let Ok(count) = file.read(&mut piece) else {
+            return Err(ShelfFault::Failed);
+        };
+        if count == 0 {
+            return Ok(bytes);
+        }
+        if count > limit - bytes.len() {
+            return Err(ShelfFault::TooLarge);
+        }
+        if bytes.extend_from_slice(&piece[..count]).is_err() {
+            return Err(ShelfFault::OutOfMemory);
+        }
+    }
+}
+
+fn read_file<R: Files>(
+    rt: &R,
+    alloc: Global,
+    name: &str,
+    limit: usize,
+) -> Result<Vec<u8>, ShelfFault>
+    ensures { IfOk result (λ bytes. vec_len bytes ≤ limit) }
+{
+    let Ok(mut file) = fs::open(rt, name) else {
+        return Err(ShelfFault::Failed);
+    };
+    read_up_to(alloc, &mut file, limit)
+}
+
+impl<R: Files> Shelf for FileShelf<'_, R> {
+    ghost state = { λ s. record { files = None; reads = None; faults = s.faults; overlong = s.overlong } };
+
+    /// The whole file of that name in the runtime. An error of std answers Failed.
+    fn read(&mut self, alloc: Global, name: &str, limit: usize) -> Result<Vec<u8>, ShelfFault> {
+        let answer = read_file(self.rt, alloc, name, limit);
+        match &answer {
+            Err(ShelfFault::Failed) => self.faults = self.faults.saturating_add(1),
+            Err(ShelfFault::TooLarge) => self.overlong = self.overlong.saturating_add(1),
+            _ => {}
+        }
+        answer
+    }
+}
+
+#[cfg(test)]
+mod tests {
+    use super::*;
+    use crate::tests::read_from;
+    use std::test::Fail;
+
+    #[test]
+    fn a_real_file_is_read_whole_up_to_its_limit(rt: HostRuntime) -> Result<(), Fail> {
+        let long = vec![in rt.alloc(); b'x'; 10_000]?;
+        fs::write(&rt, "long", long.as_slice())?;
+        let mut shelf = FileShelf::new(&rt);
+        let found = read_from(&mut shelf, rt.alloc(), "long", 10_000)?;
+        assert_eq!(rt; found.as_slice(), long.as_slice());
+        for (name, limit, fault) in [
+            ("long", 9_999, ShelfFault::TooLarge),
+            ("missing", 10_000, ShelfFault::Failed),
+        ] {
+            let answer = read_from(&mut shelf, rt.alloc(), name, limit).err();
+            assert_eq!(rt; answer, Some(fault), "of {name} up to {limit}");
+        }
+        Ok(())
+    }
+}

@@ -1,0 +1,29 @@
+//! The outside of the workbench: shelves that files are read from, sinks that bytes are written to,
+//! and monitors that see the firings of a replay.
+//!
+//! The one contract: each trait says what a call did to what the value tells, and which count rose
+//! where it failed. A shelf tells its files and its reads, a sink its bytes, or nothing of them; a
+//! count never falls. `MemoryShelf` and `MemorySink` tell everything and fail exactly at the calls
+//! that they were given. `FileShelf` and `WriterSink` stand before the real files and the real
+//! output: they tell nothing of content.
+//!
+//! It stands on std alone.
+#![tactic(auto)]
+
+mod file_shelf;
+mod memory_shelf;
+mod memory_sink;
+mod monitor;
+mod shelf;
+mod sink;
+#[cfg(test)]
+mod tests;
+mod writer_sink;
+
+pub use file_shelf::FileShelf;
+pub use memory_shelf::MemoryShelf;
+pub use memory_sink::MemorySink;
+pub use monitor::{Firing, Monitor, OutOfMemory};
+pub use shelf::{Shelf, ShelfFault};
+pub use sink::{Sink, SinkFault};
+pub use writer_sink::WriterSink;

@@ -1,0 +1,163 @@
+//! A shelf of files in memory.
+ghost use Rattle.std.specs.Prelude.{◌≡◌, ◌≤◌, None, MatchOption, Some, [], map};
+ghost use Rattle.teg_outside.specs.Shelves.{ReadAnswers, file_of};
+ghost use Rattle.teg_outside.specs.Memory.{FilesInMemory, MemoryReads, shelf_told, told_file, told_read};
+
+use crate::{Shelf, ShelfFault};
+use std::alloc::Global;
+use std::marker::Model;
+
+/// A shelf of files in memory, of which chosen calls fail.
+///
+/// It tells its files and its reads, which it keeps as a list.
+#[derive(Drop)]
+pub struct MemoryShelf {
+    files: Vec<(String, Vec<u8>)>,
+    failing: Vec<u64>,
+    reads: Vec<(String, usize)>,
+    calls: u64,
+    faults: u64,
+    overlong: u64,
+}
+
+impl Model for MemoryShelf {
+    ghost Value = { FilesInMemory };
+
+    ghost view = { λ s. record {
+      files = map told_file s.files.items;
+      failing = s.failing.items;
+      reads = map told_read s.reads.items;
+      calls = s.calls;
+      faults = s.faults;
+      overlong = s.overlong;
+    } };
+}
+
+impl MemoryShelf {
+    /// A shelf of these files, by name, whose calls with the numbers in `failing` fail. Calls are
+    /// numbered from 1. No memory is taken.
+    pub fn new(alloc: Global, files: Vec<(String, Vec<u8>)>, failing: Vec<u64>) -> Self
+        ensures { result ≡ record {
+          files = map told_file files.items;
+          failing = failing.items;
+          reads = [];
+          calls = 0;
+          faults = 0;
+          overlong = 0;
+        } }
+    {
+        MemoryShelf {
+            files,
+            failing,
+            reads: Vec::new(alloc),
+            calls: 0,
+            faults: 0,
+            overlong: 0,
+        }
+    }
+}
+
+// The bytes of the first file of that name.
+fn find_file<'a>(files: &'a [(String, Vec<u8>)], name: &str) -> Option<&'a [u8]>
+    ensures { MatchOption result (file_of (map told_file files.now) name.now ≡ None)
+        (λ bytes. file_of (map told_file files.now) name.now ≡ Some bytes.now) }
+{
+    let mut rest = files;
+    while let [(file_name, bytes), after @ ..] = rest {
+        if file_name.as_str() == name {
+            return Some(bytes.as_slice());
+        }
+        rest = after;
+    }
+    None
+}
+
+impl Shelf for MemoryShelf {
+    ghost state = { shelf_told };
+
+    /// The whole file of that name. Each call is numbered, from 1, and those whose number was given
+    /// to fail answer Failed; so does a name that is not there. No other call fails.
+    fn read(&mut self, alloc: Global, name: &str, limit: usize) -> Result<Vec<u8>, ShelfFault>
+        ensures files { (shelf_told self.new).files ≡ (shelf_told self.old).files }
+        ensures faults { (shelf_told self.old).faults ≤ (shelf_told self.new).faults }
+        ensures overlong { (shelf_told self.old).overlong ≤ (shelf_told self.new).overlong }
+        ensures answer { ReadAnswers (shelf_told self.old) (shelf_told self.new) name.now limit result }
+        ensures rule { MemoryReads self.old self.new name.now limit result }
+    {
+        self.calls = self.calls.saturating_add(1);
+        let Ok(asked) = String::from_str(alloc, name) else {
+            return Err(ShelfFault::OutOfMemory);
+        };
+        if self.reads.push((asked, limit)).is_err() {
+            return Err(ShelfFault::OutOfMemory);
+        }
+        if self.failing.contains(&self.calls) {
+            self.faults = self.faults.saturating_add(1);
+            return Err(ShelfFault::Failed);
+        }
+        let Some(file) = find_file(&self.files, name) else {
+            self.faults = self.faults.saturating_add(1);
+            return Err(ShelfFault::Failed);
+        };
+        if file.len() > limit {
+            self.overlong = self.overlong.saturating_add(1);
+            return Err(ShelfFault::TooLarge);
+        }
+        match file.to_vec(alloc) {
+            Ok(bytes) => Ok(bytes),
+            Err(_) => Err(ShelfFault::OutOfMemory),
+        }
+    }
+}
+
+#[cfg(test)]
+mod tests {
+    use super::*;
+    use std::test::Fail;
+
+    // A shelf with one file `a` of five bytes.
+    fn shelf_of_one(alloc: Global, failing: &[u64]) -> Result<MemoryShelf, Fail> {
+        let mut files = Vec::new(alloc);
+        files.push((
+            String::from_str(alloc, "a")?,
+            b"12345".as_slice().to_vec(alloc)?,
+        ))?;
+        Ok(MemoryShelf::new(alloc, files, failing.to_vec(alloc)?))
+    }
+
+    // What the shelf answers in place of a file.
+    fn fault_of<S: Shelf>(
+        shelf: &mut S,
+        alloc: Global,
+        name: &str,
+        limit: usize,
+    ) -> Option<ShelfFault> {
+        shelf.read(alloc, name, limit).err()
+    }
+
+    #[test]
+    fn files_are_found_up_to_their_limit(rt: HostRuntime) -> Result<(), Fail> {
+        let mut shelf = shelf_of_one(rt.alloc(), &[])?;
+        let found = shelf.read(rt.alloc(), "a", 5)?;
+        assert_eq!(rt; found.as_slice(), b"12345".as_slice());
+        for (name, limit, fault) in [
+            ("a", 4, Some(ShelfFault::TooLarge)),
+            ("b", 5, Some(ShelfFault::Failed)),
+            ("a", 5, None),
+        ] {
+            let answer = fault_of(&mut shelf, rt.alloc(), name, limit);
+            assert_eq!(rt; answer, fault, "of {name} up to {limit}");
+        }
+        Ok(())
+    }
+
+    #[test]
+    fn the_chosen_call_fails(rt: HostRuntime) -> Result<(), Fail> {
+        let mut shelf = shelf_of_one(rt.alloc(), &[2])?;
+        for (call, fault) in [(1, None), (2, Some(ShelfFault::Failed)), (3, None)] {
+            let answer = fault_of(&mut shelf, rt.alloc(), "a", 5);
+            assert_eq!(rt; answer, fault, "at call {call}");
+        }
+        Ok(())
+    }
+}

@@ -1,0 +1,132 @@
+//! A sink of bytes in memory.
+ghost use Rattle.std.specs.Prelude.{◌≡◌, ◌≤◌, ◌<◌, Some, [], length, vec_len, vec_capacity, IfOk};
+ghost use Rattle.teg_outside.specs.Sinks.{WriteAnswers};
+ghost use Rattle.teg_outside.specs.Memory.{BytesInMemory, MemoryWrites, sink_told};
+
+use crate::{OutOfMemory, Sink, SinkFault};
+use std::alloc::Global;
+use std::marker::Model;
+
+/// A sink of bytes in memory, which takes a few bytes a call, and of which chosen calls fail.
+///
+/// It tells its bytes. Its memory is taken when it is made.
+#[derive(Drop)]
+pub struct MemorySink {
+    bytes: Vec<u8>,
+    most: usize,
+    room: usize,
+    failing: Vec<u64>,
+    calls: u64,
+    faults: u64,
+}
+
+impl Model for MemorySink {
+    ghost Value = { BytesInMemory };
+
+    ghost view = { λ s. record {
+      bytes = s.bytes.items;
+      most = s.most;
+      room = s.room;
+      failing = s.failing.items;
+      calls = s.calls;
+      faults = s.faults;
+    } };
+
+    ghost invariant = { λ s. (0 < s.most) × (vec_len s.bytes ≤ s.room) × (s.room ≤ vec_capacity s.bytes) };
+}
+
+impl MemorySink {
+    /// An empty sink with memory for `room` bytes, of which a call takes at most `most`. Its calls
+    /// with the numbers in `failing` fail; calls with a piece that is not empty are numbered from 1.
+    pub fn new(
+        alloc: Global,
+        most: usize,
+        room: usize,
+        failing: Vec<u64>,
+    ) -> Result<Self, OutOfMemory>
+        requires { 0 < most }
+        ensures { IfOk result (λ sink. sink ≡ record {
+          bytes = [];
+          most = most;
+          room = room;
+          failing = failing.items;
+          calls = 0;
+          faults = 0;
+        }) }
+    {
+        Ok(MemorySink {
+            bytes: Vec::with_capacity(alloc, room)?,
+            most,
+            room,
+            failing,
+            calls: 0,
+            faults: 0,
+        })
+    }
+
+    /// The bytes that were written, at most as many as there is room for.
+    pub fn contents(&self) -> &[u8]
+        ensures bytes { result.now ≡ self.now.bytes }
+        ensures within { length self.now.bytes ≤ self.now.room }
+    {
+        self.bytes.as_slice()
+    }
+}
+
+impl Sink for MemorySink {
+    ghost state = { sink_told };
+
+    /// As many bytes as the piece has, one call takes and there is room for. Calls with a piece that
+    /// is not empty are numbered from 1: those whose number was given to fail answer Failed, and so
+    /// do those that find no room. No other call fails, and no memory is taken.
+    fn write(&mut self, piece: &[u8]) -> Result<usize, SinkFault>
+        ensures faults { (sink_told self.old).faults ≤ (sink_told self.new).faults }
+        ensures answer { WriteAnswers (sink_told self.old) (sink_told self.new) piece.now result }
+        ensures rule { MemoryWrites self.old self.new piece.now result }
+    {
+        if piece.is_empty() {
+            return Ok(0);
+        }
+        self.calls = self.calls.saturating_add(1);
+        let left = self.room - self.bytes.len();
+        if left == 0 || self.failing.contains(&self.calls) {
+            self.faults = self.faults.saturating_add(1);
+            return Err(SinkFault::Failed);
+        }
+        let count = piece.len().min(self.most).min(left);
+        let grown = self.bytes.extend_from_slice(&piece[..count]);
+        grown.unwrap();
+        Ok(count)
+    }
+}
+
+#[cfg(test)]
+mod tests {
+    use super::*;
+    use std::test::Fail;
+
+    // What the sink answers to this piece.
+    fn written<W: Sink>(sink: &mut W, piece: &[u8]) -> Result<usize, SinkFault> {
+        sink.write(piece)
+    }
+
+    #[test]
+    fn writes_are_bounded_and_the_chosen_call_fails(rt: HostRuntime) -> Result<(), Fail> {
+        let failing = [2u64].as_slice().to_vec(rt.alloc())?;
+        let mut sink = MemorySink::new(rt.alloc(), 3, 7, failing)?;
+        // three bytes a call; an empty piece has no number; the second call fails; room for seven
+        for (piece, answer) in [
+            (b"abcde".as_slice(), Ok(3)),
+            (b"".as_slice(), Ok(0)),
+            (b"de".as_slice(), Err(SinkFault::Failed)),
+            (b"de".as_slice(), Ok(2)),
+            (b"fgh".as_slice(), Ok(2)),
+            (b"h".as_slice(), Err(SinkFault::Failed)),
+        ] {
+            assert_eq!(rt; written(&mut sink, piece), answer, "of {piece:?}");
+        }
+        assert_eq!(rt; sink.contents(), b"abcdefg".as_slice());
+        assert_eq!(rt; sink.faults, 2);
+        Ok(())
+    }
+}

@@ -1,0 +1,64 @@
+//! The real output.
+ghost use Rattle.std.specs.Prelude.{◌≡◌, None};
+ghost use Rattle.teg_outside.specs.Sinks.{SinkState};
+
+use crate::{Sink, SinkFault};
+use std::io::Write;
+
+/// A writer of std: the trusted edge.
+///
+/// Each write is followed by a flush. It tells nothing.
+#[derive(Drop)]
+pub struct WriterSink<W> {
+    inner: W,
+    faults: u64,
+}
+
+impl<W: Write> WriterSink<W> {
+    /// A sink over this writer, with its count at 0. No memory is taken.
+    pub fn new(inner: W) -> Self
+        ensures { ⟦<WriterSink<W> as Sink>⟧.state result ≡ record { bytes = None; faults = 0 } }
+    {
+        WriterSink { inner, faults: 0 }
+    }
+}
+
+impl<W: Write> Sink for WriterSink<W> {
+    ghost state = { λ s. record { bytes = None; faults = s.faults } };
+
+    /// What the writer took. An error of the write or of the flush, and a write that takes no byte
+    /// of a piece that is not empty, answer Failed.
+    fn write(&mut self, piece: &[u8]) -> Result<usize, SinkFault> {
+        if piece.is_empty() {
+            return Ok(0);
+        }
+        let written = match self.inner.write(piece) {
+            Ok(count) => count,
+            Err(_) => 0,
+        };
+        if written == 0 || self.inner.flush().is_err() {
+            self.faults = self.faults.saturating_add(1);
+            return Err(SinkFault::Failed);
+        }
+        Ok(written)
+    }
+}
+
+#[cfg(test)]
+mod tests {
+    use super::*;
+    use std::io::Cursor;
+
+    #[test]
+    fn a_writer_of_memory_takes_what_is_written(rt: HostRuntime) {
+        let mut sink = WriterSink::new(Vec::new(rt.alloc()));
+        assert_eq!(rt; sink.write(b"abc"), Ok(3));
+        assert_eq!(rt; sink.write(b""), Ok(0));
+        assert_eq!(rt; sink.inner.as_slice(), b"abc".as_slice());
+        // a writer that is full takes no byte
+        let mut full = WriterSink::new(Cursor::new([0u8; 2]));
+        assert_eq!(rt; full.write(b"abc"), Ok(2));
+        assert_eq!(rt; full.write(b"c"), Err(SinkFault::Failed));
+        assert_eq!(rt; full.faults, 1);
+    }
+}
