@@ -6,12 +6,17 @@
 
 mod circuits;
 mod entries;
+mod keys;
 mod memory;
 mod names;
 mod net;
+mod numbers;
+mod reader;
+mod trees;
 
 pub use circuits::Circuit;
 pub use entries::{Again, DateList, InputList, Place, PlaceId, Role, Transition, TransitionId};
 pub use memory::OutOfMemory;
 pub use names::{Name, NameRefused};
 pub use net::Net;
+pub use reader::{ReadRefusal, read_net};
