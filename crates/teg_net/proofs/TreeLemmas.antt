@@ -1,5 +1,5 @@
 -- A tree's lists beside the code's.
-use Rattle.std.proofs.Common.{◌≡◌, ℕ, ◌<◌, zero, suc, get_or, true, arith, sym, ◌∙◌, Bool, length, ◌&&◌, List, [], ◌∷◌, map, String, Global, string_bytes, refl, ap}
+use Rattle.std.proofs.Common.{◌≡◌, ℕ, ◌<◌, zero, suc, get_or, true, arith, ◌∙◌, Bool, length, ◌&&◌, List, [], ◌∷◌, map, String, Global, string_bytes, refl, ap}
 use Rattle.std.proofs.lemmas.Bool.{and_parts}
 use Rattle.std.proofs.lemmas.List.{length-map}
 use Rattle.toml.specs.Data.{Data}

@@ -90,7 +90,7 @@ place_of names entry = record {
   from = id_of names (text_at key.From entry);
   to = id_of names (text_at key.To entry);
   hold = number_at key.Hold entry;
-  tokens = number_at key.Tokens entry
+  tokens = number_at key.Tokens entry;
 }
 
 -- the net of the entries in order
@@ -98,7 +98,7 @@ unfoldable pub net_of_lists : List Data → List Data → NetLists
 net_of_lists transitions places = record {
   transitions = map transition_of transitions;
   places = map (place_of (names_of transitions)) places;
-  inputs = []
+  inputs = [];
 }
 
 -- the net of the tree

@@ -1,5 +1,5 @@
 -- What stands in a tree at a key, whatever the tree: where another kind stands there, a default.
-use Rattle.std.specs.Prelude.{ℕ, Bool, true, false, List, [], ◌∷◌, pos, nat_le, ◌&&◌, Option, Some, None, unwrap_or, option_and_then, is_some, bytes_eq}
+use Rattle.std.specs.Prelude.{ℕ, Bool, true, false, List, [], ◌∷◌, pos, nat_le, Option, unwrap_or, option_and_then, is_some, bytes_eq}
 use Rattle.std.specs.List.{list_any, list_all}
 use Rattle.std.specs.Option.{option_map_or}
 use Rattle.toml.specs.Data.{Data, integer, Items, no_items, item, Members, no_members, member, get, as_str, as_array, as_table}

@@ -12,7 +12,10 @@ use std::alloc::{AllocError, Global};
 use toml::Value;
 
 /// The names of the entries in order, where none stands twice.
-pub(crate) fn number_names(alloc: Global, entries: &[Value]) -> Result<Option<IndexSet<&str>>, AllocError>
+pub(crate) fn number_names(
+    alloc: Global,
+    entries: &[Value],
+) -> Result<Option<IndexSet<&str>>, AllocError>
     ensures { IfOk result (λ names. MatchOption names (is_distinct (names_of (map view entries.now)) ≡ false) (λ s. (is_distinct (names_of (map view entries.now)) ≡ true) × (map deref s.keys ≡ names_of (map view entries.now)))) }
 {
     let mut names = IndexSet::new(alloc);

@@ -32,15 +32,19 @@ pub enum ReadRefusal {
 fn is_plain_transition(entry: &Value) -> bool
     ensures { result ≡ is_plain_transition (view entry.now) }
 {
-    has_only(entry, &[Key::Name]) && has_text(entry, Key::Name) && is_name(text_at(entry, Key::Name))
+    has_only(entry, &[Key::Name])
+        && has_text(entry, Key::Name)
+        && is_name(text_at(entry, Key::Name))
 }
 
 #[tactic(auto, unfolding(crate::specs::Plain::has_place_keys))]
 fn has_place_keys(entry: &Value) -> bool
     ensures { result ≡ has_place_keys (view entry.now) }
 {
-    has_only(entry, &[Key::Name, Key::From, Key::To, Key::Hold, Key::Tokens])
-        && has_text(entry, Key::Name)
+    has_only(
+        entry,
+        &[Key::Name, Key::From, Key::To, Key::Hold, Key::Tokens],
+    ) && has_text(entry, Key::Name)
         && has_text(entry, Key::From)
         && has_text(entry, Key::To)
 }
@@ -178,7 +182,11 @@ fn make_place(alloc: Global, names: &IndexSet<&str>, entry: &Value) -> Result<Pl
     })
 }
 
-fn make_places(alloc: Global, names: &IndexSet<&str>, entries: &[Value]) -> Result<Vec<Place>, AllocError>
+fn make_places(
+    alloc: Global,
+    names: &IndexSet<&str>,
+    entries: &[Value],
+) -> Result<Vec<Place>, AllocError>
     requires plain { list_all is_plain_place (map view entries.now) ≡ true }
     requires known { list_all (has_known_ends (map deref names.now.keys)) (map view entries.now) ≡ true }
     requires few { length names.now.keys < 2 ^ 32 }
@@ -192,7 +200,12 @@ fn make_places(alloc: Global, names: &IndexSet<&str>, entries: &[Value]) -> Resu
 }
 
 /// The net of plain lists.
-fn make_net(alloc: Global, names: &IndexSet<&str>, transitions: &[Value], places: &[Value]) -> Result<Net, AllocError>
+fn make_net(
+    alloc: Global,
+    names: &IndexSet<&str>,
+    transitions: &[Value],
+    places: &[Value],
+) -> Result<Net, AllocError>
     requires plain { are_plain_lists (map view transitions.now) (map view places.now) ≡ true }
     requires names { map deref names.now.keys ≡ names_of (map view transitions.now) }
     ensures { IfOk result (λ n. n ≡ net_of_lists (map view transitions.now) (map view places.now)) }
@@ -204,7 +217,11 @@ fn make_net(alloc: Global, names: &IndexSet<&str>, transitions: &[Value], places
 
 /// The names of the transitions in order, where the lists are plain.
 #[tactic(auto, unfolding(crate::specs::Plain::are_plain_lists, crate::specs::Plain::have_distinct_names, crate::specs::Plain::are_joined))]
-fn number_plain<'a>(alloc: Global, transitions: &'a [Value], places: &[Value]) -> Result<Option<IndexSet<&'a str>>, AllocError>
+fn number_plain<'a>(
+    alloc: Global,
+    transitions: &'a [Value],
+    places: &[Value],
+) -> Result<Option<IndexSet<&'a str>>, AllocError>
     ensures { IfOk result (λ names. MatchOption names (are_plain_lists (map view transitions.now) (map view places.now) ≡ false) (λ s. (are_plain_lists (map view transitions.now) (map view places.now) ≡ true) × (map deref s.keys ≡ names_of (map view transitions.now)))) }
 {
     if !are_few(transitions, places) || !are_plain(transitions, places) {
@@ -278,11 +295,14 @@ mod tests {
     use crate::{ReadRefusal, read_net};
     use std::alloc::Global;
 
-    const LOOP: &[u8] = b"[[transition]]\nname = \"a\"\n\n[[transition]]\nname = \"b\"\n\n[[place]]\nname = \"ab\"\nfrom = \"a\"\nto = \"b\"\nhold = 3\n\n[[place]]\nname = \"ba\"\nfrom = \"b\"\nto = \"a\"\nhold = 2\ntokens = 1\n";
+    const LOOP: &[u8] =
+        b"[[transition]]\nname = \"a\"\n\n[[transition]]\nname = \"b\"\n\n[[place]]\nname = \"ab\"\nfrom = \"a\"\nto = \"b\"\nhold = 3\n\n[[place]]\nname = \"ba\"\nfrom = \"b\"\nto = \"a\"\nhold = 2\ntokens = 1\n";
 
-    const LONG_HOLD: &[u8] = b"transition = [{name = \"a\"}]\nplace = [{name = \"p\", from = \"a\", to = \"a\", hold = 1000000001}]\n";
+    const LONG_HOLD: &[u8] =
+        b"transition = [{name = \"a\"}]\nplace = [{name = \"p\", from = \"a\", to = \"a\", hold = 1000000001}]\n";
 
-    const WIDE_HOLD: &[u8] = b"transition = [{name = \"a\"}]\nplace = [{name = \"p\", from = \"a\", to = \"a\", hold = 9223372036854775808}]\n";
+    const WIDE_HOLD: &[u8] =
+        b"transition = [{name = \"a\"}]\nplace = [{name = \"p\", from = \"a\", to = \"a\", hold = 9223372036854775808}]\n";
 
     fn is_refused(alloc: Global, bytes: &[u8], refusal: ReadRefusal) -> bool {
         match read_net(alloc, bytes) {
@@ -299,7 +319,12 @@ mod tests {
         assert!(rt; net.transitions().len() == 2 && net.places().len() == 2);
         for place in net.places() {
             if place.name.as_str() == "ba" {
-                assert!(rt; place.from.index == 1 && place.to.index == 0 && place.hold == 2 && place.tokens == 1);
+                assert!(rt;
+                    place.from.index == 1
+                        && place.to.index == 0
+                        && place.hold == 2
+                        && place.tokens == 1
+                );
             }
         }
     }

@@ -107,13 +107,7 @@ pub(crate) fn number_at(entry: &Value, key: Key) -> u64
 {
     match value_at(entry, key) {
         Some(value) => match value.as_integer() {
-            Some(number) => {
-                if number < 0 {
-                    0
-                } else {
-                    number as u64
-                }
-            }
+            Some(number) => { if number < 0 { 0 } else { number as u64 } }
             None => 0,
         },
         None => 0,

@@ -14,5 +14,5 @@ loop-entry-preserved c =
     let keys : c.insert_full.new.self.keys ≡ c.loop-entry.names.keys ++ c.text_at-name.result ∷ [] = grown _ _ _ _ c.in-Ok-default-true.ensures.keys new in
     record {
       all = rw keys (all_more c.args.entries.now c.loop-entry.entry-index c.entry-item.result c.loop-entry.names.keys c.text_at-name.result _ c.loop-entry-test.true c.entry-item.is c.text_at-name.ensures c.loop-entry.invariant.all);
-      distinct = rw keys (distinct_more c.loop-entry.names.keys c.text_at-name.result new c.loop-entry.invariant.distinct)
+      distinct = rw keys (distinct_more c.loop-entry.names.keys c.text_at-name.result new c.loop-entry.invariant.distinct);
     }

@@ -8,5 +8,5 @@ use Rattle.teg_net.proofs.numbers.number_names.Given as goal
 abbrev pub invariant-loop-entry : goal.invariant-loop-entry
 invariant-loop-entry l = record {
   all : map deref l.names.keys ++ names_from l.entry-index l.entries ≡ names_of (map view l.entries);
-  distinct : is_distinct (map deref l.names.keys) ≡ true
+  distinct : is_distinct (map deref l.names.keys) ≡ true;
 }
