@@ -1,17 +1,23 @@
 //! Timed event graphs: their entries, names and rules, and what paths and circuits of them are.
 //!
 //! A [`Net`] is seen by contracts as its three lists (`NetLists`), which keep the rules of `IsNet`.
-//! This crate stands on std alone; what speaks of dates stands in crates above it.
+//! Its reader of plain files stands on `toml` and `indexmap`; what speaks of dates stands in crates
+//! above it.
 #![tactic(auto)]
 
 mod circuits;
 mod entries;
+mod keys;
 mod memory;
 mod names;
 mod net;
+mod numbers;
+mod reader;
+mod trees;
 
 pub use circuits::Circuit;
 pub use entries::{Again, DateList, InputList, Place, PlaceId, Role, Transition, TransitionId};
 pub use memory::OutOfMemory;
 pub use names::{Name, NameRefused};
 pub use net::Net;
+pub use reader::{ReadRefusal, read_net};
