@@ -2,3 +2,4 @@ pub mod Limits
 pub mod Names
 pub mod Nets
 pub mod Circuits
+pub mod Paths

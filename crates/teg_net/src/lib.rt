@@ -9,9 +9,11 @@ mod entries;
 mod memory;
 mod names;
 mod net;
+mod paths;
 
 pub use circuits::Circuit;
 pub use entries::{Again, DateList, InputList, Place, PlaceId, Role, Transition, TransitionId};
 pub use memory::OutOfMemory;
 pub use names::{Name, NameRefused};
 pub use net::Net;
+pub use paths::{is_circuit, is_path, time_of, tokens_of};
