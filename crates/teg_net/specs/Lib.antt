@@ -3,3 +3,5 @@ pub mod Names
 pub mod Nets
 pub mod Circuits
 pub mod Paths
+pub mod Inputs
+pub mod Walks
