@@ -1,5 +1,5 @@
 -- Paths and circuits of a net, their tokens, and what it means that a net is live (chapter 2).
-use Rattle.std.specs.Prelude.{ℕ, ◌<◌, ◌≤◌, ◌≡◌, ◌≢◌, List, [], ◌∷◌, length, All, AllPairs, sum_by, slice_index_or, ⊤}
+use Rattle.std.specs.Prelude.{ℕ, ◌<◌, ◌≤◌, ◌≡◌, ◌≢◌, List, [], ◌∷◌, ◌++◌, length, take, drop, All, AllPairs, sum_by, slice_index_or, ⊤}
 use Rattle.teg_net.specs.declared.entries.PlaceId.{PlaceId}
 use Rattle.teg_net.specs.declared.entries.Place.{Place}
 use Rattle.teg_net.specs.Nets.{NetLists}
@@ -48,6 +48,10 @@ tokens_of net ps = sum_by (λ p. (place_at net p).tokens) ps
 abbrev pub BeginsLowest : NetLists → List PlaceId → Type 0
 BeginsLowest net [] = ⊤
 BeginsLowest net (first ∷ ps) = All (λ p. from_of net first ≤ from_of net p) ps
+
+-- the same places in the same order, begun at another of them
+abbrev pub IsTurned : List PlaceId → List PlaceId → Type 0
+IsTurned ps qs = (k : ℕ) × (k ≤ length ps) × (qs ≡ drop k ps ++ take k ps)
 
 -- a circuit without tokens, told from its lowest numbered transition on
 pub record IsTokenFree (net : NetLists) (ps : List PlaceId) : Type 0 where

@@ -6,3 +6,6 @@ pub mod Keys
 pub mod Trees
 pub mod Plain
 pub mod Documents
+pub mod Paths
+pub mod Inputs
+pub mod Walks

@@ -28,3 +28,7 @@ greatest_date = 1000000000000
 -- firings after which an input list repeats
 abbrev pub most_every : ℕ
 most_every = 1000
+
+-- a firing number that is asked or walked to
+abbrev pub greatest_number : ℕ
+greatest_number = 1000000000000000000

@@ -1,5 +1,5 @@
 -- What a net is: its lists, and the rules that they keep.
-use Rattle.std.specs.Prelude.{ℕ, ◌+◌, ◌-◌, ◌<◌, ◌≤◌, ◌≡◌, ◌≢◌, List, Option, Some, None, IsSomeAnd, slice_get, slice_index, length, All, AllPairs, IsTrue, ⊤}
+use Rattle.std.specs.Prelude.{ℕ, ◌+◌, ◌-◌, ◌<◌, ◌≤◌, ◌≡◌, ◌≢◌, List, Option, Some, None, IsSomeAnd, slice_get, slice_index, length, All, AllPairs, IsTrue, ⊤, []}
 use Rattle.std.specs.List.Sorted.{IsNonDecreasing}
 use Rattle.teg_net.specs.declared.entries.Role.TheVariants.{Input}
 use Rattle.teg_net.specs.declared.entries.Again.{Again}
@@ -60,3 +60,7 @@ pub record IsNet (net : NetLists) : Type 0 where
   pub each_place : All (IsPlaceOf net) net.places
   pub one_list : AllPairs (λ l m. l.transition.index ≢ m.transition.index) net.inputs
   pub each_input : All (IsInputOf net) net.inputs
+
+-- the same transitions and places in order, and no input list
+abbrev pub without_inputs : NetLists → NetLists
+without_inputs net = record { transitions = net.transitions; places = net.places; inputs = [] }

@@ -6,18 +6,27 @@
 #![tactic(auto)]
 
 mod circuits;
+mod copies;
 mod entries;
+mod inputs;
 mod keys;
+mod labels;
+mod lookups;
 mod memory;
 mod names;
 mod net;
 mod numbers;
+mod paths;
 mod reader;
 mod trees;
+mod walks;
 
 pub use circuits::Circuit;
 pub use entries::{Again, DateList, InputList, Place, PlaceId, Role, Transition, TransitionId};
+pub use labels::Label;
 pub use memory::OutOfMemory;
 pub use names::{Name, NameRefused};
 pub use net::Net;
+pub use paths::{is_circuit, is_path, time_of, tokens_of};
 pub use reader::{ReadRefusal, read_net};
+pub use walks::{Step, Walk, is_walk, walk_end, walk_time};

@@ -3,7 +3,7 @@ ghost use Rattle.std.specs.Prelude.{◌≡◌, ◌↔◌, IsTrue, IsFalse, IfOk,
 ghost use Rattle.std.specs.List.{list_all};
 ghost use Rattle.teg_net.specs.Names.{is_name, is_name_byte};
 
-use std::alloc::Global;
+use std::alloc::{AllocError, Global};
 use std::marker::Model;
 
 /// A text that can name a transition or a place: 1 to 64 bytes, each at least 0x21 and none of
@@ -67,6 +67,14 @@ impl Name {
             Ok(text) => Ok(Name { text }),
             Err(_) => Err(NameRefused::OutOfMemory),
         }
+    }
+
+    /// The same name once more.
+    pub(crate) fn copy(&self, alloc: Global) -> Result<Name, AllocError>
+        ensures { IfOk result (λ copy. copy ≡ self.now) }
+    {
+        let text = String::from_str(alloc, self.text.as_str())?;
+        Ok(Name { text })
     }
 
     /// The text. It takes no memory.

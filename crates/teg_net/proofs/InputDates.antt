@@ -1,0 +1,131 @@
+-- What the dates of an input list come to.
+use Rattle.std.proofs.Common.{ℕ, zero, suc, ◌+◌, ◌-◌, ◌*◌, ◌/◌, ◌<◌, ◌≤◌, ◌≡◌, ◌≢◌, List, [], ◌∷◌, true, false, eqb, leb, length, get_or, Option, Some, None, refl, sym, ap, subst, ◌∙◌, arith, ⊎_elim}
+use Rattle.std.specs.Prelude.{All, AllPairs, IfSome, find, ◌==◌, option_map}
+use Rattle.std.proofs.lemmas.Bool.{cases_Bool, cases_lt}
+use Rattle.std.proofs.lemmas.Bool.Decides.{nat_tests}
+use Rattle.std.proofs.lemmas.List.{get_or_past}
+use Rattle.std.proofs.lemmas.Nat.{div_below}
+use Rattle.std.proofs.Math.Nat.{add-div_right, mul-le-mul_left, div-le_self}
+use Rattle.teg_net.specs.declared.entries.Again.{Again}
+use Rattle.teg_net.specs.declared.entries.InputList.{InputList}
+use Rattle.teg_net.specs.Limits.{greatest_date}
+use Rattle.teg_net.specs.Nets.{NetLists, IsNet, IsInputOf, EndsOrGoesOn, GoesOn}
+use Rattle.teg_net.specs.Inputs.{moved_by, GoOnBy, IsInputDates, AreInputDates, rounds_past, date_past, list_date, date_by, input_date}
+
+in_list : (dates : List ℕ) (again : Option Again) (k : ℕ) → k ≤ length dates → list_date dates again k ≡ Some (get_or dates (k - 1) 0)
+in_list dates again k l = let e : leb k (length dates) ≡ true = grind (arith, nat_tests) in rw e refl
+
+past_list : (dates : List ℕ) (again : Option Again) (k : ℕ) → length dates < k → list_date dates again k ≡ date_past dates again k
+past_list dates again k l = let e : leb k (length dates) ≡ false = grind (arith, nat_tests) in rw e refl
+
+-- past the list, with the number of rounds
+past_by : (dates : List ℕ) (a : Again) (k r : ℕ) → length dates < k → rounds_past (length dates) a.every k ≡ r → list_date dates (Some a) k ≡ Some (get_or dates (k - r * a.every - 1) 0 + r * a.gap)
+past_by dates a k r l e =
+    past_list dates (Some a) k l ∙ ap (λ n. Some (get_or dates (k - n * a.every - 1) 0 + n * a.gap)) e
+
+one_round : (long every k : ℕ) → 1 ≤ every → long < k → k - every ≤ long → rounds_past long every k ≡ 1
+one_round long every k o l m =
+    let few : k - long - 1 < 1 * every = omega arith in
+    let none : (k - long - 1) / every < 1 = div_below (k - long - 1) every 1 (omega arith) few in
+    omega arith
+
+more_rounds : (long every k : ℕ) → 1 ≤ every → long < k - every → rounds_past long every k ≡ rounds_past long every (k - every) + 1
+more_rounds long every k o l =
+    let is : k - long - 1 ≡ (k - every - long - 1) + every = omega arith in
+    let step : ((k - every - long - 1) + every) / every ≡ (k - every - long - 1) / every + 1 = add-div_right (k - every - long - 1) (omega arith) in
+    ap (λ n. n / every + 1) is ∙ ap (λ n. n + 1) step
+
+-- past the list each date is that of `every` firings before, plus the gap
+goes_on : (dates : List ℕ) (a : Again) (k : ℕ) → 1 ≤ a.every → a.every ≤ length dates → length dates < k → list_date dates (Some a) k ≡ moved_by a.gap (list_date dates (Some a) (k - a.every))
+goes_on dates a k o e l =
+    ⊎_elim
+    (λ (m : length dates < k - a.every).
+    let r : ℕ = rounds_past (length dates) a.every (k - a.every) in
+    let far = past_by dates a k (r + 1) l (more_rounds (length dates) a.every k o m) in
+    let near = past_by dates a (k - a.every) r m refl in
+    let wide : (r + 1) * a.every ≡ r * a.every + a.every = grind arith in
+    let long : (r + 1) * a.gap ≡ r * a.gap + a.gap = grind arith in
+    let place : k - (r + 1) * a.every - 1 ≡ k - a.every - r * a.every - 1 = omega arith in
+    let sum : get_or dates (k - a.every - r * a.every - 1) 0 + (r + 1) * a.gap ≡ get_or dates (k - a.every - r * a.every - 1) 0 + r * a.gap + a.gap = omega arith in
+    far ∙ (ap (λ j. Some (get_or dates j 0 + (r + 1) * a.gap)) place ∙ (ap (λ n. Some n) sum ∙ ap (moved_by a.gap) (sym near))))
+    (λ (m : k - a.every ≤ length dates).
+    let far = past_by dates a k 1 l (one_round (length dates) a.every k o l m) in
+    let near = in_list dates (Some a) (k - a.every) m in
+    let place : k - 1 * a.every - 1 ≡ k - a.every - 1 = omega arith in
+    let sum : get_or dates (k - a.every - 1) 0 + 1 * a.gap ≡ get_or dates (k - a.every - 1) 0 + a.gap = omega arith in
+    far ∙ (ap (λ j. Some (get_or dates j 0 + 1 * a.gap)) place ∙ (ap (λ n. Some n) sum ∙ ap (moved_by a.gap) (sym near))))
+    (cases_lt (length dates) (k - a.every))
+
+past_goes_on : (dates : List ℕ) (o : Option Again) → EndsOrGoesOn dates o → GoOnBy (length dates) o (list_date dates o)
+past_goes_on dates None h = λ k l. past_list dates None k l
+past_goes_on dates (Some a) h = λ k l. goes_on dates a k h.some h.enough l
+
+-- the dates by a list are those that its rules name
+pub IsInputDates-list_date : (l : InputList) → EndsOrGoesOn l.dates l.again → IsInputDates l (list_date l.dates l.again)
+IsInputDates-list_date l h = record {
+  listed = λ k o m. in_list l.dates l.again k m;
+  past = past_goes_on l.dates l.again h;
+}
+
+-- the list of a transition is found, since it has no other
+found : (xs : List InputList) (t i : ℕ) (d : InputList) → AllPairs (λ l m. l.transition.index ≢ m.transition.index) xs → i < length xs → (get_or xs i d).transition.index ≡ t
+    → find (λ l. l.transition.index == t) xs ≡ Some (get_or xs i d)
+found [] t i d h l e = absurd (omega arith)
+found (x ∷ xs) t zero d h l e = let b : eqb x.transition.index t ≡ true = grind (arith, nat_tests) in rw b refl
+found (x ∷ xs) t (suc i) d h l e =
+    let apart : x.transition.index ≢ (get_or xs i d).transition.index = h 0 (suc i) d (omega arith) l in
+    let b : eqb x.transition.index t ≡ false = grind (arith, nat_tests) in
+    rw b (found xs t i d (λ j k c m n. h (suc j) (suc k) c (omega arith) (omega arith)) (omega arith) e)
+
+not_found : (xs : List InputList) (t : ℕ) → All (λ l. l.transition.index ≢ t) xs → find (λ l. l.transition.index == t) xs ≡ None
+not_found [] t h = refl
+not_found (x ∷ xs) t h =
+    let apart : x.transition.index ≢ t = h 0 x (omega arith) in
+    let b : eqb x.transition.index t ≡ false = grind (arith, nat_tests) in
+    rw b (not_found xs t (λ i d m. h (suc i) d (omega arith)))
+
+-- a list that is found is one of the net
+pub found_rules : (net : NetLists) (xs : List InputList) (t : ℕ) (l : InputList) → All (IsInputOf net) xs → Some l ≡ find (λ x. x.transition.index == t) xs → IsInputOf net l
+found_rules net [] t l h e = absurd (cc)
+found_rules net (x ∷ xs) t l h e =
+    ⊎_elim
+    (λ (b : eqb x.transition.index t ≡ true).
+    let is : Some l ≡ Some x = rw b at e in
+    let same : l ≡ x = cc in
+    rw same (h 0 x (omega arith)))
+    (λ (b : eqb x.transition.index t ≡ false). found_rules net xs t l (λ i d m. h (suc i) d (omega arith)) (rw b at e))
+    (cases_Bool (eqb x.transition.index t))
+
+-- the dates of a net are those that its lists name
+pub AreInputDates-input_date : (net : NetLists) (t : ℕ) → IsNet net → AreInputDates net t (input_date net t)
+AreInputDates-input_date net t h = record {
+  by_list = λ i d m e. (
+      let l : InputList = get_or net.inputs i d in
+      let is : find (λ x. x.transition.index == t) net.inputs ≡ Some l = found net.inputs t i d h.one_list m e in
+      subst (λ o. IsInputDates l (date_by o)) (sym is) (IsInputDates-list_date l (h.each_input i d m).again));
+  no_list = λ none k. ap (λ o. date_by o k) (not_found net.inputs t none);
+}
+
+date_le : (dates : List ℕ) (i : ℕ) → All (λ d. d ≤ greatest_date) dates → get_or dates i 0 ≤ greatest_date
+date_le dates i h =
+    ⊎_elim
+    (λ (l : i < length dates). h i 0 l)
+    (λ (l : length dates ≤ i). let is : get_or dates i 0 ≡ 0 = get_or_past dates i 0 l in omega arith)
+    (cases_lt i (length dates))
+
+past-most : (dates : List ℕ) (o : Option Again) (k : ℕ) → All (λ d. d ≤ greatest_date) dates → EndsOrGoesOn dates o → length dates < k → IfSome (date_past dates o k) (λ d. d ≤ greatest_date * (k + 1))
+past-most dates None k h e l = tt
+past-most dates (Some a) k h e l =
+    let r : ℕ = rounds_past (length dates) a.every k in
+    let few : (k - length dates - 1) / a.every ≤ k - length dates - 1 = div-le_self (k - length dates - 1) a.every in
+    let gaps : r * a.gap ≤ r * greatest_date = mul-le-mul_left r e.gap_in in
+    let first = date_le dates (k - r * a.every - 1) h in
+    omega arith
+
+-- no date is later than that of a list that goes on by the greatest gap
+pub list_date-most : (dates : List ℕ) (o : Option Again) (k : ℕ) → All (λ d. d ≤ greatest_date) dates → EndsOrGoesOn dates o → IfSome (list_date dates o k) (λ d. d ≤ greatest_date * (k + 1))
+list_date-most dates o k h e =
+    ⊎_elim
+    (λ (l : length dates < k). rw (past_list dates o k l) (past-most dates o k h e l))
+    (λ (l : k ≤ length dates). rw (in_list dates o k l) (let first = date_le dates (k - 1) h in omega arith))
+    (cases_lt (length dates) k)

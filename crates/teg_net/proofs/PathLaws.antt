@@ -1,0 +1,94 @@
+-- Paths put together and taken apart.
+use Rattle.std.proofs.Common.{ℕ, zero, suc, ◌+◌, ◌<◌, ◌≡◌, ◌≢◌, List, [], ◌∷◌, ◌++◌, length, get_or, drop, refl, sym, ap, subst, ◌∙◌, arith, drop-cons, add-one, ◌-◌}
+use Rattle.std.specs.Prelude.{AllPairs, Any}
+use Rattle.std.proofs.lemmas.List.{length-drop, get_or-drop, get_or_default}
+use Rattle.teg_net.specs.declared.entries.PlaceId.{PlaceId}
+use Rattle.teg_net.specs.Nets.{NetLists}
+use Rattle.teg_net.specs.Circuits.{place_at, from_of, IsPathBetween, IsPath, AreInRange}
+use Rattle.teg_net.specs.Paths.{IsStartOf}
+
+pub IsPathBetween-append :
+    (net : NetLists) (ps qs : List PlaceId) (a b c : ℕ) → IsPathBetween net a ps b → IsPathBetween net b qs c → IsPathBetween net a (ps ++ qs) c
+IsPathBetween-append net [] qs a b c e l = subst (λ x. IsPathBetween net x qs c) (sym e) l
+IsPathBetween-append net (p ∷ ps) qs a b c h l =
+    (h.0, h.1, IsPathBetween-append net ps qs (place_at net p).to.index b c h.2 l)
+
+pub IsPathBetween-split :
+    (net : NetLists) (ps qs : List PlaceId) (a c : ℕ) → IsPathBetween net a (ps ++ qs) c → (b : ℕ) × IsPathBetween net a ps b × IsPathBetween net b qs c
+IsPathBetween-split net [] qs a c l = (a, refl, l)
+IsPathBetween-split net (p ∷ ps) qs a c h =
+    let r = IsPathBetween-split net ps qs (place_at net p).to.index c h.2 in
+    (r.0, (h.0, h.1, r.1), r.2)
+
+pub IsPathBetween-in_range : (net : NetLists) (ps : List PlaceId) (a b : ℕ) → IsPathBetween net a ps b → AreInRange net ps
+IsPathBetween-in_range net [] a b h i d l = absurd (omega arith)
+IsPathBetween-in_range net (p ∷ ps) a b h zero d l = h.0
+IsPathBetween-in_range net (p ∷ ps) a b h (suc i) d l = IsPathBetween-in_range net ps (place_at net p).to.index b h.2 i d (omega arith)
+
+-- a path has one end
+pub IsPathBetween-one_end : (net : NetLists) (ps : List PlaceId) (a b c : ℕ) → IsPathBetween net a ps b → IsPathBetween net a ps c → b ≡ c
+IsPathBetween-one_end net [] a b c h l = sym h ∙ l
+IsPathBetween-one_end net (p ∷ ps) a b c h l = IsPathBetween-one_end net ps (place_at net p).to.index b c h.2 l.2
+
+-- after the first i places of a path from start, the rest is a path from at
+pub record IsLeft (net : NetLists) (ps : List PlaceId) (start i at : ℕ) : Type 0 where
+  pub forth : (b : ℕ) → IsPathBetween net start ps b → IsPathBetween net at (drop i ps) b
+  pub back : (b : ℕ) → IsPathBetween net at (drop i ps) b → IsPathBetween net start ps b
+
+pub IsLeft-more :
+    (net : NetLists) (ps : List PlaceId) (start i at : ℕ) (d : PlaceId) → IsLeft net ps start i at → i < length ps
+    → (get_or ps i d).index < length net.places → from_of net (get_or ps i d) ≡ at → IsLeft net ps start (i + 1) (place_at net (get_or ps i d)).to.index
+IsLeft-more net ps start i at d h l r e =
+    let p : PlaceId = get_or ps i d in
+    let cut : drop i ps ≡ p ∷ drop (i + 1) ps = rw add-one (drop-cons ps i d l) in
+    record {
+      forth = λ b w. (let whole : IsPathBetween net at (p ∷ drop (i + 1) ps) b = subst (λ z. IsPathBetween net at z b) cut (h.forth b w) in whole.2);
+      back = λ b w. h.back b (subst (λ z. IsPathBetween net at z b) (sym cut) (r, e, w));
+    }
+
+-- a place that is not of the net, or does not begin where the path stands, ends the path
+pub IsLeft-none :
+    (net : NetLists) (ps : List PlaceId) (start i at : ℕ) (d : PlaceId) → IsLeft net ps start i at → i < length ps
+    → ((get_or ps i d).index < length net.places → from_of net (get_or ps i d) ≡ at → ⊥) → (b : ℕ) → IsPathBetween net start ps b → ⊥
+IsLeft-none net ps start i at d h l no_step b w =
+    let p : PlaceId = get_or ps i d in
+    let cut : drop i ps ≡ p ∷ drop (i + 1) ps = rw add-one (drop-cons ps i d l) in
+    let whole : IsPathBetween net at (p ∷ drop (i + 1) ps) b = subst (λ z. IsPathBetween net at z b) cut (h.forth b w) in
+    no_step whole.0 whole.1
+
+pub IsPath-in_range : (net : NetLists) (ps : List PlaceId) → IsPath net ps → AreInRange net ps
+IsPath-in_range net ps (a, b, h) = IsPathBetween-in_range net ps a b h
+
+-- a closed path ends where its first place begins
+pub IsPathBetween-closed : (net : NetLists) (ps : List PlaceId) (a start end : ℕ) → IsPathBetween net a ps a → IsStartOf net ps start → IsPathBetween net start ps end → end ≡ start
+IsPathBetween-closed net [] a start end h s w = absurd s
+IsPathBetween-closed net (p ∷ ps) a start end h s w =
+    let same : start ≡ a = sym s.1 ∙ h.1 in
+    IsPathBetween-one_end net ps (place_at net p).to.index end a w.2 h.2 ∙ sym same
+
+-- what stands past the end of a path
+abbrev pub no_id : PlaceId
+no_id = record { index = 0 }
+
+-- a place after the one at i leaves the same transition
+pub leaves_twice :
+    (net : NetLists) (ps : List PlaceId) (i t : ℕ) (e : PlaceId) → i < length ps → from_of net (get_or ps i e) ≡ t
+    → Any (λ p. from_of net p ≡ t) (drop (i + 1) ps) → AllPairs (λ p q. from_of net p ≢ from_of net q) ps → ⊥
+leaves_twice net ps i t e l same (k, x, m, r, s) once =
+    let far : i + 1 + k < length ps = omega (arith, length-drop (i + 1) ps) in
+    let here : from_of net (get_or ps i x) ≡ t = ap (from_of net) (get_or_default ps i x e l) ∙ same in
+    let there : from_of net (get_or ps (i + 1 + k) x) ≡ t = ap (from_of net) (sym (get_or-drop (i + 1) ps k x) ∙ r) ∙ s in
+    once i (i + 1 + k) x (omega arith) far (here ∙ sym there)
+
+-- no place after the one at i leaves the same transition
+pub leaves_once_at :
+    (net : NetLists) (ps : List PlaceId) (i t : ℕ) (e : PlaceId) → i < length ps → from_of net (get_or ps i e) ≡ t
+    → (Any (λ p. from_of net p ≡ t) (drop (i + 1) ps) → ⊥) → (k : ℕ) (d : PlaceId) → i < k → k < length ps → from_of net (get_or ps i d) ≢ from_of net (get_or ps k d)
+leaves_once_at net ps i t e l same none k d m n =
+    λ both.
+    let x : PlaceId = get_or ps k d in
+    let place : i + 1 + (k - (i + 1)) ≡ k = omega arith in
+    let read : get_or (drop (i + 1) ps) (k - (i + 1)) x ≡ x =
+    get_or-drop (i + 1) ps (k - (i + 1)) x ∙ (ap (λ j. get_or ps j x) place ∙ get_or_default ps k x d n)
+    in
+    none (k - (i + 1), x, omega (arith, length-drop (i + 1) ps), read, sym both ∙ (ap (from_of net) (get_or_default ps i d e l) ∙ same))

@@ -1,0 +1,21 @@
+use Rattle.std.proofs.Common.{◌≡◌, Some, sym}
+use Rattle.teg_net.proofs.InputDates.{found_rules, AreInputDates-input_date, list_date-most}
+use Rattle.teg_net.proofs.net.Net.input_date.Goals as goal
+
+pub list_date-requires-clause-again : goal.list_date-requires-clause-again
+list_date-requires-clause-again c =
+    let first = rw c.in-Some.is at c.list_of.ensures.first in
+    let rules = found_rules c.args.self.now c.args.self.now.inputs c.args.transition.index c.in-Some.list.now c.list_of.ensures.rules.each_input first in
+    rules.again
+
+pub returns-in-Some-clause-meaning : goal.returns-in-Some-clause-meaning
+returns-in-Some-clause-meaning c = AreInputDates-input_date c.args.self.now c.args.transition.index c.list_of.ensures.rules
+
+pub returns-in-Some-clause-most : goal.returns-in-Some-clause-most
+returns-in-Some-clause-most c =
+    let first = rw c.in-Some.is at c.list_of.ensures.first in
+    let rules = found_rules c.args.self.now c.args.self.now.inputs c.args.transition.index c.in-Some.list.now c.list_of.ensures.rules.each_input first in
+    rw c.list_date.ensures (list_date-most c.in-Some.list.now.dates c.in-Some.list.now.again c.args.number rules.dates_in rules.again)
+
+pub returns-in-None-clause-meaning : goal.returns-in-None-clause-meaning
+returns-in-None-clause-meaning c = AreInputDates-input_date c.args.self.now c.args.transition.index c.list_of.ensures.rules

@@ -1,0 +1,66 @@
+//! Copies of the entries of a net, and the net without its input lists.
+ghost use Rattle.std.specs.Prelude.{◌≡◌, IfOk};
+ghost use Rattle.teg_net.specs.Nets.{without_inputs};
+
+use crate::entries::{Place, Transition};
+use crate::memory::OutOfMemory;
+use crate::names::Name;
+use crate::net::Net;
+use std::alloc::{AllocError, Global};
+
+fn transition_copy(alloc: Global, transition: &Transition) -> Result<Transition, AllocError>
+    ensures { IfOk result (λ copy. copy ≡ transition.now) }
+{
+    let name = transition.name.copy(alloc)?;
+    Ok(Transition {
+        name,
+        role: transition.role,
+    })
+}
+
+fn place_copy(alloc: Global, place: &Place) -> Result<Place, AllocError>
+    ensures { IfOk result (λ copy. copy ≡ place.now) }
+{
+    let name = place.name.copy(alloc)?;
+    Ok(Place {
+        name,
+        from: place.from,
+        to: place.to,
+        hold: place.hold,
+        tokens: place.tokens,
+    })
+}
+
+fn transitions_copy(
+    alloc: Global,
+    transitions: &[Transition],
+) -> Result<Vec<Transition>, AllocError>
+    ensures { IfOk result (λ copies. copies.items ≡ transitions.now) }
+{
+    let mut copies = Vec::new(alloc);
+    for transition in transitions {
+        copies.push(transition_copy(alloc, transition)?)?;
+    }
+    Ok(copies)
+}
+
+fn places_copy(alloc: Global, places: &[Place]) -> Result<Vec<Place>, AllocError>
+    ensures { IfOk result (λ copies. copies.items ≡ places.now) }
+{
+    let mut copies = Vec::new(alloc);
+    for place in places {
+        copies.push(place_copy(alloc, place)?)?;
+    }
+    Ok(copies)
+}
+
+impl Net {
+    /// The net with the same transitions and the same places, in order, and no input list.
+    pub fn without_inputs(&self, alloc: Global) -> Result<Net, OutOfMemory>
+        ensures { IfOk result (λ net. net ≡ without_inputs self.now) }
+    {
+        let transitions = transitions_copy(alloc, self.transitions())?;
+        let places = places_copy(alloc, self.places())?;
+        Ok(Net::new(transitions, places, Vec::new(alloc)))
+    }
+}

@@ -1,0 +1,54 @@
+//! The dates before which the firings of an input transition cannot happen.
+ghost use Rattle.std.specs.Prelude.{◌≡◌, ◌≤◌, ◌+◌, ◌*◌, IfSome, find, ◌==◌, option_map};
+ghost use Rattle.teg_net.specs.Inputs.{AreInputDates, input_date, list_date};
+ghost use Rattle.teg_net.specs.Limits.{greatest_date, greatest_number};
+ghost use Rattle.teg_net.specs.Nets.{IsInput, IsNet, EndsOrGoesOn};
+
+use crate::entries::{InputList, TransitionId};
+use crate::net::Net;
+
+/// The date of this firing by the list; none is never.
+fn list_date(list: &InputList, number: u64) -> Option<u128>
+    requires number { 1 ≤ number }
+    requires again { EndsOrGoesOn list.now.dates list.now.again }
+    ensures { result ≡ list_date list.now.dates list.now.again number }
+{
+    let dates = list.dates.as_slice();
+    let length = dates.len() as u64;
+    if number <= length {
+        return Some(u128::from(dates[number as usize - 1]));
+    }
+    let again = list.again?;
+    let every = u64::from(again.every);
+    let rounds = (number - length - 1) / every + 1;
+    let first = number - rounds * every;
+    Some(u128::from(dates[first as usize - 1]) + u128::from(rounds) * u128::from(again.gap))
+}
+
+/// The list of the transition, if it has one.
+fn list_of(net: &Net, transition: TransitionId) -> Option<&InputList>
+    ensures rules { IsNet net.now }
+    ensures first { option_map (λ l. l.now) result ≡ find (λ l. l.transition.index == transition.index) net.now.inputs }
+{
+    net.inputs()
+        .iter()
+        .find(|list| list.transition.index == transition.index)
+}
+
+impl Net {
+    /// The date, in the user's unit, before which this firing of an input transition cannot happen:
+    /// by its list, or 0 where it has none. None is never. It takes no memory.
+    pub fn input_date(&self, transition: TransitionId, number: u64) -> Option<u128>
+        requires input { IsInput self.now transition.index }
+        requires first { 1 ≤ number }
+        requires last { number ≤ greatest_number }
+        ensures value { result ≡ input_date self.now transition.index number }
+        ensures meaning { AreInputDates self.now transition.index (input_date self.now transition.index) }
+        ensures most { IfSome result (λ date. date ≤ greatest_date * (number + 1)) }
+    {
+        match list_of(self, transition) {
+            Some(list) => list_date(list, number),
+            None => Some(0),
+        }
+    }
+}
