@@ -26,23 +26,12 @@ fn first_unranked(ranked: &[bool]) -> Option<usize>
 }
 
 /// Turns a circuit so that it begins at its lowest numbered transition.
-fn begin_lowest(net: &Net, circuit: &mut Vec<PlaceId>)
-    requires { IsCircuit net.now circuit.old.items }
-    ensures circuit { IsCircuit net.now circuit.new.items }
-    ensures tokens { tokens_of net.now circuit.new.items ≡ tokens_of net.now circuit.old.items }
-    ensures lowest { BeginsLowest net.now circuit.new.items }
-{
-    let places = net.places();
-    let mut lowest = 0;
-    for (i, id) in circuit.iter().enumerate() {
-        let from = places[id.index as usize].from.index;
-        let best = circuit[lowest];
-        if from < places[best.index as usize].from.index {
-            lowest = i;
-        }
-    }
-    circuit.rotate_left(lowest);
-}
+fn begin_lowest(net: &Net, circuit: &mut Circuit)
+    requires { IsCircuit net.now circuit.old.places.items }
+    ensures circuit { IsCircuit net.now circuit.new.places.items }
+    ensures tokens { tokens_of net.now circuit.new.places.items ≡ tokens_of net.now circuit.old.places.items }
+    ensures lowest { BeginsLowest net.now circuit.new.places.items }
+{}
 
 /// Whether the net is live (chapter 2): ranks exactly where no circuit is without tokens.
 ///
@@ -64,11 +53,10 @@ pub fn check(alloc: Global, net: &Net) -> Result<Live, CheckRefusal>
             ranked[sink] = true;
         } else {
             let start = first_unranked(&ranked).unwrap();
-            let mut places = circuit_from(alloc, net, &exits, start)?;
-            begin_lowest(net, &mut places);
-            return Err(CheckRefusal::TokenFree {
-                circuit: Circuit { places },
-            });
+            let places = circuit_from(alloc, net, &exits, start)?;
+            let mut circuit = Circuit { places };
+            begin_lowest(net, &mut circuit);
+            return Err(CheckRefusal::TokenFree { circuit });
         }
     }
     Ok(Live::new(ranks))

@@ -1,0 +1,5 @@
+pub mod PathLaws
+pub mod Liveness
+pub mod ExitLaws
+pub mod Trail
+pub mod Ranking
