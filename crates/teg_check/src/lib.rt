@@ -10,6 +10,8 @@ mod elimination;
 mod exits;
 mod live;
 mod refusal;
+#[cfg(test)]
+mod tests;
 
 pub use elimination::check;
 pub use live::Live;
