@@ -48,7 +48,7 @@ more_done ranked t f =
 
 pub ranked_more :
     (net : NetLists) (ranks : List ℕ) (ranked : List Bool) (exits : List (Option PlaceId)) (rank t : ℕ)
-    → IsNet net → Ranked net ranks ranked (rank + 1) → AreExits net.places ranked exits → IsUnranked ranked t → get_or exits t None ≡ None
+    → IsNet net → Ranked net ranks ranked (rank + 1) → AreExits net ranked exits → IsUnranked ranked t → get_or exits t None ≡ None
     → Ranked net (set ranks t rank) (set ranked t true) rank
 ranked_more net ranks ranked exits rank t ok h w unranked stop =
     let in_ranked : t < length ranked = unranked_in ranked t unranked in
@@ -65,7 +65,7 @@ ranked_more net ranks ranked exits rank t ok h w unranked stop =
           let to_in : to < length ranks = omega (arith, (ok.each_place k no_place l).to_in, h.count_ranks) in
           ⊎_elim
           (λ (q : from ≡ t).
-          let to_done : IsDone ranked to = not_unranked ranked to (λ f. w.complete k l z f (ap (λ x. get_or exits x None) q ∙ stop)) in
+          let to_done : IsDone ranked to = not_unranked ranked to (λ f. w.complete (record { index = k }) (record { in_range = l; begins = refl; no_tokens = z; ends_unranked = f }) (ap (λ x. get_or exits x None) q ∙ stop)) in
           let high = h.above to to_in to_done in
           let a : get_or (set ranks t rank) from 0 ≡ rank = ap (λ x. get_or (set ranks t rank) x 0) q ∙ mine in
           (kept to to_done, omega (arith, a, same_rank to to_done, high)))
@@ -113,7 +113,7 @@ all_count (x ∷ xs) h =
 pub some_unranked : (ranked : List Bool) → done_count ranked < length ranked → (((t : ℕ) → IsUnranked ranked t → ⊥) → ⊥)
 some_unranked ranked l h = absurd (omega (arith, all_count ranked (λ t. not_unranked ranked t (h t))))
 
-pub exits_go_on : (net : NetLists) (ranked : List Bool) (exits : List (Option PlaceId)) → AreExits net.places ranked exits → EachUnrankedHasExit ranked exits → ExitsGoOn net exits
+pub exits_go_on : (net : NetLists) (ranked : List Bool) (exits : List (Option PlaceId)) → AreExits net ranked exits → EachUnrankedHasExit ranked exits → ExitsGoOn net exits
 exits_go_on net ranked exits w on t id e =
-    let s : IsExit net.places ranked t id = w.sound t id e in
+    let s : IsExit net ranked t id = w.sound t id e in
     record { in_range = s.in_range; begins = s.begins; no_tokens = s.no_tokens; goes_on = on (place_at net id).to.index s.ends_unranked }

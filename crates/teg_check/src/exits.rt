@@ -1,6 +1,5 @@
 //! Exits of transitions towards those that have no rank yet, and the circuit that they close.
-ghost use Rattle.std.specs.Prelude.{◌≡◌, ◌≢◌, ◌≤◌, length, All, IfOk, IfSome, IfNone, slice_index_or, None};
-ghost use Rattle.teg_net.specs.Limits.{most_places};
+ghost use Rattle.std.specs.Prelude.{◌≡◌, ◌≢◌, length, IfOk, IfSome, IfNone, slice_index_or, None};
 ghost use Rattle.teg_net.specs.Circuits.{IsCircuit, tokens_of};
 ghost use Rattle.teg_check.specs.Exits.{IsUnranked, AreExits, EachUnrankedHasExit, ExitsGoOn};
 
@@ -14,11 +13,12 @@ pub(crate) fn exits_to_unranked(
     ranked: &[bool],
 ) -> Result<Vec<Option<PlaceId>>, AllocError>
     requires { length ranked.now ≡ length net.now.transitions }
-    ensures { IfOk result (λ exits. AreExits net.now.places ranked.now exits.items) }
+    ensures { IfOk result (λ exits. AreExits net.now ranked.now exits.items) }
 {
     let mut exits = vec![in alloc; None; ranked.len()]?;
     for (index, place) in net.places().iter().enumerate() {
-        if place.tokens == 0 && !ranked[place.to.index as usize] {
+        let without_tokens = place.tokens == 0;
+        if without_tokens && !ranked[place.to.index as usize] {
             exits[place.from.index as usize] = Some(PlaceId {
                 index: index as u32,
             });

@@ -19,13 +19,13 @@ unwrap-start-requires c =
 
 pub circuit_from-requires-clause-goes_on : goal.circuit_from-requires-clause-goes_on
 circuit_from-requires-clause-goes_on c =
-    let w : AreExits c.args.net.now.places c.loop-rank.ranked.items c.in_ok-exits.exits.items = rw c.deref.ensures.value at c.in_ok-exits.ensures in
+    let w : AreExits c.args.net.now c.loop-rank.ranked.items c.in_ok-exits.exits.items = rw c.deref.ensures.value at c.in_ok-exits.ensures in
     let on : EachUnrankedHasExit c.loop-rank.ranked.items c.in_ok-exits.exits.items = rw (c.deref-in-loop-rank-2.ensures.value, c.deref-in-loop-rank.ensures.value) at c.in_default.ensures.none in
     rw c.deref-in_default-2.ensures.value (exits_go_on c.args.net.now c.loop-rank.ranked.items c.in_ok-exits.exits.items w on)
 
 pub loop-rank-preserved : goal.loop-rank-preserved
 loop-rank-preserved c =
-    let w : AreExits c.args.net.now.places c.loop-rank.ranked.items c.in_ok-exits.exits.items = rw c.deref.ensures.value at c.in_ok-exits.ensures in
+    let w : AreExits c.args.net.now c.loop-rank.ranked.items c.in_ok-exits.exits.items = rw c.deref.ensures.value at c.in_ok-exits.ensures in
     let next : c.loop-rank.rank ≡ (c.loop-rank.rank - 1) + 1 = omega (arith, c.loop-rank-test.true) in
     let h : Ranked c.args.net.now c.loop-rank.ranks.items c.loop-rank.ranked.items ((c.loop-rank.rank - 1) + 1) = subst (λ n. Ranked c.args.net.now c.loop-rank.ranks.items c.loop-rank.ranked.items n) next c.loop-rank.invariant in
     ranked_more c.args.net.now c.loop-rank.ranks.items c.loop-rank.ranked.items c.in_ok-exits.exits.items (c.loop-rank.rank - 1) c.in-Some.sink
