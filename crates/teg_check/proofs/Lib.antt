@@ -1,4 +1,3 @@
-pub mod PathLaws
 pub mod Liveness
 pub mod ExitLaws
 pub mod Trail

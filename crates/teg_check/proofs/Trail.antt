@@ -8,7 +8,7 @@ use Rattle.std.proofs.lemmas.List.Quantifiers.{all_pairs_push}
 use Rattle.teg_net.specs.declared.entries.PlaceId.{PlaceId}
 use Rattle.teg_net.specs.Nets.{NetLists}
 use Rattle.teg_net.specs.Circuits.{place_at, from_of, IsPathBetween, IsCircuit, tokens_of}
-use Rattle.teg_check.proofs.PathLaws.{IsPathBetween-append, IsPathBetween-split}
+use Rattle.teg_net.proofs.PathLaws.{IsPathBetween-append, IsPathBetween-split}
 use Rattle.teg_check.specs.Exits.{LeadsToExit, ExitsGoOn}
 
 abbrev pub first_id : PlaceId

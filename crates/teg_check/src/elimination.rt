@@ -1,7 +1,7 @@
 //! Ranks from the sinks upwards: each round ranks one transition all of whose places without
 //! tokens lead to ranked ones. Where none is left to rank so, exits close a circuit.
-ghost use Rattle.std.specs.Prelude.{◌≡◌, ◌≤◌, ◌<◌, ℕ, IfOk, IfErr, IfSome, IfNone};
-ghost use Rattle.teg_net.specs.Circuits.{IsLive, IsCircuit, BeginsLowest, tokens_of};
+ghost use Rattle.std.specs.Prelude.{ℕ, IfOk, IfErr, IfSome, IfNone};
+ghost use Rattle.teg_net.specs.Circuits.{IsLive};
 ghost use Rattle.teg_check.specs.Ranks.{IsRanking};
 ghost use Rattle.teg_check.specs.Refusals.{IsRightRefusal};
 ghost use Rattle.teg_check.specs.Exits.{IsUnranked};
@@ -10,7 +10,7 @@ use crate::exits::{circuit_from, exits_to_unranked, first_sink};
 use crate::live::Live;
 use crate::refusal::CheckRefusal;
 use std::alloc::Global;
-use teg_net::{Circuit, Net, PlaceId};
+use teg_net::{Circuit, Net};
 
 /// The first transition that has no rank.
 fn first_unranked(ranked: &[bool]) -> Option<usize>
@@ -24,14 +24,6 @@ fn first_unranked(ranked: &[bool]) -> Option<usize>
     }
     None
 }
-
-/// Turns a circuit so that it begins at its lowest numbered transition.
-fn begin_lowest(net: &Net, circuit: &mut Circuit)
-    requires { IsCircuit net.now circuit.old.places.items }
-    ensures circuit { IsCircuit net.now circuit.new.places.items }
-    ensures tokens { tokens_of net.now circuit.new.places.items ≡ tokens_of net.now circuit.old.places.items }
-    ensures lowest { BeginsLowest net.now circuit.new.places.items }
-{}
 
 /// Whether the net is live (chapter 2): ranks exactly where no circuit is without tokens.
 ///
@@ -55,7 +47,7 @@ pub fn check(alloc: Global, net: &Net) -> Result<Live, CheckRefusal>
             let start = first_unranked(&ranked).unwrap();
             let places = circuit_from(alloc, net, &exits, start)?;
             let mut circuit = Circuit { places };
-            begin_lowest(net, &mut circuit);
+            circuit.begin_lowest(net);
             return Err(CheckRefusal::TokenFree { circuit });
         }
     }
