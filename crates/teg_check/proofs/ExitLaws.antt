@@ -1,11 +1,11 @@
 -- The loop of `exits_to_unranked`: the exits as the first i places give them.
-use Rattle.std.proofs.Common.{ℕ, ◌+◌, ◌<◌, ◌≤◌, ◌≡◌, ◌≢◌, List, Bool, true, false, length, get_or, set, Option, Some, None, refl, sym, ap, subst, ◌∙◌, arith, rules, inl, inr, ⊎_elim}
+use Rattle.std.proofs.Common.{ℕ, ◌+◌, ◌<◌, ◌≤◌, ◌≡◌, ◌≢◌, List, Bool, length, get_or, set, Option, Some, None, sym, ap, subst, ◌∙◌, arith, ⊎_elim}
 use Rattle.std.proofs.lemmas.Bool.{cases_eq, cases_lt}
 use Rattle.std.proofs.lemmas.List.{length-set, get_or-set_same, get_or-set_other}
 use Rattle.teg_net.specs.declared.entries.PlaceId.{PlaceId}
 use Rattle.teg_net.specs.Nets.{NetLists}
-use Rattle.teg_net.specs.Circuits.{place_at, from_of}
-use Rattle.teg_check.specs.Exits.{IsUnranked, IsExit, AreExits, EachUnrankedHasExit}
+use Rattle.teg_net.specs.Circuits.{from_of}
+use Rattle.teg_check.specs.Exits.{IsExit}
 
 pub record ExitsUpTo (net : NetLists) (ranked : List Bool) (exits : List (Option PlaceId)) (i : ℕ) : Type 0 where
   pub count : length exits ≡ length ranked

@@ -1,10 +1,9 @@
 -- Ranks that rise along each place without tokens leave no circuit without tokens.
-use Rattle.std.proofs.Common.{ℕ, ◌+◌, ◌<◌, ◌≤◌, ◌≡◌, List, [], ◌∷◌, length, get_or, ap, arith}
-use Rattle.std.specs.Prelude.{sum_by}
+use Rattle.std.proofs.Common.{ℕ, ◌+◌, ◌≤◌, ◌≡◌, List, [], ◌∷◌, length, get_or, ap, arith}
 use Rattle.std.proofs.lemmas.List.Sums.{sum_by-cons}
 use Rattle.teg_net.specs.declared.entries.PlaceId.{PlaceId}
 use Rattle.teg_net.specs.Nets.{NetLists}
-use Rattle.teg_net.specs.Circuits.{no_place, place_at, from_of, IsPathBetween, IsCircuit, tokens_of, IsLive}
+use Rattle.teg_net.specs.Circuits.{no_place, place_at, IsPathBetween, tokens_of, IsLive}
 use Rattle.teg_check.specs.Ranks.{IsRanking, OnlyRankLiveNets}
 
 -- along a path without tokens the rank rises by the number of its places or more

@@ -1,16 +1,15 @@
 -- The loop of `check`: ranks given so far, from the highest down.
-use Rattle.std.proofs.Common.{ℕ, zero, suc, ◌+◌, ◌-◌, ◌<◌, ◌≤◌, ◌≡◌, ◌≢◌, List, [], ◌∷◌, Bool, true, false, length, get_or, set, Option, Some, None, refl, sym, ap, subst, ◌∙◌, arith, rules, inl, inr, ⊎_elim, cond}
-use Rattle.std.specs.Prelude.{All, count_by, ◌⊎◌}
-use Rattle.std.proofs.lemmas.Bool.{cases_eq, cases_lt, cases_Bool, false≢true}
+use Rattle.std.proofs.Common.{ℕ, zero, suc, ◌+◌, ◌<◌, ◌≤◌, ◌≡◌, ◌≢◌, List, [], ◌∷◌, Bool, true, false, length, get_or, set, Option, None, refl, sym, ap, ◌∙◌, arith, ⊎_elim, cond}
+use Rattle.std.specs.Prelude.{All, count_by}
+use Rattle.std.proofs.lemmas.Bool.{cases_eq, cases_lt, cases_Bool}
 use Rattle.std.proofs.lemmas.List.{length-set, get_or-set_same, get_or-set_other, get_or_default, get_or_past}
 use Rattle.std.proofs.lemmas.List.Sums.{sum_by-set, sum_by-cons, count_by-le-length}
 use Rattle.std.proofs.lemmas.List.Elements.{All-set}
 use Rattle.teg_net.specs.declared.entries.PlaceId.{PlaceId}
-use Rattle.teg_net.specs.declared.entries.Place.{Place}
-use Rattle.teg_net.specs.Nets.{NetLists, IsNet, IsPlaceOf}
+use Rattle.teg_net.specs.Nets.{NetLists, IsNet}
 use Rattle.teg_net.specs.Circuits.{no_place, place_at}
 use Rattle.teg_check.specs.Ranks.{IsRanking}
-use Rattle.teg_check.specs.Exits.{IsUnranked, IsExit, AreExits, EachUnrankedHasExit, LeadsToExit, ExitsGoOn}
+use Rattle.teg_check.specs.Exits.{IsUnranked, IsExit, AreExits, EachUnrankedHasExit, ExitsGoOn}
 
 abbrev pub IsDone : List Bool → ℕ → Type 0
 IsDone ranked t = get_or ranked t true ≡ true

@@ -1,7 +1,6 @@
-use Rattle.std.proofs.Common.{ℕ, ◌≡◌, ◌<◌, ◌≤◌, ◌+◌, ◌-◌, Option, Some, None, true, false, length, get_or, set, sym, ap, subst, ◌∙◌, arith, rules}
+use Rattle.std.proofs.Common.{ℕ, ◌≡◌, ◌+◌, ◌-◌, Option, Some, None, subst, arith, rules}
 use Rattle.std.specs.Prelude.{IsSome, IfNone}
-use Rattle.teg_check.specs.Exits.{IsUnranked, AreExits, EachUnrankedHasExit}
-use Rattle.teg_check.specs.Ranks.{IsRanking}
+use Rattle.teg_check.specs.Exits.{AreExits, EachUnrankedHasExit}
 use Rattle.teg_check.proofs.Liveness.{ranking_is_live}
 use Rattle.teg_check.proofs.Ranking.{Ranked, ranked_more, ranking, some_unranked, exits_go_on}
 use Rattle.teg_check.proofs.elimination.check.Goals as goal

@@ -1,12 +1,10 @@
-use Rattle.std.proofs.Common.{ℕ, List, Bool, Result, Ok, Err, ◌≤◌, ◌≢◌, ⊎_elim, ◌≡◌, ◌<◌, ◌+◌, ◌∷◌, [], Option, Some, None, get_or, length, is_some, true, false, sym, ap, subst, ◌∙◌, arith, rules, not, refl}
+use Rattle.std.proofs.Common.{ℕ, List, Bool, Result, Ok, Err, ◌≤◌, ◌≢◌, ⊎_elim, ◌≡◌, ◌<◌, Option, Some, None, get_or, length, is_some, true, sym, ◌∙◌, arith, not}
 use Rattle.std.specs.Prelude.{IfOk}
-use Rattle.std.proofs.lemmas.Bool.{cases_lt, false≢true}
-use Rattle.std.proofs.lemmas.List.{get_or_read, get_or_read_under, get_or_past, get_or_default}
-use Rattle.std.proofs.lemmas.Grind.{common_steps}
+use Rattle.std.proofs.lemmas.Bool.{cases_lt}
+use Rattle.std.proofs.lemmas.List.{get_or_read, get_or_past, get_or_default}
 use Rattle.teg_net.specs.declared.entries.PlaceId.{PlaceId}
-use Rattle.teg_net.specs.Circuits.{no_place, place_at, IsCircuit, tokens_of}
-use Rattle.teg_check.specs.Exits.{LeadsToExit, ExitsGoOn}
-use Rattle.teg_check.proofs.Trail.{Trail, trail_more, circuit_of_trail, no_tokens_of_trail}
+use Rattle.teg_net.specs.Circuits.{no_place}
+use Rattle.teg_check.proofs.Trail.{trail_more, circuit_of_trail, no_tokens_of_trail}
 use Rattle.teg_check.proofs.exits.circuit_from.Goals as goal
 
 -- an index of a list of options that has something there

@@ -1,4 +1,4 @@
-use Rattle.std.proofs.Common.{ℕ, ◌≡◌, ◌≢◌, ◌<◌, Some, None, slice_index_or}
+use Rattle.std.proofs.Common.{ℕ, ◌≢◌, ◌<◌, None, slice_index_or}
 use Rattle.teg_check.specs.Exits.{IsUnranked}
 use Rattle.teg_check.proofs.exits.first_sink.Given as goal
 
