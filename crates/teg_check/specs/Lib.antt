@@ -1,0 +1,3 @@
+pub mod Ranks
+pub mod Refusals
+pub mod Exits

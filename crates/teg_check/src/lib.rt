@@ -1,0 +1,18 @@
+//! Liveness of a timed event graph: whether some circuit has no tokens.
+//!
+//! [`check`] gives ranks that rise strictly along each place without tokens exactly where the net
+//! is live, and otherwise names a circuit without tokens. A [`Live`] is seen by contracts as its
+//! list of ranks; it stands for a net where `IsRanking` ties the two, which is what calls above ask.
+//! The crate stands on `teg_net` alone.
+#![tactic(auto)]
+
+mod elimination;
+mod exits;
+mod live;
+mod refusal;
+#[cfg(test)]
+mod tests;
+
+pub use elimination::check;
+pub use live::Live;
+pub use refusal::CheckRefusal;

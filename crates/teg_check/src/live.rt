@@ -1,0 +1,40 @@
+//! Ranks of a live net.
+ghost use Rattle.std.specs.Prelude.{◌≡◌, ◌<◌, length, slice_index};
+ghost use Rattle.teg_check.specs.Ranks.{OnlyRankLiveNets};
+
+use std::marker::Model;
+use teg_net::TransitionId;
+
+/// The ranks of a live net, one for each transition. Contracts see them as a list; they stand for
+/// each net of which the list is a ranking (`IsRanking`), and such a net is live.
+#[derive(Debug, Drop)]
+pub struct Live {
+    ranks: Vec<u32>,
+}
+
+impl Model for Live {
+    ghost use Rattle.std.specs.Prelude.{ℕ, List};
+
+    ghost Value = { List ℕ };
+
+    ghost view = { λ a. a.ranks.items };
+}
+
+impl Live {
+    /// The value with these ranks. It takes no memory.
+    pub(crate) fn new(ranks: Vec<u32>) -> Live
+        ensures { result ≡ ranks.items }
+    {
+        Live { ranks }
+    }
+
+    /// The rank of a transition: along each place without tokens it rises strictly. Ranks exist
+    /// only for live nets (chapter 2). It takes no memory.
+    pub fn rank(&self, transition: TransitionId) -> u32
+        requires { transition.index < length self.now }
+        ensures rank { result ≡ slice_index self.now transition.index }
+        ensures live { OnlyRankLiveNets self.now }
+    {
+        self.ranks[transition.index as usize]
+    }
+}
