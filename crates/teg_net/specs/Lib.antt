@@ -5,3 +5,4 @@ pub mod Circuits
 pub mod Paths
 pub mod Inputs
 pub mod Walks
+pub mod Ratios

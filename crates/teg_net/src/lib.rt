@@ -14,6 +14,9 @@ mod memory;
 mod names;
 mod net;
 mod paths;
+mod ratios;
+#[cfg(test)]
+mod tests;
 mod walks;
 
 pub use circuits::Circuit;
@@ -23,4 +26,5 @@ pub use memory::OutOfMemory;
 pub use names::{Name, NameRefused};
 pub use net::Net;
 pub use paths::{is_circuit, is_path, time_of, tokens_of};
+pub use ratios::Ratio;
 pub use walks::{Step, Walk, is_walk, walk_end, walk_time};
