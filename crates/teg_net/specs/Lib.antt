@@ -9,3 +9,4 @@ pub mod Documents
 pub mod Paths
 pub mod Inputs
 pub mod Walks
+pub mod Ratios

@@ -17,7 +17,10 @@ mod names;
 mod net;
 mod numbers;
 mod paths;
+mod ratios;
 mod reader;
+#[cfg(test)]
+mod tests;
 mod trees;
 mod walks;
 
@@ -28,5 +31,6 @@ pub use memory::OutOfMemory;
 pub use names::{Name, NameRefused};
 pub use net::Net;
 pub use paths::{is_circuit, is_path, time_of, tokens_of};
+pub use ratios::Ratio;
 pub use reader::{ReadRefusal, read_net};
 pub use walks::{Step, Walk, is_walk, walk_end, walk_time};

@@ -25,10 +25,10 @@ impl Net {
         ensures none { (result ≡ None) ↔ All (λ p. p.name ≢ name.now) self.now.places }
         ensures found { IfSome result (λ id. IsSomeAnd (slice_get self.now.places id.index) (λ p. p.name ≡ name.now)) }
     {
-        for (index, place) in self.places().iter().enumerate() {
+        for (number, place) in self.places().iter().enumerate() {
             if place.name.as_str() == name {
                 return Some(PlaceId {
-                    index: index as u32,
+                    index: number as u32,
                 });
             }
         }

@@ -1,0 +1,83 @@
+//! Ratios of holding time to tokens (chapters 2 and 3).
+ghost use Rattle.std.specs.Prelude.{◌≡◌, ◌≤◌, ◌<◌, ◌*◌};
+ghost use Rattle.std.specs.Int.{IsGcd};
+ghost use Rattle.std.specs.Ordering.{MatchOrdering};
+ghost use Rattle.teg_net.specs.Ratios.{IsLowestTerms, IsRatioOf};
+
+use std::cmp::Ordering;
+use std::marker::Model;
+
+/// A ratio of holding time to tokens in lowest terms; the tokens are at least 1.
+/// Contracts see its time and its tokens.
+#[derive(Clone, Copy, Debug, PartialEq, Eq)]
+pub struct Ratio {
+    time: u64,
+    tokens: u64,
+}
+
+impl Model for Ratio {
+    ghost use Rattle.teg_net.specs.Ratios.{Fraction, IsLowestTerms};
+
+    ghost Value = { Fraction };
+
+    ghost view = { λ r. record { time = r.time; tokens = r.tokens } };
+
+    ghost inverse = { λ f. record { time = f.time; tokens = f.tokens } };
+
+    ghost invariant = { λ r. IsLowestTerms (record { time = r.time; tokens = r.tokens }) };
+}
+
+/// The greatest common divisor, by Euclid's rule.
+fn common_divisor(first: u64, second: u64) -> u64
+    ensures { IsGcd first second result }
+{
+    let mut divisor = first;
+    let mut rest = second;
+    while rest != 0 {
+        let next = divisor % rest;
+        divisor = rest;
+        rest = next;
+    }
+    divisor
+}
+
+impl Ratio {
+    /// The ratio of the time to the tokens. It takes no memory.
+    pub fn of(time: u64, tokens: u64) -> Ratio
+        requires { 1 ≤ tokens }
+        ensures ratio { IsRatioOf time tokens result }
+        ensures time { result.time ≤ time }
+        ensures tokens { result.tokens ≤ tokens }
+    {
+        let divisor = common_divisor(time, tokens);
+        Ratio {
+            time: time / divisor,
+            tokens: tokens / divisor,
+        }
+    }
+
+    /// The time over the tokens, in lowest terms. It takes no memory.
+    pub fn time(&self) -> u64
+        ensures value { result ≡ self.now.time }
+        ensures terms { IsLowestTerms self.now }
+    {
+        self.time
+    }
+
+    /// The tokens under the time, at least 1. It takes no memory.
+    pub fn tokens(&self) -> u64
+        ensures value { result ≡ self.now.tokens }
+        ensures terms { IsLowestTerms self.now }
+    {
+        self.tokens
+    }
+
+    /// Which ratio is the greater. It takes no memory.
+    pub fn compare(&self, other: &Ratio) -> Ordering
+        ensures { MatchOrdering result (self.now.time * other.now.tokens < other.now.time * self.now.tokens) (self.now.time * other.now.tokens ≡ other.now.time * self.now.tokens) (other.now.time * self.now.tokens < self.now.time * other.now.tokens) }
+    {
+        let left = u128::from(self.time) * u128::from(other.tokens);
+        let right = u128::from(other.time) * u128::from(self.tokens);
+        left.cmp(&right)
+    }
+}
