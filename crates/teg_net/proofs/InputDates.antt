@@ -1,6 +1,6 @@
 -- What the dates of an input list come to.
 use Rattle.std.proofs.Common.{ℕ, zero, suc, ◌+◌, ◌-◌, ◌*◌, ◌/◌, ◌<◌, ◌≤◌, ◌≡◌, ◌≢◌, List, [], ◌∷◌, true, false, eqb, leb, length, get_or, Option, Some, None, refl, sym, ap, subst, ◌∙◌, arith, ⊎_elim}
-use Rattle.std.specs.Prelude.{All, AllPairs, IfSome, find, ◌==◌, option_map}
+use Rattle.std.specs.Prelude.{All, AllPairs, IfSome, find, ◌==◌}
 use Rattle.std.proofs.lemmas.Bool.{cases_Bool, cases_lt}
 use Rattle.std.proofs.lemmas.Bool.Decides.{nat_tests}
 use Rattle.std.proofs.lemmas.List.{get_or_past}
@@ -9,7 +9,7 @@ use Rattle.std.proofs.Math.Nat.{add-div_right, mul-le-mul_left, div-le_self}
 use Rattle.teg_net.specs.declared.entries.Again.{Again}
 use Rattle.teg_net.specs.declared.entries.InputList.{InputList}
 use Rattle.teg_net.specs.Limits.{greatest_date}
-use Rattle.teg_net.specs.Nets.{NetLists, IsNet, IsInputOf, EndsOrGoesOn, GoesOn}
+use Rattle.teg_net.specs.Nets.{NetLists, IsNet, IsInputOf, EndsOrGoesOn}
 use Rattle.teg_net.specs.Inputs.{moved_by, GoOnBy, IsInputDates, AreInputDates, rounds_past, date_past, list_date, date_by, input_date}
 
 in_list : (dates : List ℕ) (again : Option Again) (k : ℕ) → k ≤ length dates → list_date dates again k ≡ Some (get_or dates (k - 1) 0)

@@ -4,7 +4,7 @@ use Rattle.std.specs.Int.{◌∣◌, IsGcd}
 use Rattle.std.proofs.lemmas.Bool.{cases_lt, cases_eq}
 use Rattle.std.proofs.lemmas.Nat.Gcd.{le_of_dvd}
 use Rattle.std.proofs.Math.Nat.{div-mul_cancel, mul-dvd-mul_right, mul-le-mul_right}
-use Rattle.teg_net.specs.Ratios.{Fraction, IsLowestTerms, IsRatioOf}
+use Rattle.teg_net.specs.Ratios.{IsRatioOf}
 
 -- what is multiplied by 0 is 0
 zero_times : (a b c : ℕ) → a * b ≡ c → b ≡ 0 → c ≡ 0

@@ -1,5 +1,5 @@
 -- An entry that a look-up by name finds.
-use Rattle.std.proofs.Common.{ℕ, ◌<◌, ◌≡◌, List, length, get_or, Option, Some, refl, sym, ap, subst, ◌∙◌}
+use Rattle.std.proofs.Common.{ℕ, ◌<◌, ◌≡◌, List, length, get_or, Option, Some, refl, sym, subst, ◌∙◌}
 use Rattle.std.specs.Prelude.{IsSomeAnd, slice_get}
 use Rattle.std.proofs.lemmas.Option.{slice_get_read}
 

@@ -1,4 +1,3 @@
-use Rattle.std.proofs.Common.{◌≡◌, Some, sym}
 use Rattle.teg_net.proofs.InputDates.{found_rules, AreInputDates-input_date, list_date-most}
 use Rattle.teg_net.proofs.net.Net.input_date.Goals as goal
 
