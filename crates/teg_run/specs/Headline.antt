@@ -1,0 +1,2 @@
+-- What follows for the caller of the whole call.
+use Rattle.std.specs.Prelude.{ℕ}
