@@ -33,7 +33,7 @@ file_text NetFile = codes "the net"
 -- that a net is live, and its size
 abbrev pub live_text : NetLists → List ℕ
 live_text net =
-    codes "live\ntransitions " ++ decimal (length net.transitions) ++ codes "\nplaces " ++ decimal (length net.places) ++ codes "\n"
+    codes "live\ntransitions " ++ (decimal (length net.transitions) ++ (codes "\nplaces " ++ (decimal (length net.places) ++ codes "\n")))
 
 -- why the bytes of a file say no net
 abbrev pub read_text : ReadRefusal → List ℕ

@@ -1,6 +1,6 @@
 //! Reading the files that an order names, each once, and going on with what they say.
 ghost use Rattle.std.specs.Prelude.{◌≡◌, [], ◌∷◌, IfSome};
-ghost use Rattle.teg_net.specs.Documents.{document};
+ghost use Rattle.teg_net.specs.Documents.{document, is_memory};
 ghost use Rattle.teg_outside.specs.Shelves.{ShelfState};
 ghost use Rattle.teg_run.specs.Meanings.{RefusesWith, ended, replied, opened};
 ghost use Rattle.teg_run.specs.Openings.{OpensNet, OpensDocument, OpensNetLists, read_status};
@@ -84,13 +84,26 @@ fn read_status(refusal: &ReadRefusal) -> Status
     }
 }
 
+// Whether no memory was found.
+fn is_memory(refusal: &ReadRefusal) -> bool
+    ensures { result ≡ is_memory refusal.now }
+{
+    matches!(refusal, ReadRefusal::OutOfMemory)
+}
+
 // The live net that the bytes of a file say, or their refusal.
 fn open_document(alloc: Global, bytes: &[u8]) -> Opened<Net>
     ensures { IfSome (opened result) (OpensDocument (document bytes.now)) }
 {
     match read_net(alloc, bytes) {
         Ok(net) => open_live(alloc, net),
-        Err(refusal) => refused(read_status(&refusal), texts::refusal(alloc, &refusal)),
+        Err(refusal) => {
+            if is_memory(&refusal) {
+                Opened::Lost
+            } else {
+                refused(read_status(&refusal), texts::refusal(alloc, &refusal))
+            }
+        }
     }
 }
 
