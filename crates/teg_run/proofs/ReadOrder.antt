@@ -1,0 +1,51 @@
+-- Reads one after another: what is told of them, and what became of the shelf.
+use Rattle.std.proofs.Common.{suc, ◌≡◌, ℕ, ◌≤◌, ◌+◌, ◌⊎◌, ⊎_elim, inl, inr, List, [], ◌∷◌, ◌++◌, length, take, map, Option, Some, None, refl, sym, subst, arith}
+use Rattle.teg_outside.specs.Shelves.{ShelfState, ReadsGrow}
+use Rattle.teg_outside.proofs.Growth.{reads_grow_none, reads_grow_then}
+use Rattle.teg_run.specs.declared.texts.Which.{Which}
+use Rattle.teg_run.specs.declared.texts.Which.TheVariants.{Net as NetFile}
+use Rattle.teg_run.specs.Headline.{as_told, ReadsFirstOf}
+use Rattle.teg_run.specs.Openings.{IsAccepted}
+use Rattle.teg_run.specs.Reading.{GoesOn, ReadsAll}
+use Rattle.teg_run.specs.Replies.{limit, Reply, Got, Long, Fault, Lost, Reads, Later}
+
+pub read_later : (old new : ShelfState) (name : List ℕ) (reply : Reply) → Reads old new name reply → Later old new
+read_later old new name (Got bytes) h = h.0
+read_later old new name Long h = h.0
+read_later old new name Fault h = h.0
+read_later old new name Lost h = h.0
+
+-- without names nothing is read
+pub none_read : (old new : ShelfState) (replies : List Reply) → ReadsAll old new [] replies → new ≡ old
+none_read old new [] h = h
+none_read old new (reply ∷ replies) h = absurd h
+
+-- a read is told, but for one that found no memory
+read_grows : (old new : ShelfState) (name : List ℕ) (reply : Reply) → Reads old new name reply →
+    ReadsGrow old.reads new.reads ((name, limit) ∷ []) ⊎ ((reply ≡ Lost) × ReadsGrow old.reads new.reads [])
+read_grows old new name (Got bytes) h = inl h.5
+read_grows old new name Long h = inl h.3
+read_grows old new name Fault h = inl h.2
+read_grows old new name Lost h = ⊎_elim (λ (x : _). inl x) (λ (x : _). inr (refl, x)) h.1
+
+not_accepted : (which : Which) → IsAccepted which Lost → ⊥
+not_accepted NetFile h = h.1
+
+-- after a read that found no memory nothing is read
+lost_last : (old mid new : ShelfState) (which : Which) (files : List (Which × List ℕ)) (reply : Reply) (replies : List Reply) (named : List (Which × List ℕ)) →
+    reply ≡ Lost → ReadsGrow old.reads mid.reads [] → GoesOn which reply replies → ReadsAll mid new files replies → ReadsFirstOf old new named
+lost_last old mid new which files reply [] named lost grew goes rest =
+    (0, omega arith, subst (λ (s : ShelfState). ReadsGrow old.reads s.reads []) (sym rest) grew)
+lost_last old mid new which files reply (next ∷ replies) named lost grew goes rest =
+    absurd (not_accepted which (subst (λ (r : Reply). IsAccepted which r) lost goes))
+
+-- the told reads grew by a first part of the reads of these files
+pub reads_first : (old new : ShelfState) (files : List (Which × List ℕ)) (replies : List Reply) → ReadsAll old new files replies → ReadsFirstOf old new files
+reads_first old new files [] h = (0, omega arith, subst (λ (s : ShelfState). ReadsGrow old.reads s.reads []) (sym h) (reads_grow_none old.reads))
+reads_first old new [] (reply ∷ replies) h = absurd h
+reads_first old new (file ∷ files) (reply ∷ replies) h =
+    elim (read_grows old h.0 file.1 reply h.1) [
+      | inl grew ↦ (let rest = reads_first h.0 new files replies h.3 in
+          (suc rest.0, omega (arith, rest.1), reads_grow_then old.reads h.0.reads new.reads (as_told file ∷ []) (take rest.0 (map as_told files)) grew rest.2))
+      | inr lost ↦ lost_last old h.0 new file.0 files reply replies (file ∷ files) lost.0 lost.1 h.2 h.3
+    ]

@@ -1,0 +1,20 @@
+-- How the work on an order ends, before anything is written.
+use Rattle.std.specs.Prelude.{ℕ, List, Option, Some, None}
+use Rattle.teg_run.specs.declared.status.Status.{Status}
+use Rattle.teg_run.specs.declared.status.Verdict.{Verdict}
+use Rattle.teg_run.specs.Statuses.{status_of}
+
+-- with a status and the whole of its text, or for want of memory
+pub data Ending : Type 0 where
+  Whole : (status : Status) (text : List ℕ) → Ending
+  Lost : Ending
+
+-- the ending of an order whose command reports this, or finds no memory
+abbrev pub ending_of : Option (Verdict × List ℕ) → Ending
+ending_of None = Lost
+ending_of (Some report) = Whole (status_of report.0) report.1
+
+-- a claim on the ending, where memory was found
+abbrev pub EndsWith : (Status → List ℕ → Type 0) → Ending → Type 0
+EndsWith says (Whole status text) = says status text
+EndsWith says Lost = Unit {0}

@@ -1,0 +1,12 @@
+pub mod Endings
+pub mod Headline
+pub mod Meanings
+pub mod Openings
+pub mod Orders
+pub mod Reading
+pub mod Replies
+pub mod Runs
+pub mod Says
+pub mod Statuses
+pub mod Texts
+pub mod Writing

@@ -1,0 +1,26 @@
+-- How a call ends, and the exit status of each ending.
+use Rattle.std.specs.Prelude.{ℕ}
+use Rattle.teg_run.specs.declared.status.Status.{Status}
+use Rattle.teg_run.specs.declared.status.Status.TheVariants.{Done, Words, Text, Net, Schedule, Late, TooLong, Log, Calc, Name, ReadFault, WriteFault, NoMemory}
+use Rattle.teg_run.specs.declared.status.Verdict.{Verdict}
+use Rattle.teg_run.specs.declared.status.Verdict.TheVariants.{Done as VerdictDone}
+
+-- the exit status of a program that ends so
+abbrev pub code_of : Status → ℕ
+code_of Done = 0
+code_of Words = 2
+code_of Text = 3
+code_of Net = 4
+code_of Schedule = 5
+code_of Late = 6
+code_of TooLong = 7
+code_of Log = 8
+code_of Calc = 9
+code_of Name = 10
+code_of ReadFault = 64
+code_of WriteFault = 65
+code_of NoMemory = 70
+
+-- the status of a call that ends with this verdict
+abbrev pub status_of : Verdict → Status
+status_of VerdictDone = Done

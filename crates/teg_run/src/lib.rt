@@ -1,0 +1,21 @@
+//! The whole workbench as one call: words in, the named files read, an answer written.
+//!
+//! The one contract is that of [`workbench`]. Its clause `run` ties the words, the shelf before and
+//! after, the sink before and after, the monitors and the status in three parts: what the words ask
+//! for, what the reads gave and what answer they lead to, and how that answer was written. Its other
+//! clauses say what follows from it, one promise each.
+//! It stands on `teg_net`, `teg_check` and `teg_outside`.
+#![tactic(auto)]
+
+mod call;
+mod ending;
+mod net_commands;
+mod order;
+mod reading;
+mod status;
+mod texts;
+
+mod writing;
+
+pub use status::Status;
+pub use call::workbench;

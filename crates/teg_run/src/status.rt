@@ -1,0 +1,75 @@
+//! How a call ends.
+ghost use Rattle.std.specs.Prelude.{◌≡◌};
+ghost use Rattle.teg_run.specs.Statuses.{code_of, status_of};
+
+/// How a call of [`crate::workbench`] ends.
+#[derive(Clone, Copy, Debug, PartialEq, Eq)]
+pub enum Status {
+    /// The command was carried out.
+    Done,
+    /// The words ask for nothing that the workbench does.
+    Words,
+    /// A file is too long, or the net file is no TOML.
+    Text,
+    /// The net file says no net, or a net that is not live.
+    Net,
+    /// The due file has a faulty row.
+    Schedule,
+    /// A due date cannot be met.
+    Late,
+    /// The dates settle later than the limit allows.
+    TooLong,
+    /// The log has a faulty row, or one that the net does not allow.
+    Log,
+    /// The expression has no value within the limits.
+    Calc,
+    /// The net has no transition of the name that was given.
+    Name,
+    /// A file could not be read.
+    ReadFault,
+    /// The answer could not be written.
+    WriteFault,
+    /// No memory was found.
+    NoMemory,
+}
+
+impl Status {
+    /// The exit status of a program that ends so. It takes no memory.
+    pub fn code(&self) -> u8
+        ensures { result ≡ code_of self.now }
+    {
+        match self {
+            Status::Done => 0,
+            Status::Words => 2,
+            Status::Text => 3,
+            Status::Net => 4,
+            Status::Schedule => 5,
+            Status::Late => 6,
+            Status::TooLong => 7,
+            Status::Log => 8,
+            Status::Calc => 9,
+            Status::Name => 10,
+            Status::ReadFault => 64,
+            Status::WriteFault => 65,
+            Status::NoMemory => 70,
+        }
+    }
+}
+
+/// How a command on accepted files ends: refusals of words and nets, faults and want of memory are
+/// none of its business.
+#[derive(Clone, Copy, Debug, PartialEq, Eq)]
+pub enum Verdict {
+    Done,
+}
+
+impl Verdict {
+    /// The status of a call that ends with this verdict.
+    pub fn status(self) -> Status
+        ensures { result ≡ status_of self }
+    {
+        match self {
+            Verdict::Done => Status::Done,
+        }
+    }
+}
