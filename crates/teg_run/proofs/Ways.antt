@@ -133,7 +133,7 @@ live_not_refused : (bytes : List ℕ) (net : NetLists) → document bytes ≡ Ok
 live_not_refused bytes net e live h =
     ⊎_elim (λ (no_net : _). let bad : ⊥ = cc (no_net.1, e) in bad)
     (λ (not_live : _). let same : not_live.0 ≡ net = cc (not_live.2, e) in
-      let free = subst (λ (n : NetLists). IsTokenFree n not_live.1) same not_live.3 in live not_live.1 free.circuit free.no_tokens) h
+    let free = subst (λ (n : NetLists). IsTokenFree n not_live.1) same not_live.3 in live not_live.1 free.circuit free.no_tokens) h
 
 -- the file is no text, so the call says so
 pub no_text_way : (old new : ShelfState) (files : List (List ℕ × List ℕ)) (name : List ℕ) (says : NetLists → Verdict → List ℕ → Type 0) (status : Status) (text said : List ℕ) →

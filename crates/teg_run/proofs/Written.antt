@@ -100,6 +100,6 @@ pub ends_as_allowed : (words : List (List ℕ)) (lines : List Firing → List (L
 ends_as_allowed words lines shelf shelf' sink sink' status h files (OfNet command name) asks told rested calm accepts =
     ⊎_elim
     (λ (said : _). let way = opened_way shelf shelf' files name accepts.0 (SaysNet command) said.0 said.1 told rested accepts.1 said.2 in
-      ⊎_elim (λ (whole : _). inr (way.0, whole.0 ∙ way.1, allowed command accepts.0 way.0 said.1 way.2))
-      (λ (cut : _). absurd (rose_not_rested sink.faults sink'.faults cut.1 calm)) said.3)
+    ⊎_elim (λ (whole : _). inr (way.0, whole.0 ∙ way.1, allowed command accepts.0 way.0 said.1 way.2))
+    (λ (cut : _). absurd (rose_not_rested sink.faults sink'.faults cut.1 calm)) said.3)
     (λ (lost : _). inl lost.0) (some_way words lines shelf shelf' sink sink' status command name h asks)
