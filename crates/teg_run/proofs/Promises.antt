@@ -1,31 +1,26 @@
 -- The promises of the whole call, from how it runs.
-use Rattle.std.proofs.Common.{◌≡◌, ◌≢◌, ℕ, ◌≤◌, ◌<◌, ◌⊎◌, ⊎_elim, inl, inr, List, [], ◌∷◌, ◌++◌, length, take, map, Option, Some, None, refl, sym, subst, ap, ◌∙◌, arith}
-use Rattle.std.proofs.lemmas.List.{append_cancel_left, take_all}
-use Rattle.teg_net.specs.declared.reader.ReadRefusal.TheVariants.{NotToml}
+use Rattle.std.proofs.Common.{◌≡◌, ◌≢◌, ℕ, ◌⊎◌, ⊎_elim, inl, inr, List, [], Option, Some, None, refl, sym, subst, ◌∙◌}
 use Rattle.teg_net.specs.Nets.{NetLists}
 use Rattle.teg_outside.specs.declared.monitor.Firing.{Firing}
-use Rattle.teg_outside.specs.Causes.{Rose, Rested}
-use Rattle.teg_outside.specs.Shelves.{ShelfState, ReadsGrow}
+use Rattle.teg_outside.specs.Causes.{Rested}
+use Rattle.teg_outside.specs.Shelves.{ShelfState}
 use Rattle.teg_outside.specs.Sinks.{SinkState, BytesGrow, PrefixGrows}
-use Rattle.teg_outside.proofs.Counts.{rose_not_rested}
 use Rattle.teg_run.specs.declared.order.NetCommand.{NetCommand}
 use Rattle.teg_run.specs.declared.order.NetCommand.TheVariants.{Check}
 use Rattle.teg_run.specs.declared.status.Status.{Status}
-use Rattle.teg_run.specs.declared.status.Status.TheVariants.{Done, Words, Text, Net, ReadFault, WriteFault, NoMemory}
+use Rattle.teg_run.specs.declared.status.Status.TheVariants.{Done, Words, Text, Net, WriteFault, NoMemory}
 use Rattle.teg_run.specs.declared.status.Verdict.{Verdict}
 use Rattle.teg_run.specs.declared.status.Verdict.TheVariants.{Done as VerdictDone}
-use Rattle.teg_run.specs.declared.texts.Which.{Which}
-use Rattle.teg_run.specs.declared.texts.Which.TheVariants.{Net as NetFile}
 use Rattle.teg_run.specs.Endings.{Ending, Whole, Lost}
-use Rattle.teg_run.specs.Headline.{Ends, Opens, NetIsNoText, NetIsRefused, TextCause, NetCause, Follows, ComesOnly, OverlongRose, IsTextOf, WroteWhole, WrotePrefix, ReadsFirstOf, NamesLastRead, AcceptsFiles, AllowsNet, Allows}
+use Rattle.teg_run.specs.Headline.{Ends, Opens, TextCause, NetCause, Follows}
 use Rattle.teg_run.specs.Orders.{Order, OfNet, order_of, asked_files}
 use Rattle.teg_run.specs.Reading.{ReadsAll}
 use Rattle.teg_run.specs.Replies.{Reply}
 use Rattle.teg_run.specs.Runs.{Answered, Finished, Runs}
 use Rattle.teg_run.specs.Says.{SaysNet, Asked}
 use Rattle.teg_run.specs.Statuses.{status_of}
-use Rattle.teg_run.specs.Texts.{usage, live_text, read_text, too_large_text, fault_text}
-use Rattle.teg_run.proofs.ReadOrder.{none_read, reads_first}
+use Rattle.teg_run.specs.Texts.{usage, live_text}
+use Rattle.teg_run.proofs.ReadOrder.{none_read}
 use Rattle.teg_run.proofs.Ways.{Way, Unread, Overlong, NoToml, NoNet, NotLive, Reported, way_of, no_text_way, refused_way, opened_way}
 
 -- a call that asks for this
