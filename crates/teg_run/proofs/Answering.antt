@@ -9,7 +9,7 @@ use Rattle.teg_run.specs.declared.texts.Which.TheVariants.{Net as NetFile}
 use Rattle.teg_run.specs.Endings.{Ending, Whole, Lost, ending_of}
 use Rattle.teg_run.specs.Openings.{Opening, Accepted, Refused, OpensNet}
 use Rattle.teg_run.specs.Reading.{GoesOn, ReadsAll, OpenedBy}
-use Rattle.teg_run.specs.Replies.{Reply, Reads}
+use Rattle.teg_run.specs.Replies.{Reply}
 use Rattle.teg_run.specs.Runs.{Answered}
 use Rattle.teg_run.specs.Says.{SaysFile, SaysReport, Tells}
 

@@ -1,15 +1,14 @@
 -- The causes from which alone a status comes, and what a read that failed is told to have been.
-use Rattle.std.proofs.Common.{◌≡◌, ◌≢◌, ℕ, ◌≤◌, ◌<◌, ◌⊎◌, ⊎_elim, inl, inr, List, [], ◌∷◌, ◌++◌, length, map, Option, Some, None, refl, sym, subst, ap, ◌∙◌, arith}
+use Rattle.std.proofs.Common.{◌≡◌, ℕ, inl, inr, List, [], ◌∷◌, ◌++◌, length, Option, Some, refl, sym, subst, ap, ◌∙◌, arith}
 use Rattle.std.proofs.lemmas.List.{append_cancel_left}
 use Rattle.teg_net.specs.declared.reader.ReadRefusal.TheVariants.{NotToml}
 use Rattle.teg_outside.specs.declared.monitor.Firing.{Firing}
 use Rattle.teg_outside.specs.Causes.{Rose, Rested}
 use Rattle.teg_outside.specs.Shelves.{ShelfState, ReadsGrow}
 use Rattle.teg_outside.specs.Sinks.{SinkState, BytesGrow}
-use Rattle.teg_outside.proofs.Counts.{rose_not_rested}
 use Rattle.teg_run.specs.declared.order.NetCommand.{NetCommand}
 use Rattle.teg_run.specs.declared.status.Status.{Status}
-use Rattle.teg_run.specs.declared.status.Status.TheVariants.{Done, Words, Text, Net, ReadFault, WriteFault, NoMemory}
+use Rattle.teg_run.specs.declared.status.Status.TheVariants.{Text, Net, ReadFault}
 use Rattle.teg_run.specs.declared.texts.Which.{Which}
 use Rattle.teg_run.specs.declared.texts.Which.TheVariants.{Net as NetFile}
 use Rattle.teg_run.specs.Headline.{NetIsNoText, NetIsRefused, TextCause, NetCause, ComesOnly, OverlongRose, NamesLastRead, as_told}

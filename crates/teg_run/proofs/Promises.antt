@@ -1,31 +1,26 @@
 -- The promises of the whole call, from how it runs.
-use Rattle.std.proofs.Common.{◌≡◌, ◌≢◌, ℕ, ◌≤◌, ◌<◌, ◌⊎◌, ⊎_elim, inl, inr, List, [], ◌∷◌, ◌++◌, length, take, map, Option, Some, None, refl, sym, subst, ap, ◌∙◌, arith}
-use Rattle.std.proofs.lemmas.List.{append_cancel_left, take_all}
-use Rattle.teg_net.specs.declared.reader.ReadRefusal.TheVariants.{NotToml}
+use Rattle.std.proofs.Common.{◌≡◌, ◌≢◌, ℕ, ◌⊎◌, ⊎_elim, inl, inr, List, [], Option, Some, None, refl, sym, subst, ◌∙◌}
 use Rattle.teg_net.specs.Nets.{NetLists}
 use Rattle.teg_outside.specs.declared.monitor.Firing.{Firing}
-use Rattle.teg_outside.specs.Causes.{Rose, Rested}
-use Rattle.teg_outside.specs.Shelves.{ShelfState, ReadsGrow}
+use Rattle.teg_outside.specs.Causes.{Rested}
+use Rattle.teg_outside.specs.Shelves.{ShelfState}
 use Rattle.teg_outside.specs.Sinks.{SinkState, BytesGrow, PrefixGrows}
-use Rattle.teg_outside.proofs.Counts.{rose_not_rested}
 use Rattle.teg_run.specs.declared.order.NetCommand.{NetCommand}
 use Rattle.teg_run.specs.declared.order.NetCommand.TheVariants.{Check}
 use Rattle.teg_run.specs.declared.status.Status.{Status}
-use Rattle.teg_run.specs.declared.status.Status.TheVariants.{Done, Words, Text, Net, ReadFault, WriteFault, NoMemory}
+use Rattle.teg_run.specs.declared.status.Status.TheVariants.{Done, Words, Text, Net, WriteFault, NoMemory}
 use Rattle.teg_run.specs.declared.status.Verdict.{Verdict}
 use Rattle.teg_run.specs.declared.status.Verdict.TheVariants.{Done as VerdictDone}
-use Rattle.teg_run.specs.declared.texts.Which.{Which}
-use Rattle.teg_run.specs.declared.texts.Which.TheVariants.{Net as NetFile}
 use Rattle.teg_run.specs.Endings.{Ending, Whole, Lost}
-use Rattle.teg_run.specs.Headline.{Ends, Opens, NetIsNoText, NetIsRefused, TextCause, NetCause, Follows, ComesOnly, OverlongRose, IsTextOf, WroteWhole, WrotePrefix, ReadsFirstOf, NamesLastRead, AcceptsFiles, AllowsNet, Allows}
+use Rattle.teg_run.specs.Headline.{Ends, Opens, TextCause, NetCause, Follows}
 use Rattle.teg_run.specs.Orders.{Order, OfNet, order_of, asked_files}
 use Rattle.teg_run.specs.Reading.{ReadsAll}
 use Rattle.teg_run.specs.Replies.{Reply}
 use Rattle.teg_run.specs.Runs.{Answered, Finished, Runs}
 use Rattle.teg_run.specs.Says.{SaysNet, Asked}
 use Rattle.teg_run.specs.Statuses.{status_of}
-use Rattle.teg_run.specs.Texts.{usage, live_text, read_text, too_large_text, fault_text}
-use Rattle.teg_run.proofs.ReadOrder.{none_read, reads_first}
+use Rattle.teg_run.specs.Texts.{usage, live_text}
+use Rattle.teg_run.proofs.ReadOrder.{none_read}
 use Rattle.teg_run.proofs.Ways.{Way, Unread, Overlong, NoToml, NoNet, NotLive, Reported, way_of, no_text_way, refused_way, opened_way}
 
 -- a call that asks for this
@@ -107,7 +102,7 @@ words_from_way : (command : NetCommand) (name : List ℕ) (shelf shelf' : ShelfS
     EndsSomeWay command name shelf shelf' sink sink' status → status ≡ Words → ⊥
 words_from_way command name shelf shelf' sink sink' status h e =
     ⊎_elim (λ (said : _). ⊎_elim (λ (whole : _). (way_is_said shelf shelf' name (SaysNet command) said.0 said.1 said.2).1 (sym whole.0 ∙ e))
-      (λ (cut : _). let bad : ⊥ = cc (cut.0, e) in bad) said.3)
+    (λ (cut : _). let bad : ⊥ = cc (cut.0, e) in bad) said.3)
     (λ (lost : _). let bad : ⊥ = cc (lost.0, e) in bad) h
 
 words_only_for : (asked : Option Order) (words : List (List ℕ)) (lines : List Firing → List (List ℕ)) (shelf shelf' : ShelfState) (sink sink' : SinkState) (status : Status) →
@@ -128,7 +123,7 @@ pub text_follows : (words : List (List ℕ)) (lines : List Firing → List (List
 text_follows words lines shelf shelf' sink sink' status h files (OfNet command name) told rested asks cause =
     ⊎_elim
     (λ (said : _). let way = no_text_way shelf shelf' files name (SaysNet command) said.0 said.1 cause.0 told rested cause.1 said.2 in
-      (said.1, way.1, ends_with sink sink' status said.0 Text said.1 said.1 way.0 refl said.3))
+    (said.1, way.1, ends_with sink sink' status said.0 Text said.1 said.1 way.0 refl said.3))
     (λ (lost : _). (cause.0, cause.1, inr (inr lost))) (some_way words lines shelf shelf' sink sink' status command name h asks)
 
 pub net_follows : (words : List (List ℕ)) (lines : List Firing → List (List ℕ)) (shelf shelf' : ShelfState) (sink sink' : SinkState) (status : Status) →
@@ -136,7 +131,7 @@ pub net_follows : (words : List (List ℕ)) (lines : List Firing → List (List 
 net_follows words lines shelf shelf' sink sink' status h files (OfNet command name) told rested asks cause =
     ⊎_elim
     (λ (said : _). let way = refused_way shelf shelf' files name (SaysNet command) said.0 said.1 cause.0 told rested cause.1 said.2 in
-      (said.1, way.1, ends_with sink sink' status said.0 Net said.1 said.1 way.0 refl said.3))
+    (said.1, way.1, ends_with sink sink' status said.0 Net said.1 said.1 way.0 refl said.3))
     (λ (lost : _). (cause.0, cause.1, inr (inr lost))) (some_way words lines shelf shelf' sink sink' status command name h asks)
 
 pub check_follows : (words : List (List ℕ)) (lines : List Firing → List (List ℕ)) (shelf shelf' : ShelfState) (sink sink' : SinkState) (status : Status) →
@@ -146,7 +141,7 @@ pub check_follows : (words : List (List ℕ)) (lines : List Firing → List (Lis
 check_follows words lines shelf shelf' sink sink' status h files name net asks told rested opens =
     ⊎_elim
     (λ (said : _). let way = opened_way shelf shelf' files name net (SaysNet Check) said.0 said.1 told rested opens said.2 in
-      ends_with sink sink' status said.0 Done said.1 (live_text net) (way.1 ∙ verdict_is way.0) way.2.1 said.3)
+    ends_with sink sink' status said.0 Done said.1 (live_text net) (way.1 ∙ verdict_is way.0) way.2.1 said.3)
     (λ (lost : _). inr (inr lost)) (some_way words lines shelf shelf' sink sink' status Check name h asks)
 
 -- a status comes only from its cause
@@ -166,7 +161,7 @@ ended_some_way : (command : NetCommand) (name : List ℕ) (shelf shelf' : ShelfS
 ended_some_way command name shelf shelf' sink sink' status other memory h =
     ⊎_elim
     (λ (said : _). let whole = whole_of sink sink' status said.0 said.1 other said.3 in
-      (said.1, subst (λ (s : Status). Way shelf shelf' name (SaysNet command) s said.1) (sym whole.0) said.2, whole.2))
+    (said.1, subst (λ (s : Status). Way shelf shelf' name (SaysNet command) s said.1) (sym whole.0) said.2, whole.2))
     (λ (lost : _). absurd (memory lost.0)) h
 
 status_of_refused_words : (lines : List Firing → List (List ℕ)) (shelf shelf' : ShelfState) (sink sink' : SinkState) (status : Status) (ending : Ending) → status ≢ WriteFault → status ≢ NoMemory →

@@ -1,5 +1,5 @@
 -- Reads one after another: what is told of them, and what became of the shelf.
-use Rattle.std.proofs.Common.{suc, ◌≡◌, ℕ, ◌≤◌, ◌+◌, ◌⊎◌, ⊎_elim, inl, inr, List, [], ◌∷◌, ◌++◌, length, take, map, Option, Some, None, refl, sym, subst, arith}
+use Rattle.std.proofs.Common.{suc, ◌≡◌, ℕ, ◌⊎◌, ⊎_elim, inl, inr, List, [], ◌∷◌, take, map, refl, sym, subst, arith}
 use Rattle.teg_outside.specs.Shelves.{ShelfState, ReadsGrow}
 use Rattle.teg_outside.proofs.Growth.{reads_grow_none, reads_grow_then}
 use Rattle.teg_run.specs.declared.texts.Which.{Which}

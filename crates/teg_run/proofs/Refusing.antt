@@ -1,5 +1,5 @@
 -- Refusals of files.
-use Rattle.std.proofs.Common.{◌≡◌, ℕ, ◌<◌, List, [], ◌∷◌, Option, Some, None, Result, Ok, Err, subst, sym, ap, ◌∙◌, IfOk, IfSome, length, arith}
+use Rattle.std.proofs.Common.{◌≡◌, ℕ, ◌<◌, List, [], ◌∷◌, Option, Result, Ok, Err, subst, sym, IfOk, IfSome, length, arith}
 use Rattle.std.proofs.lemmas.List.Elements.{All-cons}
 use Rattle.std.specs.Global.{Vec}
 use Rattle.teg_net.specs.declared.entries.PlaceId.{PlaceId}

@@ -1,5 +1,5 @@
 -- The ways in which a command on a net ends, by what the one read of its file gave.
-use Rattle.std.proofs.Common.{◌≡◌, ◌≢◌, ℕ, ◌≤◌, ◌<◌, ◌⊎◌, ⊎_elim, inl, inr, List, [], ◌∷◌, length, Option, Some, None, Result, Ok, Err, refl, sym, subst, ap, ◌∙◌, arith}
+use Rattle.std.proofs.Common.{◌≡◌, ◌≢◌, ℕ, ◌≤◌, ◌⊎◌, ⊎_elim, inl, inr, List, [], ◌∷◌, length, Option, Some, Result, Ok, Err, refl, sym, subst, ap, ◌∙◌, arith}
 use Rattle.teg_net.specs.declared.entries.PlaceId.{PlaceId}
 use Rattle.teg_net.specs.declared.reader.ReadRefusal.{ReadRefusal}
 use Rattle.teg_net.specs.declared.reader.ReadRefusal.TheVariants.{NotToml}
@@ -12,12 +12,11 @@ use Rattle.teg_outside.proofs.Counts.{rose_not_rested}
 use Rattle.teg_run.specs.declared.status.Status.{Status}
 use Rattle.teg_run.specs.declared.status.Status.TheVariants.{Text, Net, ReadFault}
 use Rattle.teg_run.specs.declared.status.Verdict.{Verdict}
-use Rattle.teg_run.specs.declared.texts.Which.{Which}
 use Rattle.teg_run.specs.declared.texts.Which.TheVariants.{Net as NetFile}
-use Rattle.teg_run.specs.Headline.{Holds, IsTooLong, NetIsNoText, NetIsRefused, Opens}
+use Rattle.teg_run.specs.Headline.{IsTooLong, NetIsNoText, NetIsRefused, Opens}
 use Rattle.teg_run.specs.Openings.{Opening, Accepted, Refused, OpensNet, OpensDocument, read_status}
 use Rattle.teg_run.specs.Reading.{ReadsAll}
-use Rattle.teg_run.specs.Replies.{limit, Reply, Got, Long, Fault, Lost, Reads, Later}
+use Rattle.teg_run.specs.Replies.{limit, Reply, Got, Long, Fault, Lost, Reads}
 use Rattle.teg_run.specs.Says.{SaysFile, SaysOpening, SaysReport}
 use Rattle.teg_run.specs.Statuses.{status_of}
 use Rattle.teg_run.specs.Texts.{read_text, token_free_text, too_large_text, fault_text}
@@ -133,7 +132,7 @@ live_not_refused : (bytes : List ℕ) (net : NetLists) → document bytes ≡ Ok
 live_not_refused bytes net e live h =
     ⊎_elim (λ (no_net : _). let bad : ⊥ = cc (no_net.1, e) in bad)
     (λ (not_live : _). let same : not_live.0 ≡ net = cc (not_live.2, e) in
-      let free = subst (λ (n : NetLists). IsTokenFree n not_live.1) same not_live.3 in live not_live.1 free.circuit free.no_tokens) h
+    let free = subst (λ (n : NetLists). IsTokenFree n not_live.1) same not_live.3 in live not_live.1 free.circuit free.no_tokens) h
 
 -- the file is no text, so the call says so
 pub no_text_way : (old new : ShelfState) (files : List (List ℕ × List ℕ)) (name : List ℕ) (says : NetLists → Verdict → List ℕ → Type 0) (status : Status) (text said : List ℕ) →

@@ -1,11 +1,10 @@
 -- What was written and what was read, whatever the call ended with, and that it ends as it should.
-use Rattle.std.proofs.Common.{◌≡◌, ◌≢◌, ℕ, ◌≤◌, ◌⊎◌, ⊎_elim, inl, inr, List, [], ◌∷◌, length, take, Option, Some, None, refl, sym, subst, ◌∙◌, arith}
-use Rattle.std.proofs.lemmas.List.{take_all}
+use Rattle.std.proofs.Common.{◌≡◌, ◌≢◌, ℕ, ◌⊎◌, ⊎_elim, inl, inr, List, Option, Some, sym, subst, ◌∙◌}
 use Rattle.teg_net.specs.Nets.{NetLists}
 use Rattle.teg_outside.specs.declared.monitor.Firing.{Firing}
 use Rattle.teg_outside.specs.Causes.{Rose, Rested}
 use Rattle.teg_outside.specs.Shelves.{ShelfState}
-use Rattle.teg_outside.specs.Sinks.{SinkState, BytesGrow, PrefixGrows}
+use Rattle.teg_outside.specs.Sinks.{SinkState, PrefixGrows}
 use Rattle.teg_outside.proofs.Counts.{rose_not_rested}
 use Rattle.teg_run.specs.declared.order.NetCommand.{NetCommand}
 use Rattle.teg_run.specs.declared.order.NetCommand.TheVariants.{Check}
@@ -20,7 +19,7 @@ use Rattle.teg_run.specs.Replies.{Reply}
 use Rattle.teg_run.specs.Runs.{Answered, Finished, Runs}
 use Rattle.teg_run.specs.Says.{SaysNet, Asked}
 use Rattle.teg_run.specs.Statuses.{status_of}
-use Rattle.teg_run.proofs.Promises.{RunsFor, IsSaid, asked_is_said, some_way}
+use Rattle.teg_run.proofs.Promises.{asked_is_said, some_way}
 use Rattle.teg_run.proofs.ReadOrder.{reads_first}
 use Rattle.teg_run.proofs.Ways.{opened_way}
 
@@ -100,6 +99,6 @@ pub ends_as_allowed : (words : List (List ℕ)) (lines : List Firing → List (L
 ends_as_allowed words lines shelf shelf' sink sink' status h files (OfNet command name) asks told rested calm accepts =
     ⊎_elim
     (λ (said : _). let way = opened_way shelf shelf' files name accepts.0 (SaysNet command) said.0 said.1 told rested accepts.1 said.2 in
-      ⊎_elim (λ (whole : _). inr (way.0, whole.0 ∙ way.1, allowed command accepts.0 way.0 said.1 way.2))
-      (λ (cut : _). absurd (rose_not_rested sink.faults sink'.faults cut.1 calm)) said.3)
+    ⊎_elim (λ (whole : _). inr (way.0, whole.0 ∙ way.1, allowed command accepts.0 way.0 said.1 way.2))
+    (λ (cut : _). absurd (rose_not_rested sink.faults sink'.faults cut.1 calm)) said.3)
     (λ (lost : _). inl lost.0) (some_way words lines shelf shelf' sink sink' status command name h asks)

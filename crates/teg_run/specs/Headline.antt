@@ -1,5 +1,5 @@
 -- What the whole call promises its caller, one promise at a time.
-use Rattle.std.specs.Prelude.{ℕ, ◌≡◌, ◌≢◌, ◌≤◌, ◌<◌, ◌⊎◌, List, [], ◌∷◌, ◌++◌, length, take, map, Option, Some, None, IsSomeAnd, Result, Ok, Err}
+use Rattle.std.specs.Prelude.{ℕ, ◌≡◌, ◌≢◌, ◌≤◌, ◌<◌, ◌⊎◌, List, [], ◌∷◌, ◌++◌, length, take, map, Some, IsSomeAnd, Ok, Err}
 use Rattle.teg_net.specs.declared.entries.PlaceId.{PlaceId}
 use Rattle.teg_net.specs.declared.reader.ReadRefusal.{ReadRefusal}
 use Rattle.teg_net.specs.declared.reader.ReadRefusal.TheVariants.{NotToml}
@@ -56,9 +56,9 @@ NetIsNoText files name text =
 abbrev pub NetIsRefused : List (List ℕ × List ℕ) → List ℕ → List ℕ → Type 0
 NetIsRefused files name text =
     ((bytes : List ℕ) × (refusal : ReadRefusal) × Holds files name bytes × (document bytes ≡ Err refusal) × (refusal ≢ NotToml)
-      × (text ≡ read_text refusal))
+    × (text ≡ read_text refusal))
     ⊎ ((bytes : List ℕ) × (net : NetLists) × (circuit : List PlaceId) × Holds files name bytes × (document bytes ≡ Ok net)
-      × IsTokenFree net circuit × (text ≡ token_free_text net circuit))
+    × IsTokenFree net circuit × (text ≡ token_free_text net circuit))
 
 -- why a call with this order ends with the status Text, and what it writes
 abbrev pub TextCause : List (List ℕ × List ℕ) → Order → List ℕ → Type 0

@@ -1,5 +1,5 @@
 -- The whole call: from the words to an answer by the files that they name, and its writing.
-use Rattle.std.specs.Prelude.{ℕ, ◌≡◌, ◌⊎◌, List, Option}
+use Rattle.std.specs.Prelude.{ℕ, ◌≡◌, ◌⊎◌, List}
 use Rattle.teg_outside.specs.declared.monitor.Firing.{Firing}
 use Rattle.teg_outside.specs.Causes.{Rose}
 use Rattle.teg_outside.specs.Shelves.{ShelfState}

@@ -109,10 +109,10 @@ pub fn workbench<S: Shelf, W: Sink>(
     // What was written: the whole text, a first part before a fault, nothing for want of memory.
     ensures written { result ≢ Status.WriteFault → result ≢ Status.NoMemory →
         WroteWhole (map string_bytes words.now) (λ firings. map (λ m. line_text m firings) monitors.items)
-            (S.state shelf.old) (S.state shelf.new) (W.state out.old) (W.state out.new) result }
+        (S.state shelf.old) (S.state shelf.new) (W.state out.old) (W.state out.new) result }
     ensures cut_off { result ≡ Status.WriteFault →
         WrotePrefix (map string_bytes words.now) (λ firings. map (λ m. line_text m firings) monitors.items)
-            (S.state shelf.old) (S.state shelf.new) (W.state out.old) (W.state out.new) }
+        (S.state shelf.old) (S.state shelf.new) (W.state out.old) (W.state out.new) }
     ensures unwritten { result ≡ Status.NoMemory → W.state out.new ≡ W.state out.old }
 
     // What was read, and the causes of faults.

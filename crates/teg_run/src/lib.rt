@@ -14,8 +14,7 @@ mod order;
 mod reading;
 mod status;
 mod texts;
-
 mod writing;
 
-pub use status::Status;
 pub use call::workbench;
+pub use status::Status;

@@ -128,12 +128,7 @@ fn open_net<S: Shelf>(alloc: Global, name: &str, shelf: &mut S) -> Opened<Net>
 }
 
 /// Carries out a command on the net in the file of that name.
-pub fn answer_net<S: Shelf>(
-    alloc: Global,
-    command: NetCommand,
-    net: &str,
-    shelf: &mut S,
-) -> Ending
+pub fn answer_net<S: Shelf>(alloc: Global, command: NetCommand, net: &str, shelf: &mut S) -> Ending
     ensures { Answered (SaysFile OpensNet (λ file. SaysReport (SaysNet command file))) ((Which.Net, net.now) ∷ [])
         (S.state shelf.old) (S.state shelf.new) (ended result) }
 {

@@ -56,11 +56,7 @@ pub fn refusal(alloc: Global, refusal: &ReadRefusal) -> Result<Vec<u8>, OutOfMem
 }
 
 /// The circuit for whose sake a net is not live.
-pub fn token_free(
-    alloc: Global,
-    net: &Net,
-    circuit: &Circuit,
-) -> Result<Vec<u8>, OutOfMemory>
+pub fn token_free(alloc: Global, net: &Net, circuit: &Circuit) -> Result<Vec<u8>, OutOfMemory>
     requires { AreInRange net.now circuit.now.places.items }
     ensures { IfOk result (λ text. text.items ≡ token_free_text net.now circuit.now.places.items) }
 {

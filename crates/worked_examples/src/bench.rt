@@ -5,7 +5,8 @@ use teg_outside::{MemoryShelf, MemorySink, Monitor};
 use teg_run::{Status, workbench};
 
 /// Two transitions in a loop: a place from a to b with hold 3, and one back with hold 2 and a token.
-pub const LOOP: &str = "[[transition]]\nname = \"a\"\n\n[[transition]]\nname = \"b\"\n\n[[place]]\nname = \"ab\"\nfrom = \"a\"\nto = \"b\"\nhold = 3\n\n[[place]]\nname = \"ba\"\nfrom = \"b\"\nto = \"a\"\nhold = 2\ntokens = 1\n";
+pub const LOOP: &str =
+    "[[transition]]\nname = \"a\"\n\n[[transition]]\nname = \"b\"\n\n[[place]]\nname = \"ab\"\nfrom = \"a\"\nto = \"b\"\nhold = 3\n\n[[place]]\nname = \"ba\"\nfrom = \"b\"\nto = \"a\"\nhold = 2\ntokens = 1\n";
 
 /// What is written where that loop is checked.
 pub const LOOP_IS_LIVE: &str = "live\ntransitions 2\nplaces 2\n";

@@ -11,10 +11,21 @@ const NOT_BUILT: &str = "refused: form not built\n";
 
 #[test]
 fn a_live_net_is_told_with_its_size(rt: HostRuntime) -> Result<(), Fail> {
-    let longest_hold = "[[transition]]\nname = \"a\"\n\n[[transition]]\nname = \"b\"\n\n[[place]]\nname = \"ab\"\nfrom = \"a\"\nto = \"b\"\nhold = 1000000000\n\n[[place]]\nname = \"ba\"\nfrom = \"b\"\nto = \"a\"\nhold = 2\ntokens = 1\n";
+    let longest_hold =
+        "[[transition]]\nname = \"a\"\n\n[[transition]]\nname = \"b\"\n\n[[place]]\nname = \"ab\"\nfrom = \"a\"\nto = \"b\"\nhold = 1000000000\n\n[[place]]\nname = \"ba\"\nfrom = \"b\"\nto = \"a\"\nhold = 2\ntokens = 1\n";
     let one_is_live = "live\ntransitions 1\nplaces 0\n";
-    for (net, text) in [(ONE, one_is_live), (LOOP, LOOP_IS_LIVE), (longest_hold, LOOP_IS_LIVE)] {
-        let answered = answers(rt.alloc(), &["check", "net"], net.as_bytes(), Status::Done, text)?;
+    for (net, text) in [
+        (ONE, one_is_live),
+        (LOOP, LOOP_IS_LIVE),
+        (longest_hold, LOOP_IS_LIVE),
+    ] {
+        let answered = answers(
+            rt.alloc(),
+            &["check", "net"],
+            net.as_bytes(),
+            Status::Done,
+            text,
+        )?;
         assert!(rt; answered, "at {net}");
     }
     Ok(())
@@ -22,9 +33,16 @@ fn a_live_net_is_told_with_its_size(rt: HostRuntime) -> Result<(), Fail> {
 
 #[test]
 fn a_circuit_without_tokens_is_named(rt: HostRuntime) -> Result<(), Fail> {
-    let net = "[[transition]]\nname = \"a\"\n\n[[transition]]\nname = \"b\"\n\n[[place]]\nname = \"ab\"\nfrom = \"a\"\nto = \"b\"\nhold = 3\n\n[[place]]\nname = \"ba\"\nfrom = \"b\"\nto = \"a\"\nhold = 2\n";
+    let net =
+        "[[transition]]\nname = \"a\"\n\n[[transition]]\nname = \"b\"\n\n[[place]]\nname = \"ab\"\nfrom = \"a\"\nto = \"b\"\nhold = 3\n\n[[place]]\nname = \"ba\"\nfrom = \"b\"\nto = \"a\"\nhold = 2\n";
     let text = "refused: token-free circuit ab ba\n";
-    let answered = answers(rt.alloc(), &["check", "net"], net.as_bytes(), Status::Net, text)?;
+    let answered = answers(
+        rt.alloc(),
+        &["check", "net"],
+        net.as_bytes(),
+        Status::Net,
+        text,
+    )?;
     assert!(rt; answered);
     Ok(())
 }
@@ -34,7 +52,15 @@ fn what_is_no_text_is_refused(rt: HostRuntime) -> Result<(), Fail> {
     let alloc = rt.alloc();
     let cut = "[[transition]]\nname = \"a";
     let no_toml = "refused: not TOML\n";
-    assert!(rt; answers(alloc, &["check", "net"], cut.as_bytes(), Status::Text, no_toml)?);
+    assert!(rt;
+        answers(
+            alloc,
+            &["check", "net"],
+            cut.as_bytes(),
+            Status::Text,
+            no_toml
+        )?
+    );
     assert!(rt; answers(alloc, &["check", "net"], b"\xff", Status::Text, no_toml)?);
     let long = vec![in alloc; b'#'; 4194305]?;
     let too_long = "refused: the net is longer than 4194304 bytes\n";
@@ -51,7 +77,13 @@ fn a_net_of_another_form_is_refused(rt: HostRuntime) -> Result<(), Fail> {
         "[[place]]\nname = \"ab\"\nfrom = \"a\"\nto = \"B\"\nhold = 3\n",
     ] {
         let net = format!(in alloc; "{TWO_ENDS}{places}")?;
-        let answered = answers(alloc, &["check", "net"], net.as_bytes(), Status::Net, NOT_BUILT)?;
+        let answered = answers(
+            alloc,
+            &["check", "net"],
+            net.as_bytes(),
+            Status::Net,
+            NOT_BUILT,
+        )?;
         assert!(rt; answered, "at {places}");
     }
     assert!(rt; answers(alloc, &["check", "net"], b"", Status::Net, NOT_BUILT)?);

@@ -51,10 +51,10 @@ fn a_write_that_fails_leaves_a_first_part(rt: HostRuntime) -> Result<(), Fail> {
     let mut failing = MemorySink::new(alloc, 8, 65536, vec![in alloc; 2]?)?;
     let status = call(alloc, &["check", "net"], &mut shelf, &mut failing)?;
     assert_eq!(rt; status, Status::WriteFault);
-    assert!(rt; failing.contents() == b"live\ntra");
+    assert!(rt; failing.contents() == b"live\ntra".as_slice());
     let mut narrow = MemorySink::new(alloc, 8, 10, Vec::new(alloc))?;
     let status = call(alloc, &["check", "net"], &mut shelf, &mut narrow)?;
     assert_eq!(rt; status, Status::WriteFault);
-    assert!(rt; narrow.contents() == b"live\ntrans");
+    assert!(rt; narrow.contents() == b"live\ntrans".as_slice());
     Ok(())
 }

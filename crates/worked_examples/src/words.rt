@@ -13,7 +13,15 @@ fn words_that_ask_for_nothing_get_the_usage(rt: HostRuntime) -> Result<(), Fail>
     assert!(rt; answers(alloc, &["chek", "net"], net, Status::Words, USAGE)?);
     assert!(rt; answers(alloc, &["check"], net, Status::Words, USAGE)?);
     assert!(rt; answers(alloc, &["check", "-x"], net, Status::Words, USAGE)?);
-    assert!(rt; answers(alloc, &["check", "net", "--rounds"], net, Status::Words, USAGE)?);
+    assert!(rt;
+        answers(
+            alloc,
+            &["check", "net", "--rounds"],
+            net,
+            Status::Words,
+            USAGE
+        )?
+    );
     assert!(rt; answers(alloc, &["check", "net", "net"], net, Status::Words, USAGE)?);
     assert!(rt; answers(alloc, &["list", "net", "10001"], net, Status::Words, USAGE)?);
     Ok(())
