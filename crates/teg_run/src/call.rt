@@ -21,7 +21,7 @@ use crate::writing::finish;
 use std::alloc::Global;
 use teg_outside::{Monitor, Shelf, Sink};
 
-// Carries out an order.
+// Carries out an order. No command shows firings yet, so the monitors are dropped unseen.
 fn answer_order<S: Shelf>(
     alloc: Global,
     order: Order<'_>,

@@ -25,9 +25,13 @@ const LIMIT: usize = 4194304;
 /// What one read gave.
 #[derive(Drop)]
 pub enum Fetched {
+    /// The whole file.
     Got(Vec<u8>),
+    /// The file is longer than a file may be.
     Long,
+    /// The file could not be read.
     Fault,
+    /// No memory was found.
     Lost,
 }
 
@@ -36,6 +40,7 @@ pub enum Fetched {
 pub enum Opened<T: Drop> {
     Accepted(T),
     Refused(Status, Vec<u8>),
+    /// No memory was found.
     Lost,
 }
 

@@ -60,6 +60,7 @@ impl Status {
 /// none of its business.
 #[derive(Clone, Copy, Debug, PartialEq, Eq)]
 pub enum Verdict {
+    /// The command was carried out.
     Done,
 }
 

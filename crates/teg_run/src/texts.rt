@@ -9,6 +9,7 @@ use teg_net::{Circuit, Net, OutOfMemory, ReadRefusal};
 /// What a file is for.
 #[derive(Clone, Copy, Debug, PartialEq, Eq)]
 pub enum Which {
+    /// The net of a command.
     Net,
 }
 
