@@ -1,0 +1,68 @@
+-- One more step of a sum of products.
+use Rattle.std.proofs.Common.{◌≡◌, ℕ, zero, suc, ◌<◌, ◌≤◌, ◌*◌, ◌+◌, refl, ap, sym, ◌∙◌, arith, subst, add-one, ⊎_elim, ◌-◌, ◌/◌, ◌%◌, List, [], ◌∷◌, ◌++◌, length, get_or, length-append, below_more, mul_comm}
+use Rattle.std.proofs.lemmas.List.{get_or_append_left, get_or-append_right, get_or_past}
+use Rattle.std.proofs.lemmas.Bool.{cases_lt}
+use Rattle.std.proofs.Math.Nat.{mul-le-mul_right}
+use Rattle.dioid.specs.declared.algebra.Dioid.{Ghosts as DioidOf}
+use Rattle.dioid_matrix.specs.Lists.{HoldsEach}
+use Rattle.dioid_matrix.specs.Products.{StepFits}
+use Rattle.dioid_matrix.specs.Sums.{dot}
+use Rattle.dioid_matrix.specs.Tables.{AreElements}
+
+module _ {M : Type 0} (d : DioidOf M) (a b : ℕ → M) where
+  pub dot_more : (k : ℕ) (before x y p after : M) → before ≡ dot d k a b → x ≡ a k → y ≡ b k → p ≡ d.product x y → after ≡ d.sum before p → after ≡ dot d (k + 1) a b
+  dot_more k before x y p after hb hx hy hp ha = rw add-one (ha ∙ ap (λ z. d.sum z p) hb ∙ ap (d.sum (dot d k a b)) (hp ∙ ap (λ z. d.product z y) hx ∙ ap (d.product (a k)) hy))
+
+  pub step_fits : (k : ℕ) (before x y p : M) → before ≡ dot d k a b → x ≡ a k → y ≡ b k → p ≡ d.product x y → d.product_fits x y → d.sum_fits before p → StepFits d a b k
+  step_fits k before x y p hb hx hy hp fits fit =
+      let xy : d.product_fits (a k) (b k) = subst (λ (z : M). d.product_fits z (b k)) hx (subst (λ (z : M). d.product_fits x z) hy fits) in
+      let pp : p ≡ d.product (a k) (b k) = hp ∙ ap (λ z. d.product z y) hx ∙ ap (d.product (a k)) hy in
+      (xy, λ _. subst (λ (z : M). d.sum_fits z (d.product (a k) (b k))) hb (subst (λ (z : M). d.sum_fits before z) pp fit))
+
+-- a place in a table
+pub place_within : (k n column columns len : ℕ) → k < n → column < columns → len ≡ n * columns → k * columns + column < len
+place_within k n column columns len hk hc e =
+    let more : (k + 1) * columns ≤ n * columns = mul-le-mul_right {m = k + 1} {n = n} columns (omega arith) in
+    omega (arith, more, e)
+
+pub row_below : (place rows columns : ℕ) → 1 ≤ columns → place < rows * columns → place / columns + 1 ≤ rows
+row_below place rows columns hc hp = ⊎_elim
+    (λ l. omega (arith, l))
+    (λ m. let more : rows * columns ≤ (place / columns) * columns = mul-le-mul_right {m = rows} {n = place / columns} columns m in
+    let parts : columns * (place / columns) + place % columns ≡ place = omega arith in
+    absurd (omega (arith, more, parts, mul_comm (place / columns) columns)))
+    (cases_lt (place / columns) rows)
+
+sub-same : (n : ℕ) → n - n ≡ 0
+sub-same n = omega arith
+
+-- the row of a place lies in the table
+pub row_within : (place rows columns count len : ℕ) → 1 ≤ columns → place < rows * columns → len ≡ rows * count → place / columns * count + count ≤ len
+row_within place rows columns count len hc hp e =
+    let more : (place / columns + 1) * count ≤ rows * count = mul-le-mul_right {m = place / columns + 1} {n = rows} count (row_below place rows columns hc hp) in
+    omega (arith, more, e)
+
+-- one place more
+pub holds_more : {M : Type 0} (d : DioidOf M) (n : ℕ) (fits : ℕ → Type 0) (value : ℕ → M) (xs : List M) (y : M) → HoldsEach d n fits value xs → fits n → y ≡ value n → d.is_element y → HoldsEach d (n + 1) fits value (xs ++ y ∷ [])
+holds_more {M} d n fits value xs y h f e is =
+    let last : get_or (xs ++ y ∷ []) n d.zero ≡ y = get_or-append_right xs (y ∷ []) n n d.zero h.len (omega arith) ∙ ap (λ z. get_or (y ∷ []) z d.zero) (sub-same n) in
+    let before = λ (k : ℕ) (l : k < n). let p : get_or (xs ++ y ∷ []) k d.zero ≡ get_or xs k d.zero = get_or_append_left xs (y ∷ []) d.zero k (omega (arith, h.len)) in p in
+    record {
+      len = rw length-append (omega (arith, h.len));
+      values = below_more (λ k. get_or (xs ++ y ∷ []) k d.zero ≡ value k) n (λ k l. before k l ∙ h.values k l) (last ∙ e);
+      elements = below_more (λ k. d.is_element (get_or (xs ++ y ∷ []) k d.zero)) n (λ k l. subst (λ (z : M). d.is_element z) (sym (before k l)) (h.elements k l)) (subst (λ (z : M). d.is_element z) (sym last) is);
+      fit = below_more fits n h.fit f;
+    }
+
+-- a list of elements, where zero is one, is read as elements everywhere
+pub elements_everywhere : {M : Type 0} (d : DioidOf M) (n : ℕ) (fits : ℕ → Type 0) (value : ℕ → M) (xs : List M) → d.is_element d.zero → HoldsEach d n fits value xs → AreElements d xs
+elements_everywhere {M} d n fits value xs zero_is h k = ⊎_elim
+    (λ l. h.elements k l)
+    (λ m. subst (λ (z : M). d.is_element z) (sym (get_or_past xs k d.zero (omega (arith, h.len, m)))) zero_is)
+    (cases_lt k n)
+
+-- a place in the row of another
+pub pivot_within : (place size k len : ℕ) → k < size → place < size * size → len ≡ size * size → place / size * size + k < len
+pivot_within place size k len hk hp e =
+    let b : place / size * size + size ≤ len = row_within place size size size len (omega arith) hp e in
+    omega (arith, b)

@@ -1,0 +1,39 @@
+-- From places in a list to rows and columns.
+use Rattle.std.proofs.Common.{◌≡◌, ℕ, ◌<◌, ◌≤◌, ◌*◌, ◌+◌, ◌/◌, ◌%◌, ◌⊎◌, ap, arith, subst, ⊎_elim, List, get_or, mul_comm}
+use Rattle.std.proofs.Math.Nat.{mul-le-mul_right}
+use Rattle.std.proofs.lemmas.Nat.{div-mul-add, mod-mul-add, mul-add-lt, div-add-mod'}
+use Rattle.dioid.specs.declared.algebra.Dioid.{Ghosts as DioidOf}
+use Rattle.dioid_matrix.specs.Lists.{HoldsEach}
+use Rattle.dioid_matrix.specs.Tables.{table_of, entry_of, IsFirstMisfit, StopsAt}
+use Rattle.dioid_matrix.proofs.Cells.{row_below}
+
+-- what holds at a place holds in its row and column
+pub at_place : (P : ℕ → ℕ → Type 0) (i j columns : ℕ) → j < columns → P ((i * columns + j) / columns) ((i * columns + j) % columns) → P i j
+at_place P i j columns hj h = subst (λ (m : ℕ). P m j) (div-mul-add i columns j hj) (subst (λ (m : ℕ). P ((i * columns + j) / columns) m) (mod-mul-add i columns j hj) h)
+
+pub earlier : (i j columns place : ℕ) → j < columns → (i < place / columns) ⊎ ((i ≡ place / columns) × (j < place % columns)) → i * columns + j < place
+earlier i j columns place hj order = ⊎_elim
+    (λ l. let more : (i + 1) * columns ≤ place / columns * columns = mul-le-mul_right {m = i + 1} {n = place / columns} columns (omega (arith, l)) in
+    omega (arith, more, div-add-mod' place columns))
+    (λ p. let same : i * columns ≡ place / columns * columns = ap (λ m. m * columns) p.0 in omega (arith, same, p.1, div-add-mod' place columns))
+    order
+
+-- the first place that does not fit is the first entry by rows
+pub first_misfit : (rows columns place : ℕ) (fits : ℕ → ℕ → Type 0) → 1 ≤ columns → StopsAt (rows * columns) (λ p. fits (p / columns) (p % columns)) place → IsFirstMisfit rows columns fits (place / columns) (place % columns)
+first_misfit rows columns place fits hc h = record {
+  in_rows = let b : place / columns + 1 ≤ rows = row_below place rows columns hc h.within in omega (arith, b);
+  in_columns = omega arith;
+  before = λ i j hj order. at_place fits i j columns hj (h.before (i * columns + j) (earlier i j columns place hj order));
+  here = h.here;
+}
+
+-- a list by rows as a table
+module _ {M : Type 0} (d : DioidOf M) (rows columns : ℕ) (fits : ℕ → ℕ → Type 0) (value : ℕ → ℕ → M) (xs : List M) (h : HoldsEach d (rows * columns) (λ place. fits (place / columns) (place % columns)) (λ place. value (place / columns) (place % columns)) xs) where
+  within : (i j : ℕ) → i < rows → j < columns → i * columns + j < rows * columns
+  within i j hi hj = rw (mul_comm rows columns) (mul-add-lt i columns j rows hi hj)
+
+  pub entries_held : (i j : ℕ) → i < rows → j < columns → entry_of d (table_of rows columns xs) i j ≡ value i j
+  entries_held i j hi hj = at_place (λ m n. get_or xs (i * columns + j) d.zero ≡ value m n) i j columns hj (h.values (i * columns + j) (within i j hi hj))
+
+  pub fits_held : (i j : ℕ) → i < rows → j < columns → fits i j
+  fits_held i j hi hj = at_place fits i j columns hj (h.fit (i * columns + j) (within i j hi hj))

@@ -1,0 +1,13 @@
+use Rattle.std.proofs.Common.{◌/◌, ◌%◌, ℕ}
+use Rattle.dioid_matrix.specs.Lists.{HoldsEach}
+use Rattle.dioid_matrix.specs.Products.{CellFits}
+use Rattle.dioid_matrix.specs.Sums.{dot}
+use Rattle.dioid_matrix.specs.Tables.{entry_of, table_of}
+use Rattle.dioid_matrix.proofs.lists.products.Given as goal
+
+abbrev pub invariant-loop-place : goal.invariant-loop-place
+invariant-loop-place g l =
+    let d = g.D.Dioid in
+    let a = entry_of d (table_of l.rows l.count l.left) in
+    let b = entry_of d (table_of l.count l.columns l.right) in
+    HoldsEach d l.place (λ place. CellFits d l.count a b (place / l.columns) (place % l.columns)) (λ place. dot d l.count (a (place / l.columns)) (λ k. b k (place % l.columns))) l.values.items

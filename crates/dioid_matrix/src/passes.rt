@@ -1,0 +1,196 @@
+// The steps of Kleene's recursion on the entries of a square matrix. Each step makes the star of its
+// pivot and the pivot's row of loops once, so that the whole takes n^3 sums and products.
+
+ghost use Rattle.std.specs.Prelude.{◌≡◌, cond, IsTrue, IfOk, ◌≤◌, ◌<◌, ◌+◌, ◌*◌, ◌^◌, ℕ, length, get_or};
+ghost use Rattle.dioid.specs.Answer.{Answers};
+ghost use Rattle.dioid_matrix.specs.Lists.{AnswersList, AreLoops, IsPassed, PassRefused, IsLast, LastRefused};
+ghost use Rattle.dioid_matrix.specs.Tables.{entry_of, table_of, AreElements};
+ghost use Rattle.dioid_matrix.specs.Turns.{WayFits, IsStar, StarRefused};
+
+use crate::refusals::MatrixRefused;
+use dioid::{Dioid, Kleene, Refused};
+use std::alloc::{AllocError, Global};
+
+/// The loops of row `k` by columns: the star of the pivot by each entry of its row, up to the first
+/// that does not fit.
+pub(crate) fn loops<D: Kleene>(
+    alloc: Global,
+    entries: &[D],
+    size: usize,
+    k: usize,
+) -> Result<Vec<D>, AllocError>
+    requires step { k < size }
+    requires filled { length entries.now ≡ size * size }
+    requires fits { size * size < 2 ^ 64 }
+    ensures { IfOk result (λ loops. AreLoops D.Dioid D.Kleene.own size (entry_of D.Dioid (table_of size size entries.now)) k loops.items) }
+{
+    let mut loops = Vec::new(alloc);
+    let star = match entries[k * size + k].star(alloc) {
+        Ok(star) => star,
+        Err(Refused::Range) => return Ok(loops),
+        Err(Refused::OutOfMemory) => return Err(AllocError),
+    };
+    for column in 0..size {
+        match star.times(alloc, &entries[k * size + column]) {
+            Ok(value) => loops.push(value)?,
+            Err(Refused::Range) => return Ok(loops),
+            Err(Refused::OutOfMemory) => return Err(AllocError),
+        }
+    }
+    Ok(loops)
+}
+
+/// An entry's next value: the old one, and the way in by the loops.
+pub(crate) fn turn<D: Dioid>(alloc: Global, old: &D, into: &D, loops: &D) -> Result<D, Refused>
+    ensures answer { Answers D.TAKES_MEMORY (WayFits D.Dioid old.now into.now loops.now) (D.sum old.now (D.product into.now loops.now)) result }
+    ensures element { IfOk result D.is_element }
+{
+    let way = into.times(alloc, loops)?;
+    old.plus(alloc, &way)
+}
+
+/// Step `k + 1` of the recursion, by the loops of row `k`.
+pub(crate) fn turned<D: Kleene>(
+    alloc: Global,
+    entries: &[D],
+    loops: &[D],
+    size: usize,
+    k: usize,
+) -> Result<Vec<D>, MatrixRefused>
+    requires step { k < size }
+    requires filled { length entries.now ≡ size * size }
+    requires fits { size * size < 2 ^ 64 }
+    requires loops { AreLoops D.Dioid D.Kleene.own size (entry_of D.Dioid (table_of size size entries.now)) k loops.now }
+    ensures { let r = entry_of D.Dioid (table_of size size entries.now) in
+        AnswersList D.Dioid size size (IsPassed D.Dioid D.Kleene.own size r k) (PassRefused D.Dioid D.Kleene.own size r k) result }
+{
+    let mut values = Vec::new(alloc);
+    for place in 0..size * size {
+        let row = place / size;
+        let column = place % size;
+        if loops.len() <= column {
+            return Err(MatrixRefused::Range {
+                step: k + 1,
+                row,
+                column,
+            });
+        }
+        match turn(
+            alloc,
+            &entries[place],
+            &entries[row * size + k],
+            &loops[column],
+        ) {
+            Ok(value) => {
+                if values.push(value).is_err() {
+                    return Err(MatrixRefused::OutOfMemory);
+                }
+            }
+            Err(Refused::Range) => {
+                return Err(MatrixRefused::Range {
+                    step: k + 1,
+                    row,
+                    column,
+                });
+            }
+            Err(Refused::OutOfMemory) => return Err(MatrixRefused::OutOfMemory),
+        }
+    }
+    Ok(values)
+}
+
+/// Step `k + 1` of the recursion, on the entries of a square matrix.
+pub(crate) fn pass<D: Kleene>(
+    alloc: Global,
+    entries: &[D],
+    size: usize,
+    k: usize,
+) -> Result<Vec<D>, MatrixRefused>
+    requires step { k < size }
+    requires filled { length entries.now ≡ size * size }
+    requires fits { size * size < 2 ^ 64 }
+    ensures { let r = entry_of D.Dioid (table_of size size entries.now) in
+        AnswersList D.Dioid size size (IsPassed D.Dioid D.Kleene.own size r k) (PassRefused D.Dioid D.Kleene.own size r k) result }
+{
+    let Ok(loops) = loops(alloc, entries, size, k) else {
+        return Err(MatrixRefused::OutOfMemory);
+    };
+    turned(alloc, entries, loops.as_slice(), size, k)
+}
+
+/// An entry's last value: one is added on the diagonal.
+pub(crate) fn ended<D: Dioid>(
+    alloc: Global,
+    entry: &D,
+    one: &D,
+    is_diagonal: bool,
+) -> Result<D, Refused>
+    ensures answer { Answers D.TAKES_MEMORY (IsTrue is_diagonal → D.sum_fits entry.now one.now) (cond is_diagonal (D.sum entry.now one.now) entry.now) result }
+    ensures element { IfOk result D.is_element }
+{
+    if is_diagonal {
+        entry.plus(alloc, one)
+    } else {
+        entry.duplicate(alloc)
+    }
+}
+
+/// The last step of the recursion.
+pub(crate) fn finish<D: Kleene>(
+    alloc: Global,
+    entries: &[D],
+    size: usize,
+) -> Result<Vec<D>, MatrixRefused>
+    requires some { 1 ≤ size }
+    requires few { size ≤ 4096 }
+    requires filled { length entries.now ≡ size * size }
+    requires fits { size * size < 2 ^ 64 }
+    ensures { let r = entry_of D.Dioid (table_of size size entries.now) in
+        AnswersList D.Dioid size size (IsLast D.Dioid size r) (LastRefused D.Dioid size r) result }
+{
+    let Ok(one) = D::one(alloc) else {
+        return Err(MatrixRefused::OutOfMemory);
+    };
+    let mut values = Vec::new(alloc);
+    for place in 0..size * size {
+        let row = place / size;
+        let column = place % size;
+        match ended(alloc, &entries[place], &one, row == column) {
+            Ok(value) => {
+                if values.push(value).is_err() {
+                    return Err(MatrixRefused::OutOfMemory);
+                }
+            }
+            Err(Refused::Range) => {
+                return Err(MatrixRefused::Range {
+                    step: size + 1,
+                    row,
+                    column,
+                });
+            }
+            Err(Refused::OutOfMemory) => return Err(MatrixRefused::OutOfMemory),
+        }
+    }
+    Ok(values)
+}
+
+/// The entries of the star of a square matrix.
+pub(crate) fn star_entries<D: Kleene>(
+    alloc: Global,
+    entries: &[D],
+    size: usize,
+) -> Result<Vec<D>, MatrixRefused>
+    requires some { 1 ≤ size }
+    requires few { size ≤ 4096 }
+    requires filled { length entries.now ≡ size * size }
+    requires fits { size * size < 2 ^ 64 }
+    requires elements { AreElements D.Dioid entries.now }
+    ensures { let a = table_of size size entries.now in
+        AnswersList D.Dioid size size (IsStar D.Dioid D.Kleene.own a) (StarRefused D.Dioid D.Kleene.own a) result }
+{
+    let mut table = pass(alloc, entries, size, 0)?;
+    for k in 1..size {
+        table = pass(alloc, table.as_slice(), size, k)?;
+    }
+    finish(alloc, table.as_slice(), size)
+}

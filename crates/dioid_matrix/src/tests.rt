@@ -1,0 +1,167 @@
+use crate::{Matrix, MatrixRefused};
+use dioid::{Date, Dioid, Flag, Kleene, Residuated};
+use std::alloc::Global;
+use std::test::Fail;
+
+/// Whether these are the entries of the matrix, by rows.
+fn holds<D: Dioid>(matrix: &Matrix<D>, wanted: &[D]) -> bool {
+    let mut wanted = wanted.iter();
+    for row in 0..matrix.rows() {
+        for column in 0..matrix.columns() {
+            let is_same = match wanted.next() {
+                Some(value) => matrix.entry(row, column).same(value),
+                None => false,
+            };
+            if !is_same {
+                return false;
+            }
+        }
+    }
+    wanted.next().is_none()
+}
+
+/// The product, the star, the least solution and the residual, through the bounds.
+fn products<D: Kleene + Residuated>(
+    alloc: Global,
+    a: &Matrix<D>,
+    b: &Matrix<D>,
+) -> Result<[Matrix<D>; 4], MatrixRefused> {
+    Ok([
+        a.times(alloc, b)?,
+        a.star(alloc)?,
+        a.solve_least(alloc, b)?,
+        a.left_residual(alloc, b)?,
+    ])
+}
+
+#[test]
+fn flags_through_the_bounds(rt: HostRuntime) -> Result<(), Fail> {
+    let alloc = rt.alloc();
+    let (no, yes) = (Flag::No, Flag::Yes);
+    let a = Matrix::new(2, 2, vec![in alloc; no, yes, no, no]?)
+        .ok()
+        .ok_or("new")?;
+    let b = Matrix::new(2, 1, vec![in alloc; no, yes]?)
+        .ok()
+        .ok_or("new")?;
+    let sum = a.plus(alloc, &a).ok().ok_or("plus")?;
+    assert!(rt; holds(&sum, &[no, yes, no, no]));
+    let [product, star, least, residual] = products(alloc, &a, &b).ok().ok_or("products")?;
+    assert!(rt; holds(&product, &[yes, no]));
+    assert!(rt; holds(&star, &[yes, yes, no, yes]));
+    assert!(rt; holds(&least, &[yes, yes]));
+    assert!(rt; holds(&residual, &[yes, no]));
+    Ok(())
+}
+
+#[test]
+fn dates_through_the_bounds(rt: HostRuntime) -> Result<(), Fail> {
+    let alloc = rt.alloc();
+    let (early, never) = (Date::Early, Date::Never);
+    let a = Matrix::new(
+        2,
+        2,
+        vec![in alloc; early, Date::At(2), Date::At(-3), early]?,
+    )
+    .ok()
+    .ok_or("new")?;
+    let b = Matrix::new(2, 1, vec![in alloc; Date::At(0), Date::At(10)]?)
+        .ok()
+        .ok_or("new")?;
+    let [product, star, least, residual] = products(alloc, &a, &b).ok().ok_or("products")?;
+    assert!(rt; holds(&product, &[Date::At(12), Date::At(-3)]));
+    assert!(rt;
+        holds(
+            &star,
+            &[Date::At(0), Date::At(2), Date::At(-3), Date::At(0)]
+        )
+    );
+    assert!(rt; holds(&least, &[Date::At(12), Date::At(10)]));
+    assert!(rt; holds(&residual, &[Date::At(13), Date::At(-2)]));
+    let a = Matrix::new(
+        2,
+        2,
+        vec![in alloc; early, Date::At(2), Date::At(-1), early]?,
+    )
+    .ok()
+    .ok_or("new")?;
+    let star = a.star(alloc).ok().ok_or("star")?;
+    assert!(rt; holds(&star, &[never, never, never, never]));
+    let one = Matrix::new(1, 1, vec![in alloc; Date::At(1)]?)
+        .ok()
+        .ok_or("new")?;
+    let two = Matrix::new(1, 1, vec![in alloc; Date::At(2)]?)
+        .ok()
+        .ok_or("new")?;
+    let sum = one.plus(alloc, &two).ok().ok_or("plus")?;
+    assert!(rt; holds(&sum, &[Date::At(2)]));
+    Ok(())
+}
+
+#[test]
+fn sizes_that_do_not_go_together(rt: HostRuntime) -> Result<(), Fail> {
+    let alloc = rt.alloc();
+    let count = Matrix::new(2, 2, vec![in alloc; Flag::No, Flag::No, Flag::No]?).err();
+    assert_eq!(rt;
+        count,
+        Some(MatrixRefused::Count {
+            wanted: 4,
+            given: 3
+        })
+    );
+    let row = Matrix::new(1, 2, vec![in alloc; Flag::No, Flag::Yes]?)
+        .ok()
+        .ok_or("new")?;
+    let column = Matrix::new(2, 1, vec![in alloc; Flag::No, Flag::Yes]?)
+        .ok()
+        .ok_or("new")?;
+    let shape = Some(MatrixRefused::Shape {
+        left_columns: 2,
+        right_rows: 1,
+    });
+    assert_eq!(rt; row.times(alloc, &row).err(), shape);
+    assert_eq!(rt; row.star(alloc).err(), shape);
+    assert_eq!(rt; row.solve_least(alloc, &row).err(), shape);
+    assert_eq!(rt; column.left_residual(alloc, &row).err(), shape);
+    Ok(())
+}
+
+#[test]
+fn operations_that_do_not_fit(rt: HostRuntime) -> Result<(), Fail> {
+    let alloc = rt.alloc();
+    let (early, last) = (Date::Early, Date::At(i128::MAX));
+    let great = Matrix::new(1, 1, vec![in alloc; last]?).ok().ok_or("new")?;
+    let one = Matrix::new(1, 1, vec![in alloc; Date::At(1)]?)
+        .ok()
+        .ok_or("new")?;
+    let first = Some(MatrixRefused::Range {
+        step: 0,
+        row: 0,
+        column: 0,
+    });
+    assert_eq!(rt; great.times(alloc, &one).err(), first);
+    let minus = Matrix::new(1, 1, vec![in alloc; Date::At(-1)]?)
+        .ok()
+        .ok_or("new")?;
+    assert_eq!(rt; minus.left_residual(alloc, &great).err(), first);
+    let loops = vec![in alloc; Date::At(0), last, Date::At(1), early]?;
+    let square = Matrix::new(2, 2, loops).ok().ok_or("new")?;
+    let second = Some(MatrixRefused::Range {
+        step: 1,
+        row: 1,
+        column: 1,
+    });
+    assert_eq!(rt; square.star(alloc).err(), second);
+    let ways = vec![in alloc; early, Date::At(1), early, early]?;
+    let square = Matrix::new(2, 2, ways).ok().ok_or("new")?;
+    let column = Matrix::new(2, 1, vec![in alloc; early, last]?)
+        .ok()
+        .ok_or("new")?;
+    let middle = Some(MatrixRefused::Range {
+        step: 1,
+        row: 0,
+        column: 0,
+    });
+    assert_eq!(rt; square.solve_least(alloc, &column).err(), middle);
+    Ok(())
+}
