@@ -1,12 +1,12 @@
 -- The greatest x for which the product of a and x is at most b.
-use Rattle.std.proofs.Common.{◌≡◌, ◌↔◌, ℕ, zero, suc, ◌<◌, ◌≤◌, refl, ap, sym, ◌∙◌, arith, subst, ⊎_elim, cond, eqb}
+use Rattle.std.proofs.Common.{◌≡◌, ℕ, zero, suc, ◌<◌, ◌≤◌, sym, arith, subst, ⊎_elim}
 use Rattle.std.proofs.Math.Nat.{eq-or-lt_of_le}
 use Rattle.dioid.specs.Laws.{IsAtMost, IsClosed, DioidLaws, ResidualLaws}
 use Rattle.dioid.specs.declared.algebra.Dioid.{Ghosts as DioidOf}
 use Rattle.dioid.specs.declared.algebra.Residuated.{Ghosts as ResiduatedOf}
 use Rattle.dioid_matrix.specs.Sums.{dot}
-use Rattle.dioid_matrix.specs.Residuals.{meet_below, residual_of, IsGreatest, IsResidual, ResidueFits}
-use Rattle.dioid_matrix.proofs.Order.{Below, trans, total_is, term_below, total_below}
+use Rattle.dioid_matrix.specs.Residuals.{meet_below, residual_of, IsGreatest}
+use Rattle.dioid_matrix.proofs.Order.{trans, total_is, term_below, total_below}
 
 module _ {M : Type 0} (d : DioidOf M) (u : ResiduatedOf M) (closed : IsClosed d.is_element d.zero d.one d.sum d.product) (laws : DioidLaws d.is_element d.zero d.one d.sum d.product) (residuals : ResidualLaws d.is_element d.sum d.product u.left u.meet) where
   meet_is : (f : ℕ → M) (n : ℕ) → ((i : ℕ) → d.is_element (f i)) → d.is_element (meet_below u f n)

@@ -1,12 +1,12 @@
 -- Kleene's recursion gives the star of a matrix: least solutions for every column.
-use Rattle.std.proofs.Common.{◌≡◌, ℕ, zero, suc, ◌<◌, ◌+◌, Bool, true, false, cond, eqb, refl, ap, sym, ◌∙◌, arith, subst, ⊎_elim, ◌⊎◌}
+use Rattle.std.proofs.Common.{◌≡◌, ℕ, zero, suc, ◌<◌, Bool, true, false, cond, eqb, refl, ap, sym, ◌∙◌, arith, subst, ⊎_elim}
 use Rattle.std.proofs.lemmas.Bool.Decides.{nat_tests}
 use Rattle.std.proofs.Math.Nat.{eq-or-lt_of_le}
 use Rattle.dioid.specs.Laws.{IsAtMost, IsClosed, DioidLaws, StarLaws}
 use Rattle.dioid.specs.declared.algebra.Dioid.{Ghosts as DioidOf}
 use Rattle.dioid.specs.declared.algebra.Kleene.{Ghosts as KleeneOf}
 use Rattle.dioid_matrix.specs.Sums.{total, dot}
-use Rattle.dioid_matrix.specs.Stars.{through, steps_of, star_of, IsLeastSolution, StarsAreLeast}
+use Rattle.dioid_matrix.specs.Stars.{steps_of, star_of, StarsAreLeast}
 use Rattle.dioid_matrix.proofs.Order.{Below, same, equal, trans, least_above, left_part, right_part, both, at_product, antisym, total_is, term_below, total_below}
 
 eqb_same : (i : ℕ) → eqb i i ≡ true

@@ -1,12 +1,10 @@
 -- One more row of a residual.
-use Rattle.std.proofs.Common.{◌≡◌, ℕ, zero, suc, ◌<◌, ◌≤◌, ◌+◌, refl, ap, sym, ◌∙◌, arith, subst, add-one, ◌*◌, ◌/◌, ◌%◌, List, get_or, mul_comm}
-use Rattle.std.proofs.lemmas.Nat.{mul-add-lt}
+use Rattle.std.proofs.Common.{◌≡◌, ℕ, zero, suc, ◌<◌, ◌≤◌, ◌+◌, refl, ap, sym, ◌∙◌, arith, subst, add-one, ◌*◌, ◌/◌, ◌%◌, List}
 use Rattle.dioid.specs.declared.algebra.Dioid.{Ghosts as DioidOf}
 use Rattle.dioid.specs.declared.algebra.Residuated.{Ghosts as ResiduatedOf}
-use Rattle.dioid_matrix.specs.Residuals.{meet_below, lefts, RowFits, residual_of, ResidueFits, IsResidual, IsGreatest}
+use Rattle.dioid_matrix.specs.Residuals.{meet_below, lefts, RowFits, residual_of, ResidueFits, IsResidual}
 use Rattle.dioid.specs.Laws.{IsAtMost, IsClosed, DioidLaws, ResidualLaws}
 use Rattle.dioid_matrix.specs.Lists.{HoldsEach}
-use Rattle.dioid_matrix.specs.Sums.{dot}
 use Rattle.dioid_matrix.specs.Tables.{Table, table_of, entry_of, AreElements}
 use Rattle.dioid_matrix.proofs.Greatest.{residuals_are_greatest}
 use Rattle.dioid_matrix.proofs.Places.{entries_held, fits_held}

@@ -1,5 +1,5 @@
 -- The order of a dioid, between elements.
-use Rattle.std.proofs.Common.{◌≡◌, ℕ, zero, suc, ◌<◌, refl, ap, sym, ◌∙◌, arith, subst, ⊎_elim}
+use Rattle.std.proofs.Common.{◌≡◌, ℕ, zero, suc, ◌<◌, ap, sym, ◌∙◌, arith, subst, ⊎_elim}
 use Rattle.std.proofs.Math.Nat.{eq-or-lt_of_le}
 use Rattle.dioid.specs.Laws.{IsClosed, DioidLaws}
 use Rattle.dioid.specs.declared.algebra.Dioid.{Ghosts as DioidOf}

@@ -3,12 +3,12 @@ use Rattle.std.proofs.Common.{◌≡◌, ℕ, zero, suc, ◌<◌, ◌≤◌, ◌
 use Rattle.dioid.specs.Laws.{IsAtMost, IsClosed, DioidLaws, StarLaws}
 use Rattle.dioid.specs.declared.algebra.Dioid.{Ghosts as DioidOf}
 use Rattle.dioid.specs.declared.algebra.Kleene.{Ghosts as KleeneOf}
-use Rattle.dioid_matrix.specs.Lists.{AnswersList, IsPassed, PassRefused, last_of, IsLast, LastRefused}
-use Rattle.dioid_matrix.specs.Products.{IsProduct, AnswersProduct}
+use Rattle.dioid_matrix.specs.Lists.{AnswersList, IsPassed, PassRefused, IsLast, LastRefused}
+use Rattle.dioid_matrix.specs.Products.{AnswersProduct}
 use Rattle.dioid_matrix.specs.Stars.{steps_of, star_of, IsLeastSolution}
 use Rattle.dioid_matrix.specs.Sums.{total, dot}
-use Rattle.dioid_matrix.specs.Tables.{Table, table_of, entry_of, AreElements, IsTable, IsFirstMisfit}
-use Rattle.dioid_matrix.specs.Turns.{LoopFits, WayFits, loop_of, EntryFits, StepsFit, LastFits, IsStar, StarRefused, IsSolved, AnswersSolve}
+use Rattle.dioid_matrix.specs.Tables.{Table, table_of, entry_of, AreElements, IsFirstMisfit}
+use Rattle.dioid_matrix.specs.Turns.{LoopFits, WayFits, loop_of, EntryFits, StepsFit, IsStar, StarRefused, AnswersSolve}
 use Rattle.dioid_matrix.specs.declared.refusals.MatrixRefused.{MatrixRefused}
 use Rattle.dioid_matrix.specs.declared.refusals.MatrixRefused.TheVariants.{Count, Shape, Range, OutOfMemory}
 use Rattle.dioid_matrix.proofs.Least.{stars_are_least}

@@ -1,13 +1,13 @@
 -- One step of the recursion, place by place.
-use Rattle.std.proofs.Common.{◌≡◌, ℕ, ◌<◌, ◌≤◌, ◌*◌, ◌+◌, ◌/◌, ◌%◌, ◌⊎◌, inr, refl, ap, sym, ◌∙◌, arith, subst, ⊎_elim, List, length, get_or}
+use Rattle.std.proofs.Common.{◌≡◌, ℕ, ◌<◌, ◌≤◌, ◌*◌, ◌+◌, ◌/◌, ◌%◌, inr, refl, ap, sym, ◌∙◌, arith, subst, ⊎_elim, List, length, get_or}
 use Rattle.std.proofs.lemmas.Bool.{cases_lt}
 use Rattle.std.proofs.lemmas.List.{get_or_read}
-use Rattle.std.proofs.lemmas.Nat.{mul-add-lt, div-add-mod', div-mul-add, mod-mul-add}
+use Rattle.std.proofs.lemmas.Nat.{mul-add-lt, div-add-mod'}
 use Rattle.dioid.specs.declared.algebra.Dioid.{Ghosts as DioidOf}
 use Rattle.dioid.specs.declared.algebra.Kleene.{Ghosts as KleeneOf}
-use Rattle.dioid_matrix.specs.Lists.{HoldsEach, AreLoops}
+use Rattle.dioid_matrix.specs.Lists.{AreLoops}
 use Rattle.dioid_matrix.specs.Tables.{table_of, entry_of}
-use Rattle.dioid_matrix.specs.Turns.{loop_of, LoopFits, WayFits, EntryFits}
+use Rattle.dioid_matrix.specs.Turns.{loop_of, LoopFits, EntryFits}
 use Rattle.dioid_matrix.proofs.Cells.{row_below}
 use Rattle.dioid_matrix.proofs.Places.{at_place, earlier}
 

@@ -2,11 +2,7 @@
 use Rattle.std.specs.Prelude.{◌≡◌, ◌<◌, ◌≤◌, ◌+◌, ◌*◌, ℕ, cond, eqb, List, Vec, length, get_or, Result, Ok, Err, ⊤}
 use Rattle.dioid.specs.declared.algebra.Dioid.{Ghosts as DioidOf}
 use Rattle.dioid.specs.declared.algebra.Kleene.{Ghosts as KleeneOf}
-use Rattle.dioid.specs.declared.algebra.Residuated.{Ghosts as ResiduatedOf}
-use Rattle.dioid_matrix.specs.Products.{IsProduct, ProductRefused}
-use Rattle.dioid_matrix.specs.Residuals.{IsResidual, ResidualRefused}
 use Rattle.dioid_matrix.specs.Stars.{through}
-use Rattle.dioid_matrix.specs.Sums.{IsSum, SumRefused}
 use Rattle.dioid_matrix.specs.Tables.{Table, table_of, entry_of, AreElements, IsFirstMisfit, StopsAt}
 use Rattle.dioid_matrix.specs.Turns.{loop_of, LoopFits, EntryFits, LastFits}
 use Rattle.dioid_matrix.specs.declared.refusals.MatrixRefused.{MatrixRefused}

@@ -20,18 +20,23 @@ fn holds<D: Dioid>(matrix: &Matrix<D>, wanted: &[D]) -> bool {
     wanted.next().is_none()
 }
 
-/// The product, the star, the least solution and the residual, through the bounds.
-fn products<D: Kleene + Residuated>(
+/// Whether these are the entries of the product, the star, the least solution and the residual, by
+/// the calls through the bounds.
+fn gives<D: Kleene + Residuated>(
     alloc: Global,
     a: &Matrix<D>,
     b: &Matrix<D>,
-) -> Result<[Matrix<D>; 4], MatrixRefused> {
-    Ok([
-        a.times(alloc, b)?,
-        a.star(alloc)?,
-        a.solve_least(alloc, b)?,
-        a.left_residual(alloc, b)?,
-    ])
+    product: &[D],
+    star: &[D],
+    least: &[D],
+    residual: &[D],
+) -> Result<bool, MatrixRefused> {
+    Ok(
+        holds(&a.times(alloc, b)?, product)
+            && holds(&a.star(alloc)?, star)
+            && holds(&a.solve_least(alloc, b)?, least)
+            && holds(&a.left_residual(alloc, b)?, residual),
+    )
 }
 
 #[test]
@@ -46,11 +51,16 @@ fn flags_through_the_bounds(rt: HostRuntime) -> Result<(), Fail> {
         .ok_or("new")?;
     let sum = a.plus(alloc, &a).ok().ok_or("plus")?;
     assert!(rt; holds(&sum, &[no, yes, no, no]));
-    let [product, star, least, residual] = products(alloc, &a, &b).ok().ok_or("products")?;
-    assert!(rt; holds(&product, &[yes, no]));
-    assert!(rt; holds(&star, &[yes, yes, no, yes]));
-    assert!(rt; holds(&least, &[yes, yes]));
-    assert!(rt; holds(&residual, &[yes, no]));
+    let is = gives(
+        alloc,
+        &a,
+        &b,
+        &[yes, no],
+        &[yes, yes, no, yes],
+        &[yes, yes],
+        &[yes, no],
+    );
+    assert_eq!(rt; is, Ok(true));
     Ok(())
 }
 
@@ -68,16 +78,12 @@ fn dates_through_the_bounds(rt: HostRuntime) -> Result<(), Fail> {
     let b = Matrix::new(2, 1, vec![in alloc; Date::At(0), Date::At(10)]?)
         .ok()
         .ok_or("new")?;
-    let [product, star, least, residual] = products(alloc, &a, &b).ok().ok_or("products")?;
-    assert!(rt; holds(&product, &[Date::At(12), Date::At(-3)]));
-    assert!(rt;
-        holds(
-            &star,
-            &[Date::At(0), Date::At(2), Date::At(-3), Date::At(0)]
-        )
-    );
-    assert!(rt; holds(&least, &[Date::At(12), Date::At(10)]));
-    assert!(rt; holds(&residual, &[Date::At(13), Date::At(-2)]));
+    let product = [Date::At(12), Date::At(-3)];
+    let star = [Date::At(0), Date::At(2), Date::At(-3), Date::At(0)];
+    let least = [Date::At(12), Date::At(10)];
+    let residual = [Date::At(13), Date::At(-2)];
+    let is = gives(alloc, &a, &b, &product, &star, &least, &residual);
+    assert_eq!(rt; is, Ok(true));
     let a = Matrix::new(
         2,
         2,

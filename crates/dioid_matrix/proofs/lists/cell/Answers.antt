@@ -1,4 +1,4 @@
-use Rattle.std.proofs.Common.{◌≡◌, ℕ, get_or, ◌+◌, ◌*◌, ◌<◌, length, rules, below_more}
+use Rattle.std.proofs.Common.{ℕ, get_or, ◌+◌, ◌*◌, ◌<◌, length, rules, below_more}
 use Rattle.std.proofs.lemmas.List.{get_or_read}
 use Rattle.dioid_matrix.proofs.Cells.{dot_more, step_fits, place_within}
 use Rattle.dioid_matrix.proofs.lists.cell.Goals as goal

@@ -1,4 +1,4 @@
-use Rattle.std.proofs.Common.{◌≡◌, ◌≤◌, ℕ, ◌+◌, ◌*◌, ◌/◌, ◌%◌, ◌++◌, ◌∷◌, [], length, rules, arith, refl}
+use Rattle.std.proofs.Common.{◌≡◌, ◌≤◌, ℕ, ◌+◌, ◌*◌, ◌/◌, ◌++◌, ◌∷◌, [], length, rules, refl}
 use Rattle.dioid_matrix.specs.Products.{CellFits}
 use Rattle.dioid_matrix.specs.Sums.{dot}
 use Rattle.dioid_matrix.specs.Tables.{entry_of, table_of}

@@ -1,5 +1,5 @@
-use Rattle.std.proofs.Common.{◌≡◌, ℕ, ◌+◌, ◌*◌, ◌/◌, ◌%◌, ◌++◌, ◌∷◌, [], ◌<◌, length, rules, arith, refl}
-use Rattle.dioid_matrix.specs.Sums.{SumFits, IsSum}
+use Rattle.std.proofs.Common.{◌≡◌, ℕ, ◌*◌, ◌++◌, ◌∷◌, [], ◌<◌, rules, refl}
+use Rattle.dioid_matrix.specs.Sums.{SumFits}
 use Rattle.dioid_matrix.specs.Tables.{entry_of, table_of}
 use Rattle.dioid_matrix.proofs.Cells.{holds_more, elements_everywhere}
 use Rattle.dioid_matrix.proofs.Places.{first_misfit, entries_held, fits_held}

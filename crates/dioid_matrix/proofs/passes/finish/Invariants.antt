@@ -1,4 +1,4 @@
-use Rattle.std.proofs.Common.{◌/◌, ◌%◌, ℕ}
+use Rattle.std.proofs.Common.{◌/◌, ◌%◌}
 use Rattle.dioid_matrix.specs.Lists.{HoldsEach, last_of}
 use Rattle.dioid_matrix.specs.Tables.{entry_of, table_of}
 use Rattle.dioid_matrix.specs.Turns.{LastFits}

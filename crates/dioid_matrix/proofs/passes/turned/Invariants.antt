@@ -1,4 +1,4 @@
-use Rattle.std.proofs.Common.{◌/◌, ◌%◌, ℕ}
+use Rattle.std.proofs.Common.{◌/◌, ◌%◌}
 use Rattle.dioid_matrix.specs.Lists.{HoldsEach}
 use Rattle.dioid_matrix.specs.Stars.{through}
 use Rattle.dioid_matrix.specs.Tables.{entry_of, table_of}

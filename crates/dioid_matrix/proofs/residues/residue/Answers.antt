@@ -1,4 +1,4 @@
-use Rattle.std.proofs.Common.{◌≡◌, ℕ, get_or, ◌+◌, ◌*◌, ◌<◌, length, arith, below_more}
+use Rattle.std.proofs.Common.{ℕ, get_or, ◌+◌, ◌*◌, ◌<◌, length, arith, below_more}
 use Rattle.std.proofs.lemmas.List.{get_or_read}
 use Rattle.dioid_matrix.proofs.Cells.{place_within}
 use Rattle.dioid_matrix.proofs.Meets.{meet_more, row_fits}

@@ -1,4 +1,4 @@
-use Rattle.std.proofs.Common.{◌≡◌, ◌≤◌, ℕ, ◌+◌, ◌*◌, ◌/◌, ◌++◌, ◌∷◌, [], rules, arith, refl}
+use Rattle.std.proofs.Common.{◌≡◌, ◌≤◌, ◌+◌, ◌*◌, ◌/◌, ◌++◌, ◌∷◌, [], rules, arith, refl}
 use Rattle.dioid_matrix.specs.Tables.{table_of}
 use Rattle.dioid_matrix.proofs.Cells.{row_below, holds_more, elements_everywhere}
 use Rattle.dioid_matrix.proofs.Meets.{residual_table}

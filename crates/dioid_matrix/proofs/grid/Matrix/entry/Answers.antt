@@ -1,4 +1,4 @@
-use Rattle.std.proofs.Common.{◌≡◌, ◌<◌, ◌+◌, ◌*◌, length, subst, sym}
+use Rattle.std.proofs.Common.{◌<◌, ◌+◌, ◌*◌, length, subst, sym}
 use Rattle.std.proofs.lemmas.List.{get_or_read}
 use Rattle.dioid_matrix.proofs.Cells.{place_within}
 use Rattle.dioid_matrix.proofs.grid.Matrix.entry.Goals as goal
