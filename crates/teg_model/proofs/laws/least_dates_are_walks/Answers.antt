@@ -1,0 +1,5 @@
+use Rattle.teg_model.proofs.GreatestWalks.{least_is_walk}
+use Rattle.teg_model.proofs.laws.least_dates_are_walks.Goals as goal
+
+pub returns : goal.returns
+returns c = λ net ok ranked u x z h. least_is_walk net u x ranked.0 ranked.1 ok ranked.2 z h
