@@ -1,6 +1,5 @@
 -- Delays of dates.
 use Rattle.std.proofs.Common.{ℕ, ◌+◌, ◌≡◌, refl, ap, arith}
-use Rattle.std.specs.Prelude.{ℤ, pos, ◌+ℤ◌}
 use Rattle.std.proofs.lemmas.Int.{ints}
 use Rattle.dioid.specs.declared.dates.Date.{Date}
 use Rattle.dioid.specs.declared.dates.Date.TheVariants.{Early, At, Never}

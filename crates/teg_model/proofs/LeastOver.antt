@@ -1,12 +1,12 @@
 -- A system has a least dating where ranks rise along each place without tokens: it is made by rounds that settle.
-use Rattle.std.proofs.Common.{ℕ, zero, suc, ◌+◌, ◌-◌, ◌*◌, ◌<◌, ◌≤◌, ◌≡◌, ◌≢◌, List, [], ◌∷◌, Bool, true, false, cond, eqb, ltb, length, get_or, refl, sym, ap, subst, ◌∙◌, arith, rules, inl, inr, ⊎_elim}
-use Rattle.std.specs.Prelude.{All, ◌⊎◌, pos}
-use Rattle.std.proofs.lemmas.Bool.{cases_Bool, cases_lt}
+use Rattle.std.proofs.Common.{ℕ, zero, suc, ◌+◌, ◌-◌, ◌*◌, ◌<◌, ◌≤◌, ◌≡◌, List, [], ◌∷◌, true, false, cond, eqb, ltb, length, get_or, refl, sym, ap, ◌∙◌, arith, inl, inr, ⊎_elim}
+use Rattle.std.specs.Prelude.{All, ◌⊎◌}
+use Rattle.std.proofs.lemmas.Bool.{cases_Bool}
 use Rattle.std.proofs.lemmas.Bool.Decides.{nat_tests}
-use Rattle.std.proofs.lemmas.List.Elements.{All-head, All-tail}
+use Rattle.std.proofs.lemmas.List.Elements.{All-tail}
 use Rattle.dioid.specs.declared.dates.Date.{Date}
-use Rattle.dioid.specs.declared.dates.Date.TheVariants.{Early, At, Never}
-use Rattle.dioid.specs.Dates.{IsAtMostDate, delayed, later_of}
+use Rattle.dioid.specs.declared.dates.Date.TheVariants.{Early}
+use Rattle.dioid.specs.Dates.{IsAtMostDate, later_of}
 use Rattle.dioid.proofs.DateOrder.{at_most_refl, at_most_trans, same_by_at_most, later_left, later_right, later_least, later_either, delayed_rises}
 use Rattle.teg_net.specs.declared.entries.Place.{Place}
 use Rattle.teg_net.specs.Circuits.{no_place}

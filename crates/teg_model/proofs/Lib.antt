@@ -6,3 +6,4 @@ pub mod WalkSteps
 pub mod GreatestWalks
 pub mod Within
 pub mod ListDates
+pub mod LiveRanks

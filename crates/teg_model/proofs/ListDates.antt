@@ -1,15 +1,13 @@
 -- The dates that input lists give.
-use Rattle.std.proofs.Common.{ℕ, zero, suc, ◌+◌, ◌-◌, ◌*◌, ◌<◌, ◌≤◌, ◌≡◌, List, length, Option, Some, None, refl, sym, ap, subst, ◌∙◌, arith}
-use Rattle.std.specs.Prelude.{ℤ, pos, ◌≤ℤ◌, All, IfSome, find, ◌==◌}
+use Rattle.std.proofs.Common.{ℕ, ◌+◌, ◌*◌, ◌≤◌, ◌≡◌, Option, Some, None, refl, arith}
+use Rattle.std.specs.Prelude.{pos, IfSome, find, ◌==◌}
 use Rattle.std.proofs.lemmas.Int.{ints}
-use Rattle.std.proofs.Math.Nat.{mul-le-mul_left}
-use Rattle.dioid.specs.declared.dates.Date.{Date}
-use Rattle.dioid.specs.declared.dates.Date.TheVariants.{Early, At, Never}
+use Rattle.dioid.specs.declared.dates.Date.TheVariants.{At}
 use Rattle.dioid.specs.Dates.{IsAtMostDate}
 use Rattle.teg_net.specs.declared.entries.InputList.{InputList}
 use Rattle.teg_net.specs.Limits.{greatest_date}
-use Rattle.teg_net.specs.Nets.{NetLists, IsNet, IsInput, IsInputOf}
-use Rattle.teg_net.specs.Inputs.{list_date, date_by, input_date}
+use Rattle.teg_net.specs.Nets.{NetLists, IsNet, IsInputOf}
+use Rattle.teg_net.specs.Inputs.{date_by, input_date}
 use Rattle.teg_net.proofs.InputDates.{found_rules, list_date-most}
 use Rattle.teg_model.specs.Datings.{AreFromZero, as_date, listed}
 use Rattle.teg_model.specs.Bounds.{IsWithin}

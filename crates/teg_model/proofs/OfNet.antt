@@ -1,26 +1,24 @@
 -- The system of a net: its places with the implicit ones, its ranks, and what is released.
-use Rattle.std.proofs.Common.{ℕ, zero, suc, ◌+◌, ◌-◌, ◌*◌, ◌<◌, ◌≤◌, ◌≡◌, ◌≢◌, List, [], ◌∷◌, ◌++◌, Bool, true, false, ltb, map, length, get_or, Option, Some, None, refl, sym, ap, subst, ◌∙◌, arith, rules, inl, inr, ⊎_elim}
-use Rattle.std.specs.Prelude.{All, ◌⊎◌, pos, slice_get, IsSomeAnd}
+use Rattle.std.proofs.Common.{ℕ, ◌+◌, ◌-◌, ◌<◌, ◌≤◌, ◌≡◌, List, map, length, get_or, Option, Some, None, refl, ◌∙◌, arith, inl, inr, ⊎_elim}
+use Rattle.std.specs.Prelude.{All, ◌⊎◌, slice_get, IsSomeAnd}
 use Rattle.std.specs.List.{range_with_len}
-use Rattle.std.proofs.lemmas.Bool.{cases_Bool, cases_lt, cases_eq}
-use Rattle.std.proofs.lemmas.Bool.Decides.{nat_tests}
-use Rattle.std.proofs.lemmas.Int.{ints}
-use Rattle.std.proofs.lemmas.List.{get_or-append-add, get_or-append_right, length-append, get_or_append_left, get_or_default}
+use Rattle.std.proofs.lemmas.Bool.{cases_lt}
+use Rattle.std.proofs.lemmas.List.{get_or-append-add, get_or-append_right, length-append, get_or_append_left}
 use Rattle.std.proofs.lemmas.List.Elements.{All-append, All-map}
 use Rattle.std.proofs.lemmas.List.FromFn.{get_or-map-range_with_len, length-map-range_with_len}
 use Rattle.dioid.specs.declared.dates.Date.{Date}
-use Rattle.dioid.specs.declared.dates.Date.TheVariants.{Early, At, Never}
-use Rattle.dioid.specs.Dates.{IsAtMostDate, delayed}
-use Rattle.dioid.proofs.DateOrder.{at_most_refl, at_most_trans, same_by_at_most}
+use Rattle.dioid.specs.declared.dates.Date.TheVariants.{Early}
+use Rattle.dioid.specs.Dates.{IsAtMostDate}
+use Rattle.dioid.proofs.DateOrder.{at_most_trans, same_by_at_most}
 use Rattle.teg_net.specs.declared.entries.Role.{Role}
 use Rattle.teg_net.specs.declared.entries.Role.TheVariants.{Internal, Input, Output}
 use Rattle.teg_net.specs.declared.entries.Transition.{Transition}
 use Rattle.teg_net.specs.declared.entries.Place.{Place}
 use Rattle.teg_net.specs.Nets.{NetLists, IsInput}
 use Rattle.teg_net.specs.Circuits.{no_place}
-use Rattle.teg_model.specs.Systems.{Dating, System, available_in, available, IsFeasibleIn, IsLeastIn}
+use Rattle.teg_model.specs.Systems.{Dating, System, available, IsFeasibleIn, IsLeastIn}
 use Rattle.teg_model.specs.Ranks.{AreRanks}
-use Rattle.teg_model.specs.Datings.{implicit_place, extended_places, initial_date, available_at, IsFeasibleUnder, IsLeastUnder, by_role, by_transition, at_input, system_of}
+use Rattle.teg_model.specs.Datings.{implicit_place, extended_places, IsFeasibleUnder, IsLeastUnder, by_role, by_transition, at_input, system_of}
 use Rattle.teg_model.specs.Laws.{AreSameOn, IsTight}
 use Rattle.teg_model.proofs.LeastOver.{least_over, least_is_feasible, least_is_tight, least_is_least, least_over_is_least, available_rises}
 

@@ -1,17 +1,17 @@
 -- When the tokens of places are available.
-use Rattle.std.proofs.Common.{ℕ, zero, suc, ◌+◌, ◌-◌, ◌<◌, ◌≤◌, ◌≡◌, Bool, true, false, ltb, length, get_or, refl, sym, ap, subst, ◌∙◌, arith, ⊎_elim}
-use Rattle.std.specs.Prelude.{All, pos, ◌⊎◌}
+use Rattle.std.proofs.Common.{ℕ, zero, suc, ◌+◌, ◌-◌, ◌<◌, ◌≤◌, ◌≡◌, true, false, ltb, length, get_or, refl, sym, ap, ◌∙◌, arith, ⊎_elim}
+use Rattle.std.specs.Prelude.{pos}
 use Rattle.std.proofs.lemmas.Bool.{cases_lt}
 use Rattle.std.proofs.lemmas.Bool.Decides.{nat_tests}
 use Rattle.dioid.specs.declared.dates.Date.{Date}
-use Rattle.dioid.specs.declared.dates.Date.TheVariants.{Early, At, Never}
+use Rattle.dioid.specs.declared.dates.Date.TheVariants.{At}
 use Rattle.dioid.specs.Dates.{IsAtMostDate, delayed}
-use Rattle.dioid.proofs.DateOrder.{at_most_refl, at_most_trans}
+use Rattle.dioid.proofs.DateOrder.{at_most_trans}
 use Rattle.teg_net.specs.declared.entries.Place.{Place}
 use Rattle.teg_net.specs.Nets.{NetLists}
 use Rattle.teg_net.specs.Circuits.{no_place}
 use Rattle.teg_model.specs.Systems.{Dating, InitialDates, available_in}
-use Rattle.teg_model.specs.Datings.{implicit_place, extended_places, initial_date, available_at, IsFeasibleUnder}
+use Rattle.teg_model.specs.Datings.{implicit_place, available_at, IsFeasibleUnder}
 use Rattle.teg_model.proofs.Delays.{delayed_not}
 use Rattle.teg_model.proofs.OfNet.{implicit_is, extended_has}
 

@@ -1,6 +1,6 @@
 -- Bounds on the least dates.
-use Rattle.std.proofs.Common.{ℕ, zero, suc, ◌+◌, ◌-◌, ◌*◌, ◌<◌, ◌≤◌, ◌≡◌, List, Bool, true, false, ltb, length, get_or, refl, sym, ap, subst, ◌∙◌, arith, ⊎_elim, inl, inr}
-use Rattle.std.specs.Prelude.{All, pos, ◌⊎◌, ℤ, ◌≤ℤ◌, ◌+ℤ◌}
+use Rattle.std.proofs.Common.{ℕ, zero, suc, ◌+◌, ◌-◌, ◌*◌, ◌<◌, ◌≤◌, ◌≡◌, true, false, ltb, length, get_or, ap, subst, arith, ⊎_elim}
+use Rattle.std.specs.Prelude.{All}
 use Rattle.std.proofs.lemmas.Bool.{cases_Bool}
 use Rattle.std.proofs.lemmas.Bool.Decides.{nat_tests}
 use Rattle.std.proofs.lemmas.Int.{ints}
@@ -14,7 +14,7 @@ use Rattle.teg_net.specs.Circuits.{no_place}
 use Rattle.teg_model.specs.Systems.{Dating, System, available}
 use Rattle.teg_model.specs.Ranks.{AreRanks}
 use Rattle.teg_model.specs.Bounds.{IsWithin}
-use Rattle.teg_model.specs.Datings.{extended_places, initial_date, IsLeastUnder, at_input, system_of}
+use Rattle.teg_model.specs.Datings.{IsLeastUnder, at_input, system_of}
 use Rattle.teg_model.proofs.LeastOver.{least_over, least_is_attained, falls}
 use Rattle.teg_model.proofs.OfNet.{all_extended, input_or_not, ranks_extended, least_is_over}
 

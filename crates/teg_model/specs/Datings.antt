@@ -1,5 +1,5 @@
 -- Datings of a net, those that are feasible, and the least of them (chapter 2).
-use Rattle.std.specs.Prelude.{ℕ, pos, ◌<◌, ◌≤◌, ◌≡◌, ◌++◌, [], List, Option, Some, None, map, length, All, slice_get}
+use Rattle.std.specs.Prelude.{ℕ, pos, ◌<◌, ◌≤◌, ◌++◌, [], List, Option, Some, None, map, length, All, slice_get}
 use Rattle.std.specs.List.{range_with_len}
 use Rattle.dioid.specs.declared.dates.Date.{Date}
 use Rattle.dioid.specs.declared.dates.Date.TheVariants.{Early, At, Never}
@@ -9,7 +9,7 @@ use Rattle.teg_net.specs.declared.entries.Role.TheVariants.{Internal, Input, Out
 use Rattle.teg_net.specs.declared.entries.Transition.{Transition}
 use Rattle.teg_net.specs.declared.entries.Place.{Place}
 use Rattle.teg_net.specs.Nets.{NetLists, IsInput}
-use Rattle.teg_model.specs.Systems.{System, available_in, IsLeastIn}
+use Rattle.teg_model.specs.Systems.{System, available_in}
 use Rattle.teg_net.specs.Inputs.{input_date}
 
 -- the implicit place of a transition leads to the transition itself, with no hold and one token

@@ -1,10 +1,10 @@
 -- The dates of walks over firing numbers, start plus time, and the greatest of them.
 use Rattle.std.specs.Prelude.{ℕ, pos, ◌<◌, ◌≤◌, ◌≡◌, List, length}
 use Rattle.dioid.specs.declared.dates.Date.{Date}
-use Rattle.dioid.specs.declared.dates.Date.TheVariants.{Early, At}
+use Rattle.dioid.specs.declared.dates.Date.TheVariants.{At}
 use Rattle.dioid.specs.Dates.{IsAtMostDate, delayed}
 use Rattle.teg_net.specs.Nets.{NetLists}
-use Rattle.teg_model.specs.Datings.{at_input, AreFromZero, IsLeastUnder}
+use Rattle.teg_model.specs.Datings.{at_input}
 use Rattle.teg_net.specs.declared.walks.Step.{Step}
 use Rattle.teg_net.specs.Walks.{Walks, walk_time}
 
