@@ -10,6 +10,8 @@ mod first;
 mod order;
 mod rows;
 mod table;
+#[cfg(test)]
+mod tests;
 
 pub use first::first_dates;
 pub use table::Table;

@@ -67,7 +67,10 @@ fn available(place: &Place, width: usize, dates: &[Date], number: u64) -> Date
 {
     let tokens = place.tokens as u64;
     if tokens < number {
-        delayed(dates[cell_of(width, place.from, number - tokens)], place.hold)
+        delayed(
+            dates[cell_of(width, place.from, number - tokens)],
+            place.hold,
+        )
     } else {
         Date::At(0)
     }
@@ -82,7 +85,11 @@ fn date_before(width: usize, dates: &[Date], transition: TransitionId, number: u
     requires full { (number - 1) * width ≤ length dates.now }
     ensures { result ≡ available_in initial_date (date_in width dates.now) (implicit_place transition.index) number }
 {
-    if number == 1 { Date::At(0) } else { dates[cell_of(width, transition, number - 1)] }
+    if number == 1 {
+        Date::At(0)
+    } else {
+        dates[cell_of(width, transition, number - 1)]
+    }
 }
 
 /// Appends the dates of the number as far as the firings before it and the releases have them.
@@ -103,8 +110,8 @@ pub(crate) fn begin_row(net: &Net, dates: &mut Vec<Date>, number: u64) -> Result
     Ok(())
 }
 
-/// Makes the dates of the number the least, by one pass over the places.
-pub(crate) fn settle_row(net: &Net, order: &[Ranked], dates: &mut [Date], number: u64)
+/// Raises the dates of the number to the least, by one pass over the places in the order of the ranks.
+pub(crate) fn raise_row(net: &Net, order: &[Ranked], dates: &mut [Date], number: u64)
     requires order { (ranks : List ℕ) × IsRanking net.now ranks × IsOrder net.now ranks order.now }
     requires number { 1 ≤ number }
     requires few { number ≤ most_numbers }

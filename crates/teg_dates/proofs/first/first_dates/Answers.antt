@@ -31,9 +31,11 @@ returns-clause-least c =
     let net = c.args.net.now in
     let ok : IsNet net = c.transitions.ensures.rules in
     let end : c.loop-number.number ≡ c.args.count = omega (arith, c.loop-number-test.false, c.loop-number.auto.number-end) in
-    let is = rw c.transitions.ensures.value at c.new.ensures in
-    (earliest net c.args.live.now, earliest_of_net net c.args.live.now ok c.requires.stands,
-    has_earliest net c.args.live.now c.new.result c.loop-number.dates.items c.args.count ok c.requires.stands (rw end at c.loop-number.invariant.least) is)
+    let is = rw c.transitions.ensures.value at c.new.ensures in (
+      earliest net c.args.live.now,
+      earliest_of_net net c.args.live.now ok c.requires.stands,
+      has_earliest net c.args.live.now c.new.result c.loop-number.dates.items c.args.count ok c.requires.stands (rw end at c.loop-number.invariant.least) is,
+    )
 
 pub returns-clause-walks : goal.returns-clause-walks
 returns-clause-walks c =

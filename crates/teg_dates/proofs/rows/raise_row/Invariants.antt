@@ -3,7 +3,7 @@ use Rattle.teg_model.specs.Systems.{Dating, IsLeastIn}
 use Rattle.teg_model.specs.Datings.{initial_date}
 use Rattle.teg_dates.specs.Rows.{listed_system}
 use Rattle.teg_dates.proofs.Filling.{FilledTo}
-use Rattle.teg_dates.proofs.rows.settle_row.Given as goal
+use Rattle.teg_dates.proofs.rows.raise_row.Given as goal
 
 -- of each least dating
 abbrev pub invariant-loop-ranked : goal.invariant-loop-ranked
