@@ -1,5 +1,5 @@
 -- Where the dates of firings stand in a list with one row a number.
-use Rattle.std.proofs.Common.{ℕ, zero, suc, ◌+◌, ◌-◌, ◌*◌, ◌<◌, ◌≤◌, ◌≡◌, ◌≢◌, refl, sym, ap, subst, ◌∙◌, arith}
+use Rattle.std.proofs.Common.{ℕ, ◌+◌, ◌-◌, ◌*◌, ◌<◌, ◌≤◌, ◌≡◌, sym, ap, ◌∙◌, arith}
 use Rattle.teg_dates.specs.Tables.{cell_of}
 
 -- the rows before k are k - 1

@@ -1,8 +1,6 @@
 -- The least dating of a net, made from its ranks: what the table holds, and how late it can be.
-use Rattle.std.proofs.Common.{ℕ, ◌+◌, ◌-◌, ◌*◌, ◌^◌, ◌<◌, ◌≤◌, ◌≡◌, List, length, get_or, refl, sym, ap, subst, ◌∙◌, arith}
-use Rattle.std.specs.Prelude.{pos}
-use Rattle.dioid.specs.declared.dates.Date.{Date}
-use Rattle.teg_net.specs.Nets.{NetLists, IsNet, IsInput}
+use Rattle.std.proofs.Common.{ℕ, ◌+◌, ◌*◌, ◌^◌, ◌<◌, ◌≤◌, List, length, sym, subst, arith}
+use Rattle.teg_net.specs.Nets.{NetLists, IsNet}
 use Rattle.teg_net.specs.Limits.{greatest_date, greatest_hold}
 use Rattle.teg_model.specs.Systems.{Dating, IsLeastIn}
 use Rattle.teg_model.specs.Datings.{listed, IsLeastDating}
@@ -14,8 +12,8 @@ use Rattle.teg_model.proofs.GreatestWalks.{least_is_walk}
 use Rattle.teg_model.proofs.Within.{within_more, least_within}
 use Rattle.teg_model.proofs.ListDates.{listed_from_zero, listed_within}
 use Rattle.teg_check.specs.Ranks.{IsRanking}
-use Rattle.teg_dates.specs.Tables.{TableDates, HasDatesOf, HasDatesOfWalks, date_at, most_numbers}
-use Rattle.teg_dates.specs.Rows.{listed_system, AreFirst, AreFirstLeast}
+use Rattle.teg_dates.specs.Tables.{TableDates, HasDatesOf, HasDatesOfWalks, most_numbers}
+use Rattle.teg_dates.specs.Rows.{listed_system}
 use Rattle.teg_dates.proofs.Ranking.{rank_of, ranks_of}
 
 unfoldable pub earliest : NetLists → List ℕ → Dating

@@ -1,18 +1,17 @@
 -- The pass over the places that makes the dates of a number, and what the numbers are after it.
-use Rattle.std.proofs.Common.{ℕ, zero, suc, ◌+◌, ◌-◌, ◌*◌, ◌<◌, ◌≤◌, ◌≡◌, ◌≢◌, List, [], ◌∷◌, ◌++◌, length, get_or, set, refl, sym, ap, subst, ◌∙◌, arith, ⊎_elim, inl, inr}
-use Rattle.std.specs.Prelude.{All, Contains, ◌⊎◌}
+use Rattle.std.proofs.Common.{ℕ, ◌+◌, ◌-◌, ◌*◌, ◌<◌, ◌≤◌, ◌≡◌, ◌≢◌, List, length, get_or, set, ap, ◌∙◌, arith, ⊎_elim}
+use Rattle.std.specs.Prelude.{Contains}
 use Rattle.std.proofs.lemmas.Bool.{cases_eq, cases_lt}
 use Rattle.std.proofs.lemmas.List.{length-set, get_or-set_same, get_or-set_other, get_or_default}
 use Rattle.dioid.specs.declared.dates.Date.{Date}
-use Rattle.dioid.specs.declared.dates.Date.TheVariants.{Early, At, Never}
+use Rattle.dioid.specs.declared.dates.Date.TheVariants.{Early}
 use Rattle.dioid.specs.Dates.{IsAtMostDate, later_of}
 use Rattle.dioid.proofs.DateOrder.{at_most_refl, at_most_trans, same_by_at_most, later_left, later_right, later_least}
 use Rattle.teg_net.specs.declared.entries.Place.{Place}
-use Rattle.teg_net.specs.Nets.{NetLists, IsNet, IsPlaceOf}
+use Rattle.teg_net.specs.Nets.{NetLists, IsNet}
 use Rattle.teg_net.specs.Circuits.{no_place, place_at}
-use Rattle.teg_model.specs.Systems.{Dating, InitialDates, System, available_in, IsLeastIn, IsFeasibleIn}
-use Rattle.teg_model.specs.Ranks.{AreRanks}
-use Rattle.teg_model.specs.Datings.{implicit_place, extended_places, system_with}
+use Rattle.teg_model.specs.Systems.{Dating, InitialDates, available_in, IsLeastIn}
+use Rattle.teg_model.specs.Datings.{implicit_place, system_with}
 use Rattle.teg_model.proofs.LeastOver.{tight_in}
 use Rattle.teg_model.proofs.OfNet.{all_extended, extended_has, implicit_is, ranks_extended}
 use Rattle.teg_model.proofs.Tokens.{available_same}
@@ -22,7 +21,7 @@ use Rattle.teg_dates.specs.Tables.{cell_of, date_in}
 use Rattle.teg_dates.specs.Order.{IsRankedPlace, IsOrder, ranked_at}
 use Rattle.teg_dates.specs.Rows.{AreFirst, HasBegun}
 use Rattle.teg_dates.proofs.Ranking.{rank_of, ranks_of}
-use Rattle.teg_dates.proofs.Cells.{rows_before, cell_within, cell_before}
+use Rattle.teg_dates.proofs.Cells.{cell_within, cell_before}
 
 -- the dates when the pass has come to place i: those of number k are not too late, and not before what the places so far need
 pub record FilledTo (net : NetLists) (init : InitialDates) (rel : Dating) (x : Dating) (k : ℕ) (order : List Ranked) (dates : List Date) (i : ℕ) : Type 0 where

@@ -1,11 +1,11 @@
 -- The loop of `by_rank`.
-use Rattle.std.proofs.Common.{ℕ, ◌+◌, ◌<◌, ◌≤◌, ◌≡◌, List, [], ◌∷◌, ◌++◌, length, refl, sym, ap, subst, ◌∙◌, arith, ⊎_elim}
-use Rattle.std.specs.Prelude.{All, Contains, ◌⊎◌}
+use Rattle.std.proofs.Common.{ℕ, ◌+◌, ◌<◌, ◌≤◌, ◌≡◌, List, [], ◌∷◌, ◌++◌, length, refl, arith, ⊎_elim}
+use Rattle.std.specs.Prelude.{All, Contains}
 use Rattle.std.proofs.lemmas.Bool.{cases_lt}
 use Rattle.std.proofs.lemmas.List.Elements.{All-push, Contains-push, Contains-append_left}
 use Rattle.teg_net.specs.Nets.{NetLists}
 use Rattle.teg_dates.specs.declared.order.Ranked.{Ranked}
-use Rattle.teg_dates.specs.Order.{IsRankedPlace, IsOrder, ranked_at}
+use Rattle.teg_dates.specs.Order.{IsRankedPlace, ranked_at}
 
 pub record OrderUpTo (net : NetLists) (ranks : List ℕ) (order : List Ranked) (i : ℕ) : Type 0 where
   pub known : All (IsRankedPlace net ranks) order

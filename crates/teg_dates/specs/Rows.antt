@@ -1,11 +1,11 @@
 -- Rows of dates: how a number begins, and when the numbers so far are done.
-use Rattle.std.specs.Prelude.{ℕ, ◌+◌, ◌-◌, ◌*◌, ◌^◌, ◌<◌, ◌≤◌, ◌≡◌, List, length, slice_index_or}
+use Rattle.std.specs.Prelude.{ℕ, ◌*◌, ◌<◌, ◌≤◌, ◌≡◌, List, length, slice_index_or}
 use Rattle.dioid.specs.declared.dates.Date.{Date}
 use Rattle.dioid.specs.declared.dates.Date.TheVariants.{Early}
 use Rattle.dioid.specs.Dates.{later_of}
 use Rattle.teg_net.specs.Nets.{NetLists}
 use Rattle.teg_model.specs.Systems.{System, available_in, IsLeastIn}
-use Rattle.teg_model.specs.Datings.{implicit_place, initial_date, listed, at_input, system_of}
+use Rattle.teg_model.specs.Datings.{implicit_place, listed, system_of}
 use Rattle.teg_dates.specs.Tables.{date_in}
 
 -- the system whose least dates the rows have

@@ -1,10 +1,9 @@
-use Rattle.std.proofs.Common.{ℕ, ◌+◌, ◌-◌, ◌*◌, ◌<◌, ◌≤◌, ◌≡◌, List, length, refl, sym, ap, ◌∙◌, arith, rules}
+use Rattle.std.proofs.Common.{ℕ, ◌+◌, ◌-◌, ◌≡◌, List, length, arith}
 use Rattle.teg_net.specs.Nets.{NetLists, IsNet}
 use Rattle.dioid.specs.declared.dates.Date.{Date}
 use Rattle.teg_check.specs.Ranks.{IsRanking}
-use Rattle.teg_model.specs.Systems.{Dating}
 use Rattle.teg_dates.specs.Rows.{listed_system, AreFirstLeast}
-use Rattle.teg_dates.specs.Tables.{TableDates, IsTable, HasDatesOf, HasLeastDates, HasDatesOfWalks, date_at}
+use Rattle.teg_dates.specs.Tables.{TableDates, HasDatesOf}
 use Rattle.teg_dates.proofs.Earliest.{earliest, earliest_is_least, earliest_of_net, walks_of_table}
 use Rattle.teg_dates.proofs.first.first_dates.Goals as goal
 

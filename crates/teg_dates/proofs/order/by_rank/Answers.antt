@@ -1,9 +1,9 @@
-use Rattle.std.proofs.Common.{ℕ, ◌+◌, ◌<◌, ◌≤◌, ◌≡◌, length, get_or, sym, ap, ◌∙◌, arith, rules}
+use Rattle.std.proofs.Common.{◌≡◌, get_or, arith, rules}
 use Rattle.std.proofs.lemmas.List.{get_or_read}
 use Rattle.std.proofs.lemmas.List.Sorted.{All-permutation, Contains-permutation, IsNonDecreasingBy-from_sort_by_key}
 use Rattle.teg_net.specs.Circuits.{no_place}
-use Rattle.teg_dates.specs.Order.{IsRankedPlace, IsOrder, ranked_at}
-use Rattle.teg_dates.proofs.Sorting.{OrderUpTo, order_more}
+use Rattle.teg_dates.specs.Order.{IsRankedPlace, ranked_at}
+use Rattle.teg_dates.proofs.Sorting.{order_more}
 use Rattle.teg_dates.proofs.order.by_rank.Goals as goal
 
 pub loop-index-preserved : goal.loop-index-preserved

@@ -1,6 +1,6 @@
-use Rattle.std.proofs.Common.{ℕ, ◌+◌, ◌-◌, ◌*◌, ◌<◌, ◌≤◌, ◌≡◌, length, refl, sym, ap, ◌∙◌, arith}
+use Rattle.std.proofs.Common.{◌+◌, ◌-◌, ◌*◌, ◌≡◌, length, sym, ap, ◌∙◌, arith}
 use Rattle.teg_model.specs.Datings.{initial_date}
-use Rattle.teg_dates.specs.Rows.{listed_system, HasBegun}
+use Rattle.teg_dates.specs.Rows.{listed_system}
 use Rattle.teg_dates.proofs.Beginning.{begun_more}
 use Rattle.teg_dates.proofs.Cells.{rows_before}
 use Rattle.teg_dates.proofs.rows.begin_row.Goals as goal

@@ -1,4 +1,4 @@
-use Rattle.std.proofs.Common.{ℕ, ◌+◌, ◌-◌, ◌*◌, ◌^◌, ◌<◌, ◌≤◌, ◌≡◌, List, length, get_or, refl, sym, ap, subst, ◌∙◌, arith, rules}
+use Rattle.std.proofs.Common.{ℕ, ◌-◌, ◌<◌, ◌≤◌, ◌≡◌, List, length, get_or, refl, ap, ◌∙◌, arith}
 use Rattle.std.proofs.lemmas.List.{get_or_default, get_or_read}
 use Rattle.dioid.specs.declared.dates.Date.{Date}
 use Rattle.dioid.specs.declared.dates.Date.TheVariants.{Early}
@@ -7,7 +7,6 @@ use Rattle.teg_net.specs.Nets.{NetLists, IsNet, IsPlaceOf}
 use Rattle.teg_net.specs.Circuits.{place_at, no_place}
 use Rattle.teg_model.specs.Systems.{Dating, available_in, IsLeastIn}
 use Rattle.teg_model.specs.Datings.{initial_date}
-use Rattle.teg_model.specs.Bounds.{IsWithin}
 use Rattle.teg_model.proofs.Tokens.{available_same}
 use Rattle.teg_check.specs.Ranks.{IsRanking}
 use Rattle.teg_dates.specs.declared.order.Ranked.{Ranked}
@@ -15,7 +14,6 @@ use Rattle.teg_dates.specs.Tables.{date_in, cell_of}
 use Rattle.teg_dates.specs.Order.{IsRankedPlace, IsOrder}
 use Rattle.teg_dates.specs.Rows.{listed_system}
 use Rattle.teg_dates.proofs.Filling.{FilledTo, source_is, lower_before, filled_more, filled_begins, filled_is}
-use Rattle.teg_dates.proofs.Cells.{cell_within}
 use Rattle.teg_dates.proofs.Earliest.{earliest, earliest_is_least, earliest_within}
 use Rattle.teg_dates.proofs.rows.raise_row.Goals as goal
 

@@ -1,4 +1,3 @@
-use Rattle.std.proofs.Common.{length, ◌+◌}
 use Rattle.teg_model.specs.Systems.{Dating, IsLeastIn}
 use Rattle.teg_model.specs.Datings.{initial_date}
 use Rattle.teg_dates.specs.Rows.{listed_system}
