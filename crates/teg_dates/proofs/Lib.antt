@@ -1,0 +1,6 @@
+mod Sorting
+mod Ranking
+mod Cells
+mod Filling
+mod Beginning
+mod Earliest

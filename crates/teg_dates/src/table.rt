@@ -1,0 +1,61 @@
+//! The table of dates.
+ghost use Rattle.std.specs.Prelude.{◌≡◌, ◌<◌, ◌≤◌};
+ghost use Rattle.teg_dates.specs.Tables.{date_at};
+
+use crate::rows::cell_of;
+use dioid::Date;
+use std::marker::Model;
+use teg_net::TransitionId;
+
+/// The dates of the first firings of each transition, for at most 10,000 numbers. Contracts see how
+/// many transitions and numbers there are, and the dates, number by number.
+#[derive(Debug, Drop)]
+pub struct Table {
+    width: usize,
+    count: u32,
+    dates: Vec<Date>,
+}
+
+impl Model for Table {
+    ghost use Rattle.teg_dates.specs.Tables.{TableDates, IsTable};
+
+    ghost Value = { TableDates };
+
+    ghost view = { λ a. record { width = a.width; count = a.count; dates = a.dates.items } };
+
+    ghost invariant = { λ a. IsTable (record { width = a.width; count = a.count; dates = a.dates.items }) };
+}
+
+impl Table {
+    ghost use Rattle.teg_dates.specs.Tables.{TableDates, IsTable};
+
+    /// The table of these dates. It takes no memory.
+    pub(crate) fn new(width: usize, count: u32, dates: Vec<Date>) -> Table
+        requires { IsTable (record { width = width; count = count; dates = dates.items }) }
+        ensures { result ≡ record { width = width; count = count; dates = dates.items } }
+    {
+        Table {
+            width,
+            count,
+            dates,
+        }
+    }
+
+    /// How many numbers the table has. It takes no memory.
+    pub fn count(&self) -> u32
+        ensures value { result ≡ self.now.count }
+        ensures limits { IsTable self.now }
+    {
+        self.count
+    }
+
+    /// The date of the firing of this number, from 1 on, of a transition of the net. It takes no memory.
+    pub fn date(&self, transition: TransitionId, number: u64) -> Date
+        requires transition { transition.index < self.now.width }
+        requires number { 1 ≤ number }
+        requires last { number ≤ self.now.count }
+        ensures { result ≡ date_at self.now transition.index number }
+    {
+        self.dates[cell_of(self.width, transition, number)]
+    }
+}

@@ -1,0 +1,6 @@
+use Rattle.teg_model.proofs.LiveRanks.{live_is_ranked}
+use Rattle.teg_model.proofs.OfNet.{tight_of_least}
+use Rattle.teg_model.proofs.laws.least_datings_are_tight.Goals as goal
+
+pub returns : goal.returns
+returns c = λ net ok live u x h. let ranked = live_is_ranked net ok live in tight_of_least net u x ranked.0 ranked.1 ranked.2 h

@@ -1,0 +1,31 @@
+//! The laws of least datings. Each is a function that does nothing when it runs: its contract is the law.
+ghost use Rattle.teg_model.specs.Laws.{LiveNetsAreRanked, LeastDatingsExist, LeastDatingsAreOne, LeastOfSystemsAreLeast, LeastDatingsAreTight, LeastDatesAreWalks};
+
+/// A live net has ranks: numbers of its transitions that rise along each place without tokens (chapter 2).
+pub fn live_nets_are_ranked()
+    ensures { LiveNetsAreRanked }
+{}
+
+/// A live net has a least dating under any releases of its inputs, and that is the least dating of
+/// its system too (chapter 2).
+pub fn least_datings_exist()
+    ensures { LeastDatingsExist }
+{}
+
+/// A net has no two least datings under the same releases, and the least dating of its system is
+/// one of the net.
+pub fn least_datings_are_one()
+    ensures one { LeastDatingsAreOne }
+    ensures of_system { LeastOfSystemsAreLeast }
+{}
+
+/// In a live net no firing of a least dating comes later than the last of the tokens and the release that it waits for.
+pub fn least_datings_are_tight()
+    ensures { LeastDatingsAreTight }
+{}
+
+/// In a live net each least date is the greatest start plus time of the walks that end at its firing,
+/// under any releases from date 0 on (chapter 2).
+pub fn least_dates_are_walks()
+    ensures { LeastDatesAreWalks }
+{}
