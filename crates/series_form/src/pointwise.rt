@@ -231,3 +231,4 @@ pub fn least(alloc: Global, first: &Series, second: &Series) -> Result<Series, S
         Err(_) => Err(SeriesRefused::OutOfMemory),
     }
 }
+

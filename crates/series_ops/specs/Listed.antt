@@ -1,0 +1,24 @@
+-- Lists as functions, and a list without its last value.
+use Rattle.std.specs.Prelude.{◌-◌, ℕ, List, length, get_or, take}
+use Rattle.dioid.specs.declared.dates.Date.{Date}
+use Rattle.dioid.specs.declared.dates.Date.TheVariants.{Early, At, Never}
+use Rattle.series_form.specs.Bounds.{IsUpTo}
+
+-- the function of a list, Early past it
+abbrev pub listed : List Date → ℕ → Date
+listed l k = get_or l k Early
+
+-- each number of the list has a magnitude of at most n
+abbrev pub AreUpTo : ℕ → List Date → Type 0
+AreUpTo n l = (k : ℕ) → IsUpTo n (get_or l k Early)
+
+abbrev pub all_but_last : List Date → List Date
+all_but_last l = take (length l - 1) l
+
+abbrev pub last_of : List Date → Date
+last_of l = get_or l (length l - 1) Early
+
+abbrev pub IsNumber : Date → Type 0
+IsNumber Early = ⊥
+IsNumber (At t) = Unit {0}
+IsNumber Never = ⊥

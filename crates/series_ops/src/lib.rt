@@ -1,0 +1,9 @@
+//! Products, residuals and stars of periodic series.
+#![tactic(auto)]
+
+mod laws;
+mod products;
+mod tables;
+
+pub use products::product;
+pub use laws::series_are_closed;
