@@ -1,3 +1,4 @@
 pub mod Closed
 pub mod FirstValues
 pub mod ProductPlans
+pub mod LeftValues

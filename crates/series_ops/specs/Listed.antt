@@ -1,7 +1,9 @@
 -- Lists as functions, and a list without its last value.
-use Rattle.std.specs.Prelude.{◌-◌, ℕ, List, length, get_or, take}
+use Rattle.std.specs.Prelude.{◌+◌, ◌-◌, ℕ, List, length, get_or, take}
 use Rattle.dioid.specs.declared.dates.Date.{Date}
 use Rattle.dioid.specs.declared.dates.Date.TheVariants.{Early, At, Never}
+use Rattle.dioid.specs.Dates.{date_left}
+use Rattle.series_ops.specs.Residual.{least_of}
 use Rattle.series_form.specs.Bounds.{IsUpTo}
 
 -- the function of a list, Early past it
@@ -22,3 +24,7 @@ abbrev pub IsNumber : Date → Type 0
 IsNumber Early = ⊥
 IsNumber (At t) = Unit {0}
 IsNumber Never = ⊥
+
+-- the least residual of the second list at k and on by the first, over the places of the first
+abbrev pub left_listed : List Date → List Date → ℕ → Date
+left_listed l m k = least_of (λ i. date_left (get_or l i Early) (get_or m (k + i) Early)) (length l - 1)

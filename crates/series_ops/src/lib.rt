@@ -3,7 +3,9 @@
 
 mod laws;
 mod products;
+mod residuals;
 mod tables;
 
 pub use products::product;
+pub use residuals::left;
 pub use laws::series_are_closed;

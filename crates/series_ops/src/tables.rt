@@ -11,7 +11,7 @@ ghost use Rattle.series_ops.specs.Listed.{AreUpTo, all_but_last, last_of};
 
 /// The first values of a series.
 pub(crate) fn first_values(alloc: Global, series: &Series, count: usize) -> Result<Vec<Date>, AllocError>
-    requires { count ≤ 40001 }
+    requires { count ≤ 60001 }
     ensures values { IfOk result (λ values. values.items ≡ table (value_at series.now) count) }
     ensures series { IfOk result (λ values. IsSeries series.now) }
 {
