@@ -54,7 +54,7 @@ value_repeats f pos_n fits = record {
 
 -- ---- dates
 
-eqb_sound : (a b : Date) → date_eqb a b ≡ true → a ≡ b
+pub eqb_sound : (a b : Date) → date_eqb a b ≡ true → a ≡ b
 eqb_sound Early Early h = refl
 eqb_sound Early (At t) h = cc
 eqb_sound Early Never h = cc
@@ -70,7 +70,7 @@ eqb_same Early = refl
 eqb_same (At s) = grind (arith, ints)
 eqb_same Never = refl
 
-eqb_complete : (a b : Date) → a ≡ b → date_eqb a b ≡ true
+pub eqb_complete : (a b : Date) → a ≡ b → date_eqb a b ≡ true
 eqb_complete a b e = rw e (eqb_same b)
 
 move_same : (x : ℤ) (a b : Date) → move x a ≡ move x b → a ≡ b
@@ -157,7 +157,7 @@ form_values f p n x pos_n a =
 
 -- ---- tests
 
-test_sound : (f : ℕ → Date) (n : ℕ) (x : ℤ) (p m : ℕ) → repeats_test f n x p m ≡ true → (k : ℕ) → p ≤ k → k < p + m → f (k + n) ≡ move x (f k)
+pub test_sound : (f : ℕ → Date) (n : ℕ) (x : ℤ) (p m : ℕ) → repeats_test f n x p m ≡ true → (k : ℕ) → p ≤ k → k < p + m → f (k + n) ≡ move x (f k)
 test_sound f n x p zero h k u v = absurd (omega arith)
 test_sound f n x p (suc m) h k u v =
     let both : (repeats_test f n x p m ≡ true) × (date_eqb (f (p + m + n)) (move x (f (p + m))) ≡ true) = and_parts (repeats_test f n x p m) (date_eqb (f (p + m + n)) (move x (f (p + m)))) h in
@@ -171,7 +171,7 @@ test_sound f n x p (suc m) h k u v =
       and_parts true false e = (cc, cc)
       and_parts false b e = (cc, cc)
 
-test_complete : (f : ℕ → Date) (n : ℕ) (x : ℤ) (p m : ℕ) → ((k : ℕ) → p ≤ k → k < p + m → f (k + n) ≡ move x (f k)) → repeats_test f n x p m ≡ true
+pub test_complete : (f : ℕ → Date) (n : ℕ) (x : ℤ) (p m : ℕ) → ((k : ℕ) → p ≤ k → k < p + m → f (k + n) ≡ move x (f k)) → repeats_test f n x p m ≡ true
 test_complete f n x p zero h = refl
 test_complete f n x p (suc m) h =
     let before : repeats_test f n x p m ≡ true = test_complete f n x p m (λ k u v. h k u (omega arith)) in

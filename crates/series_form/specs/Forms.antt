@@ -66,10 +66,14 @@ abbrev pub table : (ℕ → Date) → ℕ → List Date
 table f zero = []
 table f (suc n) = f 0 ∷ table (λ i. f (suc i)) n
 
+-- whether n shifts move the value at k by x
+abbrev pub moves : (ℕ → Date) → ℕ → ℤ → ℕ → Bool
+moves f n x k = date_eqb (f (k + n)) (move x (f k))
+
 -- whether n shifts move the values at p, .., p + m - 1 by x
 abbrev pub repeats_test : (ℕ → Date) → ℕ → ℤ → ℕ → ℕ → Bool
 repeats_test f n x p zero = true
-repeats_test f n x p (suc m) = repeats_test f n x p m && date_eqb (f (p + m + n)) (move x (f (p + m)))
+repeats_test f n x p (suc m) = repeats_test f n x p m && moves f n x (p + m)
 
 -- the first of a, .., a + m at which the test holds, a + m if none
 abbrev pub first_of : (ℕ → Bool) → ℕ → ℕ → ℕ

@@ -15,4 +15,4 @@ pub use plans::{
     Plan, Slopes, common_period, compare_slopes, gain_over, gains_for, lead_gain, start, tail,
 };
 pub use pointwise::{common_start, least, plan_of_sum, sum};
-pub use shorten::shortest;
+pub use shorten::{Shape, canonical_part, shortest};

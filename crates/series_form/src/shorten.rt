@@ -1,10 +1,10 @@
 ghost use Rattle.std.specs.Prelude.{◌≡◌, ◌≤◌, ◌<◌, ◌+◌, ◌-◌, ℕ, length, MatchBool, MatchResult};
 ghost use Rattle.std.specs.Int.RustNames.{unsigned_abs};
-ghost use Rattle.series_form.specs.Forms.{value_at, form_with, repeats_test, gap, least_period_of, least_start_of};
+ghost use Rattle.series_form.specs.Forms.{value_at, form_with, moves, repeats_test, gap, least_period_of, least_start_of};
 ghost use Rattle.series_form.specs.Bounds.{IsModerate, IsModerateDate};
 ghost use Rattle.series_form.specs.Periodic.{Rising};
 ghost use Rattle.series_form.specs.Answer.{IsNumberCheck, IsBeginning, IsShortest, form_before};
-ghost use Rattle.series_form.specs.Shapes.{IsShape, IsTooGreat};
+ghost use Rattle.series_form.specs.Shapes.{IsPart, IsCanonicalPart, IsShape, IsTooGreat};
 
 use crate::forms::{Series, SeriesRefused};
 use crate::values::{gap_of, is_moved, value_of};
@@ -59,15 +59,23 @@ pub(crate) fn least_period(values: &[Date], period: usize, step: i128, from: usi
     period
 }
 
-/// The first shift from which the function repeats by `turn` shifts and `jump`.
-pub(crate) fn least_start(
-    values: &[Date],
-    period: usize,
-    step: i128,
-    from: usize,
-    turn: usize,
-    jump: i128,
-) -> usize
+/// Whether `turn` shifts move the value at a shift by `jump`.
+fn moves_at(values: &[Date], period: usize, step: i128, turn: usize, jump: i128, shift: usize) -> bool
+    requires positive { 0 < period }
+    requires fits { period ≤ length values.now }
+    requires moderate { IsModerate (form_with values.now period step) }
+    requires turn { turn ≤ 100000 }
+    requires shift { shift ≤ 100000 }
+    ensures { result ≡ moves (value_at (form_with values.now period step)) turn jump shift }
+{
+    let here = value_of(values, period, step, shift as u64);
+    let there = value_of(values, period, step, (shift + turn) as u64);
+    is_moved(here, there, jump)
+}
+
+/// The first shift from which the function repeats by `turn` shifts and `jump`, looked for from
+/// `from` backwards.
+pub(crate) fn least_start(values: &[Date], period: usize, step: i128, from: usize, turn: usize, jump: i128) -> usize
     requires positive { 0 < period }
     requires fits { period ≤ length values.now }
     requires moderate { IsModerate (form_with values.now period step) }
@@ -77,12 +85,12 @@ pub(crate) fn least_start(
     ensures value { result ≡ least_start_of (value_at (form_with values.now period step)) from turn jump }
     ensures within { result ≤ from }
 {
-    for start in 0..from {
-        if repeats(values, period, step, turn, jump, start, from - start) {
-            return start;
+    for back in 0..from {
+        if !moves_at(values, period, step, turn, jump, from - (back + 1)) {
+            return from - back;
         }
     }
-    from
+    0
 }
 
 /// The first of the values that is too great.
@@ -107,40 +115,59 @@ fn is_great(number: i128) -> bool
     number > 1_000_000_000_000_000_000 || number < -1_000_000_000_000_000_000
 }
 
-/// How much of a list is the canonical form, with its period and step.
+/// How much of a list is the canonical form of its function, with the period and the step.
 #[derive(Clone, Copy)]
-pub(crate) struct Shape {
-    size: usize,
-    period: usize,
-    step: i128,
+pub struct Shape {
+    pub size: usize,
+    pub period: usize,
+    pub step: i128,
 }
 
-/// The canonical form of the function of a form, or its first number that is too great.
-pub(crate) fn shorten(values: &[Date], turn: usize, step: i128) -> Result<Shape, i128>
+/// The canonical form of the function of a form: its list is the first part of the list.
+fn shape_of(values: &[Date], turn: usize, step: i128) -> Shape
     requires positive { 0 < turn }
     requires fits { turn ≤ length values.now }
     requires short { length values.now ≤ 20000 }
     requires moderate { IsModerate (form_with values.now turn step) }
-    ensures { MatchResult result (IsShape values.now turn step) (IsTooGreat values.now turn step) }
+    ensures { IsPart values.now turn step result }
 {
     let start = values.len() - turn;
     let period = least_period(values, turn, step, start);
     let first = value_of(values, turn, step, start as u64);
     let second = value_of(values, turn, step, (start + period) as u64);
     let jump = gap_of(first, second);
-    let begin = least_start(values, turn, step, start, period, jump);
-    let size = begin + period;
-    if let Some(value) = first_great(values, size) {
-        return Err(value);
-    }
-    if is_great(jump) {
-        return Err(jump);
-    }
-    Ok(Shape {
-        size,
+    Shape {
+        size: least_start(values, turn, step, start, period, jump) + period,
         period,
         step: jump,
-    })
+    }
+}
+
+/// The canonical form of the function of a form, or its first number that is too great.
+fn shorten(values: &[Date], turn: usize, step: i128) -> Result<Shape, i128>
+    requires positive { 0 < turn }
+    requires fits { turn ≤ length values.now }
+    requires short { length values.now ≤ 20000 }
+    requires moderate { IsModerate (form_with values.now turn step) }
+    ensures { MatchResult result (IsShape values.now turn step) (IsTooGreat values.now turn step) }
+{
+    let shape = shape_of(values, turn, step);
+    if let Some(value) = first_great(values, shape.size) {
+        return Err(value);
+    }
+    if is_great(shape.step) {
+        return Err(shape.step);
+    }
+    Ok(shape)
+}
+
+/// The canonical form of a function that is known as in `shortest`, with numbers of any size. For
+/// the star, which needs the form on the way.
+pub fn canonical_part(values: &[Date], turn: usize, next: Date) -> Shape
+    requires { IsBeginning values.now turn next }
+    ensures { IsCanonicalPart values.now turn next result }
+{
+    shape_of(values, turn, step_before(values, turn, next))
 }
 
 /// The series of the function of a form.

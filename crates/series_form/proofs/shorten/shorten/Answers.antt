@@ -1,70 +1,40 @@
-use Rattle.std.proofs.Common.{◌≡◌, refl, ap, sym, ◌∙◌, ℤ, ℕ, arith, to_z, of_z, ◌+◌, ◌-◌, ◌≤◌, length, take, List, subst, inl, inr, get_or}
+use Rattle.std.proofs.Common.{◌≡◌, refl, ap, sym, ◌∙◌, ℤ, ◌≤◌, ◌<◌, to_z, of_z, length, take, List, subst, inl, inr}
 use Rattle.std.specs.Int.{w128}
 use Rattle.std.specs.Int.RustNames.{unsigned_abs}
 use Rattle.std.proofs.lemmas.Int.{to_z-of_z}
 use Rattle.dioid.specs.declared.dates.Date.{Date}
-use Rattle.series_form.specs.Forms.{Form, form_with, value_at, gap, least_period_of, least_start_of}
-use Rattle.series_form.specs.Answer.{IsFirstGreat, IsFirstGreatValue, IsGreatStep}
-use Rattle.series_form.specs.Shapes.{IsShape, IsTooGreat, shortened}
 use Rattle.dioid.specs.declared.dates.Date.TheVariants.{At}
+use Rattle.series_form.specs.Forms.{Form, form_with}
 use Rattle.series_form.specs.Bounds.{IsModerateDate, HasSmallNumbers}
+use Rattle.series_form.specs.Answer.{IsFirstGreat, IsFirstGreatValue, IsGreatStep}
+use Rattle.series_form.specs.Shapes.{IsPart, IsShape, IsTooGreat, shortened}
 use Rattle.series_form.proofs.Numbers.{moderate_fits}
-use Rattle.series_form.proofs.FirstPart.{V, shape_form, small_taken, great_taken}
+use Rattle.series_form.proofs.FirstPart.{small_taken, great_taken}
 use Rattle.series_form.proofs.shorten.shorten.Goals as goal
 
 pub returns : goal.returns
 returns c =
-    let j : ℤ = to_z w128 (of_z w128 c.gap_of-jump.result) in
-    let ex : to_z w128 (of_z w128 c.args.step) ≡ c.args.step = to_z-of_z w128 c.args.step c.ranges.step in
-    let ej : to_z w128 (of_z w128 c.gap_of-jump.result) ≡ c.gap_of-jump.result = to_z-of_z w128 c.gap_of-jump.result (record { sfits = c.gap_of-jump.type_inv }) in
-    let a = subst (λ (z : ℤ). c.least_period-period.result ≡ least_period_of (V c.args.values.now c.args.turn z) (length c.args.values.now - c.args.turn) c.args.turn) ex c.least_period-period.ensures.value in
-    let first = subst (λ (z : ℤ). c.value_of-first.result ≡ V c.args.values.now c.args.turn z (length c.args.values.now - c.args.turn)) ex c.value_of-first.ensures.value in
-    let second = subst (λ (z : ℤ). c.value_of-second.result ≡ V c.args.values.now c.args.turn z (length c.args.values.now - c.args.turn + c.least_period-period.result)) ex c.value_of-second.ensures.value in
-    let b = subst (λ (z : ℤ). c.least_start-begin.result ≡ least_start_of (V c.args.values.now c.args.turn z) (length c.args.values.now - c.args.turn) c.least_period-period.result j) ex c.least_start-begin.ensures.value in
-    let g : j ≡ gap (V c.args.values.now c.args.turn c.args.step (length c.args.values.now - c.args.turn)) (V c.args.values.now c.args.turn c.args.step (length c.args.values.now - c.args.turn + c.least_period-period.result)) =
-    ej ∙ c.gap_of-jump.ensures ∙ ap (λ z. gap z c.value_of-second.result) first ∙ ap (gap (V c.args.values.now c.args.turn c.args.step (length c.args.values.now - c.args.turn))) second in
-    let form : shortened c.args.values.now c.args.turn c.args.step ≡ form_with (take (c.least_start-begin.result + c.least_period-period.result) c.args.values.now) c.least_period-period.result j =
-    shape_form c.args.values.now c.args.turn c.args.step (length c.args.values.now - c.args.turn) c.least_period-period.result c.least_start-begin.result j refl c.requires.fits a g b c.least_start-begin.ensures.within c.least_period-period.ensures.within in
-    let size : c.least_start-begin.result + c.least_period-period.result ≤ length c.args.values.now = omega arith in
-    let small : HasSmallNumbers (form_with (take (c.least_start-begin.result + c.least_period-period.result) c.args.values.now) c.least_period-period.result j) =
-    record { values = small_taken c.args.values.now (c.least_start-begin.result + c.least_period-period.result) c.in_default.ensures size; step = c.if-is_great.ensures } in
-    record { fits = size; form = form; small = subst (λ (z : Form). HasSmallNumbers z) (sym form) small }
+    let h : IsPart c.args.values.now c.args.turn c.args.step c.shape_of-shape.result = subst (λ (z : ℤ). IsPart c.args.values.now c.args.turn z c.shape_of-shape.result) (to_z-of_z w128 c.args.step c.ranges.step) c.shape_of-shape.ensures in
+    let low : unsigned_abs c.shape_of-shape.result.step ≤ 1000000000000000000 = subst (λ (z : ℤ). unsigned_abs z ≤ 1000000000000000000) (to_z-of_z w128 c.shape_of-shape.result.step h.step_fits) c.if-is_great.ensures in
+    let small : HasSmallNumbers (form_with (take c.shape_of-shape.result.size c.args.values.now) c.shape_of-shape.result.period c.shape_of-shape.result.step) =
+        record { values = small_taken c.args.values.now c.shape_of-shape.result.size c.in_default.ensures h.fits; step = low } in
+    record { fits = h.fits; form = h.form; small = subst (λ (z : Form). HasSmallNumbers z) (sym h.form) small }
 
 pub returns-then-is_great : goal.returns-then-is_great
 returns-then-is_great c =
-    let j : ℤ = to_z w128 (of_z w128 c.gap_of-jump.result) in
-    let ex : to_z w128 (of_z w128 c.args.step) ≡ c.args.step = to_z-of_z w128 c.args.step c.ranges.step in
-    let ej : to_z w128 (of_z w128 c.gap_of-jump.result) ≡ c.gap_of-jump.result = to_z-of_z w128 c.gap_of-jump.result (record { sfits = c.gap_of-jump.type_inv }) in
-    let a = subst (λ (z : ℤ). c.least_period-period.result ≡ least_period_of (V c.args.values.now c.args.turn z) (length c.args.values.now - c.args.turn) c.args.turn) ex c.least_period-period.ensures.value in
-    let first = subst (λ (z : ℤ). c.value_of-first.result ≡ V c.args.values.now c.args.turn z (length c.args.values.now - c.args.turn)) ex c.value_of-first.ensures.value in
-    let second = subst (λ (z : ℤ). c.value_of-second.result ≡ V c.args.values.now c.args.turn z (length c.args.values.now - c.args.turn + c.least_period-period.result)) ex c.value_of-second.ensures.value in
-    let b = subst (λ (z : ℤ). c.least_start-begin.result ≡ least_start_of (V c.args.values.now c.args.turn z) (length c.args.values.now - c.args.turn) c.least_period-period.result j) ex c.least_start-begin.ensures.value in
-    let g : j ≡ gap (V c.args.values.now c.args.turn c.args.step (length c.args.values.now - c.args.turn)) (V c.args.values.now c.args.turn c.args.step (length c.args.values.now - c.args.turn + c.least_period-period.result)) =
-    ej ∙ c.gap_of-jump.ensures ∙ ap (λ z. gap z c.value_of-second.result) first ∙ ap (gap (V c.args.values.now c.args.turn c.args.step (length c.args.values.now - c.args.turn))) second in
-    let form : shortened c.args.values.now c.args.turn c.args.step ≡ form_with (take (c.least_start-begin.result + c.least_period-period.result) c.args.values.now) c.least_period-period.result j =
-    shape_form c.args.values.now c.args.turn c.args.step (length c.args.values.now - c.args.turn) c.least_period-period.result c.least_start-begin.result j refl c.requires.fits a g b c.least_start-begin.ensures.within c.least_period-period.ensures.within in
-    let size : c.least_start-begin.result + c.least_period-period.result ≤ length c.args.values.now = omega arith in
-    let great : IsGreatStep (form_with (take (c.least_start-begin.result + c.least_period-period.result) c.args.values.now) c.least_period-period.result j) j =
-    record { values = small_taken c.args.values.now (c.least_start-begin.result + c.least_period-period.result) c.in_default.ensures size; value = refl; great = c.if-is_great.ensures } in
-    inr (subst (λ (z : Form). IsGreatStep z j) (sym form) great)
+    let h : IsPart c.args.values.now c.args.turn c.args.step c.shape_of-shape.result = subst (λ (z : ℤ). IsPart c.args.values.now c.args.turn z c.shape_of-shape.result) (to_z-of_z w128 c.args.step c.ranges.step) c.shape_of-shape.ensures in
+    let e : to_z w128 (of_z w128 c.shape_of-shape.result.step) ≡ c.shape_of-shape.result.step = to_z-of_z w128 c.shape_of-shape.result.step h.step_fits in
+    let high : 1000000000000000000 < unsigned_abs (to_z w128 (of_z w128 c.shape_of-shape.result.step)) = c.if-is_great.ensures in
+    let great : IsGreatStep (form_with (take c.shape_of-shape.result.size c.args.values.now) c.shape_of-shape.result.period c.shape_of-shape.result.step) (to_z w128 (of_z w128 c.shape_of-shape.result.step)) =
+        record { values = small_taken c.args.values.now c.shape_of-shape.result.size c.in_default.ensures h.fits; value = sym e; great = high } in
+    inr (subst (λ (z : Form). IsGreatStep z (to_z w128 (of_z w128 c.shape_of-shape.result.step))) (sym h.form) great)
 
 pub returns-in-Some : goal.returns-in-Some
 returns-in-Some c =
-    let j : ℤ = to_z w128 (of_z w128 c.gap_of-jump.result) in
-    let ex : to_z w128 (of_z w128 c.args.step) ≡ c.args.step = to_z-of_z w128 c.args.step c.ranges.step in
-    let ej : to_z w128 (of_z w128 c.gap_of-jump.result) ≡ c.gap_of-jump.result = to_z-of_z w128 c.gap_of-jump.result (record { sfits = c.gap_of-jump.type_inv }) in
-    let a = subst (λ (z : ℤ). c.least_period-period.result ≡ least_period_of (V c.args.values.now c.args.turn z) (length c.args.values.now - c.args.turn) c.args.turn) ex c.least_period-period.ensures.value in
-    let first = subst (λ (z : ℤ). c.value_of-first.result ≡ V c.args.values.now c.args.turn z (length c.args.values.now - c.args.turn)) ex c.value_of-first.ensures.value in
-    let second = subst (λ (z : ℤ). c.value_of-second.result ≡ V c.args.values.now c.args.turn z (length c.args.values.now - c.args.turn + c.least_period-period.result)) ex c.value_of-second.ensures.value in
-    let b = subst (λ (z : ℤ). c.least_start-begin.result ≡ least_start_of (V c.args.values.now c.args.turn z) (length c.args.values.now - c.args.turn) c.least_period-period.result j) ex c.least_start-begin.ensures.value in
-    let g : j ≡ gap (V c.args.values.now c.args.turn c.args.step (length c.args.values.now - c.args.turn)) (V c.args.values.now c.args.turn c.args.step (length c.args.values.now - c.args.turn + c.least_period-period.result)) =
-    ej ∙ c.gap_of-jump.ensures ∙ ap (λ z. gap z c.value_of-second.result) first ∙ ap (gap (V c.args.values.now c.args.turn c.args.step (length c.args.values.now - c.args.turn))) second in
-    let form : shortened c.args.values.now c.args.turn c.args.step ≡ form_with (take (c.least_start-begin.result + c.least_period-period.result) c.args.values.now) c.least_period-period.result j =
-    shape_form c.args.values.now c.args.turn c.args.step (length c.args.values.now - c.args.turn) c.least_period-period.result c.least_start-begin.result j refl c.requires.fits a g b c.least_start-begin.ensures.within c.least_period-period.ensures.within in
-    let size : c.least_start-begin.result + c.least_period-period.result ≤ length c.args.values.now = omega arith in
-    let found : IsFirstGreat c.args.values.now (c.least_start-begin.result + c.least_period-period.result) c.in-Some.value = c.in-Some.ensures in
+    let h : IsPart c.args.values.now c.args.turn c.args.step c.shape_of-shape.result = subst (λ (z : ℤ). IsPart c.args.values.now c.args.turn z c.shape_of-shape.result) (to_z-of_z w128 c.args.step c.ranges.step) c.shape_of-shape.ensures in
+    let found : IsFirstGreat c.args.values.now c.shape_of-shape.result.size c.in-Some.value = c.in-Some.ensures in
     let low : IsModerateDate (At c.in-Some.value) = subst (λ (z : Date). IsModerateDate z) found.value (c.requires.moderate.values found.place) in
     let ev : to_z w128 (of_z w128 c.in-Some.value) ≡ c.in-Some.value = to_z-of_z w128 c.in-Some.value (moderate_fits c.in-Some.value low) in
-    let great : IsFirstGreatValue (form_with (take (c.least_start-begin.result + c.least_period-period.result) c.args.values.now) c.least_period-period.result j) c.in-Some.value =
-    great_taken c.args.values.now (c.least_start-begin.result + c.least_period-period.result) c.least_period-period.result j c.in-Some.value found in
-    rw ev (inl (subst (λ (z : Form). IsFirstGreatValue z c.in-Some.value) (sym form) great))
+    let great : IsFirstGreatValue (form_with (take c.shape_of-shape.result.size c.args.values.now) c.shape_of-shape.result.period c.shape_of-shape.result.step) c.in-Some.value =
+        great_taken c.args.values.now c.shape_of-shape.result.size c.shape_of-shape.result.period c.shape_of-shape.result.step c.in-Some.value found in
+    rw ev (inl (subst (λ (z : Form). IsFirstGreatValue z c.in-Some.value) (sym h.form) great))
