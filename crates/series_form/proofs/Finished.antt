@@ -1,7 +1,7 @@
 -- How an operation ends: by the first values of its function, and the value after them.
-use Rattle.std.proofs.Common.{◌≡◌, refl, ap, arith, ℕ, ℤ, pos, negsuc, zero, suc, ◌+◌, ◌*◌, ◌-◌, ◌/◌, ◌%◌, ◌≤◌, ◌<◌, ◌+ℤ◌, ◌-ℤ◌, ◌*ℤ◌, sym, ◌∙◌, subst, ⊎_elim, ◌⊎◌, inl, inr, List, [], ◌∷◌, ◌++◌, length, get_or, true, false, ltb, Result, Ok, Err}
+use Rattle.std.proofs.Common.{◌≡◌, refl, ap, arith, ℕ, ℤ, pos, zero, suc, ◌+◌, ◌*◌, ◌-◌, ◌/◌, ◌%◌, ◌≤◌, ◌<◌, sym, ◌∙◌, subst, ⊎_elim, ◌⊎◌, List, [], ◌∷◌, ◌++◌, length, get_or, true, false, ltb, Result, Ok, Err}
 use Rattle.std.specs.Int.RustNames.{unsigned_abs}
-use Rattle.std.proofs.lemmas.Int.{ints, clamps, unsigned_abs-mul}
+use Rattle.std.proofs.lemmas.Int.{ints, unsigned_abs-mul}
 use Rattle.std.proofs.lemmas.Bool.{cases_lt}
 use Rattle.std.proofs.lemmas.Nat.{mul-le}
 use Rattle.std.proofs.Math.ListN.{get_or-eq_default}
@@ -11,14 +11,14 @@ use Rattle.dioid.specs.declared.dates.Date.TheVariants.{Early, At, Never}
 use Rattle.series_form.specs.declared.plans.Plan.{Plan}
 use Rattle.series_form.specs.declared.forms.SeriesRefused.{SeriesRefused}
 use Rattle.series_form.specs.declared.forms.SeriesRefused.TheVariants.{TooLong, TooGreat, OutOfMemory}
-use Rattle.series_form.specs.Order.{Le, move, le_refl, le_is, le_trans, early_le}
-use Rattle.series_form.specs.Periodic.{Rising, Repeats, times}
-use Rattle.series_form.specs.Forms.{Form, form_with, size_of, start_of, value_at, gap, table, IsForm, HasValues, IsCanonical, monomial_at}
+use Rattle.series_form.specs.Order.{move, le_is, le_trans, early_le}
+use Rattle.series_form.specs.Periodic.{Rising, times}
+use Rattle.series_form.specs.Forms.{Form, form_with, size_of, start_of, value_at, gap, table, HasValues, IsCanonical, monomial_at}
 use Rattle.series_form.specs.Canonical.{table_at, table_length, value_in, form_values, step_is_gap, one_canonical, constant_is}
 use Rattle.series_form.specs.Bounds.{IsUpTo, IsSmallDate, IsModerateDate, IsModerate, HasSmallNumbers, IsSeries}
-use Rattle.series_form.specs.Answer.{IsFirstGreatValue, IsGreatStep, IsGreatIn, AnswersOf, IsShortest, IsBeginning, form_before, Fits, Answers}
-use Rattle.series_form.specs.Needs.{plan, need_of, form_by}
-use Rattle.series_form.specs.Sums.{Serves, served_is, served_values}
+use Rattle.series_form.specs.Answer.{IsFirstGreatValue, IsGreatStep, AnswersOf, IsShortest, IsBeginning, form_before, Answers}
+use Rattle.series_form.specs.Needs.{plan, need_of}
+use Rattle.series_form.specs.Sums.{Serves}
 use Rattle.series_form.proofs.Numbers.{abs_sum, abs_difference, times_product, div_below}
 
 -- ---- bounds

@@ -1,16 +1,15 @@
 -- The canonical form is a part of the list that it was found by.
-use Rattle.std.proofs.Common.{◌≡◌, refl, ap, sym, ◌∙◌, ℤ, ℕ, arith, ◌-◌, ◌+◌, ◌<◌, ◌≤◌, List, length, get_or, take, ⊎_elim, ◌⊎◌, inl, inr, subst}
-use Rattle.std.specs.Int.RustNames.{unsigned_abs}
+use Rattle.std.proofs.Common.{◌≡◌, ap, sym, ◌∙◌, ℤ, ℕ, arith, ◌-◌, ◌+◌, ◌<◌, ◌≤◌, List, length, get_or, take, ⊎_elim, subst}
 use Rattle.std.proofs.lemmas.Bool.{cases_lt}
 use Rattle.std.proofs.lemmas.List.{get_or-take, length-take-le}
 use Rattle.std.proofs.Math.ListN.{get_or-eq_default}
 use Rattle.dioid.specs.declared.dates.Date.{Date}
-use Rattle.dioid.specs.declared.dates.Date.TheVariants.{Early, At, Never}
+use Rattle.dioid.specs.declared.dates.Date.TheVariants.{Early}
 use Rattle.series_form.specs.Bounds.{IsSmallDate, IsSeries, HasSmallNumbers}
 use Rattle.series_form.specs.Periodic.{Rising, Repeats}
 use Rattle.series_form.specs.Forms.{Form, form_with, value_at, size_of, table, gap, shortest, HasValues, canonical_of, least_period_of, least_start_of}
 use Rattle.series_form.specs.Canonical.{canonical_values, same_lists, table_at, table_length, value_in, value_repeats, canonical_is, canonical_short}
-use Rattle.series_form.specs.Answer.{IsFirstGreat, IsFirstGreatValue, IsGreatStep, IsGreatIn}
+use Rattle.series_form.specs.Answer.{IsFirstGreat, IsFirstGreatValue, IsGreatIn}
 use Rattle.series_form.specs.Shapes.{shortened, IsTooGreat}
 
 abbrev pub V : List Date → ℕ → ℤ → ℕ → Date

@@ -1,10 +1,8 @@
 -- The sum and the minimum by their first values.
-use Rattle.std.proofs.Common.{◌≡◌, ◌≤◌, ◌+◌, ◌*◌, ℕ, ℤ, arith, sym, subst, List, ⊎_elim, ◌⊎◌, ◌+ℤ◌, ◌∙◌}
-use Rattle.std.specs.Prelude.{◌≤ℤ◌}
+use Rattle.std.proofs.Common.{◌≡◌, ◌≤◌, ◌+◌, ◌*◌, ℕ, ℤ, arith, sym, subst, List, ⊎_elim, ◌⊎◌}
 use Rattle.std.specs.Int.{int_max, int_min}
 use Rattle.std.specs.Int.RustNames.{unsigned_abs}
 use Rattle.std.proofs.lemmas.Int.{ints, clamps}
-use Rattle.std.proofs.lemmas.Bool.{cases_lt}
 use Rattle.dioid.specs.Dates.{later_of, earlier_of}
 use Rattle.dioid.specs.declared.dates.Date.{Date}
 use Rattle.dioid.specs.declared.dates.Date.TheVariants.{Early, At, Never}

@@ -21,12 +21,12 @@ start_found f n x p q low all none =
     let last : starts f n x p (0 + p) ≡ true = test_complete f n x (0 + p) (p - (0 + p)) (λ k u v. absurd (omega arith)) in
     let found : starts f n x p (least_start_of f p n x) ≡ true = first_holds (starts f n x p) 0 p last in
     ⊎_elim
-        (λ less. absurd (
-            let yes : moves f n x (q - 1) ≡ true = eqb_complete (f ((q - 1) + n)) (move x (f (q - 1))) (test_sound f n x (least_start_of f p n x) (p - least_start_of f p n x) found (q - 1) (omega arith) (omega arith)) in
-            let no : moves f n x (q - 1) ≡ false = none (omega arith) in
-            let c : true ≡ false = sym yes ∙ no in cc))
-        (λ more. omega arith)
-        (cases_lt (least_start_of f p n x) q)
+    (λ less. absurd (
+    let yes : moves f n x (q - 1) ≡ true = eqb_complete (f ((q - 1) + n)) (move x (f (q - 1))) (test_sound f n x (least_start_of f p n x) (p - least_start_of f p n x) found (q - 1) (omega arith) (omega arith)) in
+    let no : moves f n x (q - 1) ≡ false = none (omega arith) in
+    let c : true ≡ false = sym yes ∙ no in cc))
+    (λ more. omega arith)
+    (cases_lt (least_start_of f p n x) q)
 
 pub turn_step : (f : ℕ → Date) (p n i w : ℕ) (x : ℤ) (r : Bool) → w ≡ first_of (turns f p n) i (n - i) → i < n → x ≡ gap (f p) (f (p + i)) → r ≡ repeats_test f i x p n → r ≡ false
     → w ≡ first_of (turns f p n) (i + 1) (n - (i + 1))

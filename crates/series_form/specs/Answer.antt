@@ -2,7 +2,7 @@
 use Rattle.std.specs.Prelude.{◌≡◌, ◌≤◌, ◌<◌, ◌-◌, ◌⊎◌, ℕ, ℤ, pos, Result, Ok, Err, Option, Some, None, List, [], ◌∷◌, length, get_or}
 use Rattle.std.specs.Int.RustNames.{unsigned_abs}
 use Rattle.dioid.specs.declared.dates.Date.{Date}
-use Rattle.dioid.specs.declared.dates.Date.TheVariants.{Early, At, Never}
+use Rattle.dioid.specs.declared.dates.Date.TheVariants.{Early, At}
 use Rattle.series_form.specs.declared.forms.SeriesRefused.{SeriesRefused}
 use Rattle.series_form.specs.declared.forms.SeriesRefused.TheVariants.{TooLong, TooGreat, OutOfMemory}
 use Rattle.series_form.specs.Forms.{Form, form_with, value_at, gap, HasValues, IsCanonical}

@@ -1,17 +1,15 @@
 -- The canonical form of a function that repeats, and that it is the only one.
-use Rattle.std.proofs.Common.{◌≡◌, refl, ap, arith, ℕ, ℤ, pos, negsuc, zero, suc, ◌+◌, ◌*◌, ◌-◌, ◌/◌, ◌%◌, ◌≤◌, ◌<◌, ◌+ℤ◌, ◌-ℤ◌, sym, ◌∙◌, subst, ⊎_elim, ◌⊎◌, inl, inr, Bool, true, false, cond, ltb, ◌&&◌, List, [], ◌∷◌, length, get_or}
-use Rattle.std.specs.Prelude.{◌≤ℤ◌}
-use Rattle.std.specs.Ordering.{int_eq}
-use Rattle.std.proofs.lemmas.Int.{ints, clamps}
+use Rattle.std.proofs.Common.{◌≡◌, refl, ap, arith, ℕ, ℤ, pos, zero, suc, ◌+◌, ◌*◌, ◌-◌, ◌/◌, ◌%◌, ◌≤◌, ◌<◌, ◌+ℤ◌, ◌-ℤ◌, sym, ◌∙◌, ⊎_elim, inl, inr, Bool, true, false, cond, ltb, ◌&&◌, List, [], ◌∷◌, length, get_or}
+use Rattle.std.proofs.lemmas.Int.{ints}
 use Rattle.std.proofs.lemmas.Bool.{cases_lt}
 use Rattle.std.proofs.lemmas.Bool.Decides.{nat_tests}
 use Rattle.std.proofs.lemmas.Nat.{div-mul-add, mod-mul-add, mod_below, div-add-mod'}
 use Rattle.std.proofs.Math.Nat.{eq-or-lt_of_le, le-mul_of_pos_right}
 use Rattle.dioid.specs.declared.dates.Date.{Date}
 use Rattle.dioid.specs.declared.dates.Date.TheVariants.{Early, At, Never}
-use Rattle.series_form.specs.Order.{at_inj, Le, move, le_refl, le_is, le_trans, le_antisym, early_le, le_never, move_zero, move_move, move_forth}
-use Rattle.series_form.specs.Periodic.{Rising, Repeats, repeats_later, repeats_from, repeats_times, repeats_is, times, times_add, by_steps}
-use Rattle.series_form.specs.Forms.{Form, size_of, start_of, value_at, IsForm, HasValues, IsCanonical, date_eqb, gap, table, repeats_test, first_of, least_period_of, least_start_of, shortest, canonical_of}
+use Rattle.series_form.specs.Order.{at_inj, Le, move, le_is, le_trans, le_antisym, early_le, le_never, move_zero, move_move, move_forth}
+use Rattle.series_form.specs.Periodic.{Rising, Repeats, repeats_times, repeats_is, times, by_steps}
+use Rattle.series_form.specs.Forms.{Form, size_of, start_of, value_at, IsForm, HasValues, IsCanonical, date_eqb, gap, table, repeats_test, first_of, least_period_of, least_start_of, canonical_of}
 
 -- ---- the function of a form
 

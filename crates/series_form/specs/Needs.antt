@@ -1,15 +1,13 @@
 -- From where the result of each operation repeats, and by how many shifts. Their sum is the need.
-use Rattle.std.specs.Prelude.{◌≡◌, ◌≤◌, ◌<◌, ◌+◌, ◌-◌, ◌*◌, ◌/◌, ◌%◌, ◌⊎◌, ℕ, ℤ, pos, negsuc, zero, suc, max, Bool, true, false, cond, eqb, not, List, [], ◌∷◌, length, get_or, ◌-ℤ◌}
+use Rattle.std.specs.Prelude.{◌+◌, ◌-◌, ◌*◌, ◌/◌, ◌%◌, ℕ, ℤ, pos, negsuc, zero, suc, max, eqb, ◌-ℤ◌}
 use Rattle.std.specs.Int.{int_max}
-use Rattle.std.specs.Prelude.{int_lt}
 use Rattle.dioid.specs.declared.dates.Date.{Date}
 use Rattle.dioid.specs.declared.dates.Date.TheVariants.{Early, At, Never}
 use Rattle.series_form.specs.declared.plans.Plan.{Plan}
 use Rattle.series_form.specs.declared.plans.Slopes.{Slopes}
 use Rattle.series_form.specs.declared.plans.Slopes.TheVariants.{Equal, First, Second}
-use Rattle.series_form.specs.Order.{move}
 use Rattle.series_form.specs.Periodic.{times}
-use Rattle.series_form.specs.Forms.{Form, size_of, start_of, value_at, gap, first_of, canonical_of}
+use Rattle.series_form.specs.Forms.{Form, start_of, value_at, gap, first_of, canonical_of}
 use Rattle.series_form.specs.Pointwise.{sum_at, least_at}
 
 abbrev pub plan : ℕ → ℕ → Plan

@@ -1,8 +1,7 @@
 -- The order of dates, and dates moved by a number.
-use Rattle.std.proofs.Common.{◌≡◌, refl, ap, arith, ℤ, pos, negsuc, zero, suc, ◌+ℤ◌, ◌-ℤ◌, sym, ◌∙◌}
+use Rattle.std.proofs.Common.{◌≡◌, refl, ap, arith, ℤ, pos, ◌+ℤ◌, ◌-ℤ◌}
 use Rattle.std.specs.Prelude.{◌≤ℤ◌}
 use Rattle.std.proofs.lemmas.Int.{ints, clamps}
-use Rattle.std.specs.Int.{int_max, int_min}
 use Rattle.dioid.specs.Dates.{IsAtMostDate, later_of, earlier_of, date_product, date_left}
 use Rattle.dioid.specs.declared.dates.Date.{Date}
 use Rattle.dioid.specs.declared.dates.Date.TheVariants.{Early, At, Never}

@@ -1,11 +1,9 @@
 -- Functions from shifts to dates that never fall and repeat from a shift on.
-use Rattle.std.proofs.Common.{◌≡◌, refl, ap, arith, ℕ, ℤ, pos, negsuc, zero, suc, ◌+◌, ◌*◌, ◌-◌, ◌≤◌, ◌<◌, ◌+ℤ◌, ◌-ℤ◌, sym, ◌∙◌, subst, ⊎_elim}
-use Rattle.std.specs.Prelude.{◌≤ℤ◌, ◌*ℤ◌}
-use Rattle.std.proofs.lemmas.Int.{ints, clamps}
+use Rattle.std.proofs.Common.{◌≡◌, ap, arith, ℕ, ℤ, pos, zero, suc, ◌+◌, ◌*◌, ◌-◌, ◌≤◌, ◌<◌, ◌+ℤ◌, ◌∙◌, subst, ⊎_elim}
+use Rattle.std.proofs.lemmas.Int.{ints}
 use Rattle.std.proofs.lemmas.Bool.{cases_lt}
 use Rattle.dioid.specs.declared.dates.Date.{Date}
-use Rattle.dioid.specs.declared.dates.Date.TheVariants.{Early, At, Never}
-use Rattle.series_form.specs.Order.{Le, move, le_refl, le_is, le_trans, le_antisym, move_zero, move_move, move_le, move_further}
+use Rattle.series_form.specs.Order.{Le, move, move_zero, move_move}
 
 -- f never falls
 pub record Rising (f : ℕ → Date) : Type 0 where

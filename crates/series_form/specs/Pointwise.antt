@@ -1,12 +1,11 @@
 -- The sum and the minimum of series, and where they repeat.
-use Rattle.std.proofs.Common.{◌≡◌, refl, ap, arith, ℕ, ℤ, pos, negsuc, zero, suc, ◌+◌, ◌*◌, ◌-◌, ◌≤◌, ◌<◌, ◌+ℤ◌, ◌-ℤ◌, sym, ◌∙◌, subst}
+use Rattle.std.proofs.Common.{◌≡◌, ap, arith, ℕ, ℤ, pos, zero, suc, ◌+◌, ◌*◌, ◌-◌, ◌≤◌, ◌<◌, ◌+ℤ◌, sym, ◌∙◌}
 use Rattle.std.specs.Prelude.{◌≤ℤ◌}
-use Rattle.std.proofs.lemmas.Int.{ints, clamps}
+use Rattle.std.proofs.lemmas.Int.{ints}
 use Rattle.dioid.specs.Dates.{later_of, earlier_of}
 use Rattle.dioid.specs.declared.dates.Date.{Date}
-use Rattle.dioid.specs.declared.dates.Date.TheVariants.{Early, At, Never}
-use Rattle.series_form.specs.Order.{Le, move, le_refl, le_is, le_trans, le_antisym, le_later_left, le_later_right, later_le, earlier_le_left, earlier_le_right, le_earlier, move_le, move_zero, move_move, move_further, later_move, earlier_move}
-use Rattle.series_form.specs.Periodic.{Rising, Repeats, repeats_later, repeats_from, times, by_steps}
+use Rattle.series_form.specs.Order.{Le, move, le_refl, le_is, le_trans, le_antisym, le_later_left, later_le, earlier_le_right, le_earlier, move_le, move_zero, move_move, move_further, later_move, earlier_move}
+use Rattle.series_form.specs.Periodic.{Repeats, repeats_from, times, by_steps}
 
 abbrev pub sum_at : (ℕ → Date) → (ℕ → Date) → ℕ → Date
 sum_at s t k = later_of (s k) (t k)

@@ -1,21 +1,18 @@
 -- The sum and the minimum of forms are forms of the need.
-use Rattle.std.proofs.Common.{◌≡◌, refl, ap, arith, ℕ, ℤ, pos, negsuc, zero, suc, max, ◌+◌, ◌*◌, ◌-◌, ◌/◌, ◌%◌, ◌≤◌, ◌<◌, ◌+ℤ◌, ◌-ℤ◌, sym, ◌∙◌, subst, ⊎_elim, ◌⊎◌, inl, inr, Bool, true, false, cond, eqb, List, [], ◌∷◌, length, get_or}
+use Rattle.std.proofs.Common.{◌≡◌, refl, ap, arith, ℕ, ℤ, pos, negsuc, zero, suc, ◌+◌, ◌*◌, ◌-◌, ◌/◌, ◌%◌, ◌≤◌, ◌<◌, ◌-ℤ◌, sym, ◌∙◌, subst, ⊎_elim, Bool, true, eqb}
 use Rattle.std.specs.Prelude.{◌≤ℤ◌}
-use Rattle.std.specs.Int.{int_max}
 use Rattle.std.proofs.lemmas.Int.{ints, clamps}
-use Rattle.std.proofs.lemmas.Bool.{cases_lt}
 use Rattle.std.proofs.lemmas.Bool.Decides.{nat_tests}
 use Rattle.std.proofs.lemmas.Nat.{div-mul-add, mod-mul-add, mod_below, div-add-mod'}
 use Rattle.std.proofs.Math.Nat.{eq-or-lt_of_le, le-mul_of_pos_right, mul-le-mul_right}
-use Rattle.dioid.specs.Dates.{later_of, earlier_of}
 use Rattle.dioid.specs.declared.dates.Date.{Date}
 use Rattle.dioid.specs.declared.dates.Date.TheVariants.{Early, At, Never}
-use Rattle.series_form.specs.Order.{later_commutes, earlier_commutes, Le, move, le_refl, le_is, le_trans, le_antisym, early_le, le_never, move_zero, move_move, move_forth, later_le, le_later_left, le_later_right, le_earlier, earlier_le_left, earlier_le_right}
-use Rattle.series_form.specs.Periodic.{Rising, Repeats, repeats_later, repeats_from, repeats_times, repeats_is, times, times_add, by_steps}
-use Rattle.series_form.specs.Pointwise.{sum_at, least_at, sum_repeats_equal, least_repeats_equal, crossed, sum_repeats_left, least_repeats_right, later_is_left, earlier_is_right}
-use Rattle.series_form.specs.Forms.{Form, size_of, start_of, value_at, IsForm, HasValues, IsCanonical, gap, first_of, canonical_of}
+use Rattle.series_form.specs.Order.{later_commutes, earlier_commutes, Le, move, le_is, le_trans, early_le, le_never, later_le, le_later_left, le_later_right, le_earlier, earlier_le_left, earlier_le_right}
+use Rattle.series_form.specs.Periodic.{Rising, Repeats, repeats_later, repeats_times, repeats_is, times}
+use Rattle.series_form.specs.Pointwise.{sum_at, least_at, sum_repeats_equal, least_repeats_equal, crossed, sum_repeats_left, least_repeats_right}
+use Rattle.series_form.specs.Forms.{Form, start_of, value_at, IsForm, HasValues, IsCanonical, gap}
 use Rattle.series_form.specs.Canonical.{value_repeats, early_all, first_ge, first_le, first_holds, never_before, never_le, canonical_values, canonical_is}
-use Rattle.series_form.specs.Needs.{plan, need_of, form_by, turns_of, common, period_with, rise_of, fall_of, tail_of, by_sign, slopes_by, slopes_of, greatest_int, ceiling, later_start, lead_of, periods_behind, crossing, crossing_by, sum_plan, sum_plan_by, least_plan, least_plan_by, form_sum, form_least}
+use Rattle.series_form.specs.Needs.{plan, form_by, turns_of, common, period_with, rise_of, fall_of, tail_of, by_sign, slopes_by, slopes_of, greatest_int, ceiling, later_start, lead_of, periods_behind, crossing, crossing_by, sum_plan, sum_plan_by, least_plan, least_plan_by, form_sum, form_least}
 use Rattle.series_form.specs.declared.plans.Plan.{Plan}
 use Rattle.series_form.specs.declared.plans.Slopes.{Slopes}
 use Rattle.series_form.specs.declared.plans.Slopes.TheVariants.{Equal, First, Second}

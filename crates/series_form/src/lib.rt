@@ -8,6 +8,8 @@ mod forms;
 mod plans;
 mod pointwise;
 mod shorten;
+#[cfg(test)]
+mod tests;
 mod values;
 
 pub use forms::{Series, SeriesRefused};

@@ -231,4 +231,3 @@ pub fn least(alloc: Global, first: &Series, second: &Series) -> Result<Series, S
         Err(_) => Err(SeriesRefused::OutOfMemory),
     }
 }
-

@@ -60,7 +60,14 @@ pub(crate) fn least_period(values: &[Date], period: usize, step: i128, from: usi
 }
 
 /// Whether `turn` shifts move the value at a shift by `jump`.
-fn moves_at(values: &[Date], period: usize, step: i128, turn: usize, jump: i128, shift: usize) -> bool
+fn moves_at(
+    values: &[Date],
+    period: usize,
+    step: i128,
+    turn: usize,
+    jump: i128,
+    shift: usize,
+) -> bool
     requires positive { 0 < period }
     requires fits { period ≤ length values.now }
     requires moderate { IsModerate (form_with values.now period step) }
@@ -75,7 +82,14 @@ fn moves_at(values: &[Date], period: usize, step: i128, turn: usize, jump: i128,
 
 /// The first shift from which the function repeats by `turn` shifts and `jump`, looked for from
 /// `from` backwards.
-pub(crate) fn least_start(values: &[Date], period: usize, step: i128, from: usize, turn: usize, jump: i128) -> usize
+pub(crate) fn least_start(
+    values: &[Date],
+    period: usize,
+    step: i128,
+    from: usize,
+    turn: usize,
+    jump: i128,
+) -> usize
     requires positive { 0 < period }
     requires fits { period ≤ length values.now }
     requires moderate { IsModerate (form_with values.now period step) }

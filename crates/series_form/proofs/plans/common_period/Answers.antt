@@ -1,4 +1,4 @@
-use Rattle.std.proofs.Common.{◌<◌, ◌≡◌, ℕ, arith, subst, sym}
+use Rattle.std.proofs.Common.{◌<◌, ℕ, arith, subst, sym}
 use Rattle.series_form.specs.Sums.{common_positive}
 use Rattle.series_form.proofs.plans.common_period.Goals as goal
 

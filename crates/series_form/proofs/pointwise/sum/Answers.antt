@@ -1,6 +1,6 @@
-use Rattle.std.proofs.Common.{◌≡◌, ℕ, subst}
+use Rattle.std.proofs.Common.{subst}
 use Rattle.series_form.specs.declared.plans.Plan.{Plan}
-use Rattle.series_form.specs.Forms.{Form, value_at, HasValues}
+use Rattle.series_form.specs.Forms.{value_at, HasValues}
 use Rattle.series_form.specs.Pointwise.{sum_at}
 use Rattle.series_form.specs.Needs.{need_of, form_sum}
 use Rattle.series_form.specs.Sums.{form_sum_is, form_sum_values}

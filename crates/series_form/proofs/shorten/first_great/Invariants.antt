@@ -1,4 +1,4 @@
-use Rattle.std.proofs.Common.{◌≡◌, ◌<◌, ℕ, get_or}
+use Rattle.std.proofs.Common.{◌<◌, ℕ, get_or}
 use Rattle.dioid.specs.declared.dates.Date.TheVariants.{Early}
 use Rattle.series_form.specs.Bounds.{IsSmallDate}
 use Rattle.series_form.proofs.shorten.first_great.Given as goal

@@ -1,4 +1,4 @@
-use Rattle.std.proofs.Common.{◌≡◌, ap, sym, ◌∙◌, ℤ, ℕ, to_z, of_z, ◌+◌}
+use Rattle.std.proofs.Common.{◌≡◌, ap, ◌∙◌, ℤ, ℕ, to_z, of_z, ◌+◌}
 use Rattle.std.specs.Int.{w128}
 use Rattle.std.proofs.lemmas.Int.{to_z-of_z}
 use Rattle.dioid.specs.declared.dates.Date.{Date}

@@ -23,13 +23,13 @@ loop-back-preserved c = one_more (value_at (form_with c.args.values.now c.args.p
 pub returns-then-not-moves_at-clause-value : goal.returns-then-not-moves_at-clause-value
 returns-then-not-moves_at-clause-value c =
     found (value_at (form_with c.args.values.now c.args.period (to_z w128 (of_z w128 c.args.step)))) c.args.turn (to_z w128 (of_z w128 c.args.jump)) c.args.from c.loop-back.back c.moves_at.result
-        c.loop-back-test.true c.loop-back.invariant c.moves_at.ensures c.if-not-moves_at.true
+    c.loop-back-test.true c.loop-back.invariant c.moves_at.ensures c.if-not-moves_at.true
     ∙ ap (λ (z : ℤ). least_start_of (value_at (form_with c.args.values.now c.args.period z)) c.args.from c.args.turn (to_z w128 (of_z w128 c.args.jump))) (to_z-of_z w128 c.args.step c.ranges.step)
     ∙ ap (least_start_of (value_at (form_with c.args.values.now c.args.period c.args.step)) c.args.from c.args.turn) (to_z-of_z w128 c.args.jump c.ranges.jump)
 
 pub returns-clause-value : goal.returns-clause-value
 returns-clause-value c =
     start_found (value_at (form_with c.args.values.now c.args.period (to_z w128 (of_z w128 c.args.step)))) c.args.turn (to_z w128 (of_z w128 c.args.jump)) c.args.from 0 (omega arith)
-        (λ k u v. c.loop-back.invariant k (let low : c.args.from ≤ c.loop-back.back = c.loop-back-test.false in omega arith) v) (λ h. absurd (omega arith))
+    (λ k u v. c.loop-back.invariant k (let low : c.args.from ≤ c.loop-back.back = c.loop-back-test.false in omega arith) v) (λ h. absurd (omega arith))
     ∙ ap (λ (z : ℤ). least_start_of (value_at (form_with c.args.values.now c.args.period z)) c.args.from c.args.turn (to_z w128 (of_z w128 c.args.jump))) (to_z-of_z w128 c.args.step c.ranges.step)
     ∙ ap (least_start_of (value_at (form_with c.args.values.now c.args.period c.args.step)) c.args.from c.args.turn) (to_z-of_z w128 c.args.jump c.ranges.jump)

@@ -1,15 +1,9 @@
-use Rattle.std.proofs.Common.{◌≡◌, refl, ap, sym, ◌∙◌, ℤ, ℕ, arith, to_z, of_z, ◌+◌, ◌-◌, ◌≤◌, length, take, List, subst, inl, inr, get_or, FitsSigned}
+use Rattle.std.proofs.Common.{◌≡◌, refl, ap, sym, ◌∙◌, ℤ, arith, to_z, of_z, ◌+◌, ◌-◌, ◌≤◌, length, take, subst, FitsSigned}
 use Rattle.std.specs.Int.{w128}
-use Rattle.std.specs.Int.RustNames.{unsigned_abs}
 use Rattle.std.proofs.lemmas.Int.{to_z-of_z}
-use Rattle.dioid.specs.declared.dates.Date.{Date}
-use Rattle.series_form.specs.Forms.{Form, form_with, value_at, gap, least_period_of, least_start_of}
-use Rattle.series_form.specs.Answer.{IsFirstGreat, IsFirstGreatValue, IsGreatStep}
-use Rattle.series_form.specs.Shapes.{IsShape, IsTooGreat, shortened}
-use Rattle.dioid.specs.declared.dates.Date.TheVariants.{At}
-use Rattle.series_form.specs.Bounds.{IsModerateDate, HasSmallNumbers}
-use Rattle.series_form.proofs.Numbers.{moderate_fits}
-use Rattle.series_form.proofs.FirstPart.{V, shape_form, small_taken, great_taken}
+use Rattle.series_form.specs.Forms.{form_with, gap, least_period_of, least_start_of}
+use Rattle.series_form.specs.Shapes.{shortened}
+use Rattle.series_form.proofs.FirstPart.{V, shape_form}
 use Rattle.series_form.proofs.shorten.shape_of.Goals as goal
 
 pub returns : goal.returns

@@ -1,4 +1,4 @@
-use Rattle.std.proofs.Common.{◌≡◌, ap, sym, ◌∙◌, ℤ, ◌-ℤ◌, to_z, of_z, FitsSigned}
+use Rattle.std.proofs.Common.{◌-ℤ◌}
 use Rattle.std.specs.Int.{w128}
 use Rattle.std.proofs.lemmas.Int.{to_z-of_z}
 use Rattle.series_form.proofs.Numbers.{within_fits, sub_fits}

@@ -1,4 +1,4 @@
-use Rattle.std.proofs.Common.{◌≡◌, arith, IsTrue, true, rules}
+use Rattle.std.proofs.Common.{arith, rules}
 use Rattle.series_form.specs.Canonical.{same_lists}
 use Rattle.series_form.proofs.values.same_values.Goals as goal
 

@@ -1,4 +1,4 @@
-use Rattle.std.proofs.Common.{◌≡◌, ◌<◌, ℕ, get_or, length}
+use Rattle.std.proofs.Common.{◌≡◌, ◌<◌, ℕ, get_or}
 use Rattle.dioid.specs.declared.dates.Date.TheVariants.{Early}
 use Rattle.series_form.proofs.values.same_values.Given as goal
 
