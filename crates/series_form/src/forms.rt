@@ -38,7 +38,7 @@ impl Model for Series {
 }
 
 impl Series {
-    ghost use Rattle.std.specs.Prelude.{◌≡◌, ◌≤◌, ◌<◌, ◌+◌, ◌↔◌, ℕ, IsTrue};
+    ghost use Rattle.std.specs.Prelude.{◌≡◌, ◌≤◌, ◌<◌, ◌+◌, ◌↔◌, ℕ, IsTrue, IfOk};
     ghost use Rattle.std.specs.Int.RustNames.{unsigned_abs};
     ghost use Rattle.series_form.specs.Forms.{value_at, HasValues, monomial_at};
     ghost use Rattle.series_form.specs.Bounds.{IsSmallDate, IsSeries};
@@ -109,6 +109,19 @@ impl Series {
         value_of(self.values.as_slice(), self.period, self.step, shift)
     }
 
+    /// The same series once more. Refuses for want of memory alone.
+    pub fn duplicate(&self, alloc: Global) -> Result<Series, AllocError>
+        ensures value { IfOk result (λ r. r ≡ self.now) }
+        ensures series { IsSeries self.now }
+    {
+        let values = copied(alloc, self.values.as_slice())?;
+        Ok(Series {
+            values,
+            period: self.period,
+            step: self.step,
+        })
+    }
+
     /// Whether the two are equal as functions, which is where their forms are equal.
     pub fn equals(&self, other: &Series) -> bool
         ensures functions { IsTrue result ↔ ((k : ℕ) → value_at self.now k ≡ value_at other.now k) }
@@ -141,6 +154,13 @@ fn monomial_values(alloc: Global, shift: usize, date: i128) -> Result<Vec<Date>,
     }
     values.push(Date::At(date))?;
     Ok(values)
+}
+
+/// The list once more.
+fn copied(alloc: Global, values: &[Date]) -> Result<Vec<Date>, AllocError>
+    ensures { IfOk result (λ list. list.items ≡ values.now) }
+{
+    values.iter().copied().collect(alloc)
 }
 
 /// A list of one date.

@@ -16,5 +16,5 @@ pub use forms::{Series, SeriesRefused};
 pub use plans::{
     Plan, Slopes, common_period, compare_slopes, gain_over, gains_for, lead_gain, start, tail,
 };
-pub use pointwise::{common_start, least, plan_of_sum, sum};
+pub use pointwise::{common_start, later_at, least, plan_of_sum, sum, sum_values};
 pub use shorten::{Shape, canonical_part, shortest};

@@ -142,7 +142,7 @@ fn plan_of_least(first: &Series, second: &Series) -> Plan
 }
 
 /// The greater value at a shift.
-fn later_at(first: &Series, second: &Series, shift: usize) -> Date
+pub fn later_at(first: &Series, second: &Series, shift: usize) -> Date
     requires { shift ≤ 20000 }
     ensures { result ≡ sum_at (value_at first.now) (value_at second.now) shift }
 {
@@ -158,7 +158,7 @@ fn earlier_at(first: &Series, second: &Series, shift: usize) -> Date
 }
 
 /// The first values of the sum.
-fn sum_values(
+pub fn sum_values(
     alloc: Global,
     first: &Series,
     second: &Series,

@@ -46,8 +46,8 @@ module _ (s : ℕ → Date) (n : ℕ) (l : List Date) (e : l ≡ table s (n + 1)
       let fits : n ≤ length l = (let w : length l ≡ n + 1 = whole in omega arith) in
       let a : length (take n l) ≡ n = length-take-le n l fits in
       ap (λ (z : ℕ). take z l) k ∙ same_lists (take n l) (table s n) (a ∙ sym (table_length s n)) (λ j w.
-          let u : j < n = omega arith in
-          get_or-take n l j Early u ∙ ap (λ (z : List Date). get_or z j Early) e ∙ table_at s (n + 1) j (omega arith) ∙ sym (table_at s n j u))
+      let u : j < n = omega arith in
+      get_or-take n l j Early u ∙ ap (λ (z : List Date). get_or z j Early) e ∙ table_at s (n + 1) j (omega arith) ∙ sym (table_at s n j u))
 
   pub ends : last_of l ≡ s n
   ends =
@@ -62,13 +62,16 @@ listed_tabled s r l up serves e low = record { rising = up; serves = serves; val
 pub table_up_to : (f : Form) (n : ℕ) (l : List Date) → IsSeries f → n ≤ 20001 → l ≡ table (value_at f) n → AreUpTo 20001000000000000000000 l
 table_up_to f n l h short e k = ⊎_elim
     (λ w.
-        let u : k < n = w in
-        subst (λ (z : Date). IsUpTo 20001000000000000000000 z) (sym (ap (λ (z : List Date). get_or z k Early) e ∙ table_at (value_at f) n k u)) (listed_up_to f h k (omega arith)))
+    let u : k < n = w in
+    subst (λ (z : Date). IsUpTo 20001000000000000000000 z) (sym (ap (λ (z : List Date). get_or z k Early) e ∙ table_at (value_at f) n k u)) (listed_up_to f h k (omega arith)))
     (λ w.
-        let a : length l ≡ n = ap length e ∙ table_length (value_at f) n in
-        let u : length l ≤ k = omega arith in
-        subst (λ (z : Date). IsUpTo 20001000000000000000000 z) (sym (get_or-eq_default l Early {n = k} u)) tt)
+    let a : length l ≡ n = ap length e ∙ table_length (value_at f) n in
+    let u : length l ≤ k = omega arith in
+    subst (λ (z : Date). IsUpTo 20001000000000000000000 z) (sym (get_or-eq_default l Early {n = k} u)) tt)
     (cases_lt k n)
+
+pub wide : (l : List Date) → AreUpTo 20001000000000000000000 l → AreUpTo 500000000000000000000000000 l
+wide l h k = up_to_more 20001000000000000000000 500000000000000000000000000 (get_or l k Early) (omega arith) (h k)
 
 pub listed_is : (s : ℕ → Date) (n : ℕ) (l : List Date) → l ≡ table s n → (k : ℕ) → k < n → listed l k ≡ s k
 listed_is s n l e k w = ap (λ (z : List Date). get_or z k Early) e ∙ table_at s n k w
@@ -87,7 +90,7 @@ pub product_table : (s t : ℕ → Date) (n : ℕ) (l m : List Date) → l ≡ t
 product_table s t n l m e g = table_same (product_at (listed l) (listed m)) (product_at s t) n (λ k w.
     product_same (listed l) (listed m) s t k (λ i u. listed_is s n l e i (omega arith)) (λ i u. listed_is t n m g i (omega arith)))
 
-added_up_to : (m n : ℕ) (a b : Date) → IsUpTo m a → IsUpTo n b → IsUpTo (m + n) (date_product a b)
+pub added_up_to : (m n : ℕ) (a b : Date) → IsUpTo m a → IsUpTo n b → IsUpTo (m + n) (date_product a b)
 added_up_to m n Early b h k = tt
 added_up_to m n (At s) Early h k = tt
 added_up_to m n (At s) (At t) h k = abs_sum s t m n h k
@@ -96,11 +99,11 @@ added_up_to m n Never Early h k = tt
 added_up_to m n Never (At t) h k = tt
 added_up_to m n Never Never h k = tt
 
-greatest_up_to : (f : ℕ → Date) (n m : ℕ) → ((i : ℕ) → i ≤ n → IsUpTo m (f i)) → IsUpTo m (greatest f n)
+pub greatest_up_to : (f : ℕ → Date) (n m : ℕ) → ((i : ℕ) → i ≤ n → IsUpTo m (f i)) → IsUpTo m (greatest f n)
 greatest_up_to f zero m h = h 0 (omega arith)
 greatest_up_to f (suc n) m h = later_up_to m (greatest f n) (f (suc n)) (greatest_up_to f n m (λ i w. h i (omega arith))) (h (suc n) (omega arith))
 
 pub product_up_to : (f g : Form) → IsSeries f → IsSeries g → (k : ℕ) → k ≤ 20000 → IsUpTo 500000000000000000000000000 (product_at (value_at f) (value_at g) k)
 product_up_to f g sf sg k w = greatest_up_to (λ i. date_product (value_at f i) (value_at g (k - i))) k 500000000000000000000000000 (λ i u.
     up_to_more (20001000000000000000000 + 20001000000000000000000) 500000000000000000000000000 (date_product (value_at f i) (value_at g (k - i))) (omega arith)
-        (added_up_to 20001000000000000000000 20001000000000000000000 (value_at f i) (value_at g (k - i)) (listed_up_to f sf i (omega arith)) (listed_up_to g sg (k - i) (omega arith))))
+    (added_up_to 20001000000000000000000 20001000000000000000000 (value_at f i) (value_at g (k - i)) (listed_up_to f sf i (omega arith)) (listed_up_to g sg (k - i) (omega arith))))

@@ -31,12 +31,12 @@ long_value_up_to f h k w = up_to_more (1000000000000000000 + 60001 * 10000000000
 pub long_table_up_to : (f : Form) (n : ℕ) (l : List Date) → IsSeries f → n ≤ 60001 → l ≡ table (value_at f) n → AreUpTo 60002000000000000000000 l
 long_table_up_to f n l h short e k = ⊎_elim
     (λ w.
-        let u : k < n = w in
-        subst (λ (z : Date). IsUpTo 60002000000000000000000 z) (sym (ap (λ (z : List Date). get_or z k Early) e ∙ table_at (value_at f) n k u)) (long_value_up_to f h k (omega arith)))
+    let u : k < n = w in
+    subst (λ (z : Date). IsUpTo 60002000000000000000000 z) (sym (ap (λ (z : List Date). get_or z k Early) e ∙ table_at (value_at f) n k u)) (long_value_up_to f h k (omega arith)))
     (λ w.
-        let a : length l ≡ n = ap length e ∙ table_length (value_at f) n in
-        let u : length l ≤ k = omega arith in
-        subst (λ (z : Date). IsUpTo 60002000000000000000000 z) (sym (get_or-eq_default l Early {n = k} u)) tt)
+    let a : length l ≡ n = ap length e ∙ table_length (value_at f) n in
+    let u : length l ≤ k = omega arith in
+    subst (λ (z : Date). IsUpTo 60002000000000000000000 z) (sym (get_or-eq_default l Early {n = k} u)) tt)
     (cases_lt k n)
 
 least_half : (f g : ℕ → Date) (n : ℕ) → ((i : ℕ) → i ≤ n → f i ≡ g i) → Le (least_of f n) (least_of g n)
@@ -51,9 +51,9 @@ left_table f g n count l m en pos_n el em = table_same (left_listed l m) (left_o
     let size : length l - 1 ≡ offsets_of f g - 1 = (let e : length l ≡ n = ap length el ∙ table_length (value_at f) n in omega arith) in
     ap (λ (z : ℕ). least_of (λ i. date_left (get_or l i Early) (get_or m (k + i) Early)) z) size
     ∙ least_same (λ i. date_left (get_or l i Early) (get_or m (k + i) Early)) (λ i. date_left (value_at f i) (value_at g (k + i))) (offsets_of f g - 1) (λ i u.
-        let a : get_or l i Early ≡ value_at f i = ap (λ (z : List Date). get_or z i Early) el ∙ table_at (value_at f) n i (omega arith) in
-        let b : get_or m (k + i) Early ≡ value_at g (k + i) = ap (λ (z : List Date). get_or z (k + i) Early) em ∙ table_at (value_at g) (count + n) (k + i) (omega arith) in
-        ap (λ (z : Date). date_left z (get_or m (k + i) Early)) a ∙ ap (date_left (value_at f i)) b))
+    let a : get_or l i Early ≡ value_at f i = ap (λ (z : List Date). get_or z i Early) el ∙ table_at (value_at f) n i (omega arith) in
+    let b : get_or m (k + i) Early ≡ value_at g (k + i) = ap (λ (z : List Date). get_or z (k + i) Early) em ∙ table_at (value_at g) (count + n) (k + i) (omega arith) in
+    ap (λ (z : Date). date_left z (get_or m (k + i) Early)) a ∙ ap (date_left (value_at f i)) b))
 
 -- ---- how great a residual is
 
@@ -73,7 +73,7 @@ least_up_to f (suc n) m h = earlier_up_to m (least_of f n) (f (suc n)) (least_up
 over_up_to : (f g : Form) → IsSeries f → IsSeries g → offsets_of f g ≤ 40000 → (k : ℕ) → k ≤ 20000 → IsUpTo 500000000000000000000000000 (left_over f g k)
 over_up_to f g sf sg few k w = least_up_to (λ i. date_left (value_at f i) (value_at g (k + i))) (offsets_of f g - 1) 500000000000000000000000000 (λ i u.
     up_to_more (60002000000000000000000 + 60002000000000000000000) 500000000000000000000000000 (date_left (value_at f i) (value_at g (k + i))) (omega arith)
-        (left_up_to 60002000000000000000000 (value_at f i) (value_at g (k + i)) (long_value_up_to f sf i (omega arith)) (long_value_up_to g sg (k + i) (omega arith))))
+    (left_up_to 60002000000000000000000 (value_at f i) (value_at g (k + i)) (long_value_up_to f sf i (omega arith)) (long_value_up_to g sg (k + i) (omega arith))))
 
 -- ---- the offsets are few where the need is short
 
@@ -86,10 +86,12 @@ pub few_offsets : (f g : Form) → IsSeries f → IsSeries g → (tail_of f ≡ 
 few_offsets f g sf sg late gentle short = cases (tail_of f) (tail_of g) refl refl late gentle short where
   long : need_of (long_left f g) ≤ 20000 → offsets_of f g ≤ 40000
   long h = let u : g.period ≤ size_of g = sg.canonical.form.period_fits in omega arith
+
   by_slopes : (o : Slopes) → (o ≡ First → ⊥) → need_of (left_plan_by_slopes o f g) ≤ 20000 → offsets_of f g ≤ 40000
   by_slopes Equal h k = long k
   by_slopes First h k = absurd (h refl)
   by_slopes Second h k = long k
+
   cases : (a b : Date) → tail_of f ≡ a → tail_of g ≡ b → (a ≡ Early → ⊥) → (slopes_by a b (rise_of f g -ℤ fall_of f g) ≡ First → ⊥) → need_of (left_plan_by a b f g) ≤ 20000 → offsets_of f g ≤ 40000
   cases Early b ea eb h k w = absurd (h refl)
   cases (At s) Early ea eb h k w = absurd (k refl)
@@ -133,6 +135,7 @@ bounded f g sf sg short k w = by_tail (tail_of f) refl where
   by_slopes late Equal e = over_up_to f g sf sg (few_offsets f g sf sg late (λ h. absurd (let c : Equal ≡ First = sym e ∙ h in cc)) short) k w
   by_slopes late First e = tt
   by_slopes late Second e = over_up_to f g sf sg (few_offsets f g sf sg late (λ h. absurd (let c : Second ≡ First = sym e ∙ h in cc)) short) k w
+
   by_tail : (a : Date) → tail_of f ≡ a → IsUpTo 500000000000000000000000000 (left_by a f g k)
   by_tail Early e = tt
   by_tail (At s) e = by_slopes (λ h. absurd (let c : At s ≡ Early = sym e ∙ h in cc)) (slopes_of f g) refl

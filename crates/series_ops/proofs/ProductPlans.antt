@@ -39,12 +39,12 @@ lifts_cover n l h = let e : (n + (l - 1)) / l * l + (n + (l - 1)) % l ≡ n + (l
 pub lifts_few : (n l : ℕ) → 0 < l → (n + (l - 1)) / l ≤ n
 lifts_few n l h = ⊎_elim
     (λ more. absurd (
-        let q : ℕ = (n + (l - 1)) / l in
-        let a : (n + 1) * l ≤ (n + (l - 1)) / l * l = mul-le-mul_right l (let w : n + 1 ≤ (n + (l - 1)) / l = omega arith in w) in
-        let b : (n + (l - 1)) / l * l ≤ n + (l - 1) = lifts_cover n l h in
-        let c : n ≤ n * l = le-mul_of_pos_right n h in
-        let d : (n + 1) * l ≡ n * l + l = omega arith in
-        omega arith))
+    let q : ℕ = (n + (l - 1)) / l in
+    let a : (n + 1) * l ≤ (n + (l - 1)) / l * l = mul-le-mul_right l (let w : n + 1 ≤ (n + (l - 1)) / l = omega arith in w) in
+    let b : (n + (l - 1)) / l * l ≤ n + (l - 1) = lifts_cover n l h in
+    let c : n ≤ n * l = le-mul_of_pos_right n h in
+    let d : (n + 1) * l ≡ n * l + l = omega arith in
+    omega arith))
     (λ few. few)
     (cases_lt n ((n + (l - 1)) / l))
 

@@ -21,11 +21,11 @@ module _ (s : ℕ → Date) (n : ℕ) (x : ℤ) (b : ℕ) (a : ℤ) (pos_b : 0 <
   cheap_run m [] fit cheap slow = le_is (scaled_zero b)
   cheap_run m (part c ∷ items) fit cheap slow =
       le_trans (le_is (scaled_product b (s c) (worths s n x items)))
-          (le_trans (product_le (cheap c fit.0 fit.1) (cheap_run m items fit.2 cheap slow)) (le_is (ap At (sym (times_add c (lengths s n x items) a)))))
+      (le_trans (product_le (cheap c fit.0 fit.1) (cheap_run m items fit.2 cheap slow)) (le_is (ap At (sym (times_add c (lengths s n x items) a)))))
   cheap_run m (step ∷ items) fit cheap slow =
       let first : Le (At (times b x)) (At (times n a)) = record { holds = slow } in
       le_trans (le_is (scaled_product b (At x) (worths s n x items)))
-          (le_trans (product_le first (cheap_run m items fit.2 cheap slow)) (le_is (ap At (sym (times_add n (lengths s n x items) a)))))
+      (le_trans (product_le first (cheap_run m items fit.2 cheap slow)) (le_is (ap At (sym (times_add n (lengths s n x items) a)))))
 
   abbrev anchors : ℕ → List Item → List Item
   anchors zero l = l
@@ -70,13 +70,13 @@ module _ (s : ℕ → Date) (n : ℕ) (x : ℤ) (b : ℕ) (a : ℤ) (pos_b : 0 <
         let run_worth : Le (W r) (At (times (suc q) a)) = scaled_le_back b pos_b (le_trans (cheap_run m r (fit_first s n x m r v fit_rv) cheap slow) (le_is multiple)) in
         let parted : W cores.items ≡ date_product (W u) (date_product (W r) (W v)) = ap W run.is ∙ worths_append s n x u (r ++ v) ∙ ap (date_product (W u)) (worths_append s n x r v) in
         let taken : date_product (W u) (date_product (At (times (suc q) a)) (W v)) ≡ move a (W others) =
-            ap (date_product (W u)) (at_product (times (suc q) a) (W v)) ∙ product_move_right (times (suc q) a) (W u) (W v) ∙ ap (move (times (suc q) a)) (sym (worths_append s n x u v))
-            ∙ sym (move_move (times q a) a (W (u ++ v))) ∙ ap (move a) (sym (anchors_worths q (u ++ v))) in
+        ap (date_product (W u)) (at_product (times (suc q) a) (W v)) ∙ product_move_right (times (suc q) a) (W u) (W v) ∙ ap (move (times (suc q) a)) (sym (worths_append s n x u v))
+        ∙ sym (move_move (times q a) a (W (u ++ v))) ∙ ap (move a) (sym (anchors_worths q (u ++ v))) in
         let tail : StepFree s n x others ⊎ (p ≤ core) = ⊎_elim
-            (λ free. let f : StepFree s n x (u ++ (r ++ v)) = subst (λ (z : List Item). StepFree s n x z) run.is free in
-                inl (anchors_free q (u ++ v) (free_join s n x u v (free_first s n x u (r ++ v) f) (free_second s n x r v (free_second s n x u (r ++ v) f)))))
-            (λ high. inr high)
-            cores.tail in
+        (λ free. let f : StepFree s n x (u ++ (r ++ v)) = subst (λ (z : List Item). StepFree s n x z) run.is free in
+        inl (anchors_free q (u ++ v) (free_join s n x u v (free_first s n x u (r ++ v) f) (free_second s n x r v (free_second s n x u (r ++ v) f)))))
+        (λ high. inr high)
+        cores.tail in
         let l1 : L cores.items ≡ L u + (L r + L v) = ap L run.is ∙ lengths_append s n x u (r ++ v) ∙ ap (λ (z : ℕ). L u + z) (lengths_append s n x r v) in
         let l2 : L others ≡ q * b + L (u ++ v) = anchors_lengths q (u ++ v) in
         let l3 : L (u ++ v) ≡ L u + L v = lengths_append s n x u v in
@@ -84,23 +84,23 @@ module _ (s : ℕ → Date) (n : ℕ) (x : ℤ) (b : ℕ) (a : ℤ) (pos_b : 0 <
         let l5 : core + L cores.items ≡ total l = cores.long in
         let le_items : Le (W cores.items) (move a (W others)) = le_trans (le_is parted) (le_trans (product_le (le_refl (W u)) (product_le run_worth (le_refl (W v)))) (le_is taken)) in
         let left : Le (date_product (s core) (W others)) (star k) =
-            le_trans (le_is (ap (date_product (s core)) (sym (one_times (W others)))))
-                (realised s n x star p is repeats m others core [] k fit_others cores.is_positive tt tail (omega arith)) in
+        le_trans (le_is (ap (date_product (s core)) (sym (one_times (W others)))))
+        (realised s n x star p is repeats m others core [] k fit_others cores.is_positive tt tail (omega arith)) in
         le_trans (le_is (sym cores.worth))
-            (le_trans (product_le (le_refl (s core)) le_items)
-                (le_trans (le_is (product_move_right a (s core) (W others))) (move_le a left)))
+        (le_trans (product_le (le_refl (s core)) le_items)
+        (le_trans (le_is (product_move_right a (s core) (W others))) (move_le a left)))
 
     many_items : (k : ℕ) (l : List ℕ) → b * (p + n) + 1 ≤ k → total l ≡ k + b → (cores : Cores s n x p l) → b ≤ length cores.items
     many_items k l far e cores = ⊎_elim
         (λ few. absurd (
-            let m : ℕ = length cores.items in
-            let d : ℕ = b - suc m in
-            let f : b ≡ suc (m + d) = omega arith in
-            let g : b * (p + n) ≡ suc (m + d) * (p + n) = ap (λ (z : ℕ). z * (p + n)) f in
-            let h : lengths s n x cores.items ≤ m * (p + n) = lengths_most s n x (p + n) cores.items cores.fit in
-            let i : cores.core + lengths s n x cores.items ≡ total l = cores.long in
-            let j : cores.core ≤ p + n = cores.low in
-            omega arith))
+        let m : ℕ = length cores.items in
+        let d : ℕ = b - suc m in
+        let f : b ≡ suc (m + d) = omega arith in
+        let g : b * (p + n) ≡ suc (m + d) * (p + n) = ap (λ (z : ℕ). z * (p + n)) f in
+        let h : lengths s n x cores.items ≤ m * (p + n) = lengths_most s n x (p + n) cores.items cores.fit in
+        let i : cores.core + lengths s n x cores.items ≡ total l = cores.long in
+        let j : cores.core ≤ p + n = cores.low in
+        omega arith))
         (λ many. many)
         (cases_lt (length cores.items) b)
 
@@ -153,14 +153,14 @@ module _ (s : ℕ → Date) (p n w : ℕ) (x : ℤ) (repeats : Repeats s p n x) 
   shortened [] pos_l = inr tt
   shortened (c ∷ l) pos_l = ⊎_elim
       (λ low. ⊎_elim
-          (λ rest. inl (record {
-            parts = c ∷ rest.parts;
-            positive = (pos_l.0, rest.positive);
-            long = let e : total rest.parts + n ≡ total l = rest.long in omega arith;
-            worth = le_trans (product_le (le_refl (s c)) rest.worth) (le_is (product_move_right x (s c) (date_of s rest.parts)));
-          }))
-          (λ all. inr (low, all))
-          (shortened l pos_l.1))
+      (λ rest. inl (record {
+        parts = c ∷ rest.parts;
+        positive = (pos_l.0, rest.positive);
+        long = let e : total rest.parts + n ≡ total l = rest.long in omega arith;
+        worth = le_trans (product_le (le_refl (s c)) rest.worth) (le_is (product_move_right x (s c) (date_of s rest.parts)));
+      }))
+      (λ all. inr (low, all))
+      (shortened l pos_l.1))
       (λ high. inl (shortened_head c l pos_l.1 (c - n) (omega arith) (omega arith)))
       (cases_lt c (p + n))
 
@@ -168,14 +168,14 @@ module _ (s : ℕ → Date) (p n w : ℕ) (x : ℤ) (repeats : Repeats s p n x) 
   lengthened [] pos_l = inr tt
   lengthened (c ∷ l) pos_l = ⊎_elim
       (λ low. ⊎_elim
-          (λ rest. inl (record {
-            parts = c ∷ rest.parts;
-            positive = (pos_l.0, rest.positive);
-            long = let e : total rest.parts ≡ total l + n = rest.long in omega arith;
-            worth = le_trans (le_is (sym (product_move_right x (s c) (date_of s l)))) (product_le (le_refl (s c)) rest.worth);
-          }))
-          (λ all. inr (low, all))
-          (lengthened l pos_l.1))
+      (λ rest. inl (record {
+        parts = c ∷ rest.parts;
+        positive = (pos_l.0, rest.positive);
+        long = let e : total rest.parts ≡ total l + n = rest.long in omega arith;
+        worth = le_trans (le_is (sym (product_move_right x (s c) (date_of s l)))) (product_le (le_refl (s c)) rest.worth);
+      }))
+      (λ all. inr (low, all))
+      (lengthened l pos_l.1))
       (λ high. inl (record {
         parts = (c + n) ∷ l;
         positive = (omega arith, pos_l.1);
@@ -189,7 +189,7 @@ module _ (s : ℕ → Date) (p n w : ℕ) (x : ℤ) (repeats : Repeats s p n x) 
   losses (c ∷ l) pos_l low =
       let e : times (c + total l) x ≡ times c x +ℤ times (total l) x = times_add c (total l) x in
       le_trans (le_is (scaled_product n (s c) (date_of s l)))
-          (le_trans (product_le (lossy c pos_l.0 low.0) (losses l pos_l.1 low.1)) (le_is (ap At (omega (arith, ints)))))
+      (le_trans (product_le (lossy c pos_l.0 low.0) (losses l pos_l.1 low.1)) (le_is (ap At (omega (arith, ints)))))
 
   totals : (l : List ℕ) → AllBelow l → total l ≤ length l * (p + n)
   totals [] low = omega arith
@@ -198,34 +198,34 @@ module _ (s : ℕ → Date) (p n w : ℕ) (x : ℤ) (repeats : Repeats s p n x) 
   tail_kept : (c : ℕ) → p ≤ c → Le (At (times c x -ℤ pos w)) (scaled n (s c))
   tail_kept = by_steps (λ (c : ℕ). Le (At (times c x -ℤ pos w)) (scaled n (s c))) p n pos_n kept
       (λ c u h. let e : times (c + n) x ≡ times c x +ℤ times n x = times_add c n x in
-          le_trans (le_is (ap At (let f : (times (c + n) x -ℤ pos w) ≡ ((times c x -ℤ pos w) +ℤ times n x) = omega (arith, ints) in f)))
-              (le_trans (move_le (times n x) h) (le_is (sym (scaled_move n x (s c)) ∙ ap (scaled n) (sym (repeats.at c u))))))
+      le_trans (le_is (ap At (let f : (times (c + n) x -ℤ pos w) ≡ ((times c x -ℤ pos w) +ℤ times n x) = omega (arith, ints) in f)))
+      (le_trans (move_le (times n x) h) (le_is (sym (scaled_move n x (s c)) ∙ ap (scaled n) (sym (repeats.at c u))))))
 
   -- short parts alone are no better than one part
   all_below_le : (l : List ℕ) → ArePositive l → AllBelow l → (k : ℕ) → total l ≡ k → p ≤ k → (p + n) * w < k → Le (date_of s l) (s k)
   all_below_le l pos_l low k e u far =
       let many : w ≤ length l = ⊎_elim
-          (λ few. absurd (
-              let d : ℕ = w - suc (length l) in
-              let f : w ≡ suc (length l + d) = omega arith in
-              let g : (p + n) * w ≡ (p + n) * suc (length l + d) = ap (λ (z : ℕ). (p + n) * z) f in
-              let h : total l ≤ length l * (p + n) = totals l low in
-              omega arith))
-          (λ enough. enough)
-          (cases_lt (length l) w) in
+      (λ few. absurd (
+      let d : ℕ = w - suc (length l) in
+      let f : w ≡ suc (length l + d) = omega arith in
+      let g : (p + n) * w ≡ (p + n) * suc (length l + d) = ap (λ (z : ℕ). (p + n) * z) f in
+      let h : total l ≤ length l * (p + n) = totals l low in
+      omega arith))
+      (λ enough. enough)
+      (cases_lt (length l) w) in
       let loss : Le (At (times (total l) x -ℤ pos (length l))) (At (times k x -ℤ pos w)) =
-          let f : times (total l) x ≡ times k x = ap (λ (z : ℕ). times z x) e in record { holds = omega (arith, ints) } in
+      let f : times (total l) x ≡ times k x = ap (λ (z : ℕ). times z x) e in record { holds = omega (arith, ints) } in
       scaled_le_back n pos_n (le_trans (losses l pos_l low) (le_trans loss (tail_kept k u)))
 
   pub star_repeats_tail : (star : ℕ → Date) (q : ℕ) → ((k : ℕ) → IsStarAt s k (star k)) → Le (At (pos 0)) (s 1) → p + n ≤ q → (p + n) * w < q → Repeats star q n x
   star_repeats_tail star q is h long far = star_repeats s star q n x h is
       (λ k u l pos_l e. ⊎_elim
-          (λ shorter. le_trans shorter.worth (move_le x ((is k).below shorter.parts shorter.positive (let f : total shorter.parts + n ≡ total l = shorter.long in omega arith))))
-          (λ low. le_trans (all_below_le l pos_l low (k + n) e (omega arith) (omega arith))
-              (le_trans (le_is (repeats.at k (omega arith))) (move_le x (le_trans (le_is (sym (times_one (s k)))) ((is k).below (k ∷ []) (omega arith, tt) (omega arith))))))
-          (shortened l pos_l))
+      (λ shorter. le_trans shorter.worth (move_le x ((is k).below shorter.parts shorter.positive (let f : total shorter.parts + n ≡ total l = shorter.long in omega arith))))
+      (λ low. le_trans (all_below_le l pos_l low (k + n) e (omega arith) (omega arith))
+      (le_trans (le_is (repeats.at k (omega arith))) (move_le x (le_trans (le_is (sym (times_one (s k)))) ((is k).below (k ∷ []) (omega arith, tt) (omega arith))))))
+      (shortened l pos_l))
       (λ k u l pos_l e. ⊎_elim
-          (λ longer. le_trans longer.worth ((is (k + n)).below longer.parts longer.positive (let f : total longer.parts ≡ total l + n = longer.long in omega arith)))
-          (λ low. le_trans (move_le x (all_below_le l pos_l low k e (omega arith) (omega arith)))
-              (le_trans (le_is (sym (repeats.at k (omega arith)) ∙ sym (times_one (s (k + n))))) ((is (k + n)).below ((k + n) ∷ []) (omega arith, tt) (omega arith))))
-          (lengthened l pos_l))
+      (λ longer. le_trans longer.worth ((is (k + n)).below longer.parts longer.positive (let f : total longer.parts ≡ total l + n = longer.long in omega arith)))
+      (λ low. le_trans (move_le x (all_below_le l pos_l low k e (omega arith) (omega arith)))
+      (le_trans (le_is (sym (repeats.at k (omega arith)) ∙ sym (times_one (s (k + n))))) ((is (k + n)).below ((k + n) ∷ []) (omega arith, tt) (omega arith))))
+      (lengthened l pos_l))

@@ -5,9 +5,9 @@ use Rattle.series_form.specs.Forms.{Form, size_of, value_at, IsForm, HasValues, 
 use Rattle.series_form.specs.Pointwise.{sum_at, least_at}
 use Rattle.series_ops.specs.Product.{product_at}
 use Rattle.series_ops.specs.Residual.{IsLeftAt}
-use Rattle.series_ops.specs.StarOf.{star_at}
+use Rattle.series_ops.specs.StarOf.{IsStarOf}
 use Rattle.series_form.specs.Needs.{need_of, sum_plan, least_plan, form_sum, form_least}
-use Rattle.series_ops.specs.Needs.{product_plan, left_plan, star_plan_by, form_product, form_left, form_star}
+use Rattle.series_ops.specs.Needs.{product_plan, left_plan, star_need, form_product, form_left, form_star}
 
 -- the canonical form r of the function s, with a list of at most `need` values
 pub record IsFormOf (s : ℕ → Date) (need : ℕ) (r : Form) : Type 0 where
@@ -19,7 +19,8 @@ pub record AreClosed : Type 0 where
   pub sum : (f g : Form) → IsForm f → IsForm g → IsFormOf (sum_at (value_at f) (value_at g)) (need_of (sum_plan f g)) (form_sum f g)
   pub least : (f g : Form) → IsForm f → IsForm g → IsFormOf (least_at (value_at f) (value_at g)) (need_of (least_plan f g)) (form_least f g)
   pub product : (f g : Form) → IsForm f → IsForm g → IsFormOf (product_at (value_at f) (value_at g)) (need_of (product_plan f g)) (form_product f g)
-  pub star : (f : Form) → IsForm f → IsFormOf (star_at (value_at f)) (need_of (star_plan_by (value_at f 0) f)) (form_star f)
+  pub star : (f : Form) → IsForm f → IsCanonical (form_star f) × ((k : ℕ) → IsStarOf (value_at f) k (value_at (form_star f) k)) × (size_of (form_star f) ≤ star_need f)
+  pub unique : (f g : Form) → IsCanonical f → IsCanonical g → ((k : ℕ) → value_at f k ≡ value_at g k) → f ≡ g
   pub left : (f g : Form) → IsForm f → IsForm g → (k : ℕ) → IsLeftAt (value_at f) (value_at g) k (value_at (form_left f g) k)
   pub left_canonical : (f g : Form) → IsForm f → IsForm g → IsCanonical (form_left f g)
   pub left_short : (f g : Form) → IsForm f → IsForm g → size_of (form_left f g) ≤ need_of (left_plan f g)

@@ -29,14 +29,14 @@ use Rattle.series_ops.specs.StarForms.{form_star_is, form_star_values}
 product_assoc_half : (s t u : ℕ → Date) (k : ℕ) → Le (product_at (product_at s t) u k) (product_at s (product_at t u) k)
 product_assoc_half s t u k = product_at_le (product_at s t) u k (product_at s (product_at t u) k) (λ m c e.
     le_trans (le_is (times_commutes (product_at s t m) (u c))) (from_left (u c) (product_at_le s t m (date_left (u c) (product_at s (product_at t u) k)) (λ i j g.
-        to_left (u c) (le_trans (le_is (times_commutes (u c) (date_product (s i) (t j)) ∙ times_assoc (s i) (t j) (u c)))
-            (le_trans (product_le (le_refl (s i)) (le_product t u j c (j + c) refl)) (le_product s (product_at t u) i (j + c) k (omega arith))))))))
+    to_left (u c) (le_trans (le_is (times_commutes (u c) (date_product (s i) (t j)) ∙ times_assoc (s i) (t j) (u c)))
+    (le_trans (product_le (le_refl (s i)) (le_product t u j c (j + c) refl)) (le_product s (product_at t u) i (j + c) k (omega arith))))))))
 
 product_assoc_back : (s t u : ℕ → Date) (k : ℕ) → Le (product_at s (product_at t u) k) (product_at (product_at s t) u k)
 product_assoc_back s t u k = product_at_le s (product_at t u) k (product_at (product_at s t) u k) (λ i m e.
     from_left (s i) (product_at_le t u m (date_left (s i) (product_at (product_at s t) u k)) (λ j c g.
-        to_left (s i) (le_trans (le_is (sym (times_assoc (s i) (t j) (u c))))
-            (le_trans (product_le (le_product s t i j (i + j) refl) (le_refl (u c))) (le_product (product_at s t) u (i + j) c k (omega arith)))))))
+    to_left (s i) (le_trans (le_is (sym (times_assoc (s i) (t j) (u c))))
+    (le_trans (product_le (le_product s t i j (i + j) refl) (le_refl (u c))) (le_product (product_at s t) u (i + j) c k (omega arith)))))))
 
 product_assoc : (s t u : ℕ → Date) (k : ℕ) → product_at (product_at s t) u k ≡ product_at s (product_at t u) k
 product_assoc s t u k = le_antisym (product_assoc_half s t u k) (product_assoc_back s t u k)
@@ -44,10 +44,10 @@ product_assoc s t u k = le_antisym (product_assoc_half s t u k) (product_assoc_b
 product_sum : (s t u : ℕ → Date) (k : ℕ) → product_at s (sum_at t u) k ≡ later_of (product_at s t k) (product_at s u k)
 product_sum s t u k = le_antisym
     (product_at_le s (sum_at t u) k (later_of (product_at s t k) (product_at s u k)) (λ i j e. le_trans (le_is (times_later (s i) (t j) (u j)))
-        (later_le (le_trans (le_product s t i j k e) (le_later_left (product_at s t k) (product_at s u k))) (le_trans (le_product s u i j k e) (le_later_right (product_at s t k) (product_at s u k))))))
+    (later_le (le_trans (le_product s t i j k e) (le_later_left (product_at s t k) (product_at s u k))) (le_trans (le_product s u i j k e) (le_later_right (product_at s t k) (product_at s u k))))))
     (later_le
-        (product_at_le s t k (product_at s (sum_at t u) k) (λ i j e. le_trans (product_le (le_refl (s i)) (le_later_left (t j) (u j))) (le_product s (sum_at t u) i j k e)))
-        (product_at_le s u k (product_at s (sum_at t u) k) (λ i j e. le_trans (product_le (le_refl (s i)) (le_later_right (t j) (u j))) (le_product s (sum_at t u) i j k e))))
+    (product_at_le s t k (product_at s (sum_at t u) k) (λ i j e. le_trans (product_le (le_refl (s i)) (le_later_left (t j) (u j))) (le_product s (sum_at t u) i j k e)))
+    (product_at_le s u k (product_at s (sum_at t u) k) (λ i j e. le_trans (product_le (le_refl (s i)) (le_later_right (t j) (u j))) (le_product s (sum_at t u) i j k e))))
 
 one_product : (s t : ℕ → Date) → ((k : ℕ) → s k ≡ At (pos 0)) → Rising t → (k : ℕ) → product_at s t k ≡ t k
 one_product s t h up k = le_antisym
@@ -70,6 +70,7 @@ star_more s up i j k e = cases (s 0) refl where
   parts : Le (s 0) (At (pos 0)) → (i : ℕ) → i + j ≡ k → Le (date_product (s i) (parts_star s j)) (parts_star s k)
   parts low zero e = le_trans (product_le low (le_refl (parts_star s j))) (le_is (one_times (parts_star s j) ∙ ap (parts_star s) (let h : j ≡ k = omega arith in h)))
   parts low (suc i) e = part_more s up (suc i) j k (omega arith) e
+
   cases : (d : Date) → s 0 ≡ d → Le (date_product (s i) (star_by d s j)) (star_by d s k)
   cases Early h = parts (le_trans (le_is h) (early_le (At (pos 0)))) i e
   cases (At (pos zero)) h = parts (le_is h) i e
@@ -80,8 +81,8 @@ star_more s up i j k e = cases (s 0) refl where
 star_solves : (s b : ℕ → Date) → Rising s → (k : ℕ) → Le (later_of (product_at s (product_at (star_at s) b) k) (b k)) (product_at (star_at s) b k)
 star_solves s b up k = later_le
     (le_trans (product_assoc_back s (star_at s) b k)
-        (product_at_le (product_at s (star_at s)) b k (product_at (star_at s) b k) (λ m c e.
-            le_trans (product_le (product_at_le s (star_at s) m (star_at s m) (λ i j g. star_more s up i j m g)) (le_refl (b c))) (le_product (star_at s) b m c k e))))
+    (product_at_le (product_at s (star_at s)) b k (product_at (star_at s) b k) (λ m c e.
+    le_trans (product_le (product_at_le s (star_at s) m (star_at s m) (λ i j g. star_more s up i j m g)) (le_refl (b c))) (le_product (star_at s) b m c k e))))
     (le_trans (le_is (sym (one_times (b k)))) (le_trans (product_le (star_zero s 0) (le_refl (b k))) (le_product (star_at s) b 0 k k (omega arith))))
 
 module _ (s b x : ℕ → Date) (up : Rising x) (solves : (k : ℕ) → Le (later_of (product_at s x k) (b k)) (x k)) where
@@ -100,24 +101,27 @@ module _ (s b x : ℕ → Date) (up : Rising x) (solves : (k : ℕ) → Le (late
   parts_least i j k e =
       let y : Date = date_left (b j) (x k) in
       le_trans (le_is (times_commutes (parts_star s i) (b j))) (from_left (b j) ((parts_star_is s i).least y
-          (to_left (b j) (le_trans (le_is (times_one (b j))) (le_trans (at_b j) (up.rises j k (omega arith)))))
-          (λ l a g. to_left (b j) (le_trans (le_is (times_commutes (b j) (date_of s l))) (list_solves l j k (omega arith))))))
+      (to_left (b j) (le_trans (le_is (times_one (b j))) (le_trans (at_b j) (up.rises j k (omega arith)))))
+      (λ l a g. to_left (b j) (le_trans (le_is (times_commutes (b j) (date_of s l))) (list_solves l j k (omega arith))))))
 
   -- where the first value is above 0
   never_least : (s 0 ≡ Never) ⊎ ((n : ℕ) × (s 0 ≡ At (pos (suc n)))) → (j k : ℕ) → j ≤ k → Le (date_product Never (b j)) (x k)
   never_least above j k w = by_b (b j) (x j) refl refl where
     full : x j ≡ Never → Le (date_product Never (b j)) (x k)
     full e = le_trans (le_never (date_product Never (b j))) (le_trans (le_is (sym e)) (up.rises j k w))
+
     again : Le (date_product (s 0) (x j)) (x j)
     again = at_s 0 j j (omega arith)
+
     by_x : (d : Date) → x j ≡ d → (b j ≡ Early → ⊥) → Le (date_product Never (b j)) (x k)
     by_x Early e some = absurd (some (le_antisym (le_trans (at_b j) (le_is e)) (early_le (b j))))
     by_x (At v) e some = absurd (⊎_elim
         (λ never. let h : Le Never (At v) = le_trans (le_is (sym (ap (λ z. date_product z (x j)) never ∙ ap (date_product Never) e))) (le_trans again (le_is e)) in h.holds)
         (λ number. let h : Le (At (pos (suc number.0) +ℤ v)) (At v) = le_trans (le_is (sym (ap (λ z. date_product z (x j)) number.1 ∙ ap (date_product (At (pos (suc number.0)))) e))) (le_trans again (le_is e)) in
-            let q : (pos (suc number.0) +ℤ v) ≤ℤ v = h.holds in absurd (omega (arith, ints)))
+        let q : (pos (suc number.0) +ℤ v) ≤ℤ v = h.holds in absurd (omega (arith, ints)))
         above)
     by_x Never e some = full e
+
     by_b : (d y : Date) → b j ≡ d → x j ≡ y → Le (date_product Never (b j)) (x k)
     by_b Early y e g = le_trans (le_is (ap (date_product Never) e)) (early_le (x k))
     by_b (At v) y e g = by_x y g (λ h. let c : At v ≡ Early = sym e ∙ h in cc)
@@ -187,20 +191,20 @@ forms_sum_assoc a b c ca cb cc' =
     let ab : IsCanonical (form_sum a b) = form_sum_is a b ca.form cb.form in
     let bc : IsCanonical (form_sum b c) = form_sum_is b c cb.form cc'.form in
     by_path (form_sum (form_sum a b) c) (form_sum a (form_sum b c)) (sum_at (sum_at (value_at a) (value_at b)) (value_at c)) (sum_at (value_at a) (sum_at (value_at b) (value_at c)))
-        (form_sum_is (form_sum a b) c ab.form cc'.form) (form_sum_is a (form_sum b c) ca.form bc.form)
-        (sum_path (form_sum a b) c ab.form cc'.form ∙ ap (λ (z : ℕ → Date). sum_at z (value_at c)) (sum_path a b ca.form cb.form))
-        (sum_path a (form_sum b c) ca.form bc.form ∙ ap (sum_at (value_at a)) (sum_path b c cb.form cc'.form))
-        (λ k. later_assoc (value_at a k) (value_at b k) (value_at c k))
+    (form_sum_is (form_sum a b) c ab.form cc'.form) (form_sum_is a (form_sum b c) ca.form bc.form)
+    (sum_path (form_sum a b) c ab.form cc'.form ∙ ap (λ (z : ℕ → Date). sum_at z (value_at c)) (sum_path a b ca.form cb.form))
+    (sum_path a (form_sum b c) ca.form bc.form ∙ ap (sum_at (value_at a)) (sum_path b c cb.form cc'.form))
+    (λ k. later_assoc (value_at a k) (value_at b k) (value_at c k))
 
 forms_product_assoc : (a b c : Form) → IsCanonical a → IsCanonical b → IsCanonical c → form_product (form_product a b) c ≡ form_product a (form_product b c)
 forms_product_assoc a b c ca cb cc' =
     let ab : IsCanonical (form_product a b) = form_product_is a b ca.form cb.form in
     let bc : IsCanonical (form_product b c) = form_product_is b c cb.form cc'.form in
     by_path (form_product (form_product a b) c) (form_product a (form_product b c)) (product_at (product_at (value_at a) (value_at b)) (value_at c)) (product_at (value_at a) (product_at (value_at b) (value_at c)))
-        (form_product_is (form_product a b) c ab.form cc'.form) (form_product_is a (form_product b c) ca.form bc.form)
-        (product_path (form_product a b) c ab.form cc'.form ∙ ap (λ (z : ℕ → Date). product_at z (value_at c)) (product_path a b ca.form cb.form))
-        (product_path a (form_product b c) ca.form bc.form ∙ ap (product_at (value_at a)) (product_path b c cb.form cc'.form))
-        (product_assoc (value_at a) (value_at b) (value_at c))
+    (form_product_is (form_product a b) c ab.form cc'.form) (form_product_is a (form_product b c) ca.form bc.form)
+    (product_path (form_product a b) c ab.form cc'.form ∙ ap (λ (z : ℕ → Date). product_at z (value_at c)) (product_path a b ca.form cb.form))
+    (product_path a (form_product b c) ca.form bc.form ∙ ap (product_at (value_at a)) (product_path b c cb.form cc'.form))
+    (product_assoc (value_at a) (value_at b) (value_at c))
 
 forms_commute : (a b : Form) → IsCanonical a → IsCanonical b → form_product a b ≡ form_product b a
 forms_commute a b ca cb = by_path (form_product a b) (form_product b a) (product_at (value_at a) (value_at b)) (product_at (value_at b) (value_at a))
@@ -212,10 +216,10 @@ forms_distribute a b c ca cb cc' =
     let ab : IsCanonical (form_product a b) = form_product_is a b ca.form cb.form in
     let ac : IsCanonical (form_product a c) = form_product_is a c ca.form cc'.form in
     by_path (form_product a (form_sum b c)) (form_sum (form_product a b) (form_product a c)) (product_at (value_at a) (sum_at (value_at b) (value_at c))) (sum_at (product_at (value_at a) (value_at b)) (product_at (value_at a) (value_at c)))
-        (form_product_is a (form_sum b c) ca.form bc.form) (form_sum_is (form_product a b) (form_product a c) ab.form ac.form)
-        (product_path a (form_sum b c) ca.form bc.form ∙ ap (product_at (value_at a)) (sum_path b c cb.form cc'.form))
-        (sum_path (form_product a b) (form_product a c) ab.form ac.form ∙ ap (λ (z : ℕ → Date). sum_at z (value_at (form_product a c))) (product_path a b ca.form cb.form) ∙ ap (sum_at (product_at (value_at a) (value_at b))) (product_path a c ca.form cc'.form))
-        (product_sum (value_at a) (value_at b) (value_at c))
+    (form_product_is a (form_sum b c) ca.form bc.form) (form_sum_is (form_product a b) (form_product a c) ab.form ac.form)
+    (product_path a (form_sum b c) ca.form bc.form ∙ ap (product_at (value_at a)) (sum_path b c cb.form cc'.form))
+    (sum_path (form_product a b) (form_product a c) ab.form ac.form ∙ ap (λ (z : ℕ → Date). sum_at z (value_at (form_product a c))) (product_path a b ca.form cb.form) ∙ ap (sum_at (product_at (value_at a) (value_at b))) (product_path a c ca.form cc'.form))
+    (product_sum (value_at a) (value_at b) (value_at c))
 
 forms_distribute_right : (a b c : Form) → IsCanonical a → IsCanonical b → IsCanonical c → form_product (form_sum a b) c ≡ form_sum (form_product a c) (form_product b c)
 forms_distribute_right a b c ca cb cc' =
@@ -256,8 +260,9 @@ form_star_laws = record { star_is = λ a ca. form_star_is a ca.form; solves = so
       let p : value_at (form_product (form_star a) b) ≡ product_at (star_at (value_at a)) (value_at b) = product_path (form_star a) b cs.form cb.form ∙ ap (λ (z : ℕ → Date). product_at z (value_at b)) (star_path a ca.form) in
       let q : value_at (form_product a (form_product (form_star a) b)) ≡ product_at (value_at a) (product_at (star_at (value_at a)) (value_at b)) = product_path a (form_product (form_star a) b) ca.form sb.form ∙ ap (product_at (value_at a)) p in
       at_most_is (form_sum (form_product a (form_product (form_star a) b)) b) (form_product (form_star a) b) (form_sum_is (form_product a (form_product (form_star a) b)) b asb.form cb.form) sb
-          (λ k. le_trans (le_is (form_sum_values (form_product a (form_product (form_star a) b)) b asb.form cb.form k ∙ ap (λ (z : ℕ → Date). later_of (z k) (value_at b k)) q))
-              (le_trans (star_solves (value_at a) (value_at b) ca.form.rising k) (le_is (sym (ap (λ (z : ℕ → Date). z k) p)))))
+      (λ k. le_trans (le_is (form_sum_values (form_product a (form_product (form_star a) b)) b asb.form cb.form k ∙ ap (λ (z : ℕ → Date). later_of (z k) (value_at b k)) q))
+      (le_trans (star_solves (value_at a) (value_at b) ca.form.rising k) (le_is (sym (ap (λ (z : ℕ → Date). z k) p)))))
+
   least : (a b x : Form) → IsCanonical a → IsCanonical b → IsCanonical x → IsAtMost form_sum (form_sum (form_product a x) b) x → IsAtMost form_sum (form_product (form_star a) b) x
   least a b x ca cb cx h =
       let cs : IsCanonical (form_star a) = form_star_is a ca.form in
@@ -266,7 +271,7 @@ form_star_laws = record { star_is = λ a ca. form_star_is a ca.form; solves = so
       let axb : IsCanonical (form_sum (form_product a x) b) = form_sum_is (form_product a x) b ax.form cb.form in
       let p : value_at (form_product (form_star a) b) ≡ product_at (star_at (value_at a)) (value_at b) = product_path (form_star a) b cs.form cb.form ∙ ap (λ (z : ℕ → Date). product_at z (value_at b)) (star_path a ca.form) in
       let holds : (k : ℕ) → Le (later_of (product_at (value_at a) (value_at x) k) (value_at b k)) (value_at x k) = λ k.
-          le_trans (le_is (sym (form_sum_values (form_product a x) b ax.form cb.form k ∙ ap (λ z. later_of z (value_at b k)) (form_product_values a x ca.form cx.form k)))) (is_at_most (form_sum (form_product a x) b) x axb cx h k) in
+      le_trans (le_is (sym (form_sum_values (form_product a x) b ax.form cb.form k ∙ ap (λ z. later_of z (value_at b k)) (form_product_values a x ca.form cx.form k)))) (is_at_most (form_sum (form_product a x) b) x axb cx h k) in
       at_most_is (form_product (form_star a) b) x sb cx (λ k. le_trans (le_is (ap (λ (z : ℕ → Date). z k) p)) (star_least (value_at a) (value_at b) (value_at x) cx.form.rising holds k))
 
 pub form_residual_laws : ResidualLaws IsCanonical form_sum form_product form_left form_least
@@ -281,22 +286,25 @@ form_residual_laws = record {
       let ax : IsCanonical (form_product a x) = form_product_is a x ca.form cx.form in
       let ab : IsCanonical (form_left a b) = form_left_is a b ca.form cb.form in
       at_most_is x (form_left a b) cx ab (λ k. le_trans
-          ((left_is a b ca.form cb.form k).greatest (value_at x k) (λ i. to_left (value_at a i)
-              (le_trans (le_product (value_at a) (value_at x) i k (k + i) (omega arith)) (le_trans (le_is (sym (form_product_values a x ca.form cx.form (k + i)))) (is_at_most (form_product a x) b ax cb h (k + i))))))
-          (le_is (sym (form_left_values a b ca.form cb.form k))))
+      ((left_is a b ca.form cb.form k).greatest (value_at x k) (λ i. to_left (value_at a i)
+      (le_trans (le_product (value_at a) (value_at x) i k (k + i) (omega arith)) (le_trans (le_is (sym (form_product_values a x ca.form cx.form (k + i)))) (is_at_most (form_product a x) b ax cb h (k + i))))))
+      (le_is (sym (form_left_values a b ca.form cb.form k))))
+
   from : (a x b : Form) → IsCanonical a → IsCanonical x → IsCanonical b → IsAtMost form_sum x (form_left a b) → IsAtMost form_sum (form_product a x) b
   from a x b ca cx cb h =
       let ax : IsCanonical (form_product a x) = form_product_is a x ca.form cx.form in
       let ab : IsCanonical (form_left a b) = form_left_is a b ca.form cb.form in
       at_most_is (form_product a x) b ax cb (λ k. le_trans (le_is (form_product_values a x ca.form cx.form k))
-          (product_at_le (value_at a) (value_at x) k (value_at b k) (λ i j e. from_left (value_at a i)
-              (le_trans (le_trans (is_at_most x (form_left a b) cx ab h j) (le_is (form_left_values a b ca.form cb.form j)))
-                  (le_trans ((left_is a b ca.form cb.form j).below i) (le_is (let g : j + i ≡ k = omega arith in ap (λ (z : ℕ). date_left (value_at a i) (value_at b z)) g)))))))
+      (product_at_le (value_at a) (value_at x) k (value_at b k) (λ i j e. from_left (value_at a i)
+      (le_trans (le_trans (is_at_most x (form_left a b) cx ab h j) (le_is (form_left_values a b ca.form cb.form j)))
+      (le_trans ((left_is a b ca.form cb.form j).below i) (le_is (let g : j + i ≡ k = omega arith in ap (λ (z : ℕ). date_left (value_at a i) (value_at b z)) g)))))))
+
   meet_to : (x a b : Form) → IsCanonical x → IsCanonical a → IsCanonical b → IsAtMost form_sum x (form_least a b) → IsAtMost form_sum x a × IsAtMost form_sum x b
   meet_to x a b cx ca cb h =
       let ab : IsCanonical (form_least a b) = form_least_is a b ca.form cb.form in
       let low : (k : ℕ) → Le (value_at x k) (earlier_of (value_at a k) (value_at b k)) = λ k. le_trans (is_at_most x (form_least a b) cx ab h k) (le_is (form_least_values a b ca.form cb.form k)) in
       (at_most_is x a cx ca (λ k. le_trans (low k) (earlier_le_left (value_at a k) (value_at b k))), at_most_is x b cx cb (λ k. le_trans (low k) (earlier_le_right (value_at a k) (value_at b k))))
+
   meet_from : (x a b : Form) → IsCanonical x → IsCanonical a → IsCanonical b → IsAtMost form_sum x a × IsAtMost form_sum x b → IsAtMost form_sum x (form_least a b)
   meet_from x a b cx ca cb h = at_most_is x (form_least a b) cx (form_least_is a b ca.form cb.form)
       (λ k. le_trans (le_earlier (is_at_most x a cx ca h.0 k) (is_at_most x b cx cb h.1 k)) (le_is (sym (form_least_values a b ca.form cb.form k))))

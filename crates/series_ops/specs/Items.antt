@@ -131,20 +131,20 @@ module _ (s : ℕ → Date) (n : ℕ) (x : ℤ) where
       let f : ℕ → ℕ = λ i. lengths (take i l) % b in
       let pair : (i : ℕ) × (j : ℕ) × (i < j) × (j ≤ b) × (f i ≡ f j) = pigeons b f (λ i _. mod_below (lengths (take i l)) b pos_b) in
       run_between pair.0 pair.1 pair.2 pair.3 pair.4 where
-    run_between : (i j : ℕ) → i < j → j ≤ b → lengths (take i l) % b ≡ lengths (take j l) % b → Run b l
-    run_between i j ij jb e =
-        let w : ℕ = j - i in
-        let rest : List Item = drop i l in
-        let r : List Item = take w rest in
-        let ji : j ≡ i + w = omega arith in
-        let split : l ≡ take i l ++ (r ++ drop w rest) = sym (take-append-drop i l) ∙ ap (λ (z : List Item). take i l ++ z) (sym (take-append-drop w rest)) in
-        let sums : lengths (take j l) ≡ lengths (take i l) + lengths r = ap (λ (z : ℕ). lengths (take z l)) ji ∙ ap lengths (take-add i w l) ∙ lengths_append (take i l) r in
-        let d : (q : ℕ) × (lengths r ≡ q * b) = difference (lengths (take i l)) (lengths r) b pos_b (e ∙ ap (λ (z : ℕ). z % b) sums) in
-        let fit_rest : Fit m (r ++ drop w rest) = fit_second m (take i l) (r ++ drop w rest) (subst (λ (z : List Item). Fit m z) split fit) in
-        let least : length r ≤ lengths r = lengths_least m r (fit_first m r (drop w rest) fit_rest) in
-        let room : w ≤ length rest = omega (arith, length-drop i l) in
-        let wide : length r ≡ w = length-take-le w rest room in
-        run_made b (take i l) r (drop w rest) l split d.0 d.1 (omega arith)
+        run_between : (i j : ℕ) → i < j → j ≤ b → lengths (take i l) % b ≡ lengths (take j l) % b → Run b l
+        run_between i j ij jb e =
+            let w : ℕ = j - i in
+            let rest : List Item = drop i l in
+            let r : List Item = take w rest in
+            let ji : j ≡ i + w = omega arith in
+            let split : l ≡ take i l ++ (r ++ drop w rest) = sym (take-append-drop i l) ∙ ap (λ (z : List Item). take i l ++ z) (sym (take-append-drop w rest)) in
+            let sums : lengths (take j l) ≡ lengths (take i l) + lengths r = ap (λ (z : ℕ). lengths (take z l)) ji ∙ ap lengths (take-add i w l) ∙ lengths_append (take i l) r in
+            let d : (q : ℕ) × (lengths r ≡ q * b) = difference (lengths (take i l)) (lengths r) b pos_b (e ∙ ap (λ (z : ℕ). z % b) sums) in
+            let fit_rest : Fit m (r ++ drop w rest) = fit_second m (take i l) (r ++ drop w rest) (subst (λ (z : List Item). Fit m z) split fit) in
+            let least : length r ≤ lengths r = lengths_least m r (fit_first m r (drop w rest) fit_rest) in
+            let room : w ≤ length rest = omega (arith, length-drop i l) in
+            let wide : length r ≡ w = length-take-le w rest room in
+            run_made b (take i l) r (drop w rest) l split d.0 d.1 (omega arith)
 
   -- ---- from items back to parts
 
@@ -156,16 +156,16 @@ module _ (s : ℕ → Date) (n : ℕ) (x : ℤ) where
         le_trans (le_is (ap (date_product (s core)) (times_one (date_of s l)))) ((is k).below (core ∷ l) (pos_core, pos_l) (omega arith))
     realised m (part c ∷ items) core l k fit pos_core pos_l tail e =
         le_trans (le_is (ap (date_product (s core)) (turned (date_of s l) (s c) (worths items))))
-            (realised m items core (c ∷ l) k fit.2 pos_core (fit.0, pos_l) tail (omega arith))
+        (realised m items core (c ∷ l) k fit.2 pos_core (fit.0, pos_l) tail (omega arith))
     realised m (step ∷ items) core l k fit pos_core pos_l tail e = ⊎_elim
         (λ none. absurd none)
         (λ far. le_trans
-            (le_is (ap (λ z. date_product (s core) (date_product (date_of s l) z)) (at_product x (worths items))
-                ∙ ap (date_product (s core)) (product_move_right x (date_of s l) (worths items))
-                ∙ product_move_right x (s core) (date_product (date_of s l) (worths items))
-                ∙ sym (product_move_left x (s core) (date_product (date_of s l) (worths items)))
-                ∙ ap (λ z. date_product z (date_product (date_of s l) (worths items))) (sym (repeats.at core far))))
-            (realised m items (core + n) l k fit.2 (omega arith) pos_l (inr (omega arith)) (omega arith)))
+        (le_is (ap (λ z. date_product (s core) (date_product (date_of s l) z)) (at_product x (worths items))
+        ∙ ap (date_product (s core)) (product_move_right x (date_of s l) (worths items))
+        ∙ product_move_right x (s core) (date_product (date_of s l) (worths items))
+        ∙ sym (product_move_left x (s core) (date_product (date_of s l) (worths items)))
+        ∙ ap (λ z. date_product z (date_product (date_of s l) (worths items))) (sym (repeats.at core far))))
+        (realised m items (core + n) l k fit.2 (omega arith) pos_l (inr (omega arith)) (omega arith)))
         tail
 
   -- ---- from parts to items

@@ -64,9 +64,11 @@ unbounded s t p l k x y u v a b h es et = record { below = λ j. early_le (date_
       ap (λ z. date_left z (t (k + (p + m * l)))) (ra.at p (omega arith) ∙ ap (move (times m x)) es)
       ∙ ap (date_left (move (times m x) (At u))) (ap t n ∙ rb.at (k + p) (omega arith) ∙ ap (move (times m y)) et)
       ∙ ap At (omega (arith, ints))
+
   differ : (m : ℕ) → (times m y -ℤ times m x) ≡ times m (y -ℤ x)
   differ zero = omega (arith, ints)
   differ (suc m) = let e : (times m y -ℤ times m x) ≡ times m (y -ℤ x) = differ m in omega (arith, ints)
+
   by_value : (d : Date) → ((i : ℕ) → Le d (date_left (s i) (t (k + i)))) → Le d Early
   by_value Early g = early_le Early
   by_value (At w) g =
@@ -88,9 +90,9 @@ decided f g y isf isg b h k =
     let one : l ≡ suc (l - 1) = omega arith in
     let last : later_start f g + (l - 1) ≡ offsets_of f g - 1 = omega arith in
     let r : IsLeftAt (value_at f) (value_at g) k (least_of (λ i. date_left (value_at f i) (value_at g (k + i))) (later_start f g + (l - 1))) =
-        left_decided (value_at f) (value_at g) (later_start f g) (l - 1) k (rise_of f g) y
-            (repeats_is one refl (repeats_later (later_start f g) (omega arith) (rise_repeats f g isf)))
-            (repeats_is one refl (repeats_later (later_start f g) (omega arith) b)) h in
+    left_decided (value_at f) (value_at g) (later_start f g) (l - 1) k (rise_of f g) y
+    (repeats_is one refl (repeats_later (later_start f g) (omega arith) (rise_repeats f g isf)))
+    (repeats_is one refl (repeats_later (later_start f g) (omega arith) b)) h in
     subst (λ (z : ℕ). IsLeftAt (value_at f) (value_at g) k (least_of (λ i. date_left (value_at f i) (value_at g (k + i))) z)) last r
 
 sign_not_first : (z : ℤ) → by_sign z ≡ Second → (z +ℤ pos 1) ≤ℤ pos 0
@@ -103,6 +105,7 @@ left_is_by_slopes f g isf isg some k Equal h = decided f g (rise_of f g) isf isg
 left_is_by_slopes f g isf isg some k Second h = cases (tail_of f) (tail_of g) refl refl h where
   never : tail_of g ≡ Never → IsLeftAt (value_at f) (value_at g) k (left_over f g k)
   never e = decided f g (rise_of f g) isf isg (record { at = λ j w. tail_never g isg e (j + period_with f g) (omega arith) ∙ ap (move (rise_of f g)) (sym (tail_never g isg e j w)) }) (omega (arith, ints)) k
+
   cases : (a b : Date) → tail_of f ≡ a → tail_of g ≡ b → slopes_by a b (rise_of f g -ℤ fall_of f g) ≡ Second → IsLeftAt (value_at f) (value_at g) k (left_over f g k)
   cases Early b ea eb h = absurd (some ea)
   cases (At s) Early ea eb h = absurd cc
@@ -141,8 +144,10 @@ left_is f g isf isg k = cases (tail_of f) refl where
   cases Never e = left_is_by_slopes f g isf isg (λ h. absurd (let c : Never ≡ Early = sym e ∙ h in cc)) k (slopes_of f g) refl
 
 pub left_rises : (f g : Form) → IsForm f → IsForm g → Rising (left_at f g)
-left_rises f g isf isg = record { rises = λ j k w.
-    (left_is f g isf isg k).greatest (left_at f g j) (λ i. le_trans ((left_is f g isf isg j).below i) (left_mono (value_at f i) (isg.rising.rises (j + i) (k + i) (omega arith)))) }
+left_rises f g isf isg = record {
+  rises = λ j k w.
+      (left_is f g isf isg k).greatest (left_at f g j) (λ i. le_trans ((left_is f g isf isg j).below i) (left_mono (value_at f i) (isg.rising.rises (j + i) (k + i) (omega arith))));
+}
 
 left_serves_from : (f g : Form) → IsForm f → IsForm g → (q : ℕ) → start_of g ≤ q → Serves (left_at f g) (plan q g.period)
 left_serves_from f g isf isg q h = record {
@@ -155,12 +160,15 @@ pub left_serves : (f g : Form) → IsForm f → IsForm g → Serves (left_at f g
 left_serves f g isf isg = cases (tail_of f) (tail_of g) where
   long : Serves (left_at f g) (long_left f g)
   long = let fits : g.period ≤ size_of g = isg.period_fits in left_serves_from f g isf isg (max (size_of g) (offsets_of f g) - g.period) (omega arith)
+
   short : Serves (left_at f g) (short_left f g)
   short = left_serves_from f g isf isg (start_of g) (omega arith)
+
   by_slopes : (o : Slopes) → Serves (left_at f g) (left_plan_by_slopes o f g)
   by_slopes Equal = long
   by_slopes First = short
   by_slopes Second = long
+
   cases : (a b : Date) → Serves (left_at f g) (left_plan_by a b f g)
   cases Early b = short
   cases (At s) Early = short

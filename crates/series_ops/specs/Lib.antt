@@ -12,3 +12,6 @@ pub mod Lefts
 pub mod StarForms
 pub mod FormLaws
 pub mod Closure
+pub mod Gains
+pub mod GainLaws
+pub mod Refusals

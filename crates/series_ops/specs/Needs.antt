@@ -1,5 +1,5 @@
 -- From where the result of each operation repeats, and by how many shifts. Their sum is the need.
-use Rattle.std.specs.Prelude.{◌≡◌, ◌≤◌, ◌<◌, ◌+◌, ◌-◌, ◌*◌, ◌/◌, ◌%◌, ◌⊎◌, ℕ, ℤ, pos, negsuc, zero, suc, max, Bool, true, false, cond, eqb, not, List, [], ◌∷◌, length, get_or, ◌-ℤ◌}
+use Rattle.std.specs.Prelude.{◌≡◌, ◌≤◌, ◌<◌, ◌+◌, ◌-◌, ◌*◌, ◌/◌, ◌%◌, ◌⊎◌, ℕ, ℤ, pos, negsuc, zero, suc, max, Bool, true, false, cond, ltb, eqb, not, List, [], ◌∷◌, length, get_or, ◌-ℤ◌}
 use Rattle.std.specs.Int.{int_max}
 use Rattle.std.specs.Prelude.{int_lt}
 use Rattle.dioid.specs.declared.dates.Date.{Date}
@@ -10,6 +10,7 @@ use Rattle.series_form.specs.Forms.{Form, size_of, start_of, value_at, gap}
 use Rattle.series_form.specs.declared.plans.Plan.{Plan}
 use Rattle.series_form.specs.declared.plans.Slopes.{Slopes}
 use Rattle.series_form.specs.declared.plans.Slopes.TheVariants.{Equal, First, Second}
+use Rattle.series_ops.specs.declared.stars.Anchor.{Anchor}
 use Rattle.series_form.specs.Needs.{plan, need_of, form_by, period_with, rise_of, fall_of, tail_of, slopes_of, greatest_int, ceiling, later_start, sum_plan, form_sum}
 use Rattle.series_form.specs.Pointwise.{sum_at, least_at}
 use Rattle.series_ops.specs.Product.{product_at}
@@ -109,12 +110,6 @@ form_left f g = form_by (left_at f g) (left_plan f g)
 
 -- ---- the star
 
--- a shift and its value, found or not; not found, the period and the step
-pub record Anchor : Type 0 where
-  pub found : Bool
-  pub shift : ℕ
-  pub value : ℤ
-
 -- whether the ratio v / c is the greater one; the first to be found may have an equal ratio
 abbrev pub beats : Anchor → ℕ → ℤ → Bool
 beats a c v = cond a.found (int_lt (times c a.value) (times a.shift v)) (not (int_lt (times a.shift v) (times c a.value)))
@@ -171,6 +166,25 @@ star_plan_by (At (pos zero)) f = star_plan f
 star_plan_by (At (pos (suc n))) f = plan 0 1
 star_plan_by (At (negsuc n)) f = star_plan f
 star_plan_by Never f = plan 0 1
+
+abbrev pub carried_of : Form → ℕ
+carried_of f = cond (ltb 20000 (need_of (sum_plan f one_shift))) (need_of (sum_plan f one_shift)) (need_of (star_plan f))
+
+-- the need of a star
+abbrev pub star_need : Form → ℕ
+star_need f = need_of (star_plan_by (value_at f 0) f)
+
+-- the number that a star's TooLong carries: the need of the sum with the monomial of shift 1 and date 0 where that is
+-- too great itself
+abbrev pub star_carried_by : Date → Form → ℕ
+star_carried_by Early f = carried_of f
+star_carried_by (At (pos zero)) f = carried_of f
+star_carried_by (At (pos (suc n))) f = 1
+star_carried_by (At (negsuc n)) f = carried_of f
+star_carried_by Never f = 1
+
+abbrev pub star_carried : Form → ℕ
+star_carried f = star_carried_by (value_at f 0) f
 
 abbrev pub form_star : Form → Form
 form_star f = form_by (star_at (value_at f)) (star_plan_by (value_at f 0) f)

@@ -59,33 +59,37 @@ move_product_le s t k x c h = le_move_over x (product_at_le s t k _ (λ i j e. l
 
 -- equal slopes
 pub product_repeats_equal : (s t : ℕ → Date) (p q n : ℕ) (x : ℤ) → Repeats s p n x → Repeats t q n x → Repeats (product_at s t) (p + q + n) n x
-product_repeats_equal s t p q n x a b = record { at = λ k w. le_antisym
-    (product_at_le s t (k + n) (move x (product_at s t k)) (λ i j e. ⊎_elim
-        (λ short. product_second_le s t i j (j - n) k x (omega arith) (repeats_from b j (omega arith)))
-        (λ long. product_first_le s t i (i - n) j k x (omega arith) (repeats_from a i long))
-        (cases_lt i (p + n))))
-    (move_product_le s t k x (product_at s t (k + n)) (λ i j e. ⊎_elim
-        (λ short. le_product_second s t i j k n x e (b.at j (omega arith)))
-        (λ long. le_product_first s t i j k n x e (a.at i long))
-        (cases_lt i p))) }
+product_repeats_equal s t p q n x a b = record {
+  at = λ k w. le_antisym
+      (product_at_le s t (k + n) (move x (product_at s t k)) (λ i j e. ⊎_elim
+      (λ short. product_second_le s t i j (j - n) k x (omega arith) (repeats_from b j (omega arith)))
+      (λ long. product_first_le s t i (i - n) j k x (omega arith) (repeats_from a i long))
+      (cases_lt i (p + n))))
+      (move_product_le s t k x (product_at s t (k + n)) (λ i j e. ⊎_elim
+      (λ short. le_product_second s t i j k n x e (b.at j (omega arith)))
+      (λ long. le_product_first s t i j k n x e (a.at i long))
+      (cases_lt i p)));
+}
 
 -- where g shifts can be moved from the second part to a first part that is short, without loss
 pub product_repeats_moved : (s t : ℕ → Date) (p n q g : ℕ) (x : ℤ) → Repeats s p n x → p + n ≤ g
     → ((i j : ℕ) → i < p + n → q ≤ j → Le (date_product (s i) (t (j + g))) (date_product (s (i + g)) (t j)))
     → Repeats (product_at s t) (p + n + q + g) n x
-product_repeats_moved s t p n q g x a far better = record { at = λ k w. le_antisym
-    (product_at_le s t (k + n) (move x (product_at s t k)) (λ i j e. ⊎_elim
-        (λ short. le_trans
-            (le_trans (le_is (ap (λ z. date_product (s i) (t z)) (omega arith))) (better i (j - g) short (omega arith)))
-            (product_first_le s t (i + g) (i + g - n) (j - g) k x (omega arith) (repeats_from a (i + g) (omega arith))))
-        (λ long. product_first_le s t i (i - n) j k x (omega arith) (repeats_from a i long))
-        (cases_lt i (p + n))))
-    (move_product_le s t k x (product_at s t (k + n)) (λ i j e. ⊎_elim
-        (λ short. le_trans
-            (move_le x (le_trans (le_is (ap (λ z. date_product (s i) (t z)) (omega arith))) (better i (j - g) (omega arith) (omega arith))))
-            (le_product_first s t (i + g) (j - g) k n x (omega arith) (a.at (i + g) (omega arith))))
-        (λ long. le_product_first s t i j k n x e (a.at i long))
-        (cases_lt i p))) }
+product_repeats_moved s t p n q g x a far better = record {
+  at = λ k w. le_antisym
+      (product_at_le s t (k + n) (move x (product_at s t k)) (λ i j e. ⊎_elim
+      (λ short. le_trans
+      (le_trans (le_is (ap (λ z. date_product (s i) (t z)) (omega arith))) (better i (j - g) short (omega arith)))
+      (product_first_le s t (i + g) (i + g - n) (j - g) k x (omega arith) (repeats_from a (i + g) (omega arith))))
+      (λ long. product_first_le s t i (i - n) j k x (omega arith) (repeats_from a i long))
+      (cases_lt i (p + n))))
+      (move_product_le s t k x (product_at s t (k + n)) (λ i j e. ⊎_elim
+      (λ short. le_trans
+      (move_le x (le_trans (le_is (ap (λ z. date_product (s i) (t z)) (omega arith))) (better i (j - g) (omega arith) (omega arith))))
+      (le_product_first s t (i + g) (j - g) k n x (omega arith) (a.at (i + g) (omega arith))))
+      (λ long. le_product_first s t i j k n x e (a.at i long))
+      (cases_lt i p)));
+}
 
 -- r shifts lift a short first part into its tail, and the rest gains at least what the second part loses
 pub moved_without_loss : (s t : ℕ → Date) (p q r w : ℕ) (x y : ℤ) → Rising s → Repeats s p w x → Repeats t q (r + w) y → p ≤ r → y ≤ℤ x
@@ -93,12 +97,11 @@ pub moved_without_loss : (s t : ℕ → Date) (p q r w : ℕ) (x y : ℤ) → Ri
 moved_without_loss s t p q r w x y up a b far h i j u =
     let lifted : Le (move y (s i)) (s (i + (r + w))) = le_trans (le_trans (move_further (s i) h) (move_le x (up.rises i (i + r) (omega arith)))) (le_is (sym (a.at (i + r) (omega arith)) ∙ ap s (omega arith))) in
     le_trans
-        (le_is (ap (date_product (s i)) (b.at j u) ∙ product_move_right y (s i) (t j) ∙ sym (product_move_left y (s i) (t j))))
-        (product_le lifted (le_refl (t j)))
+    (le_is (ap (date_product (s i)) (b.at j u) ∙ product_move_right y (s i) (t j) ∙ sym (product_move_left y (s i) (t j))))
+    (product_le lifted (le_refl (t j)))
 
 -- numbers, the first slope greater: s repeats by v shifts with u times the first step, and so on
 pub product_repeats_unequal : (s t : ℕ → Date) (p n q r w : ℕ) (x xw y : ℤ) → Rising s → Repeats s p n x → Repeats s p w xw → Repeats t q (r + w) y
     → p + n ≤ r → y ≤ℤ xw → Repeats (product_at s t) (p + n + q + (r + w)) n x
 product_repeats_unequal s t p n q r w x xw y up a aw b far h =
     product_repeats_moved s t p n q (r + w) x a (omega arith) (λ i j _ u. moved_without_loss s t p q r w xw y up aw b (omega arith) h i j u)
-

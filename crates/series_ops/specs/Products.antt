@@ -22,8 +22,10 @@ use Rattle.series_ops.specs.Needs.{lifts_of, waits_of, product_first, product_fi
 use Rattle.series_form.specs.Sums.{Serves, served_is, served_values, serves_same, form_repeats_own, common_positive, rise_repeats, fall_repeats, tail_never, tail_early, tail_number, ceiling_enough, sign_first, equal_repeats, second_first}
 
 pub product_rises : (s t : ℕ → Date) → Rising s → Rising t → Rising (product_at s t)
-product_rises s t a b = record { rises = λ j k w. product_at_le s t j (product_at s t k) (λ i m e.
-    le_trans (product_le (le_refl (s i)) (b.rises m (m + (k - j)) (omega arith))) (le_product s t i (m + (k - j)) k (omega arith))) }
+product_rises s t a b = record {
+  rises = λ j k w. product_at_le s t j (product_at s t k) (λ i m e.
+      le_trans (product_le (le_refl (s i)) (b.rises m (m + (k - j)) (omega arith))) (le_product s t i (m + (k - j)) k (omega arith)));
+}
 
 pub product_commutes : (s t : ℕ → Date) (k : ℕ) → product_at s t k ≡ product_at t s k
 product_commutes s t k = le_antisym (half s t) (half t s) where
@@ -46,6 +48,7 @@ first_serves : (f g : Form) → IsForm f → IsForm g → slopes_of f g ≡ Firs
 first_serves f g isf isg h = cases (tail_of f) (tail_of g) refl refl h where
   s : ℕ → Date
   s = value_at f
+
   cases : (a b : Date) → tail_of f ≡ a → tail_of g ≡ b → slopes_by a b (rise_of f g -ℤ fall_of f g) ≡ First → Serves (product_at (value_at f) (value_at g)) (product_first_by a b f g)
   cases Early Early ea eb h = absurd cc
   cases Early (At t) ea eb h = absurd cc
@@ -66,7 +69,7 @@ first_serves f g isf isg h = cases (tail_of f) (tail_of g) refl refl h where
       let pos_l : 0 < l = common_positive f.period g.period isf.period_positive in
       let sign : (n : ℕ) × (rise_of f g -ℤ fall_of f g ≡ pos (suc n)) = sign_first (rise_of f g -ℤ fall_of f g) h in
       let enough : times v y ≤ℤ times u gain =
-          subst (λ (z : ℤ). times v y ≤ℤ times (ceiling (times v y) z) z) (sym sign.1) (ceiling_enough (times v y) sign.0) in
+      subst (λ (z : ℤ). times v y ≤ℤ times (ceiling (times v y) z) z) (sym sign.1) (ceiling_enough (times v y) sign.0) in
       let all : times (v + u) y ≡ times v y +ℤ times u y = times_add v u y in
       let parts : times u x ≡ times u gain +ℤ times u y = sums u gain y x (omega (arith, ints)) in
       let whole : (v + u) * l ≡ v * l + u * l = omega arith in
@@ -74,19 +77,19 @@ first_serves f g isf isg h = cases (tail_of f) (tail_of g) refl refl h where
       let high : size_of f ≤ v * l = lifted (size_of f) l pos_l in
       let from : start_of f + f.period + start_of g + (v * l + u * l) ≡ size_of f + start_of g + (v * l + u * l) = omega arith in
       let again : Repeats (product_at (value_at f) (value_at g)) (start_of f + f.period + start_of g + (v * l + u * l)) f.period f.step =
-          product_repeats_unequal (value_at f) (value_at g) (start_of f) f.period (start_of g) (v * l) (u * l) f.step (times u x) (times (v + u) y) isf.rising (form_repeats_own f isf)
-              (repeats_times u (rise_repeats f g isf)) (repeats_is whole refl (repeats_times (v + u) (fall_repeats f g isg))) (omega arith) (omega (arith, ints)) in
+      product_repeats_unequal (value_at f) (value_at g) (start_of f) f.period (start_of g) (v * l) (u * l) f.step (times u x) (times (v + u) y) isf.rising (form_repeats_own f isf)
+      (repeats_times u (rise_repeats f g isf)) (repeats_is whole refl (repeats_times (v + u) (fall_repeats f g isg))) (omega arith) (omega (arith, ints)) in
       record { turns = isf.period_positive; step = f.step; repeats = subst (λ (z : ℕ). Repeats (product_at (value_at f) (value_at g)) z f.period f.step) from again } where
-    sums : (m : ℕ) (a b c : ℤ) → c ≡ a +ℤ b → times m c ≡ times m a +ℤ times m b
-    sums zero a b c e = omega (arith, ints)
-    sums (suc m) a b c e = let old : times m c ≡ times m a +ℤ times m b = sums m a b c e in omega (arith, ints)
+        sums : (m : ℕ) (a b c : ℤ) → c ≡ a +ℤ b → times m c ≡ times m a +ℤ times m b
+        sums zero a b c e = omega (arith, ints)
+        sums (suc m) a b c e = let old : times m c ≡ times m a +ℤ times m b = sums m a b c e in omega (arith, ints)
   cases (At s) Never ea eb h = absurd cc
   cases Never Early ea eb h = early_serves (product_at (value_at f) (value_at g)) (λ k. product_commutes (value_at f) (value_at g) k ∙ early_product (value_at g) (value_at f) (tail_early g isg eb) k)
   cases Never (At t) ea eb h =
       let fits : f.period ≤ size_of f = isf.period_fits in
       let never : (k : ℕ) → start_of f + start_of g ≤ k → product_at (value_at f) (value_at g) k ≡ Never = λ k w.
-          let v : (x : ℤ) × (value_at g (k - start_of f) ≡ At x) = tail_number g t isg eb (k - start_of f) (omega arith) in
-          never_le (le_trans (le_is (sym (ap (λ z. date_product z (value_at g (k - start_of f))) ea ∙ ap (date_product Never) v.1))) (le_product (value_at f) (value_at g) (start_of f) (k - start_of f) k (omega arith))) in
+      let v : (x : ℤ) × (value_at g (k - start_of f) ≡ At x) = tail_number g t isg eb (k - start_of f) (omega arith) in
+      never_le (le_trans (le_is (sym (ap (λ z. date_product z (value_at g (k - start_of f))) ea ∙ ap (date_product Never) v.1))) (le_product (value_at f) (value_at g) (start_of f) (k - start_of f) k (omega arith))) in
       record { turns = omega arith; step = pos 0; repeats = record { at = λ k w. never (k + 1) (omega arith) ∙ ap (move (pos 0)) (sym (never k (omega arith))) } }
   cases Never Never ea eb h = absurd cc
 
@@ -101,10 +104,13 @@ product_serves f g isf isg = cases (tail_of f) (tail_of g) refl refl where
   by_slopes First h = first_serves f g isf isg h
   by_slopes Second h = serves_same (product_at (value_at g) (value_at f)) (product_at (value_at f) (value_at g)) (product_first g f) (product_commutes (value_at f) (value_at g))
       (first_serves g f isg isf (second_first f g isf isg h))
+
   left_early : tail_of f ≡ Early → Serves (product_at (value_at f) (value_at g)) (plan 0 1)
   left_early e = early_serves (product_at (value_at f) (value_at g)) (early_product (value_at f) (value_at g) (tail_early f isf e))
+
   right_early : tail_of g ≡ Early → Serves (product_at (value_at f) (value_at g)) (plan 0 1)
   right_early e = early_serves (product_at (value_at f) (value_at g)) (λ k. product_commutes (value_at f) (value_at g) k ∙ early_product (value_at g) (value_at f) (tail_early g isg e) k)
+
   cases : (a b : Date) → tail_of f ≡ a → tail_of g ≡ b → Serves (product_at (value_at f) (value_at g)) (product_plan_by a b f g)
   cases Early b ea eb = left_early ea
   cases (At s) Early ea eb = right_early eb

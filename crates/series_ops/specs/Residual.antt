@@ -29,11 +29,13 @@ greatest_moved f g x d e a = record {
 }
 
 pub left_repeats : (s t left : ℕ → Date) (q n : ℕ) (x : ℤ) → ((k : ℕ) → IsLeftAt s t k (left k)) → Repeats t q n x → Repeats left q n x
-left_repeats s t left q n x is b = record { at = λ k w.
-    one_greatest (λ i. date_left (s i) (t ((k + n) + i))) (left (k + n)) (move x (left k)) (is (k + n))
-        (greatest_moved (λ i. date_left (s i) (t (k + i))) (λ i. date_left (s i) (t ((k + n) + i))) x (left k)
-            (λ i. ap (λ (z : ℕ). date_left (s i) (t z)) (omega arith) ∙ ap (date_left (s i)) (b.at (k + i) (omega arith)) ∙ left_move x (s i) (t (k + i)))
-            (is k)) }
+left_repeats s t left q n x is b = record {
+  at = λ k w.
+      one_greatest (λ i. date_left (s i) (t ((k + n) + i))) (left (k + n)) (move x (left k)) (is (k + n))
+      (greatest_moved (λ i. date_left (s i) (t (k + i))) (λ i. date_left (s i) (t ((k + n) + i))) x (left k)
+      (λ i. ap (λ (z : ℕ). date_left (s i) (t z)) (omega arith) ∙ ap (date_left (s i)) (b.at (k + i) (omega arith)) ∙ left_move x (s i) (t (k + i)))
+      (is k));
+}
 
 -- the least of f 0, .., f n
 abbrev pub least_of : (ℕ → Date) → ℕ → Date
@@ -66,5 +68,5 @@ pub left_decided : (s t : ℕ → Date) (p l k : ℕ) (x y : ℤ) → Repeats s 
 left_decided s t p l k x y a b h = first_decide (λ i. date_left (s i) (t (k + i))) p l (λ i w.
     let d : Date = date_left (s i) (t (k + i)) in
     le_trans (le_is (sym (move_zero d)))
-        (le_trans (move_further d (let f : pos 0 ≤ℤ (y -ℤ x) = omega (arith, ints) in f))
-            (le_is (sym (left_of_move x y (s i) (t (k + i))) ∙ ap (λ z. date_left z (move y (t (k + i)))) (sym (a.at i w)) ∙ ap (date_left (s (i + suc l))) (sym (b.at (k + i) (omega arith)) ∙ ap t (omega arith))))))
+    (le_trans (move_further d (let f : pos 0 ≤ℤ (y -ℤ x) = omega (arith, ints) in f))
+    (le_is (sym (left_of_move x y (s i) (t (k + i))) ∙ ap (λ z. date_left z (move y (t (k + i)))) (sym (a.at i w)) ∙ ap (date_left (s (i + suc l))) (sym (b.at (k + i) (omega arith)) ∙ ap t (omega arith))))))

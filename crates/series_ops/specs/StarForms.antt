@@ -18,18 +18,19 @@ use Rattle.series_form.specs.Forms.{Form, size_of, start_of, value_at, IsForm, H
 use Rattle.series_form.specs.Canonical.{never_le, form_values}
 use Rattle.series_form.specs.declared.plans.Plan.{Plan}
 use Rattle.series_form.specs.Needs.{plan, need_of, form_by, tail_of, greatest_int, sum_plan, form_sum}
-use Rattle.series_ops.specs.Needs.{Anchor, beats, anchor_step, anchor_upto, anchor_of, natural_of, loss_of, worst_loss, anchored_plan, own_plan_by, own_plan, one_shift, at_least, star_plan, star_plan_by, form_star}
+use Rattle.series_ops.specs.declared.stars.Anchor.{Anchor}
+use Rattle.series_ops.specs.Needs.{beats, anchor_step, anchor_upto, anchor_of, natural_of, loss_of, worst_loss, anchored_plan, own_plan_by, own_plan, one_shift, at_least, star_plan, star_plan_by, form_star}
 use Rattle.series_form.specs.Sums.{Serves, served_is, served_values, form_repeats_own, tail_never, tail_early, tail_number, le_greatest_int, form_sum_is, form_sum_values}
 
 -- u / b is at most a / c, and so on: ratios
 ratio_trans : (b c d : ℕ) (u a v : ℤ) → 0 < b → times b u ≤ℤ times d a → times c a ≤ℤ times b v → times c u ≤ℤ times d v
 ratio_trans b c d u a v pos_b h k = times_back b (times c u) (times d v) pos_b
     (let e : times c (times b u) ≤ℤ times c (times d a) = times_up c (times b u) (times d a) h in
-     let f : times d (times c a) ≤ℤ times d (times b v) = times_up d (times c a) (times b v) k in
-     let p : times b (times c u) ≡ times c (times b u) = times_swap b c u in
-     let q : times c (times d a) ≡ times d (times c a) = times_swap c d a in
-     let r : times d (times b v) ≡ times b (times d v) = times_swap d b v in
-     omega (arith, ints))
+    let f : times d (times c a) ≤ℤ times d (times b v) = times_up d (times c a) (times b v) k in
+    let p : times b (times c u) ≡ times c (times b u) = times_swap b c u in
+    let q : times c (times d a) ≡ times d (times c a) = times_swap c d a in
+    let r : times d (times b v) ≡ times b (times d v) = times_swap d b v in
+    omega (arith, ints))
 
 ratio_trans_date : (b c d : ℕ) (u : Date) (a v : ℤ) → 0 < b → Le (scaled b u) (At (times d a)) → times c a ≤ℤ times b v → Le (scaled c u) (At (times d v))
 ratio_trans_date b c d Early a v pos_b h k = early_le (At (times d v))
@@ -62,10 +63,14 @@ module _ (f : Form) (is : IsForm f) where
         (λ l. old.cheap c u (omega arith))
         (eq-or-lt_of_le {n = c} {m = suc m} w);
     when_found = λ e. ((old.when_found e).0, let h : a.shift ≤ m = (old.when_found e).1 in omega arith);
-    when_not = λ n. ((old.when_not n).0, (old.when_not n).1, λ c u w. ⊎_elim
-        (λ e. let P : ℕ → Type 0 = λ z. Le (scaled f.period (value_at f z)) (At (times z f.step -ℤ pos 1)) in subst P (sym e) (lossy n))
-        (λ l. (old.when_not n).2 c u (omega arith))
-        (eq-or-lt_of_le {n = c} {m = suc m} w));
+    when_not = λ n. (
+      (old.when_not n).0,
+      (old.when_not n).1,
+      λ c u w. ⊎_elim
+          (λ e. let P : ℕ → Type 0 = λ z. Le (scaled f.period (value_at f z)) (At (times z f.step -ℤ pos 1)) in subst P (sym e) (lossy n))
+          (λ l. (old.when_not n).2 c u (omega arith))
+          (eq-or-lt_of_le {n = c} {m = suc m} w),
+    );
   }
 
   replaced : (m : ℕ) (a : Anchor) (v : ℤ) → AnchorIs f m a → value_at f (suc m) ≡ At v → times (suc m) a.value ≤ℤ times a.shift v → AnchorIs f (suc m) (record { found = true; shift = suc m; value = v })
@@ -88,29 +93,29 @@ module _ (f : Form) (is : IsForm f) where
     by_found : (b t : Bool) → a.found ≡ b → beats a (suc m) v ≡ t → AnchorIs f (suc m) (cond (beats a (suc m) v) (record { found = true; shift = suc m; value = v }) a)
     by_found true true g h = rw h (replaced m a v old e
         (let k : int_lt (times (suc m) a.value) (times a.shift v) ≡ true = sym (ap (λ (z : Bool). cond z (int_lt (times (suc m) a.value) (times a.shift v)) (not (int_lt (times a.shift v) (times (suc m) a.value)))) g) ∙ h in
-         let l : (times (suc m) a.value +ℤ pos 1) ≤ℤ times a.shift v = is_lt (times (suc m) a.value) (times a.shift v) k in omega (arith, ints)))
+        let l : (times (suc m) a.value +ℤ pos 1) ≤ℤ times a.shift v = is_lt (times (suc m) a.value) (times a.shift v) k in omega (arith, ints)))
     by_found true false g h = rw h (kept m a old
         (let k : int_lt (times (suc m) a.value) (times a.shift v) ≡ false = sym (ap (λ (z : Bool). cond z (int_lt (times (suc m) a.value) (times a.shift v)) (not (int_lt (times a.shift v) (times (suc m) a.value)))) g) ∙ h in
-         le_trans (le_is (ap (scaled a.shift) e)) (record { holds = not_lt (times (suc m) a.value) (times a.shift v) k }))
+        le_trans (le_is (ap (scaled a.shift) e)) (record { holds = not_lt (times (suc m) a.value) (times a.shift v) k }))
         (λ n. absurd (let c : true ≡ false = sym g ∙ n in cc)))
     by_found false true g h = rw h (replaced m a v old e
         (let k : not (int_lt (times a.shift v) (times (suc m) a.value)) ≡ true = sym (ap (λ (z : Bool). cond z (int_lt (times (suc m) a.value) (times a.shift v)) (not (int_lt (times a.shift v) (times (suc m) a.value)))) g) ∙ h in
-         not_lt (times a.shift v) (times (suc m) a.value) (not_true (int_lt (times a.shift v) (times (suc m) a.value)) k))) where
-      not_true : (b : Bool) → not b ≡ true → b ≡ false
-      not_true true q = cc
-      not_true false q = refl
+        not_lt (times a.shift v) (times (suc m) a.value) (not_true (int_lt (times a.shift v) (times (suc m) a.value)) k))) where
+          not_true : (b : Bool) → not b ≡ true → b ≡ false
+          not_true true q = cc
+          not_true false q = refl
     by_found false false g h = rw h
         (let k : not (int_lt (times a.shift v) (times (suc m) a.value)) ≡ false = sym (ap (λ (z : Bool). cond z (int_lt (times (suc m) a.value) (times a.shift v)) (not (int_lt (times a.shift v) (times (suc m) a.value)))) g) ∙ h in
-         let l : (times a.shift v +ℤ pos 1) ≤ℤ times (suc m) a.value = is_lt (times a.shift v) (times (suc m) a.value) (not_false (int_lt (times a.shift v) (times (suc m) a.value)) k) in
-         let p : a.shift ≡ f.period = (old.when_not g).0 in
-         let q : a.value ≡ f.step = (old.when_not g).1 in
-         let low : Le (scaled a.shift (At v)) (At (times (suc m) a.value -ℤ pos 1)) = record { holds = omega (arith, ints) } in
-         let mine : Le (scaled f.period (At v)) (At (times (suc m) f.step -ℤ pos 1)) =
-             subst (λ (z : ℤ). Le (scaled f.period (At v)) (At (times (suc m) z -ℤ pos 1))) q (subst (λ (z : ℕ). Le (scaled z (At v)) (At (times (suc m) a.value -ℤ pos 1))) p low) in
-         kept m a old (le_trans (le_is (ap (scaled a.shift) e)) (record { holds = omega (arith, ints) })) (λ n. le_trans (le_is (ap (scaled f.period) e)) mine)) where
-      not_false : (b : Bool) → not b ≡ false → b ≡ true
-      not_false true q = refl
-      not_false false q = cc
+        let l : (times a.shift v +ℤ pos 1) ≤ℤ times (suc m) a.value = is_lt (times a.shift v) (times (suc m) a.value) (not_false (int_lt (times a.shift v) (times (suc m) a.value)) k) in
+        let p : a.shift ≡ f.period = (old.when_not g).0 in
+        let q : a.value ≡ f.step = (old.when_not g).1 in
+        let low : Le (scaled a.shift (At v)) (At (times (suc m) a.value -ℤ pos 1)) = record { holds = omega (arith, ints) } in
+        let mine : Le (scaled f.period (At v)) (At (times (suc m) f.step -ℤ pos 1)) =
+        subst (λ (z : ℤ). Le (scaled f.period (At v)) (At (times (suc m) z -ℤ pos 1))) q (subst (λ (z : ℕ). Le (scaled z (At v)) (At (times (suc m) a.value -ℤ pos 1))) p low) in
+        kept m a old (le_trans (le_is (ap (scaled a.shift) e)) (record { holds = omega (arith, ints) })) (λ n. le_trans (le_is (ap (scaled f.period) e)) mine)) where
+          not_false : (b : Bool) → not b ≡ false → b ≡ true
+          not_false true q = refl
+          not_false false q = cc
   stepped m a Never old e some = absurd (some refl)
 
   anchor_is : (m : ℕ) → ((c : ℕ) → value_at f c ≡ Never → ⊥) → AnchorIs f m (anchor_upto f m)
@@ -132,13 +137,13 @@ from_one_rises = record { rises = λ j k w. by_shift j k w } where
   by_shift (suc j) zero w = absurd (omega arith)
   by_shift (suc j) (suc k) w = le_refl (At (pos 0))
 
-one_shift_values : HasValues one_shift from_one
+pub one_shift_values : HasValues one_shift from_one
 one_shift_values = form_values from_one 1 1 (pos 0) (omega arith) (record { at = λ k w. by_shift k w }) where
   by_shift : (k : ℕ) → 1 ≤ k → from_one (k + 1) ≡ move (pos 0) (from_one k)
   by_shift zero w = absurd (omega arith)
   by_shift (suc k) w = let e : suc k + 1 ≡ suc (suc k) = omega arith in ap from_one e
 
-one_shift_is : IsForm one_shift
+pub one_shift_is : IsForm one_shift
 one_shift_is = record {
   period_positive = omega arith;
   period_fits = omega arith;
@@ -159,43 +164,53 @@ module _ (g : Form) (is : IsForm g) (star : ℕ → Date) (stars : (k : ℕ) →
   own_at t e = by_found (anchor_of g).found refl where
     n : ℕ
     n = g.period
+
     fits : g.period ≤ size_of g
     fits = is.period_fits
+
     whole : start_of g + g.period ≡ size_of g
     whole = omega (arith, fits)
+
     number : (c : ℕ) → start_of g ≤ c → (v : ℤ) × (value_at g c ≡ At v)
     number c w = tail_number g t is e c w
+
     some : (c : ℕ) → value_at g c ≡ Never → ⊥
     some c h = let v : (x : ℤ) × (value_at g (c + start_of g) ≡ At x) = number (c + start_of g) (omega arith) in
         let last : value_at g (c + start_of g) ≡ Never = never_le (le_trans (le_is (sym h)) (is.rising.rises c (c + start_of g) (omega arith))) in
         absurd (let q : At v.0 ≡ Never = sym v.1 ∙ last in cc)
+
     known : AnchorIs g (size_of g - 1) (anchor_of g)
     known = anchor_is g is (size_of g - 1) some
+
     own : Repeats (value_at g) (start_of g) g.period g.step
     own = form_repeats_own g is
+
     -- the anchor also covers the shift after the list
     cheap_start : Le (scaled (anchor_of g).shift (value_at g (start_of g))) (At (times (start_of g) (anchor_of g).value))
     cheap_start = ⊎_elim
         (λ zeros. let P : ℕ → Type 0 = λ z. Le (scaled (anchor_of g).shift (value_at g z)) (At (times z (anchor_of g).value)) in
-            subst P (sym zeros) (le_trans (scaled_le (anchor_of g).shift low) (le_is (scaled_zero (anchor_of g).shift))))
+        subst P (sym zeros) (le_trans (scaled_le (anchor_of g).shift low) (le_is (scaled_zero (anchor_of g).shift))))
         (λ more. known.cheap (start_of g) more (let w : g.period ≤ size_of g = fits in let u : 0 < g.period = is.period_positive in omega arith))
         (zero_or (start_of g)) where
-      zero_or : (m : ℕ) → (m ≡ 0) ⊎ (0 < m)
-      zero_or zero = inl refl
-      zero_or (suc m) = inr (omega arith)
+          zero_or : (m : ℕ) → (m ≡ 0) ⊎ (0 < m)
+          zero_or zero = inl refl
+          zero_or (suc m) = inr (omega arith)
+
     cheap_last : Le (scaled (anchor_of g).shift (value_at g (start_of g + g.period))) (At (times (start_of g + g.period) (anchor_of g).value))
     cheap_last =
         let b : ℕ = (anchor_of g).shift in
         let a : ℤ = (anchor_of g).value in
         let slow : times b g.step ≤ℤ times g.period a = known.slow in
         let gain : Le (move (times b g.step) (At (times (start_of g) a))) (At (times (start_of g + g.period) a)) =
-            let sum : times (start_of g + g.period) a ≡ times (start_of g) a +ℤ times g.period a = times_add (start_of g) g.period a in record { holds = omega (arith, ints) } in
+        let sum : times (start_of g + g.period) a ≡ times (start_of g) a +ℤ times g.period a = times_add (start_of g) g.period a in record { holds = omega (arith, ints) } in
         le_trans (le_is (ap (scaled b) (own.at (start_of g) (omega arith)) ∙ scaled_move b g.step (value_at g (start_of g)))) (le_trans (move_le (times b g.step) cheap_start) gain)
+
     cheap : (c : ℕ) → 0 < c → c ≤ start_of g + g.period → Le (scaled (anchor_of g).shift (value_at g c)) (At (times c (anchor_of g).value))
     cheap c u w = ⊎_elim
         (λ q. let P : ℕ → Type 0 = λ z. Le (scaled (anchor_of g).shift (value_at g z)) (At (times z (anchor_of g).value)) in subst P (sym q) cheap_last)
         (λ l. known.cheap c u (let x : start_of g + g.period ≡ size_of g = whole in omega arith))
         (eq-or-lt_of_le {n = c} {m = start_of g + g.period} w)
+
     losses : (c : ℕ) → start_of g ≤ c → c < start_of g + g.period → Le (At (times c g.step -ℤ pos (worst_loss g))) (scaled g.period (value_at g c))
     losses c u w =
         let i : ℕ = c - start_of g in
@@ -206,27 +221,28 @@ module _ (g : Form) (is : IsForm g) (star : ℕ → Date) (stars : (k : ℕ) →
         let same : loss_of g (start_of g + i) ≡ times c g.step -ℤ times g.period v.0 = ap (loss_of g) here ∙ ap (λ d. gap (scaled g.period d) (At (times c g.step))) v.1 in
         let mine : Le (At (times c g.step -ℤ pos (worst_loss g))) (At (times g.period v.0)) = record { holds = omega (arith, ints) } in
         le_trans mine (le_is (ap (scaled g.period) (sym v.1)))
+
     by_found : (b : Bool) → (anchor_of g).found ≡ b → Serves star (anchored_plan (anchor_of g) g)
     by_found true h =
         let again : Repeats star ((anchor_of g).shift * (start_of g + g.period) + 1) (anchor_of g).shift (anchor_of g).value =
-            star_repeats_anchored (value_at g) g.period g.step (anchor_of g).shift (anchor_of g).value known.positive (known.when_found h).0 star (start_of g) stars own is.period_positive
-                (let near : (anchor_of g).shift ≤ size_of g - 1 = (known.when_found h).1 in let x : start_of g + g.period ≡ size_of g = whole in omega arith) cheap known.slow high in
+        star_repeats_anchored (value_at g) g.period g.step (anchor_of g).shift (anchor_of g).value known.positive (known.when_found h).0 star (start_of g) stars own is.period_positive
+        (let near : (anchor_of g).shift ≤ size_of g - 1 = (known.when_found h).1 in let x : start_of g + g.period ≡ size_of g = whole in omega arith) cheap known.slow high in
         let P : Plan → Type 0 = λ r. Serves star r in
         subst P (ap (λ (z : Bool). cond z (plan ((anchor_of g).shift * size_of g + 1) (anchor_of g).shift) (plan (size_of g * max (g.period + 1) (worst_loss g) + 1) g.period)) (sym h))
-            (record { turns = known.positive; step = (anchor_of g).value; repeats = subst (λ (z : ℕ). Repeats star ((anchor_of g).shift * z + 1) (anchor_of g).shift (anchor_of g).value) whole again })
+        (record { turns = known.positive; step = (anchor_of g).value; repeats = subst (λ (z : ℕ). Repeats star ((anchor_of g).shift * z + 1) (anchor_of g).shift (anchor_of g).value) whole again })
     by_found false h =
         let lossy : (c : ℕ) → 0 < c → c < start_of g + g.period → Le (scaled g.period (value_at g c)) (At (times c g.step -ℤ pos 1)) =
-            λ c u w. (known.when_not h).2 c u (let x : start_of g + g.period ≡ size_of g = whole in omega arith) in
+        λ c u w. (known.when_not h).2 c u (let x : start_of g + g.period ≡ size_of g = whole in omega arith) in
         let q : ℕ = size_of g * max (g.period + 1) (worst_loss g) + 1 in
         let x : start_of g + g.period ≡ size_of g = whole in
         let many : size_of g * worst_loss g ≤ size_of g * max (g.period + 1) (worst_loss g) = mul-le-mul_left (size_of g) (omega arith) in
         let two : size_of g * 1 ≤ size_of g * max (g.period + 1) (worst_loss g) = mul-le-mul_left (size_of g) (omega arith) in
         let turned : (start_of g + g.period) * worst_loss g ≡ size_of g * worst_loss g = ap (λ (z : ℕ). z * worst_loss g) whole in
         let again : Repeats star q g.period g.step =
-            star_repeats_tail (value_at g) (start_of g) g.period (worst_loss g) g.step own is.period_positive low lossy losses star q stars high (omega arith) (omega arith) in
+        star_repeats_tail (value_at g) (start_of g) g.period (worst_loss g) g.step own is.period_positive low lossy losses star q stars high (omega arith) (omega arith) in
         let P : Plan → Type 0 = λ r. Serves star r in
         subst P (ap (λ (z : Bool). cond z (plan ((anchor_of g).shift * size_of g + 1) (anchor_of g).shift) (plan (size_of g * max (g.period + 1) (worst_loss g) + 1) g.period)) (sym h))
-            (record { turns = is.period_positive; step = g.step; repeats = again })
+        (record { turns = is.period_positive; step = g.step; repeats = again })
 
   own_serves : Serves star (own_plan g)
   own_serves = cases (tail_of g) refl where
@@ -242,16 +258,16 @@ module _ (g : Form) (is : IsForm g) (star : ℕ → Date) (stars : (k : ℕ) →
 at_least_serves : (s : ℕ → Date) (need : ℕ) (r : Plan) → Serves s r → Serves s (at_least need r)
 at_least_serves s need r h = record { turns = h.turns; step = h.step; repeats = repeats_later (max r.from (need - r.turn)) (omega arith) h.repeats }
 
-parts_serves : (f : Form) → IsForm f → Le (value_at f 0) (At (pos 0)) → Serves (parts_star (value_at f)) (star_plan f)
+pub parts_serves : (f : Form) → IsForm f → Le (value_at f 0) (At (pos 0)) → Serves (parts_star (value_at f)) (star_plan f)
 parts_serves f is low =
     let g : Form = form_sum f one_shift in
     let isg : IsForm g = (form_sum_is f one_shift is one_shift_is).form in
     let values : (k : ℕ) → value_at g k ≡ with_one (value_at f) k = λ k. form_sum_values f one_shift is one_shift_is k ∙ ap (later_of (value_at f k)) (one_shift_values k) in
     let stars : (k : ℕ) → IsStarAt (value_at g) k (parts_star (value_at f) k) = λ k. same_star (with_one (value_at f)) (value_at g) k (parts_star (value_at f) k) (λ j. sym (values j)) (with_one_is (value_at f) is.rising k) in
     at_least_serves (parts_star (value_at f)) (need_of (sum_plan f one_shift)) (own_plan g)
-        (own_serves g isg (parts_star (value_at f)) stars
-            (le_trans (le_later_right (value_at f 1) (At (pos 0))) (le_is (sym (values 1))))
-            (le_trans (le_is (values 0)) (later_le low (early_le (At (pos 0))))))
+    (own_serves g isg (parts_star (value_at f)) stars
+    (le_trans (le_later_right (value_at f 1) (At (pos 0))) (le_is (sym (values 1))))
+    (le_trans (le_is (values 0)) (later_le low (early_le (At (pos 0))))))
 
 never_serves : Serves (λ _. Never) (plan 0 1)
 never_serves = record { turns = omega arith; step = pos 0; repeats = record { at = λ k w. refl } }

@@ -54,11 +54,13 @@ pub star_repeats : (s star : ℕ → Date) (q n : ℕ) (x : ℤ) → Le (At (pos
     → ((k : ℕ) → q ≤ k → (l : List ℕ) → ArePositive l → total l ≡ k + n → Le (date_of s l) (move x (star k)))
     → ((k : ℕ) → q ≤ k → (l : List ℕ) → ArePositive l → total l ≡ k → Le (move x (date_of s l)) (star (k + n)))
     → Repeats star q n x
-star_repeats s star q n x h is down up = record { at = λ k w. le_antisym
-    ((is (k + n)).least (move x (star k)) (le_trans (ones_date s (k + n) h) (down k w (ones (k + n)) (ones_positive (k + n)) (ones_total (k + n)))) (down k w))
-    (le_move_over x ((is k).least (move (pos 0 -ℤ x) (star (k + n)))
-        (le_trans (ones_date s k h) (le_move_back x (up k w (ones k) (ones_positive k) (ones_total k))))
-        (λ l a e. le_move_back x (up k w l a e)))) }
+star_repeats s star q n x h is down up = record {
+  at = λ k w. le_antisym
+      ((is (k + n)).least (move x (star k)) (le_trans (ones_date s (k + n) h) (down k w (ones (k + n)) (ones_positive (k + n)) (ones_total (k + n)))) (down k w))
+      (le_move_over x ((is k).least (move (pos 0 -ℤ x) (star (k + n)))
+      (le_trans (ones_date s k h) (le_move_back x (up k w (ones k) (ones_positive k) (ones_total k))))
+      (λ l a e. le_move_back x (up k w l a e))));
+}
 
 -- ---- case 1
 
@@ -120,8 +122,10 @@ times_back m x y u h = ⊎_elim (λ l. l) (λ g. absurd (strict m x y u g h)) (i
   strict_up : (k : ℕ) (a b : ℤ) → (b +ℤ pos 1) ≤ℤ a → (times k b +ℤ pos k) ≤ℤ times k a
   strict_up zero a b g = omega (arith, ints)
   strict_up (suc k) a b g = let e : (times k b +ℤ pos k) ≤ℤ times k a = strict_up k a b g in omega (arith, ints)
+
   strict : (k : ℕ) (a b : ℤ) → 0 < k → (b +ℤ pos 1) ≤ℤ a → times k a ≤ℤ times k b → ⊥
   strict k a b w g h = let e : (times k b +ℤ pos k) ≤ℤ times k a = strict_up k a b g in absurd (omega (arith, ints))
+
   int_cases : (a b : ℤ) → (a ≤ℤ b) ⊎ ((b +ℤ pos 1) ≤ℤ a)
   int_cases a b = by_lt_z b a (λ l. inr (omega (arith, ints))) (λ l. inl l)
 

@@ -4,5 +4,4 @@ ghost use Rattle.series_ops.specs.Closure.{AreClosed};
 /// that the book's definitions give, within their needs; and a function has one canonical form.
 pub fn series_are_closed()
     ensures { AreClosed }
-{
-}
+{}

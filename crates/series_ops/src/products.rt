@@ -1,10 +1,3 @@
-use crate::tables::{ended, first_values};
-use dioid::Date;
-use series_form::{
-    Plan, Series, SeriesRefused, Slopes, common_period, compare_slopes, gain_over, gains_for, lead_gain, start, tail,
-};
-use std::alloc::{AllocError, Global};
-
 ghost use Rattle.std.specs.Prelude.{◌≡◌, ◌≤◌, ◌<◌, ◌+◌, ◌-◌, ◌*◌, ℕ, IfOk, length, pos, ◌<ℤ◌, ◌-ℤ◌};
 ghost use Rattle.std.specs.Int.RustNames.{unsigned_abs};
 ghost use Rattle.dioid.specs.declared.dates.Date.TheVariants.{Early, Never};
@@ -18,6 +11,14 @@ ghost use Rattle.series_form.specs.Needs.{need_of, period_with, rise_of, fall_of
 ghost use Rattle.series_ops.specs.Product.{product_at, greatest};
 ghost use Rattle.series_ops.specs.Needs.{lifts_of, waits_of, product_first, product_by_slopes, product_plan, form_product};
 ghost use Rattle.series_ops.specs.Listed.{IsNumber, listed, AreUpTo};
+
+use crate::tables::{ended, first_values};
+use dioid::Date;
+use series_form::{
+    Plan, Series, SeriesRefused, Slopes, common_period, compare_slopes, gain_over, gains_for,
+    lead_gain, start, tail,
+};
+use std::alloc::{AllocError, Global};
 
 /// The common periods that cover the list of the first series.
 fn lifts(first: &Series, second: &Series) -> usize
@@ -128,7 +129,7 @@ fn plan_of_product(first: &Series, second: &Series) -> Plan
 /// The two dates added.
 fn added(first: Date, second: Date) -> Date
     requires first { IsUpTo 20001000000000000000000 first }
-    requires second { IsUpTo 20001000000000000000000 second }
+    requires second { IsUpTo 500000000000000000000000000 second }
     ensures { result ≡ date_product first second }
 {
     match (first, second) {
@@ -140,11 +141,11 @@ fn added(first: Date, second: Date) -> Date
 
 /// The greatest sum of a value of the one list and a value of the other, their places adding up to
 /// `shift`.
-fn product_value(first: &[Date], second: &[Date], shift: usize) -> Date
+pub(crate) fn product_value(first: &[Date], second: &[Date], shift: usize) -> Date
     requires first { shift < length first.now }
     requires second { shift < length second.now }
     requires first_bound { AreUpTo 20001000000000000000000 first.now }
-    requires second_bound { AreUpTo 20001000000000000000000 second.now }
+    requires second_bound { AreUpTo 500000000000000000000000000 second.now }
     ensures { result ≡ product_at (listed first.now) (listed second.now) shift }
 {
     let mut best = added(first[0], second[shift]);
@@ -155,11 +156,16 @@ fn product_value(first: &[Date], second: &[Date], shift: usize) -> Date
 }
 
 /// The first values of the product of two lists.
-fn product_list(alloc: Global, first: &[Date], second: &[Date], count: usize) -> Result<Vec<Date>, AllocError>
+fn product_list(
+    alloc: Global,
+    first: &[Date],
+    second: &[Date],
+    count: usize,
+) -> Result<Vec<Date>, AllocError>
     requires first { count ≤ length first.now }
     requires second { count ≤ length second.now }
     requires first_bound { AreUpTo 20001000000000000000000 first.now }
-    requires second_bound { AreUpTo 20001000000000000000000 second.now }
+    requires second_bound { AreUpTo 500000000000000000000000000 second.now }
     ensures { IfOk result (λ values. values.items ≡ table (product_at (listed first.now) (listed second.now)) count) }
 {
     let mut values = Vec::new(alloc);
@@ -170,7 +176,12 @@ fn product_list(alloc: Global, first: &[Date], second: &[Date], count: usize) ->
 }
 
 /// The first values of the product.
-fn product_values(alloc: Global, first: &Series, second: &Series, count: usize) -> Result<Vec<Date>, AllocError>
+pub(crate) fn product_values(
+    alloc: Global,
+    first: &Series,
+    second: &Series,
+    count: usize,
+) -> Result<Vec<Date>, AllocError>
     requires { count ≤ 20001 }
     ensures { IfOk result (λ values. values.items ≡ table (product_at (value_at first.now) (value_at second.now)) count) }
 {

@@ -1,8 +1,3 @@
-use crate::tables::{ended, first_values};
-use dioid::Date;
-use series_form::{Plan, Series, SeriesRefused, Slopes, common_period, common_start, compare_slopes, start, tail};
-use std::alloc::{AllocError, Global};
-
 ghost use Rattle.std.specs.Prelude.{◌≡◌, ◌≤◌, ◌<◌, ◌+◌, ◌-◌, ℕ, IfOk, length};
 ghost use Rattle.dioid.specs.declared.dates.Date.TheVariants.{Early};
 ghost use Rattle.dioid.specs.Dates.{date_left};
@@ -14,6 +9,13 @@ ghost use Rattle.series_form.specs.Needs.{need_of, tail_of, slopes_of};
 ghost use Rattle.series_ops.specs.Residual.{IsLeftAt, least_of};
 ghost use Rattle.series_ops.specs.Needs.{offsets_of, left_over, left_at, long_left, short_left, left_plan, form_left};
 ghost use Rattle.series_ops.specs.Listed.{listed, AreUpTo, left_listed};
+
+use crate::tables::{ended, first_values};
+use dioid::Date;
+use series_form::{
+    Plan, Series, SeriesRefused, Slopes, common_period, common_start, compare_slopes, start, tail,
+};
+use std::alloc::{AllocError, Global};
 
 /// The offsets that decide a residual.
 fn offsets(first: &Series, second: &Series) -> usize
@@ -96,7 +98,12 @@ fn left_value(first: &[Date], second: &[Date], shift: usize) -> Date
 }
 
 /// The first least residuals of two lists.
-fn left_list(alloc: Global, first: &[Date], second: &[Date], count: usize) -> Result<Vec<Date>, AllocError>
+fn left_list(
+    alloc: Global,
+    first: &[Date],
+    second: &[Date],
+    count: usize,
+) -> Result<Vec<Date>, AllocError>
     requires some { 0 < length first.now }
     requires second { count + length first.now ≤ length second.now }
     requires first_bound { AreUpTo 60002000000000000000000 first.now }
@@ -111,7 +118,12 @@ fn left_list(alloc: Global, first: &[Date], second: &[Date], count: usize) -> Re
 }
 
 /// The first values of the residual where the offsets decide.
-fn values_by_offsets(alloc: Global, first: &Series, second: &Series, count: usize) -> Result<Vec<Date>, AllocError>
+fn values_by_offsets(
+    alloc: Global,
+    first: &Series,
+    second: &Series,
+    count: usize,
+) -> Result<Vec<Date>, AllocError>
     requires few { offsets_of first.now second.now ≤ 40000 }
     requires count { count ≤ 20001 }
     ensures { IfOk result (λ values. values.items ≡ table (left_over first.now second.now) count) }
@@ -134,7 +146,12 @@ fn repeated(alloc: Global, date: Date, count: usize) -> Result<Vec<Date>, AllocE
 }
 
 /// The first values of the residual where the first series is not Early everywhere.
-fn values_by_slopes(alloc: Global, first: &Series, second: &Series, count: usize) -> Result<Vec<Date>, AllocError>
+fn values_by_slopes(
+    alloc: Global,
+    first: &Series,
+    second: &Series,
+    count: usize,
+) -> Result<Vec<Date>, AllocError>
     requires late { tail_of first.now ≡ Early → ⊥ }
     requires short { need_of (left_plan first.now second.now) ≤ 20000 }
     requires count { count ≤ 20001 }
@@ -147,7 +164,12 @@ fn values_by_slopes(alloc: Global, first: &Series, second: &Series, count: usize
 }
 
 /// The first values of the residual.
-fn left_values(alloc: Global, first: &Series, second: &Series, count: usize) -> Result<Vec<Date>, AllocError>
+fn left_values(
+    alloc: Global,
+    first: &Series,
+    second: &Series,
+    count: usize,
+) -> Result<Vec<Date>, AllocError>
     requires short { need_of (left_plan first.now second.now) ≤ 20000 }
     requires count { count ≤ 20001 }
     ensures { IfOk result (λ values. values.items ≡ table (left_at first.now second.now) count) }

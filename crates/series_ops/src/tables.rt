@@ -1,7 +1,3 @@
-use dioid::Date;
-use series_form::{Series, SeriesRefused, shortest};
-use std::alloc::{AllocError, Global};
-
 ghost use Rattle.std.specs.Prelude.{◌≡◌, ◌≤◌, ◌<◌, ◌+◌, ◌-◌, ℕ, IfOk, length, take, get_or};
 ghost use Rattle.dioid.specs.declared.dates.Date.TheVariants.{Early};
 ghost use Rattle.series_form.specs.Forms.{value_at, table};
@@ -9,8 +5,16 @@ ghost use Rattle.series_form.specs.Bounds.{IsSeries};
 ghost use Rattle.series_form.specs.Answer.{IsBeginning, IsShortest, form_before};
 ghost use Rattle.series_ops.specs.Listed.{AreUpTo, all_but_last, last_of};
 
+use dioid::Date;
+use series_form::{Series, SeriesRefused, shortest};
+use std::alloc::{AllocError, Global};
+
 /// The first values of a series.
-pub(crate) fn first_values(alloc: Global, series: &Series, count: usize) -> Result<Vec<Date>, AllocError>
+pub(crate) fn first_values(
+    alloc: Global,
+    series: &Series,
+    count: usize,
+) -> Result<Vec<Date>, AllocError>
     requires { count ≤ 60001 }
     ensures values { IfOk result (λ values. values.items ≡ table (value_at series.now) count) }
     ensures series { IfOk result (λ values. IsSeries series.now) }

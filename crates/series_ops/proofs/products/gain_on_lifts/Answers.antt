@@ -23,22 +23,22 @@ code m x h k =
 pub overflow_mul-result : goal.overflow_mul-result
 overflow_mul-result c =
     rw (step_of c.lifts-lifts.result c.gain_over-gain.result (omega (arith, c.lifts-lifts.ensures.bound)) (omega (arith, c.gain_over-gain.ensures.bound)))
-        (mul_fits c.lifts-lifts.result c.gain_over-gain.result (reach c.lifts-lifts.result c.gain_over-gain.result c.lifts-lifts.ensures.bound c.gain_over-gain.ensures.bound))
+    (mul_fits c.lifts-lifts.result c.gain_over-gain.result (reach c.lifts-lifts.result c.gain_over-gain.result c.lifts-lifts.ensures.bound c.gain_over-gain.ensures.bound))
 
 pub returns-clause-value : goal.returns-clause-value
 returns-clause-value c =
     let gain : c.gain_over-gain.result ≡ fall_of c.args.first.now c.args.second.now =
-        c.gain_over-gain.ensures.value ∙ ap (λ (z : ℕ). times (z / c.args.second.now.period) c.args.second.now.step) c.common_period.ensures.value in
+    c.gain_over-gain.ensures.value ∙ ap (λ (z : ℕ). times (z / c.args.second.now.period) c.args.second.now.step) c.common_period.ensures.value in
     code c.lifts-lifts.result c.gain_over-gain.result c.lifts-lifts.ensures.bound c.gain_over-gain.ensures.bound
     ∙ ap (λ (z : ℕ). times z c.gain_over-gain.result) c.lifts-lifts.ensures.value ∙ ap (times (lifts_of c.args.first.now c.args.second.now)) gain
 
 pub returns-clause-bound : goal.returns-clause-bound
 returns-clause-bound c =
     let gain : c.gain_over-gain.result ≡ fall_of c.args.first.now c.args.second.now =
-        c.gain_over-gain.ensures.value ∙ ap (λ (z : ℕ). times (z / c.args.second.now.period) c.args.second.now.step) c.common_period.ensures.value in
+    c.gain_over-gain.ensures.value ∙ ap (λ (z : ℕ). times (z / c.args.second.now.period) c.args.second.now.step) c.common_period.ensures.value in
     let pos_n = c.common_period.ensures.right.canonical.form.period_positive in
     let same : to_z w128 (of_z w128 (to_z w128 c.lifts-lifts.result *ℤ to_z w128 (of_z w128 c.gain_over-gain.result))) ≡ times c.lifts-lifts.result (fall_of c.args.first.now c.args.second.now) =
-        code c.lifts-lifts.result c.gain_over-gain.result c.lifts-lifts.ensures.bound c.gain_over-gain.ensures.bound ∙ ap (times c.lifts-lifts.result) gain in
+    code c.lifts-lifts.result c.gain_over-gain.result c.lifts-lifts.ensures.bound c.gain_over-gain.ensures.bound ∙ ap (times c.lifts-lifts.result) gain in
     subst (λ (z : ℤ). unsigned_abs z ≤ 1000000000000000000000000000) (sym same)
-        (lifted_bound c.lifts-lifts.result (period_with c.args.first.now c.args.second.now / c.args.second.now.period) c.args.second.now.period (period_with c.args.first.now c.args.second.now) c.args.second.now.step
-            (common_second c.args.first.now.period c.args.second.now.period pos_n) pos_n c.lifts-lifts.ensures.covers c.gain_over-gain.ensures.series.small.step)
+    (lifted_bound c.lifts-lifts.result (period_with c.args.first.now c.args.second.now / c.args.second.now.period) c.args.second.now.period (period_with c.args.first.now c.args.second.now) c.args.second.now.step
+    (common_second c.args.first.now.period c.args.second.now.period pos_n) pos_n c.lifts-lifts.ensures.covers c.gain_over-gain.ensures.series.small.step)

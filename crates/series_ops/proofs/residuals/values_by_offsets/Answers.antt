@@ -33,5 +33,5 @@ left_list-requires-clause-second_bound c =
 pub returns : goal.returns
 returns c = subst (λ (z : List Date). IfOk c.left_list.result (λ values. values.items ≡ z))
     (left_table c.args.first.now c.args.second.now c.offsets-offsets.result c.args.count c.as_slice.result.now c.as_slice-2.result.now c.offsets-offsets.ensures.value c.offsets-offsets.ensures.positive
-        (c.as_slice.ensures.value ∙ c.in_ok-firsts.ensures.values) (c.as_slice-2.ensures.value ∙ c.in_ok-seconds.ensures.values))
+    (c.as_slice.ensures.value ∙ c.in_ok-firsts.ensures.values) (c.as_slice-2.ensures.value ∙ c.in_ok-seconds.ensures.values))
     c.left_list.ensures

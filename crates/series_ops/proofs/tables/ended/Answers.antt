@@ -23,4 +23,4 @@ returns c =
     let items : c.truncate.new.self.items ≡ all_but_last c.args.values.items = c.truncate.ensures.items ∙ ap (λ (z : ℕ). take (z - 1) c.args.values.items) size in
     let next = last c.args.values.items c.len-last.result c.index-next.result.now c.requires.some size c.index-next.ensures in
     subst (λ (z : Date). IsShortest (value_at (form_before (all_but_last c.args.values.items) c.args.turn z)) c.shortest.result) next
-        (subst (λ (z : List Date). IsShortest (value_at (form_before z c.args.turn c.index-next.result.now)) c.shortest.result) items c.shortest.ensures)
+    (subst (λ (z : List Date). IsShortest (value_at (form_before z c.args.turn c.index-next.result.now)) c.shortest.result) items c.shortest.ensures)
