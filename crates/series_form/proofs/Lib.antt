@@ -1,0 +1,6 @@
+pub mod Numbers
+pub mod Same
+pub mod Steps
+pub mod FirstPart
+pub mod Finished
+pub mod PointwiseTables

@@ -1,0 +1,140 @@
+-- Numbers that fit.
+use Rattle.std.proofs.Common.{◌≡◌, ap, arith, ℕ, ℤ, pos, negsuc, zero, suc, ◌+◌, ◌*◌, ◌/◌, ◌%◌, ◌≤◌, ◌<◌, ◌+ℤ◌, ◌-ℤ◌, ◌*ℤ◌, sym, ◌∙◌, FitsSigned, to_z, of_z}
+use Rattle.std.specs.Prelude.{◌≤ℤ◌}
+use Rattle.std.specs.Int.{w128}
+use Rattle.std.specs.Int.RustNames.{unsigned_abs}
+use Rattle.std.proofs.lemmas.Int.{ints, to_z-of_z, to_z_pos, fits_signed_from_abs, unsigned_abs-mul}
+use Rattle.std.proofs.lemmas.Nat.{mul-le, div-add-mod'}
+use Rattle.std.proofs.Math.Nat.{le-mul_of_pos_right}
+use Rattle.std.proofs.Common.{get_or}
+use Rattle.series_form.specs.Forms.{Form}
+use Rattle.series_form.specs.Bounds.{IsSmallDate, IsWithin, IsModerateDate, HasSmallNumbers, IsModerate}
+use Rattle.dioid.specs.declared.dates.Date.{Date}
+use Rattle.dioid.specs.declared.dates.Date.TheVariants.{Early, At, Never}
+use Rattle.series_form.specs.Periodic.{times}
+
+pub times_product : (m : ℕ) (x : ℤ) → times m x ≡ pos m *ℤ x
+times_product zero x = omega (arith, ints)
+times_product (suc m) x = let e : times m x ≡ pos m *ℤ x = times_product m x in omega (arith, ints)
+
+pub small_fits : (x : ℤ) → unsigned_abs x ≤ 1000000000000000000 → FitsSigned w128 x
+small_fits x h = fits_signed_from_abs w128 x (omega arith)
+
+abs_le : (x : ℤ) (n : ℕ) → unsigned_abs x ≤ n → (x ≤ℤ pos n) × ((pos 0 -ℤ pos n) ≤ℤ x)
+abs_le (pos m) n h = (omega (arith, ints), omega (arith, ints))
+abs_le (negsuc m) n h = (omega (arith, ints), omega (arith, ints))
+
+le_abs : (x : ℤ) (n : ℕ) → x ≤ℤ pos n → (pos 0 -ℤ pos n) ≤ℤ x → unsigned_abs x ≤ n
+le_abs (pos m) n h k = omega (arith, ints)
+le_abs (negsuc m) n h k = omega (arith, ints)
+
+pub abs_sum : (a b : ℤ) (m n : ℕ) → unsigned_abs a ≤ m → unsigned_abs b ≤ n → unsigned_abs (a +ℤ b) ≤ m + n
+abs_sum a b m n g h =
+    let p = abs_le a m g in
+    let q = abs_le b n h in
+    let p0 : a ≤ℤ pos m = p.0 in
+    let p1 : (pos 0 -ℤ pos m) ≤ℤ a = p.1 in
+    let q0 : b ≤ℤ pos n = q.0 in
+    let q1 : (pos 0 -ℤ pos n) ≤ℤ b = q.1 in
+    le_abs (a +ℤ b) (m + n) (omega (arith, ints)) (omega (arith, ints))
+
+pub abs_difference : (a b : ℤ) (m n : ℕ) → unsigned_abs a ≤ m → unsigned_abs b ≤ n → unsigned_abs (a -ℤ b) ≤ m + n
+abs_difference a b m n g h =
+    let p = abs_le a m g in
+    let q = abs_le b n h in
+    let p0 : a ≤ℤ pos m = p.0 in
+    let p1 : (pos 0 -ℤ pos m) ≤ℤ a = p.1 in
+    let q0 : b ≤ℤ pos n = q.0 in
+    let q1 : (pos 0 -ℤ pos n) ≤ℤ b = q.1 in
+    le_abs (a -ℤ b) (m + n) (omega (arith, ints)) (omega (arith, ints))
+
+pub moderate_fits : (x : ℤ) → unsigned_abs x ≤ 1000000000000000000000000000 → FitsSigned w128 x
+moderate_fits x h = fits_signed_from_abs w128 x (omega arith)
+
+product_abs : (m : ℕ) (x : ℤ) → m * unsigned_abs x ≤ 10000000000000000000000000000000000000 → unsigned_abs (pos m *ℤ x) ≤ 10000000000000000000000000000000000000
+product_abs m x h = rw (unsigned_abs-mul (pos m) x) h
+
+pub mul_fits : (m : ℕ) (x : ℤ) → m * unsigned_abs x ≤ 10000000000000000000000000000000000000 → FitsSigned w128 (pos m *ℤ x)
+mul_fits m x h = let p : unsigned_abs (pos m *ℤ x) ≤ 10000000000000000000000000000000000000 = product_abs m x h in fits_signed_from_abs w128 (pos m *ℤ x) (omega arith)
+
+pub within_of : (a : ℤ) (m : ℕ) (x : ℤ) → unsigned_abs a ≤ 1000000000000000000000000000 → m * unsigned_abs x ≤ 10000000000000000000000000000000000000
+    → unsigned_abs (a +ℤ pos m *ℤ x) ≤ 1000000000000000000000000000 + 10000000000000000000000000000000000000
+within_of a m x g h = abs_sum a (pos m *ℤ x) 1000000000000000000000000000 10000000000000000000000000000000000000 g (product_abs m x h)
+
+pub within_fits : (a : ℤ) → unsigned_abs a ≤ 1000000000000000000000000000 + 10000000000000000000000000000000000000 → FitsSigned w128 a
+within_fits a h = fits_signed_from_abs w128 a (omega arith)
+
+pub add_fits : (a : ℤ) (m : ℕ) (x : ℤ) → unsigned_abs a ≤ 1000000000000000000000000000 → m * unsigned_abs x ≤ 10000000000000000000000000000000000000 → FitsSigned w128 (a +ℤ pos m *ℤ x)
+add_fits a m x g h = within_fits (a +ℤ pos m *ℤ x) (within_of a m x g h)
+
+-- as the code computes it
+pub bits_of : (m : ℕ) → m ≤ 1000000000000000000 → to_z w128 m ≡ pos m
+bits_of m h = to_z_pos w128 m (omega arith)
+
+pub step_of : (m : ℕ) (x : ℤ) → m ≤ 1000000000000000000 → unsigned_abs x ≤ 1000000000000000000000000000 → to_z w128 m *ℤ to_z w128 (of_z w128 x) ≡ pos m *ℤ x
+step_of m x h k = ap (λ (z : ℤ). z *ℤ to_z w128 (of_z w128 x)) (bits_of m h) ∙ ap (λ (z : ℤ). pos m *ℤ z) (to_z-of_z w128 x (moderate_fits x k))
+
+pub sum_of : (a : ℤ) (m : ℕ) (x : ℤ) → unsigned_abs a ≤ 1000000000000000000000000000 → m ≤ 1000000000000000000 → unsigned_abs x ≤ 1000000000000000000000000000 → m * unsigned_abs x ≤ 10000000000000000000000000000000000000
+    → to_z w128 (of_z w128 a) +ℤ to_z w128 (of_z w128 (to_z w128 m *ℤ to_z w128 (of_z w128 x))) ≡ a +ℤ pos m *ℤ x
+sum_of a m x g h k r =
+    ap (λ (z : ℤ). z +ℤ to_z w128 (of_z w128 (to_z w128 m *ℤ to_z w128 (of_z w128 x)))) (to_z-of_z w128 a (moderate_fits a g))
+    ∙ ap (λ (z : ℤ). a +ℤ to_z w128 (of_z w128 z)) (step_of m x h k) ∙ ap (λ (z : ℤ). a +ℤ z) (to_z-of_z w128 (pos m *ℤ x) (mul_fits m x r))
+
+pub sub_fits : (a b : ℤ) → unsigned_abs a ≤ 1000000000000000000000000000 + 10000000000000000000000000000000000000 → unsigned_abs b ≤ 1000000000000000000000000000 + 10000000000000000000000000000000000000 → FitsSigned w128 (a -ℤ b)
+sub_fits a b g h =
+    let p : unsigned_abs (a -ℤ b) ≤ (1000000000000000000000000000 + 10000000000000000000000000000000000000) + (1000000000000000000000000000 + 10000000000000000000000000000000000000) = abs_difference a b (1000000000000000000000000000 + 10000000000000000000000000000000000000) (1000000000000000000000000000 + 10000000000000000000000000000000000000) g h in
+    fits_signed_from_abs w128 (a -ℤ b) (omega arith)
+
+pub moderate_date_within : (d : Date) → IsModerateDate d → IsWithin d
+moderate_date_within Early h = tt
+moderate_date_within (At t) h = let k : unsigned_abs t ≤ 1000000000000000000000000000 = h in omega arith
+moderate_date_within Never h = tt
+
+pub small_date_moderate : (d : Date) → IsSmallDate d → IsModerateDate d
+small_date_moderate Early h = tt
+small_date_moderate (At t) h = let k : unsigned_abs t ≤ 1000000000000000000 = h in omega arith
+small_date_moderate Never h = tt
+
+pub small_moderate : (f : Form) → HasSmallNumbers f → IsModerate f
+small_moderate f h = record { values = λ k. small_date_moderate (get_or f.values k Early) (h.values k); step = let k : unsigned_abs f.step ≤ 1000000000000000000 = h.step in omega arith }
+
+pub small_reach : (m : ℕ) (x : ℤ) → m ≤ 1000000000000000000 → unsigned_abs x ≤ 1000000000000000000 → m * unsigned_abs x ≤ 10000000000000000000000000000000000000
+small_reach m x h k = let e : m * unsigned_abs x ≤ 1000000000000000000 * 1000000000000000000 = mul-le m (unsigned_abs x) 1000000000000000000 1000000000000000000 h k in omega arith
+
+pub moderate_reach : (m : ℕ) (x : ℤ) → m ≤ 1000000 → unsigned_abs x ≤ 1000000000000000000000000000 → m * unsigned_abs x ≤ 10000000000000000000000000000000000000
+moderate_reach m x h k = let e : m * unsigned_abs x ≤ 1000000 * 1000000000000000000000000000 = mul-le m (unsigned_abs x) 1000000 1000000000000000000000000000 h k in omega arith
+
+pub fewer_reach : (m n : ℕ) (x : ℤ) → m ≤ n → n * unsigned_abs x ≤ 10000000000000000000000000000000000000 → m * unsigned_abs x ≤ 10000000000000000000000000000000000000
+fewer_reach m n x h k = let e : m * unsigned_abs x ≤ n * unsigned_abs x = mul-le m (unsigned_abs x) n (unsigned_abs x) h (omega arith) in omega arith
+
+pub div_below : (k n : ℕ) → 0 < n → k / n ≤ k
+div_below k n h =
+    let e : k / n * n + k % n ≡ k = div-add-mod' k n in
+    omega (arith, le-mul_of_pos_right (k / n) h)
+
+-- a step many times, as the code computes it
+gain_reach : (m : ℕ) (x : ℤ) → m ≤ 400000000 → unsigned_abs x ≤ 1000000000000000000 → m * unsigned_abs x ≤ 400000000000000000000000000
+gain_reach m x h k = let e : m * unsigned_abs x ≤ 400000000 * 1000000000000000000 = mul-le m (unsigned_abs x) 400000000 1000000000000000000 h k in omega arith
+
+pub gain_bound : (m : ℕ) (x : ℤ) → m ≤ 400000000 → unsigned_abs x ≤ 1000000000000000000 → unsigned_abs (times m x) ≤ 400000000000000000000000000
+gain_bound m x h k =
+    let r : m * unsigned_abs x ≤ 400000000000000000000000000 = gain_reach m x h k in
+    let e : unsigned_abs (times m x) ≡ m * unsigned_abs x = ap unsigned_abs (times_product m x) ∙ unsigned_abs-mul (pos m) x in
+    omega arith
+
+pub gain_fits : (m : ℕ) (x : ℤ) → m ≤ 400000000 → unsigned_abs x ≤ 1000000000000000000 → FitsSigned w128 (to_z w128 m *ℤ to_z w128 (of_z w128 x))
+gain_fits m x h k =
+    let r : m * unsigned_abs x ≤ 400000000000000000000000000 = gain_reach m x h k in
+    rw (step_of m x (omega arith) (omega arith)) (mul_fits m x (omega arith))
+
+pub gain_code : (m : ℕ) (x : ℤ) → m ≤ 400000000 → unsigned_abs x ≤ 1000000000000000000 → to_z w128 (of_z w128 (to_z w128 m *ℤ to_z w128 (of_z w128 x))) ≡ times m x
+gain_code m x h k =
+    let r : m * unsigned_abs x ≤ 400000000000000000000000000 = gain_reach m x h k in
+    ap (λ (z : ℤ). to_z w128 (of_z w128 z)) (step_of m x (omega arith) (omega arith)) ∙ to_z-of_z w128 (pos m *ℤ x) (mul_fits m x (omega arith)) ∙ sym (times_product m x)
+
+pub difference_code : (a b : ℤ) → unsigned_abs a ≤ 400000000000000000000000000 → unsigned_abs b ≤ 400000000000000000000000000 → to_z w128 (of_z w128 (to_z w128 (of_z w128 a) -ℤ to_z w128 (of_z w128 b))) ≡ a -ℤ b
+difference_code a b h k =
+    let d : unsigned_abs (a -ℤ b) ≤ 400000000000000000000000000 + 400000000000000000000000000 = abs_difference a b 400000000000000000000000000 400000000000000000000000000 h k in
+    ap (λ (z : ℤ). to_z w128 (of_z w128 (z -ℤ to_z w128 (of_z w128 b)))) (to_z-of_z w128 a (moderate_fits a (omega arith)))
+    ∙ ap (λ (z : ℤ). to_z w128 (of_z w128 (a -ℤ z))) (to_z-of_z w128 b (moderate_fits b (omega arith)))
+    ∙ to_z-of_z w128 (a -ℤ b) (moderate_fits (a -ℤ b) (omega arith))

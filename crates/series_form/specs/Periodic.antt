@@ -1,0 +1,58 @@
+-- Functions from shifts to dates that never fall and repeat from a shift on.
+use Rattle.std.proofs.Common.{◌≡◌, ap, arith, ℕ, ℤ, pos, zero, suc, ◌+◌, ◌*◌, ◌-◌, ◌≤◌, ◌<◌, ◌+ℤ◌, ◌∙◌, subst, ⊎_elim}
+use Rattle.std.proofs.lemmas.Int.{ints}
+use Rattle.std.proofs.lemmas.Bool.{cases_lt}
+use Rattle.dioid.specs.declared.dates.Date.{Date}
+use Rattle.series_form.specs.Order.{Le, move, move_zero, move_move}
+
+-- f never falls
+pub record Rising (f : ℕ → Date) : Type 0 where
+  pub rises : (j k : ℕ) → j ≤ k → Le (f j) (f k)
+
+-- from p on, n shifts move a value by x
+pub record Repeats (f : ℕ → Date) (p n : ℕ) (x : ℤ) : Type 0 where
+  pub at : (k : ℕ) → p ≤ k → f (k + n) ≡ move x (f k)
+
+-- m times x
+abbrev pub times : ℕ → ℤ → ℤ
+times zero x = pos 0
+times (suc m) x = times m x +ℤ x
+
+pub repeats_later : {f : ℕ → Date} {p n : ℕ} {x : ℤ} (q : ℕ) → p ≤ q → Repeats f p n x → Repeats f q n x
+repeats_later q h r = record { at = λ k w. r.at k (omega arith) }
+
+pub repeats_from : {f : ℕ → Date} {p n : ℕ} {x : ℤ} → Repeats f p n x → (k : ℕ) → p + n ≤ k → f k ≡ move x (f (k - n))
+repeats_from {f} {p} {n} {x} r k h = ap f (omega arith) ∙ r.at (k - n) (omega arith)
+
+pub repeats_times : {f : ℕ → Date} {p n : ℕ} {x : ℤ} (m : ℕ) → Repeats f p n x → Repeats f p (m * n) (times m x)
+repeats_times {f} {p} {n} {x} zero r = record { at = λ k w. rw move_zero (ap f (omega arith)) }
+repeats_times {f} {p} {n} {x} (suc m) r = record {
+  at = λ k w.
+      let before : Repeats f p (m * n) (times m x) = repeats_times m r in
+      ap f (omega arith) ∙ r.at (k + m * n) (omega arith) ∙ ap (move x) (before.at k w) ∙ move_move (times m x) x (f k);
+}
+
+-- an equal period and step
+pub repeats_is : {f : ℕ → Date} {p n m : ℕ} {x y : ℤ} → n ≡ m → x ≡ y → Repeats f p n x → Repeats f p m y
+repeats_is {f} {p} {n} {m} {x} {y} e g r = record { at = λ k w. rw (← e, ← g) (r.at k w) }
+
+pub times_add : (m k : ℕ) (x : ℤ) → times (m + k) x ≡ times m x +ℤ times k x
+times_add zero k x =
+    let n : 0 + k ≡ k = omega arith in
+    let e : times (0 + k) x ≡ times k x = ap (λ (z : ℕ). times z x) n in
+    rw e (omega (arith, ints))
+times_add (suc m) k x =
+    let n : suc m + k ≡ suc (m + k) = omega arith in
+    let e : times (suc m + k) x ≡ times (suc (m + k)) x = ap (λ (z : ℕ). times z x) n in
+    let before : times (m + k) x ≡ times m x +ℤ times k x = times_add m k x in
+    rw e (omega (arith, ints))
+
+-- what holds on one period and is kept by a step holds from there on
+pub by_steps : (P : ℕ → Type 0) (p l : ℕ) → 0 < l → ((k : ℕ) → p ≤ k → k < p + l → P k) → ((k : ℕ) → p ≤ k → P k → P (k + l)) → (k : ℕ) → p ≤ k → P k
+by_steps P p l pos_l base step k h = by_steps_below k k (omega arith) h where
+  by_steps_below : (n j : ℕ) → j ≤ n → p ≤ j → P j
+  by_steps_below zero j w u = base j u (omega arith)
+  by_steps_below (suc n) j w u = ⊎_elim
+      (λ low. base j u low)
+      (λ high. let e : (j - l) + l ≡ j = omega arith in subst P e (step (j - l) (omega arith) (by_steps_below n (j - l) (omega arith) (omega arith))))
+      (cases_lt j (p + l))

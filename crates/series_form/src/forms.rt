@@ -1,0 +1,173 @@
+use crate::shorten::shortest;
+use crate::values::{same_parts, value_of};
+use dioid::Date;
+use std::alloc::{AllocError, Global};
+use std::marker::Model;
+use thiserror::Error;
+
+/// A causal series in its canonical form: the least period, and with it the shortest list.
+#[derive(Drop)]
+pub struct Series {
+    pub(crate) values: Vec<Date>,
+    pub(crate) period: usize,
+    pub(crate) step: i128,
+}
+
+/// Why there is no series to answer.
+#[derive(Clone, Copy, Debug, PartialEq, Eq, Drop, Error)]
+pub enum SeriesRefused {
+    /// The operation's need is above 20,000.
+    #[error("series needs {need}")]
+    TooLong { need: u128 },
+    /// The first number of the canonical form with a magnitude above 10^18.
+    #[error("number {value}")]
+    TooGreat { value: i128 },
+    #[error("out of memory")]
+    OutOfMemory,
+}
+
+impl Model for Series {
+    ghost use Rattle.series_form.specs.Forms.{Form};
+    ghost use Rattle.series_form.specs.Bounds.{IsSeries};
+
+    ghost Value = { Form };
+
+    ghost view = { λ s. record { values = s.values.items; period = s.period; step = s.step } };
+
+    ghost invariant = { λ s. IsSeries (record { values = s.values.items; period = s.period; step = s.step }) };
+}
+
+impl Series {
+    ghost use Rattle.std.specs.Prelude.{◌≡◌, ◌≤◌, ◌<◌, ◌+◌, ◌↔◌, ℕ, IsTrue, IfOk};
+    ghost use Rattle.std.specs.Int.RustNames.{unsigned_abs};
+    ghost use Rattle.series_form.specs.Forms.{value_at, HasValues, monomial_at};
+    ghost use Rattle.series_form.specs.Bounds.{IsSmallDate, IsSeries};
+    ghost use Rattle.series_form.specs.Answer.{AnswersOf, IsConstant};
+
+    /// The series that is Early below `shift` and `date` from there on. Its need is `shift + 1`:
+    /// TooLong above 20,000, and where not, TooGreat for a date above 10^18. (Chapter 5.)
+    pub fn monomial(alloc: Global, shift: u64, date: i128) -> Result<Series, SeriesRefused>
+        requires shift { shift < 10000000000000000000 }
+        requires date { unsigned_abs date < 10000000000000000000 }
+        ensures { AnswersOf (λ r. HasValues r (monomial_at shift date)) (shift + 1) (shift + 1) result }
+    {
+        let need = shift as u128 + 1;
+        if need > 20_000 {
+            return Err(SeriesRefused::TooLong { need });
+        }
+        match monomial_values(alloc, shift as usize, date) {
+            Ok(values) => shortest(values, 1, Date::At(date)),
+            Err(_) => Err(SeriesRefused::OutOfMemory),
+        }
+    }
+
+    /// The series with the one value everywhere. Refuses for want of memory alone.
+    pub fn constant(alloc: Global, date: Date) -> Result<Series, SeriesRefused>
+        requires { IsSmallDate date }
+        ensures { IsConstant date result }
+    {
+        match one_value(alloc, date) {
+            Ok(values) => Ok(Series {
+                values,
+                period: 1,
+                step: 0,
+            }),
+            Err(_) => Err(SeriesRefused::OutOfMemory),
+        }
+    }
+
+    /// The values at the shifts 0, 1, .., of which the last `period` values go on by `step`.
+    pub fn values(&self) -> &[Date]
+        ensures value { result.now ≡ self.now.values }
+        ensures series { IsSeries self.now }
+    {
+        self.values.as_slice()
+    }
+
+    /// The least period, in shifts.
+    pub fn period(&self) -> usize
+        ensures value { result ≡ self.now.period }
+        ensures series { IsSeries self.now }
+    {
+        self.period
+    }
+
+    /// What a period adds to a value past the list.
+    pub fn step(&self) -> i128
+        ensures value { result ≡ self.now.step }
+        ensures series { IsSeries self.now }
+    {
+        self.step
+    }
+
+    /// The value at a shift.
+    pub fn at(&self, shift: u64) -> Date
+        requires { shift ≤ 1000000000000000000 }
+        ensures value { result ≡ value_at self.now shift }
+        ensures series { IsSeries self.now }
+    {
+        value_of(self.values.as_slice(), self.period, self.step, shift)
+    }
+
+    /// The same series once more. Refuses for want of memory alone.
+    pub fn duplicate(&self, alloc: Global) -> Result<Series, AllocError>
+        ensures value { IfOk result (λ r. r ≡ self.now) }
+        ensures series { IsSeries self.now }
+    {
+        let values = copied(alloc, self.values.as_slice())?;
+        Ok(Series {
+            values,
+            period: self.period,
+            step: self.step,
+        })
+    }
+
+    /// Whether the two are equal as functions, which is where their forms are equal.
+    pub fn equals(&self, other: &Series) -> bool
+        ensures functions { IsTrue result ↔ ((k : ℕ) → value_at self.now k ≡ value_at other.now k) }
+        ensures forms { IsTrue result ↔ (self.now ≡ other.now) }
+        ensures left { IsSeries self.now }
+        ensures right { IsSeries other.now }
+    {
+        same_parts(
+            self.values.as_slice(),
+            self.period,
+            self.step,
+            other.values.as_slice(),
+            other.period,
+            other.step,
+        )
+    }
+}
+
+ghost use Rattle.std.specs.Prelude.{◌≡◌, ◌≤◌, ◌<◌, ◌+◌, ℕ, [], ◌∷◌, IfOk};
+ghost use Rattle.series_form.specs.Forms.{table, monomial_at};
+
+/// The first values of a monomial, its own shift the last one.
+fn monomial_values(alloc: Global, shift: usize, date: i128) -> Result<Vec<Date>, AllocError>
+    requires { shift < 20000 }
+    ensures { IfOk result (λ values. values.items ≡ table (monomial_at shift date) (shift + 1)) }
+{
+    let mut values = Vec::new(alloc);
+    for _place in 0..shift {
+        values.push(Date::Early)?;
+    }
+    values.push(Date::At(date))?;
+    Ok(values)
+}
+
+/// The list once more.
+fn copied(alloc: Global, values: &[Date]) -> Result<Vec<Date>, AllocError>
+    ensures { IfOk result (λ list. list.items ≡ values.now) }
+{
+    values.iter().copied().collect(alloc)
+}
+
+/// A list of one date.
+fn one_value(alloc: Global, date: Date) -> Result<Vec<Date>, AllocError>
+    ensures { IfOk result (λ values. values.items ≡ date ∷ []) }
+{
+    let mut values = Vec::new(alloc);
+    values.push(date)?;
+    Ok(values)
+}

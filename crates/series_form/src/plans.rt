@@ -1,0 +1,136 @@
+ghost use Rattle.std.specs.Prelude.{◌≡◌, ◌≤◌, ◌<◌, ◌+◌, ◌-◌, ◌*◌, ◌/◌, ℕ, pos, ◌<ℤ◌, ◌-ℤ◌, max};
+ghost use Rattle.std.specs.Int.RustNames.{unsigned_abs};
+ghost use Rattle.series_form.specs.Periodic.{times};
+ghost use Rattle.series_form.specs.Forms.{size_of, start_of, value_at, gap};
+ghost use Rattle.series_form.specs.Bounds.{IsSeries, IsUpTo};
+ghost use Rattle.series_form.specs.Needs.{common, ceiling, period_with, rise_of, fall_of, tail_of, slopes_of, by_sign, greatest_int, later_start, lead_of, crossing};
+
+use crate::forms::Series;
+use dioid::Date;
+
+/// From where the result of an operation repeats, and by how many shifts. The sum is the need.
+#[derive(Clone, Copy, Debug, PartialEq, Eq)]
+pub struct Plan {
+    pub from: u128,
+    pub turn: usize,
+}
+
+/// Which of two series has the greater slope, the step over the period.
+#[derive(Clone, Copy, Debug, PartialEq, Eq)]
+pub enum Slopes {
+    Equal,
+    First,
+    Second,
+}
+
+/// The least common multiple.
+fn common_multiple(first: usize, second: usize) -> usize
+    requires first { 0 < first }
+    requires second { 0 < second }
+    requires first_bound { first ≤ 20000 }
+    requires second_bound { second ≤ 20000 }
+    ensures value { result ≡ common first second }
+    ensures bound { result ≤ 400000000 }
+{
+    for turns in 1..second {
+        if turns * first % second == 0 {
+            return turns * first;
+        }
+    }
+    second * first
+}
+
+/// The least common multiple of the two periods.
+pub fn common_period(first: &Series, second: &Series) -> usize
+    ensures value { result ≡ period_with first.now second.now }
+    ensures bound { result ≤ 400000000 }
+    ensures positive { 0 < result }
+    ensures left { IsSeries first.now }
+    ensures right { IsSeries second.now }
+{
+    common_multiple(first.period(), second.period())
+}
+
+/// The shift from which the list repeats.
+pub fn start(series: &Series) -> usize
+    ensures value { result ≡ start_of series.now }
+    ensures bound { result < 20000 }
+    ensures series { IsSeries series.now }
+{
+    series.values().len() - series.period()
+}
+
+/// The value at which the list begins to repeat.
+pub fn tail(series: &Series) -> Date
+    ensures value { result ≡ tail_of series.now }
+    ensures series { IsSeries series.now }
+{
+    series.at(start(series) as u64)
+}
+
+/// What a series gains over a number of its periods, given in shifts.
+pub fn gain_over(series: &Series, shifts: usize) -> i128
+    requires { shifts ≤ 400000000 }
+    ensures value { result ≡ times (shifts / series.now.period) series.now.step }
+    ensures bound { unsigned_abs result ≤ 400000000000000000000000000 }
+    ensures series { IsSeries series.now }
+{
+    (shifts / series.period()) as i128 * series.step()
+}
+
+/// The greater slope by the sign of the difference of two gains.
+fn sign_of(difference: i128) -> Slopes
+    ensures { result ≡ by_sign difference }
+{
+    if difference == 0 {
+        return Slopes::Equal;
+    }
+    if difference > 0 {
+        Slopes::First
+    } else {
+        Slopes::Second
+    }
+}
+
+/// What the first series gains on the second over the common period.
+pub fn lead_gain(first: &Series, second: &Series) -> i128
+    ensures value { result ≡ rise_of first.now second.now -ℤ fall_of first.now second.now }
+    ensures bound { unsigned_abs result ≤ 800000000000000000000000000 }
+    ensures left { IsSeries first.now }
+    ensures right { IsSeries second.now }
+{
+    let shifts = common_period(first, second);
+    gain_over(first, shifts) - gain_over(second, shifts)
+}
+
+/// Which series has the greater slope. A tail of Never has a slope above every number, and the
+/// series that is Early everywhere one below every number.
+pub fn compare_slopes(first: &Series, second: &Series) -> Slopes
+    ensures value { result ≡ slopes_of first.now second.now }
+    ensures left { IsSeries first.now }
+    ensures right { IsSeries second.now }
+{
+    let difference = lead_gain(first, second);
+    match (tail(first), tail(second)) {
+        (Date::At(_), Date::At(_)) => sign_of(difference),
+        (Date::Never, Date::Never) | (Date::Early, Date::Early) => Slopes::Equal,
+        (Date::Never, _) | (_, Date::Early) => Slopes::First,
+        _ => Slopes::Second,
+    }
+}
+
+/// The least number of gains that cover a lead, 0 for a lead below 0.
+pub fn gains_for(lead: i128, gain: i128) -> u128
+    requires gain { pos 0 <ℤ gain }
+    requires lead_bound { unsigned_abs lead ≤ 10000000000000000000000000000000000000 }
+    requires gain_bound { unsigned_abs gain ≤ 10000000000000000000000000000000000000 }
+    ensures value { result ≡ ceiling lead gain }
+    ensures bound { result ≤ unsigned_abs lead + unsigned_abs gain }
+{
+    if lead < 0 {
+        return 0;
+    }
+    let lead = lead as u128;
+    let gain = gain as u128;
+    (lead + (gain - 1)) / gain
+}

@@ -1,0 +1,233 @@
+ghost use Rattle.std.specs.Prelude.{◌≡◌, ◌≤◌, ◌<◌, ◌+◌, ◌-◌, ℕ, IfOk};
+ghost use Rattle.std.specs.Int.RustNames.{unsigned_abs};
+ghost use Rattle.series_form.specs.declared.plans.Slopes.TheVariants.{First};
+ghost use Rattle.series_form.specs.Forms.{value_at, gap, table, HasValues};
+ghost use Rattle.series_form.specs.Bounds.{IsSeries};
+ghost use Rattle.series_form.specs.Answer.{AnswersOf, Answers};
+ghost use Rattle.series_form.specs.Pointwise.{sum_at, least_at};
+ghost use Rattle.series_form.specs.Needs.{need_of, greatest_int, later_start, crossing, slopes_of, sum_plan, least_plan, form_sum, form_least};
+
+use crate::forms::{Series, SeriesRefused};
+use crate::plans::{
+    Plan, Slopes, common_period, compare_slopes, gains_for, lead_gain, start, tail,
+};
+use crate::shorten::shortest;
+use crate::values::gap_of;
+use dioid::Date;
+use std::alloc::{AllocError, Global};
+
+/// The greater of the two shifts from which the series repeat.
+pub fn common_start(first: &Series, second: &Series) -> usize
+    ensures value { result ≡ later_start first.now second.now }
+    ensures bound { result < 20000 }
+    ensures left { IsSeries first.now }
+    ensures right { IsSeries second.now }
+{
+    let first = start(first);
+    let second = start(second);
+    if first < second { second } else { first }
+}
+
+/// The lead of the second series over the first at a shift, 0 unless both have numbers there.
+fn lead_at(first: &Series, second: &Series, shift: usize) -> i128
+    requires { shift ≤ 400020000 }
+    ensures value { result ≡ gap (value_at first.now shift) (value_at second.now shift) }
+    ensures bound { unsigned_abs result ≤ 1000000000000000000000000000 }
+    ensures left { IsSeries first.now }
+    ensures right { IsSeries second.now }
+{
+    gap_of(first.at(shift as u64), second.at(shift as u64))
+}
+
+/// The greater of two numbers.
+fn greater(first: i128, second: i128) -> i128
+    ensures { result ≡ int_max first second }
+{
+    if first < second { second } else { first }
+}
+
+ghost use Rattle.std.specs.Int.{int_max};
+
+/// The greatest lead of the second series over the first on `count` shifts.
+fn greatest_lead(first: &Series, second: &Series, from: usize, count: usize) -> i128
+    requires positive { 0 < count }
+    requires count { count ≤ 400000000 }
+    requires from { from ≤ 20000 }
+    ensures value { result ≡ greatest_int (λ i. gap (value_at first.now (from + i)) (value_at second.now (from + i))) (count - 1) }
+    ensures bound { unsigned_abs result ≤ 1000000000000000000000000000 }
+{
+    let mut best = lead_at(first, second, from);
+    for place in 0..count - 1 {
+        best = greater(best, lead_at(first, second, from + (place + 1)));
+    }
+    best
+}
+
+/// From where the first series, of the greater slope, has the greater values: past the starts of
+/// both, the common periods in which it makes up the greatest lead of the other.
+fn crossing_of(first: &Series, second: &Series) -> u128
+    requires { slopes_of first.now second.now ≡ First }
+    ensures value { result ≡ crossing first.now second.now }
+    ensures bound { result ≤ 10000000000000000000000000000000000000 }
+{
+    let from = common_start(first, second);
+    match (tail(first), tail(second)) {
+        (Date::At(_), Date::At(_)) => from as u128 + shifts_behind(first, second, from),
+        _ => from as u128,
+    }
+}
+
+ghost use Rattle.std.specs.Prelude.{◌*◌, ◌-ℤ◌, ◌<ℤ◌, pos};
+ghost use Rattle.series_form.specs.Needs.{periods_behind, period_with, rise_of, fall_of};
+
+/// The shifts in which the first series makes up the greatest lead of the second.
+fn shifts_behind(first: &Series, second: &Series, from: usize) -> u128
+    requires from { from ≡ later_start first.now second.now }
+    requires bound { from ≤ 20000 }
+    requires gain { pos 0 <ℤ (rise_of first.now second.now -ℤ fall_of first.now second.now) }
+    ensures value { result ≡ periods_behind first.now second.now * period_with first.now second.now }
+    ensures bound { result ≤ 1000000000000000000000000000000000000 }
+{
+    let shifts = common_period(first, second);
+    let lead = greatest_lead(first, second, from, shifts);
+    let periods = gains_for(lead, lead_gain(first, second));
+    periods * shifts as u128
+}
+
+/// From where the sum repeats: with equal slopes past both starts by the common period, else past
+/// the crossing by the period of the greater slope.
+pub fn plan_of_sum(first: &Series, second: &Series) -> Plan
+    ensures value { result ≡ sum_plan first.now second.now }
+    ensures bound { result.from ≤ 10000000000000000000000000000000000000 }
+    ensures left { IsSeries first.now }
+    ensures right { IsSeries second.now }
+{
+    match compare_slopes(first, second) {
+        Slopes::Equal => Plan {
+            from: common_start(first, second) as u128,
+            turn: common_period(first, second),
+        },
+        Slopes::First => Plan {
+            from: crossing_of(first, second),
+            turn: first.period(),
+        },
+        Slopes::Second => Plan {
+            from: crossing_of(second, first),
+            turn: second.period(),
+        },
+    }
+}
+
+/// From where the minimum repeats: as the sum, but by the period of the lesser slope.
+fn plan_of_least(first: &Series, second: &Series) -> Plan
+    ensures value { result ≡ least_plan first.now second.now }
+    ensures bound { result.from ≤ 10000000000000000000000000000000000000 }
+    ensures left { IsSeries first.now }
+    ensures right { IsSeries second.now }
+{
+    match compare_slopes(first, second) {
+        Slopes::Equal => Plan {
+            from: common_start(first, second) as u128,
+            turn: common_period(first, second),
+        },
+        Slopes::First => Plan {
+            from: crossing_of(first, second),
+            turn: second.period(),
+        },
+        Slopes::Second => Plan {
+            from: crossing_of(second, first),
+            turn: first.period(),
+        },
+    }
+}
+
+/// The greater value at a shift.
+pub fn later_at(first: &Series, second: &Series, shift: usize) -> Date
+    requires { shift ≤ 20000 }
+    ensures { result ≡ sum_at (value_at first.now) (value_at second.now) shift }
+{
+    first.at(shift as u64).later(second.at(shift as u64))
+}
+
+/// The lesser value at a shift.
+fn earlier_at(first: &Series, second: &Series, shift: usize) -> Date
+    requires { shift ≤ 20000 }
+    ensures { result ≡ least_at (value_at first.now) (value_at second.now) shift }
+{
+    first.at(shift as u64).earlier(second.at(shift as u64))
+}
+
+/// The first values of the sum.
+pub fn sum_values(
+    alloc: Global,
+    first: &Series,
+    second: &Series,
+    count: usize,
+) -> Result<Vec<Date>, AllocError>
+    requires { count ≤ 20000 }
+    ensures { IfOk result (λ values. values.items ≡ table (sum_at (value_at first.now) (value_at second.now)) count) }
+{
+    let mut values = Vec::new(alloc);
+    for shift in 0..count {
+        values.push(later_at(first, second, shift))?;
+    }
+    Ok(values)
+}
+
+/// The first values of the minimum.
+fn least_values(
+    alloc: Global,
+    first: &Series,
+    second: &Series,
+    count: usize,
+) -> Result<Vec<Date>, AllocError>
+    requires { count ≤ 20000 }
+    ensures { IfOk result (λ values. values.items ≡ table (least_at (value_at first.now) (value_at second.now)) count) }
+{
+    let mut values = Vec::new(alloc);
+    for shift in 0..count {
+        values.push(earlier_at(first, second, shift))?;
+    }
+    Ok(values)
+}
+
+/// The pointwise greater of two series (chapter 5). TooLong exactly where its need exceeds 20,000:
+/// with equal slopes the later start and the common period; with the first slope greater and both
+/// tails numbers the crossing and the first period; else the later start and the period of the
+/// greater slope. Where not, TooGreat exactly where a number of the result exceeds 10^18.
+pub fn sum(alloc: Global, first: &Series, second: &Series) -> Result<Series, SeriesRefused>
+    ensures answer { AnswersOf (λ r. HasValues r (sum_at (value_at first.now) (value_at second.now))) (need_of (sum_plan first.now second.now)) (need_of (sum_plan first.now second.now)) result }
+    ensures model { Answers (need_of (sum_plan first.now second.now)) (form_sum first.now second.now) result }
+    ensures left { IsSeries first.now }
+    ensures right { IsSeries second.now }
+{
+    let plan = plan_of_sum(first, second);
+    let need = plan.from + plan.turn as u128;
+    if need > 20_000 {
+        return Err(SeriesRefused::TooLong { need });
+    }
+    match sum_values(alloc, first, second, need as usize) {
+        Ok(values) => shortest(values, plan.turn, later_at(first, second, need as usize)),
+        Err(_) => Err(SeriesRefused::OutOfMemory),
+    }
+}
+
+/// The pointwise lesser of two series (chapter 5). TooLong exactly where its need exceeds 20,000:
+/// as for the sum, with the period of the lesser slope. Where not, TooGreat exactly where a number
+/// of the result exceeds 10^18.
+pub fn least(alloc: Global, first: &Series, second: &Series) -> Result<Series, SeriesRefused>
+    ensures answer { AnswersOf (λ r. HasValues r (least_at (value_at first.now) (value_at second.now))) (need_of (least_plan first.now second.now)) (need_of (least_plan first.now second.now)) result }
+    ensures model { Answers (need_of (least_plan first.now second.now)) (form_least first.now second.now) result }
+    ensures left { IsSeries first.now }
+    ensures right { IsSeries second.now }
+{
+    let plan = plan_of_least(first, second);
+    let need = plan.from + plan.turn as u128;
+    if need > 20_000 {
+        return Err(SeriesRefused::TooLong { need });
+    }
+    match least_values(alloc, first, second, need as usize) {
+        Ok(values) => shortest(values, plan.turn, earlier_at(first, second, need as usize)),
+        Err(_) => Err(SeriesRefused::OutOfMemory),
+    }
+}

@@ -1,0 +1,230 @@
+ghost use Rattle.std.specs.Prelude.{◌≡◌, ◌≤◌, ◌<◌, ◌+◌, ◌-◌, ℕ, length, MatchBool, MatchResult};
+ghost use Rattle.std.specs.Int.RustNames.{unsigned_abs};
+ghost use Rattle.series_form.specs.Forms.{value_at, form_with, moves, repeats_test, gap, least_period_of, least_start_of};
+ghost use Rattle.series_form.specs.Bounds.{IsModerate, IsModerateDate};
+ghost use Rattle.series_form.specs.Periodic.{Rising};
+ghost use Rattle.series_form.specs.Answer.{IsNumberCheck, IsBeginning, IsShortest, form_before};
+ghost use Rattle.series_form.specs.Shapes.{IsPart, IsCanonicalPart, IsShape, IsTooGreat};
+
+use crate::forms::{Series, SeriesRefused};
+use crate::values::{gap_of, is_moved, value_of};
+use dioid::Date;
+
+/// Whether `turn` shifts move the values at `from` and the next ones by `jump`.
+pub(crate) fn repeats(
+    values: &[Date],
+    period: usize,
+    step: i128,
+    turn: usize,
+    jump: i128,
+    from: usize,
+    count: usize,
+) -> bool
+    requires positive { 0 < period }
+    requires fits { period ≤ length values.now }
+    requires moderate { IsModerate (form_with values.now period step) }
+    requires turn { turn ≤ 100000 }
+    requires from { from ≤ 100000 }
+    requires count { count ≤ 100000 }
+    ensures { result ≡ repeats_test (value_at (form_with values.now period step)) turn jump from count }
+{
+    for index in 0..count {
+        let here = value_of(values, period, step, (from + index) as u64);
+        let there = value_of(values, period, step, (from + index + turn) as u64);
+        if !is_moved(here, there, jump) {
+            return false;
+        }
+    }
+    true
+}
+
+/// The least period of the form's function.
+pub(crate) fn least_period(values: &[Date], period: usize, step: i128, from: usize) -> usize
+    requires positive { 0 < period }
+    requires fits { period ≤ length values.now }
+    requires moderate { IsModerate (form_with values.now period step) }
+    requires short { length values.now ≤ 20000 }
+    requires from { from ≤ 100000 }
+    ensures value { result ≡ least_period_of (value_at (form_with values.now period step)) from period }
+    ensures positive { 0 < result }
+    ensures within { result ≤ period }
+{
+    let first = value_of(values, period, step, from as u64);
+    for turn in 1..period {
+        let jump = gap_of(first, value_of(values, period, step, (from + turn) as u64));
+        if repeats(values, period, step, turn, jump, from, period) {
+            return turn;
+        }
+    }
+    period
+}
+
+/// Whether `turn` shifts move the value at a shift by `jump`.
+fn moves_at(
+    values: &[Date],
+    period: usize,
+    step: i128,
+    turn: usize,
+    jump: i128,
+    shift: usize,
+) -> bool
+    requires positive { 0 < period }
+    requires fits { period ≤ length values.now }
+    requires moderate { IsModerate (form_with values.now period step) }
+    requires turn { turn ≤ 100000 }
+    requires shift { shift ≤ 100000 }
+    ensures { result ≡ moves (value_at (form_with values.now period step)) turn jump shift }
+{
+    let here = value_of(values, period, step, shift as u64);
+    let there = value_of(values, period, step, (shift + turn) as u64);
+    is_moved(here, there, jump)
+}
+
+/// The first shift from which the function repeats by `turn` shifts and `jump`, looked for from
+/// `from` backwards.
+pub(crate) fn least_start(
+    values: &[Date],
+    period: usize,
+    step: i128,
+    from: usize,
+    turn: usize,
+    jump: i128,
+) -> usize
+    requires positive { 0 < period }
+    requires fits { period ≤ length values.now }
+    requires moderate { IsModerate (form_with values.now period step) }
+    requires short { length values.now ≤ 20000 }
+    requires from { from ≤ 100000 }
+    requires turn { turn ≤ 100000 }
+    ensures value { result ≡ least_start_of (value_at (form_with values.now period step)) from turn jump }
+    ensures within { result ≤ from }
+{
+    for back in 0..from {
+        if !moves_at(values, period, step, turn, jump, from - (back + 1)) {
+            return from - back;
+        }
+    }
+    0
+}
+
+/// The first of the values that is too great.
+fn first_great(values: &[Date], size: usize) -> Option<i128>
+    requires { size ≤ length values.now }
+    ensures { IsNumberCheck values.now size result }
+{
+    for place in 0..size {
+        if let Date::At(time) = values[place] {
+            if is_great(time) {
+                return Some(time);
+            }
+        }
+    }
+    None
+}
+
+/// Whether a number is too great.
+fn is_great(number: i128) -> bool
+    ensures { MatchBool result (1000000000000000000 < unsigned_abs number) (unsigned_abs number ≤ 1000000000000000000) }
+{
+    number > 1_000_000_000_000_000_000 || number < -1_000_000_000_000_000_000
+}
+
+/// How much of a list is the canonical form of its function, with the period and the step.
+#[derive(Clone, Copy)]
+pub struct Shape {
+    pub size: usize,
+    pub period: usize,
+    pub step: i128,
+}
+
+/// The canonical form of the function of a form: its list is the first part of the list.
+fn shape_of(values: &[Date], turn: usize, step: i128) -> Shape
+    requires positive { 0 < turn }
+    requires fits { turn ≤ length values.now }
+    requires short { length values.now ≤ 20000 }
+    requires moderate { IsModerate (form_with values.now turn step) }
+    ensures { IsPart values.now turn step result }
+{
+    let start = values.len() - turn;
+    let period = least_period(values, turn, step, start);
+    let first = value_of(values, turn, step, start as u64);
+    let second = value_of(values, turn, step, (start + period) as u64);
+    let jump = gap_of(first, second);
+    Shape {
+        size: least_start(values, turn, step, start, period, jump) + period,
+        period,
+        step: jump,
+    }
+}
+
+/// The canonical form of the function of a form, or its first number that is too great.
+fn shorten(values: &[Date], turn: usize, step: i128) -> Result<Shape, i128>
+    requires positive { 0 < turn }
+    requires fits { turn ≤ length values.now }
+    requires short { length values.now ≤ 20000 }
+    requires moderate { IsModerate (form_with values.now turn step) }
+    ensures { MatchResult result (IsShape values.now turn step) (IsTooGreat values.now turn step) }
+{
+    let shape = shape_of(values, turn, step);
+    if let Some(value) = first_great(values, shape.size) {
+        return Err(value);
+    }
+    if is_great(shape.step) {
+        return Err(shape.step);
+    }
+    Ok(shape)
+}
+
+/// The canonical form of a function that is known as in `shortest`, with numbers of any size. For
+/// the star, which needs the form on the way.
+pub fn canonical_part(values: &[Date], turn: usize, next: Date) -> Shape
+    requires { IsBeginning values.now turn next }
+    ensures { IsCanonicalPart values.now turn next result }
+{
+    shape_of(values, turn, step_before(values, turn, next))
+}
+
+/// The series of the function of a form.
+fn finish(mut values: Vec<Date>, turn: usize, step: i128) -> Result<Series, SeriesRefused>
+    requires positive { 0 < turn }
+    requires fits { turn ≤ length values.items }
+    requires short { length values.items ≤ 20000 }
+    requires moderate { IsModerate (form_with values.items turn step) }
+    requires rising { Rising (value_at (form_with values.items turn step)) }
+    ensures { IsShortest (value_at (form_with values.items turn step)) result }
+{
+    match shorten(values.as_slice(), turn, step) {
+        Ok(shape) => {
+            values.truncate(shape.size);
+            Ok(Series {
+                values,
+                period: shape.period,
+                step: shape.step,
+            })
+        }
+        Err(value) => Err(SeriesRefused::TooGreat { value }),
+    }
+}
+
+/// The series of a function that is known by its first values, of which the last `turn` are a
+/// period, and by `next`, the value after them: the canonical form, or TooGreat with its first
+/// number above 10^18, values in order of shift and the step last. For the operations of the
+/// crates above.
+pub fn shortest(values: Vec<Date>, turn: usize, next: Date) -> Result<Series, SeriesRefused>
+    requires { IsBeginning values.items turn next }
+    ensures { IsShortest (value_at (form_before values.items turn next)) result }
+{
+    let step = step_before(values.as_slice(), turn, next);
+    finish(values, turn, step)
+}
+
+/// What `next` is above the value that stands `turn` before it.
+fn step_before(values: &[Date], turn: usize, next: Date) -> i128
+    requires positive { 0 < turn }
+    requires fits { turn ≤ length values.now }
+    requires moderate { IsModerate (form_before values.now turn next) }
+    requires next { IsModerateDate next }
+    ensures { form_with values.now turn result ≡ form_before values.now turn next }
+{
+    gap_of(values[values.len() - turn], next)
+}

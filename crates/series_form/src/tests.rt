@@ -1,0 +1,69 @@
+use crate::{Series, SeriesRefused, least, sum};
+use dioid::Date;
+
+/// Whether the answer is the series with these values, period and step.
+fn is_series(
+    answer: &Result<Series, SeriesRefused>,
+    values: &[Date],
+    period: usize,
+    step: i128,
+) -> bool {
+    match answer {
+        Ok(series) => series.values() == values
+            && series.period() == period
+            && series.step() == step,
+        Err(_) => false,
+    }
+}
+
+/// Whether the answer is this refusal.
+fn is_refused(answer: &Result<Series, SeriesRefused>, why: SeriesRefused) -> bool {
+    match answer {
+        Ok(_) => false,
+        Err(refused) => *refused == why,
+    }
+}
+
+#[test]
+fn monomials_and_constants(rt: HostRuntime) {
+    let alloc = rt.alloc();
+    let late = Series::monomial(alloc, 2, 7);
+    assert!(rt; is_series(&late, &[Date::Early, Date::Early, Date::At(7)], 1, 0));
+    let zero = Series::constant(alloc, Date::At(0));
+    assert!(rt; is_series(&zero, &[Date::At(0)], 1, 0));
+    let long = Series::monomial(alloc, 20_000, 0);
+    assert!(rt; is_refused(&long, SeriesRefused::TooLong { need: 20_001 }));
+    let great = Series::monomial(alloc, 0, 1_000_000_000_000_000_001);
+    assert!(rt;
+        is_refused(
+            &great,
+            SeriesRefused::TooGreat {
+                value: 1_000_000_000_000_000_001
+            }
+        )
+    );
+}
+
+#[test]
+fn values_far_out(rt: HostRuntime) {
+    if let Ok(late) = Series::monomial(rt.alloc(), 2, 7) {
+        assert_eq!(rt; late.at(1), Date::Early);
+        assert_eq!(rt; late.at(1_000_000_000_000_000_000), Date::At(7));
+        assert!(rt; late.equals(&late));
+    }
+}
+
+#[test]
+fn the_greater_and_the_lesser(rt: HostRuntime) {
+    let alloc = rt.alloc();
+    if let (Ok(first), Ok(second)) = (
+        Series::monomial(alloc, 0, 5),
+        Series::monomial(alloc, 1, 7),
+    ) {
+        let both = sum(alloc, &first, &second);
+        assert!(rt; is_series(&both, &[Date::At(5), Date::At(7)], 1, 0));
+        let less = least(alloc, &first, &second);
+        assert!(rt; is_series(&less, &[Date::Early, Date::At(5)], 1, 0));
+        assert!(rt; !first.equals(&second));
+    }
+}

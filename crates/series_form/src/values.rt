@@ -1,0 +1,106 @@
+ghost use Rattle.std.specs.Prelude.{◌≡◌, ◌≤◌, ◌<◌, ◌↔◌, ◌*◌, ℕ, IsTrue, length};
+ghost use Rattle.std.specs.Int.RustNames.{unsigned_abs};
+ghost use Rattle.dioid.specs.declared.dates.Date.{Date};
+ghost use Rattle.series_form.specs.Forms.{Form, value_at, form_with, date_eqb, gap};
+ghost use Rattle.series_form.specs.Bounds.{IsModerate, IsModerateDate, IsWithin};
+ghost use Rattle.series_form.specs.Order.{move};
+ghost use Rattle.series_form.specs.Periodic.{times};
+
+use dioid::Date;
+
+/// Whether two forms are the same.
+pub(crate) fn same_parts(
+    values: &[Date],
+    period: usize,
+    step: i128,
+    other_values: &[Date],
+    other_period: usize,
+    other_step: i128,
+) -> bool
+    ensures { IsTrue result ↔ (form_with values.now period step ≡ form_with other_values.now other_period other_step) }
+{
+    if period != other_period {
+        return false;
+    }
+    if step != other_step {
+        return false;
+    }
+    same_values(values, other_values)
+}
+
+/// Whether two lists of dates are equal.
+fn same_values(values: &[Date], other: &[Date]) -> bool
+    ensures { IsTrue result ↔ (values.now ≡ other.now) }
+{
+    if values.len() != other.len() {
+        return false;
+    }
+    for index in 0..values.len() {
+        if values[index] != other[index] {
+            return false;
+        }
+    }
+    true
+}
+
+/// The value of the form at a shift.
+pub(crate) fn value_of(values: &[Date], period: usize, step: i128, shift: u64) -> Date
+    requires positive { 0 < period }
+    requires fits { period ≤ length values.now }
+    requires moderate { IsModerate (form_with values.now period step) }
+    requires within { shift ≤ 1000000000000000000 }
+    requires reach { shift * unsigned_abs step ≤ 10000000000000000000000000000000000000 }
+    ensures value { result ≡ value_at (form_with values.now period step) shift }
+    ensures within { IsWithin result }
+{
+    let shift = shift as usize;
+    if shift < values.len() {
+        return values[shift];
+    }
+    let start = values.len() - period;
+    let turns = (shift - start) / period;
+    later_by(values[start + (shift - start) % period], turns, step)
+}
+
+/// The date moved by a number of steps.
+fn later_by(date: Date, turns: usize, step: i128) -> Date
+    requires date { IsModerateDate date }
+    requires turns { turns ≤ 1000000000000000000 }
+    requires step { unsigned_abs step ≤ 1000000000000000000000000000 }
+    requires reach { turns * unsigned_abs step ≤ 10000000000000000000000000000000000000 }
+    ensures value { result ≡ move (times turns step) date }
+    ensures within { IsWithin result }
+{
+    match date {
+        Date::At(time) => Date::At(time + turns as i128 * step),
+        Date::Early => Date::Early,
+        Date::Never => Date::Never,
+    }
+}
+
+/// Whether the second date is the first, moved by `jump`.
+pub(crate) fn is_moved(here: Date, there: Date, jump: i128) -> bool
+    ensures { result ≡ date_eqb there (move jump here) }
+{
+    match (here, there) {
+        (Date::Early, Date::Early) => true,
+        (Date::Never, Date::Never) => true,
+        (Date::At(first), Date::At(second)) => match first.checked_add(jump) {
+            Some(sum) => second == sum,
+            None => false,
+        },
+        _ => false,
+    }
+}
+
+/// What the second date is above the first, 0 unless both are numbers.
+pub(crate) fn gap_of(first: Date, second: Date) -> i128
+    requires first { IsWithin first }
+    requires second { IsWithin second }
+    ensures { result ≡ gap first second }
+{
+    match (first, second) {
+        (Date::At(first), Date::At(second)) => second - first,
+        _ => 0,
+    }
+}

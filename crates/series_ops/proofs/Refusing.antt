@@ -1,0 +1,30 @@
+-- A refusal of a series as one of an element.
+use Rattle.std.proofs.Common.{rules, ◌≡◌, ◌≤◌, ◌<◌, ◌⊎◌, ℕ, ℤ, Bool, true, IsTrue, sym, subst, arith, inl, inr, get_or, Result, Ok, Err}
+use Rattle.std.specs.Int.RustNames.{unsigned_abs}
+use Rattle.dioid.specs.declared.dates.Date.{Date}
+use Rattle.dioid.specs.declared.dates.Date.TheVariants.{Early, At}
+use Rattle.dioid.specs.declared.algebra.Refused.{Refused}
+use Rattle.dioid.specs.declared.algebra.Refused.TheVariants.{Range}
+use Rattle.dioid.specs.Answer.{Answers}
+use Rattle.series_form.specs.declared.forms.SeriesRefused.{SeriesRefused}
+use Rattle.series_form.specs.declared.forms.SeriesRefused.TheVariants.{TooLong, TooGreat, OutOfMemory}
+use Rattle.series_form.specs.Forms.{Form}
+use Rattle.series_form.specs.Bounds.{IsSmallDate}
+use Rattle.series_form.specs.Answer.{Fits, IsFirstGreatValue, IsGreatStep}
+use Rattle.series_ops.specs.Refusals.{IsRefusal}
+use Rattle.series_form.specs.Answer as series
+
+great : (f : Form) (v : ℤ) (need : ℕ) → IsFirstGreatValue f v ⊎ IsGreatStep f v → Fits need f → ⊥
+great f v need (inl h) fits =
+    let low : unsigned_abs v ≤ 1000000000000000000 = subst (λ (z : Date). IsSmallDate z) h.value (fits.small.values h.place) in
+    let high : 1000000000000000000 < unsigned_abs v = h.great in
+    absurd (omega arith)
+great f v need (inr h) fits =
+    let low : unsigned_abs v ≤ 1000000000000000000 = subst (λ (z : ℤ). unsigned_abs z ≤ 1000000000000000000) h.value fits.small.step in
+    let high : 1000000000000000000 < unsigned_abs v = h.great in
+    absurd (omega arith)
+
+pub gain_refused : {M : Type 0} (need : ℕ) (f : Form) (value : M) (why : SeriesRefused) (r : Refused) → series.Answers need f (Err why) → IsRefusal why r → Answers true (Fits need f) value (Err r)
+gain_refused {M} need f value (TooLong n) r h e = subst (λ (z : Refused). Answers true (Fits need f) value (Err z)) (sym e) (λ fits. let a : need ≤ 20000 = fits.short in let b : 20000 < need = h in absurd (omega arith))
+gain_refused {M} need f value (TooGreat v) r h e = subst (λ (z : Refused). Answers true (Fits need f) value (Err z)) (sym e) (λ fits. great f v need h.1 fits)
+gain_refused {M} need f value OutOfMemory r h e = subst (λ (z : Refused). Answers true (Fits need f) value (Err z)) (sym e) (search rules)

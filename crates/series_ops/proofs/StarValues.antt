@@ -1,0 +1,267 @@
+-- The star by its first values.
+use Rattle.std.proofs.Common.{◌≡◌, refl, ap, arith, ℕ, ℤ, pos, negsuc, zero, suc, max, ◌+◌, ◌*◌, ◌-◌, ◌≤◌, ◌<◌, ◌+ℤ◌, ◌-ℤ◌, sym, ◌∙◌, subst, ⊎_elim, ◌⊎◌, inl, inr, List, [], ◌∷◌, length, get_or, take, true, false, ltb, cond, Result, Ok, Err, to_z, of_z}
+use Rattle.std.specs.Int.{w128}
+use Rattle.std.proofs.lemmas.Int.{to_z-of_z}
+use Rattle.std.specs.Prelude.{◌≤ℤ◌}
+use Rattle.std.specs.Int.RustNames.{unsigned_abs}
+use Rattle.std.proofs.lemmas.Int.{ints, clamps}
+use Rattle.std.proofs.lemmas.Bool.{cases_lt}
+use Rattle.std.proofs.lemmas.Bool.Decides.{nat_tests}
+use Rattle.std.proofs.lemmas.List.{get_or-take, length-take-le}
+use Rattle.std.proofs.Math.ListN.{get_or-eq_default}
+use Rattle.dioid.specs.Dates.{later_of, date_product}
+use Rattle.dioid.specs.declared.dates.Date.{Date}
+use Rattle.dioid.specs.declared.dates.Date.TheVariants.{Early, At, Never}
+use Rattle.series_form.specs.declared.plans.Plan.{Plan}
+use Rattle.series_form.specs.declared.forms.SeriesRefused.{SeriesRefused}
+use Rattle.series_form.specs.declared.forms.SeriesRefused.TheVariants.{TooLong, TooGreat, OutOfMemory}
+use Rattle.series_form.specs.Order.{Le, move, le_is, early_le}
+use Rattle.series_form.specs.Periodic.{Rising, Repeats, times}
+use Rattle.series_form.specs.Pointwise.{sum_at}
+use Rattle.series_form.specs.Forms.{Form, form_with, size_of, start_of, value_at, gap, table, IsForm, HasValues, IsCanonical, monomial_at}
+use Rattle.series_form.specs.Canonical.{table_at, table_length, value_in, value_repeats, one_canonical, constant_is}
+use Rattle.series_form.specs.Bounds.{IsUpTo, IsSeries}
+use Rattle.series_form.specs.Answer.{AnswersOf, IsGreatIn, IsConstant, IsBeginning, form_before}
+use Rattle.series_form.specs.Shapes.{IsCanonicalPart}
+use Rattle.series_form.specs.declared.shorten.Shape.{Shape}
+use Rattle.series_form.specs.Needs.{plan, need_of, sum_plan, form_sum, tail_of}
+use Rattle.series_form.specs.Sums.{Serves}
+use Rattle.series_form.proofs.Numbers.{abs_difference}
+use Rattle.series_form.proofs.Finished.{IsTabled, up_to_more, monomial_below, monomial_from}
+use Rattle.series_form.proofs.PointwiseTables.{later_up_to, listed_up_to}
+use Rattle.series_ops.specs.Listed.{listed, AreUpTo, all_but_last, last_of, later_part, star_listed}
+use Rattle.series_ops.specs.Product.{product_at}
+use Rattle.series_ops.specs.StarOf.{parts_star, parts_star_is, first_parts, first_parts_is, star_rises, from_one, above_zero, star_by, star_at, IsStarBy, IsStarOf, IsGreatestSum, parts_star_greatest}
+use Rattle.series_ops.specs.Stars.{one_star}
+use Rattle.series_ops.specs.Needs.{one_shift, at_least, own_plan, star_plan, star_plan_by, carried_of, star_carried_by, star_need, star_carried}
+use Rattle.series_ops.specs.StarForms.{one_shift_is, one_shift_values, parts_serves}
+use Rattle.series_ops.proofs.FirstValues.{listed_is, listed_tabled, product_same, added_up_to, greatest_up_to}
+
+star_first : (s : ℕ → Date) → Rising s → (k : ℕ) → first_parts s (parts_star s) k ≡ parts_star s k
+star_first s up k = one_star s k (first_parts s (parts_star s) k) (parts_star s k) (first_parts_is s (parts_star s) up k (λ j _. parts_star_is s j)) (parts_star_is s k)
+
+-- the star at k from the values and the star below
+pub star_same : (s : ℕ → Date) → Rising s → (n k : ℕ) (l m : List Date) → l ≡ table (later_part s) n → m ≡ table (parts_star s) k → k ≤ n → star_listed l m k ≡ parts_star s k
+star_same s up n zero l m el em w = star_first s up 0
+star_same s up n (suc j) l m el em w =
+    ap (later_of (At (pos 0))) (product_same (listed l) (listed m) (later_part s) (parts_star s) j
+    (λ i u. listed_is (later_part s) n l el i (omega arith)) (λ i u. listed_is (parts_star s) (suc j) m em i (omega arith)))
+    ∙ star_first s up (suc j)
+
+star_up_to : (f : Form) → IsSeries f → (n k : ℕ) → k ≤ n → k ≤ 20000 → IsUpTo (k * 20001000000000000000000) (parts_star (value_at f) k)
+star_up_to f h n zero w u = subst (λ (z : Date). IsUpTo (0 * 20001000000000000000000) z) (star_first (value_at f) h.canonical.form.rising 0) (omega arith)
+star_up_to f h zero (suc j) w u = absurd (omega arith)
+star_up_to f h (suc n) (suc j) w u = subst (λ (z : Date). IsUpTo (suc j * 20001000000000000000000) z) (star_first (value_at f) h.canonical.form.rising (suc j))
+    (later_up_to (suc j * 20001000000000000000000) (At (pos 0)) (product_at (later_part (value_at f)) (parts_star (value_at f)) j) (omega arith)
+    (greatest_up_to (λ c. date_product (value_at f (suc c)) (parts_star (value_at f) (j - c))) j (suc j * 20001000000000000000000) (λ c v.
+    up_to_more (20001000000000000000000 + (j - c) * 20001000000000000000000) (suc j * 20001000000000000000000) (date_product (value_at f (suc c)) (parts_star (value_at f) (j - c))) (omega arith)
+    (added_up_to 20001000000000000000000 ((j - c) * 20001000000000000000000) (value_at f (suc c)) (parts_star (value_at f) (j - c))
+    (listed_up_to f h (suc c) (omega arith)) (star_up_to f h n (j - c) (omega arith) (omega arith))))))
+
+star_moderate : (f : Form) → IsSeries f → (k : ℕ) → k ≤ 20000 → IsUpTo 500000000000000000000000000 (parts_star (value_at f) k)
+star_moderate f h k w = up_to_more (k * 20001000000000000000000) 500000000000000000000000000 (parts_star (value_at f) k) (omega arith) (star_up_to f h k k (omega arith) w)
+
+pub stars_up_to : (f : Form) → IsSeries f → (n : ℕ) (l : List Date) → n ≤ 20001 → l ≡ table (parts_star (value_at f)) n → AreUpTo 500000000000000000000000000 l
+stars_up_to f h n l short e k = ⊎_elim
+    (λ w.
+    let u : k < n = w in
+    subst (λ (z : Date). IsUpTo 500000000000000000000000000 z) (sym (listed_is (parts_star (value_at f)) n l e k u)) (star_moderate f h k (omega arith)))
+    (λ w.
+    let a : length l ≡ n = ap length e ∙ table_length (parts_star (value_at f)) n in
+    let u : length l ≤ k = omega arith in
+    subst (λ (z : Date). IsUpTo 500000000000000000000000000 z) (sym (get_or-eq_default l Early {n = k} u)) tt)
+    (cases_lt k n)
+
+pub later_up : (f : Form) → IsSeries f → (n : ℕ) (l : List Date) → n ≤ 20000 → l ≡ table (later_part (value_at f)) n → AreUpTo 20001000000000000000000 l
+later_up f h n l short e k = ⊎_elim
+    (λ w.
+    let u : k < n = w in
+    subst (λ (z : Date). IsUpTo 20001000000000000000000 z) (sym (listed_is (later_part (value_at f)) n l e k u)) (listed_up_to f h (suc k) (omega arith)))
+    (λ w.
+    let a : length l ≡ n = ap length e ∙ table_length (later_part (value_at f)) n in
+    let u : length l ≤ k = omega arith in
+    subst (λ (z : Date). IsUpTo 20001000000000000000000 z) (sym (get_or-eq_default l Early {n = k} u)) tt)
+    (cases_lt k n)
+
+pub star_tabled : (f : Form) (r : Plan) (l : List Date) → IsSeries f → Le (value_at f 0) (At (pos 0)) → r ≡ star_plan f → need_of r ≤ 20000 → l ≡ table (parts_star (value_at f)) (need_of r + 1)
+    → IsTabled (parts_star (value_at f)) r (all_but_last l) (last_of l)
+star_tabled f r l h low e short items = listed_tabled (parts_star (value_at f)) r l
+    (record { rises = λ j k w. star_rises (value_at f) h.canonical.form.rising j k w })
+    (subst (λ (z : Plan). Serves (parts_star (value_at f)) z) (sym e) (parts_serves f h.canonical.form low))
+    items (λ k w. star_moderate f h k (omega arith))
+
+-- ---- the numbers of the sum's canonical form
+
+pub sum_up_to : (f g : Form) → IsSeries f → IsSeries g → (k : ℕ) → k ≤ 20000 → IsUpTo 20001000000000000000000 (sum_at (value_at f) (value_at g) k)
+sum_up_to f g sf sg k w = later_up_to 20001000000000000000000 (value_at f k) (value_at g k) (listed_up_to f sf k w) (listed_up_to g sg k w)
+
+step_of_tail : (g : Form) (m : ℕ) → IsCanonical g → ((k : ℕ) → k ≤ size_of g → IsUpTo m (value_at g k)) → unsigned_abs g.step ≤ m + m
+step_of_tail g m cg low = cases (value_at g (start_of g)) refl where
+  fits : g.period ≤ size_of g
+  fits = cg.form.period_fits
+
+  again : Repeats (value_at g) (start_of g) g.period g.step
+  again = value_repeats g cg.form.period_positive cg.form.period_fits
+
+  none : g.step ≡ pos 0 → unsigned_abs g.step ≤ m + m
+  none e = let u : unsigned_abs g.step ≡ 0 = ap unsigned_abs e in omega arith
+
+  cases : (d : Date) → value_at g (start_of g) ≡ d → unsigned_abs g.step ≤ m + m
+  cases Early e = none (cg.form.tail (inr e)).1
+  cases (At v) e =
+      let next : value_at g (start_of g + g.period) ≡ At (v +ℤ g.step) = again.at (start_of g) (omega arith) ∙ ap (move g.step) e in
+      let a : unsigned_abs v ≤ m = subst (λ (z : Date). IsUpTo m z) e (low (start_of g) (omega arith)) in
+      let b : unsigned_abs (v +ℤ g.step) ≤ m = subst (λ (z : Date). IsUpTo m z) next (low (start_of g + g.period) (let w : g.period ≤ size_of g = fits in omega arith)) in
+      let d : unsigned_abs ((v +ℤ g.step) -ℤ v) ≤ m + m = abs_difference (v +ℤ g.step) v m m b a in
+      let e : (v +ℤ g.step) -ℤ v ≡ g.step = omega (arith, ints) in
+      subst (λ (z : ℤ). unsigned_abs z ≤ m + m) e d
+  cases Never e = none (cg.form.tail (inl e)).1
+
+moved_to : (m : ℕ) (a b : Date) → IsUpTo m a → IsUpTo m b → IsUpTo m (move (gap a b) a)
+moved_to m Early b h k = tt
+moved_to m (At s) Early h k = let e : s +ℤ pos 0 ≡ s = omega (arith, ints) in subst (λ (z : ℤ). unsigned_abs z ≤ m) (sym e) h
+moved_to m (At s) (At t) h k = let e : s +ℤ (t -ℤ s) ≡ t = omega (arith, ints) in subst (λ (z : ℤ). unsigned_abs z ≤ m) (sym e) k
+moved_to m (At s) Never h k = let e : s +ℤ pos 0 ≡ s = omega (arith, ints) in subst (λ (z : ℤ). unsigned_abs z ≤ m) (sym e) h
+moved_to m Never b h k = tt
+
+pub begun_up_to : (m : ℕ) (l : List Date) (n : ℕ) (next : Date) → 0 < n → n ≤ length l → AreUpTo m l → IsUpTo m next → (k : ℕ) → k ≤ length l → IsUpTo m (value_at (form_before l n next) k)
+begun_up_to m l n next pos_n fits low last k w = ⊎_elim
+    (λ short. subst (λ (z : Date). IsUpTo m z) (sym (value_in (form_before l n next) k short)) (low k))
+    (λ long.
+    let here : (length l - n) + n ≡ k = omega arith in
+    let again : Repeats (value_at (form_before l n next)) (length l - n) n (gap (get_or l (length l - n) Early) next) = value_repeats (form_before l n next) pos_n fits in
+    let begin : value_at (form_before l n next) (length l - n) ≡ get_or l (length l - n) Early = value_in (form_before l n next) (length l - n) (omega arith) in
+    let e : value_at (form_before l n next) k ≡ move (gap (get_or l (length l - n) Early) next) (get_or l (length l - n) Early) =
+    ap (value_at (form_before l n next)) (sym here) ∙ again.at (length l - n) (omega arith) ∙ ap (move (gap (get_or l (length l - n) Early) next)) begin in
+    subst (λ (z : Date). IsUpTo m z) (sym e) (moved_to m (get_or l (length l - n) Early) next (low (length l - n)) last))
+    (cases_lt k (length l))
+
+pub part_step : (m : ℕ) (l : List Date) (n : ℕ) (next : Date) (g : Form) → 0 < n → n ≤ length l → AreUpTo m l → IsUpTo m next → IsCanonical g → HasValues g (value_at (form_before l n next)) → size_of g ≤ length l → unsigned_abs g.step ≤ m + m
+part_step m l n next g pos_n fits low last cg has short = step_of_tail g m cg (λ k w.
+    subst (λ (z : Date). IsUpTo m z) (sym (has k)) (begun_up_to m l n next pos_n fits low last k (omega arith)))
+
+pub taken_up_to : (m k : ℕ) (l : List Date) → k ≤ length l → AreUpTo m l → AreUpTo m (take k l)
+taken_up_to m k l fits low i = ⊎_elim
+    (λ w. subst (λ (z : Date). IsUpTo m z) (sym (get_or-take k l i Early w)) (low i))
+    (λ w. let e : length (take k l) ≡ k = length-take-le k l fits in subst (λ (z : Date). IsUpTo m z) (sym (get_or-eq_default (take k l) Early {n = i} (omega arith))) tt)
+    (cases_lt i k)
+
+-- what the plan by the canonical part asks
+pub part_ready : (l m : List Date) (n : ℕ) (next : Date) (s : Shape) → IsBeginning l n next → IsCanonicalPart l n next s → AreUpTo 20001000000000000000000 l → IsUpTo 20001000000000000000000 next → m ≡ take s.size l
+    → (0 < s.period) × (length m ≤ 20000) × (s.period ≤ length m) × (unsigned_abs (to_z w128 (of_z w128 s.step)) ≤ 200000000000000000000000) × AreUpTo 200000000000000000000000 m
+part_ready l m n next s b h low last e =
+    let size : length (take s.size l) ≡ s.size = length-take-le s.size l h.fits in
+    let same : length m ≡ s.size = ap length e ∙ size in
+    let fits : s.size ≤ length l = h.fits in
+    let short : length l ≤ 20000 = b.short in
+    let inside : s.period ≤ length (take s.size l) = h.canonical.form.period_fits in
+    let step : unsigned_abs s.step ≤ 20001000000000000000000 + 20001000000000000000000 =
+    part_step 20001000000000000000000 l n next (form_with (take s.size l) s.period s.step) b.positive b.fits low last h.canonical h.values (omega arith) in
+    let small : unsigned_abs s.step ≤ 200000000000000000000000 = omega arith in (
+      h.canonical.form.period_positive,
+      omega arith,
+      omega arith,
+      subst (λ (z : ℤ). unsigned_abs z ≤ 200000000000000000000000) (sym (to_z-of_z w128 s.step h.step_fits)) small,
+      λ k. up_to_more 20001000000000000000000 200000000000000000000000 (get_or m k Early) (omega arith) (subst (λ (z : List Date). IsUpTo 20001000000000000000000 (get_or z k Early)) (sym e) (taken_up_to 20001000000000000000000 s.size l fits low k)),
+    )
+
+pub part_form : (l m : List Date) (n : ℕ) (next : Date) (s : Shape) → IsCanonicalPart l n next s → m ≡ take s.size l → (g : Form) → IsCanonical g → HasValues g (value_at (form_before l n next))
+    → form_with m s.period (to_z w128 (of_z w128 s.step)) ≡ g
+part_form l m n next s h e g cg has =
+    ap (form_with m s.period) (to_z-of_z w128 s.step h.step_fits) ∙ ap (λ (z : List Date). form_with z s.period s.step) e
+    ∙ one_canonical (form_with (take s.size l) s.period s.step) g h.canonical cg (λ k. h.values k ∙ sym (has k))
+
+-- the values of a sum
+pub sums_up_to : (f g : Form) → IsSeries f → IsSeries g → (n : ℕ) (l : List Date) → n ≤ 20000 → l ≡ table (sum_at (value_at f) (value_at g)) n → AreUpTo 20001000000000000000000 l
+sums_up_to f g sf sg n l short e k = ⊎_elim
+    (λ w.
+    let u : k < n = w in
+    subst (λ (z : Date). IsUpTo 20001000000000000000000 z) (sym (listed_is (sum_at (value_at f) (value_at g)) n l e k u)) (sum_up_to f g sf sg k (omega arith)))
+    (λ w.
+    let a : length l ≡ n = ap length e ∙ table_length (sum_at (value_at f) (value_at g)) n in
+    let u : length l ≤ k = omega arith in
+    subst (λ (z : Date). IsUpTo 20001000000000000000000 z) (sym (get_or-eq_default l Early {n = k} u)) tt)
+    (cases_lt k n)
+
+-- ---- the monomial of shift 1 and date 0
+
+one_canonical_is : IsCanonical one_shift
+one_canonical_is = record {
+  form = one_shift_is;
+  least_period = λ g is _. is.period_positive;
+  least_size = λ g is same e. by_size g is same e (cases_lt (size_of g) 2);
+} where
+  by_size : (g : Form) → IsForm g → HasValues g (value_at one_shift) → g.period ≡ 1 → (size_of g < 2) ⊎ (2 ≤ size_of g) → 2 ≤ size_of g
+  by_size g is same e (inr w) = w
+  by_size g is same e (inl w) = absurd (
+      let fits : g.period ≤ size_of g = is.period_fits in
+      let again : Repeats (value_at g) (start_of g) g.period g.step = value_repeats g is.period_positive is.period_fits in
+      let none : value_at g 0 ≡ Early = same 0 ∙ one_shift_values 0 in
+      let one : 0 + g.period ≡ 1 = omega arith in
+      let next : value_at g 1 ≡ Early = ap (value_at g) (sym one) ∙ again.at 0 (omega arith) ∙ ap (move g.step) none in
+      let is_zero : value_at g 1 ≡ At (pos 0) = same 1 ∙ one_shift_values 1 in
+      let c : Early ≡ At (pos 0) = sym next ∙ is_zero in cc)
+
+pub one_is : (g : Form) → IsCanonical g → HasValues g (monomial_at 1 (pos 0)) → g ≡ one_shift
+one_is g cg has = one_canonical g one_shift cg one_canonical_is (λ k. has k ∙ values k ∙ sym (one_shift_values k)) where
+  values : (k : ℕ) → monomial_at 1 (pos 0) k ≡ from_one k
+  values zero = monomial_below 1 (pos 0) 0 (omega arith)
+  values (suc k) = monomial_from 1 (pos 0) (suc k) (omega arith)
+
+-- ---- the answers
+
+pub long_need : (f : Form) (n : ℕ) → n ≡ need_of (sum_plan f one_shift) → 20000 < n → (20000 < need_of (star_plan f)) × (n ≡ carried_of f)
+long_need f n e h =
+    let long : ltb 20000 (need_of (sum_plan f one_shift)) ≡ true = grind (arith, nat_tests) in
+    (long_star (need_of (sum_plan f one_shift)) (own_plan (form_sum f one_shift)) (omega arith), e ∙ sym (ap (λ z. cond z (need_of (sum_plan f one_shift)) (need_of (star_plan f))) long)) where
+      long_star : (m : ℕ) (r : Plan) → 20000 < m → 20000 < need_of (at_least m r)
+      long_star m r w = omega arith
+
+pub short_carried : (f : Form) → need_of (sum_plan f one_shift) ≤ 20000 → carried_of f ≡ need_of (star_plan f)
+short_carried f h = let short : ltb 20000 (need_of (sum_plan f one_shift)) ≡ false = grind (arith, nat_tests) in ap (λ z. cond z (need_of (sum_plan f one_shift)) (need_of (star_plan f))) short
+
+answers_map : (is js : Form → Type 0) (n m : ℕ) (x : Result Form SeriesRefused) → ((r : Form) → is r → js r) → AnswersOf is n m x → AnswersOf js n m x
+answers_map is js n m (Ok r) h a = (a.0, h r a.1, a.2)
+answers_map is js n m (Err (TooLong k)) h a = a
+answers_map is js n m (Err (TooGreat v)) h a = (a.0, record { form = a.1.form; canonical = a.1.canonical; values = h a.1.form a.1.values; number = a.1.number })
+answers_map is js n m (Err OutOfMemory) h a = tt
+
+pub not_above : (d : Date) → above_zero d ≡ false → Le d (At (pos 0))
+not_above Early h = early_le (At (pos 0))
+not_above (At (pos zero)) h = le_is refl
+not_above (At (pos (suc n))) h = absurd cc
+not_above (At (negsuc n)) h = record { holds = omega (arith, ints) }
+not_above Never h = absurd cc
+
+pub low_answer : (f : Form) (x : Result Form SeriesRefused) → above_zero (value_at f 0) ≡ false → AnswersOf (λ r. HasValues r (parts_star (value_at f))) (need_of (star_plan f)) (carried_of f) x
+    → AnswersOf (λ r. (k : ℕ) → IsStarOf (value_at f) k (value_at r k)) (star_need f) (star_carried f) x
+low_answer f x h a = cases (value_at f 0) h where
+  sums : AnswersOf (λ r. (k : ℕ) → IsGreatestSum (value_at f) k (value_at r k)) (need_of (star_plan f)) (carried_of f) x
+  sums = answers_map (λ r. HasValues r (parts_star (value_at f))) (λ r. (k : ℕ) → IsGreatestSum (value_at f) k (value_at r k)) (need_of (star_plan f)) (carried_of f) x
+      (λ r e k. subst (λ (z : Date). IsGreatestSum (value_at f) k z) (sym (e k)) (parts_star_greatest (value_at f) k)) a
+
+  cases : (d : Date) → above_zero d ≡ false → AnswersOf (λ r. (k : ℕ) → IsStarBy d (value_at f) k (value_at r k)) (need_of (star_plan_by d f)) (star_carried_by d f) x
+  cases Early w = sums
+  cases (At (pos zero)) w = sums
+  cases (At (pos (suc n))) w = absurd cc
+  cases (At (negsuc n)) w = sums
+  cases Never w = absurd cc
+
+never_value : (r : Form) → r ≡ form_with (Never ∷ []) 1 (pos 0) → (k : ℕ) → value_at r k ≡ Never
+never_value r e k = ap (λ (z : Form). value_at z k) e ∙ (constant_is Never refl).1 k
+
+pub high_answer : (f : Form) (x : Result Form SeriesRefused) → above_zero (value_at f 0) ≡ true → IsConstant Never x
+    → AnswersOf (λ r. (k : ℕ) → IsStarOf (value_at f) k (value_at r k)) (star_need f) (star_carried f) x
+high_answer f x h a = cases (value_at f 0) h where
+  constant : (y : Result Form SeriesRefused) → IsConstant Never y → AnswersOf (λ r. (k : ℕ) → value_at r k ≡ Never) 1 1 y
+  constant (Ok r) b = (b.1, never_value r b.0, omega arith)
+  constant (Err (TooLong n)) b = absurd b
+  constant (Err (TooGreat v)) b = absurd b
+  constant (Err OutOfMemory) b = tt
+
+  cases : (d : Date) → above_zero d ≡ true → AnswersOf (λ r. (k : ℕ) → IsStarBy d (value_at f) k (value_at r k)) (need_of (star_plan_by d f)) (star_carried_by d f) x
+  cases Early w = absurd cc
+  cases (At (pos zero)) w = absurd cc
+  cases (At (pos (suc n))) w = constant x a
+  cases (At (negsuc n)) w = absurd cc
+  cases Never w = constant x a

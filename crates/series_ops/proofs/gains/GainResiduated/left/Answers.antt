@@ -1,0 +1,9 @@
+use Rattle.series_form.specs.Needs.{need_of}
+use Rattle.series_ops.specs.Needs.{left_plan, form_left}
+use Rattle.series_ops.specs.Gains.{gain_left}
+use Rattle.series_ops.proofs.Refusing.{gain_refused}
+use Rattle.series_ops.proofs.gains.GainResiduated.left.Goals as goal
+
+pub returns-in-Err-clause-answer : goal.returns-in-Err-clause-answer
+returns-in-Err-clause-answer c = gain_refused (need_of (left_plan c.args.self.now.series c.args.other.now.series)) (form_left c.args.self.now.series c.args.other.now.series) (gain_left c.args.self.now c.args.other.now)
+    c.in-Err.why c.refused.result c.in-Err.ensures.model c.refused.ensures

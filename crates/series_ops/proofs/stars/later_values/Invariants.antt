@@ -1,0 +1,7 @@
+use Rattle.std.proofs.Common.{◌≡◌}
+use Rattle.series_form.specs.Forms.{table, value_at}
+use Rattle.series_ops.specs.Listed.{later_part}
+use Rattle.series_ops.proofs.stars.later_values.Given as goal
+
+abbrev pub invariant-loop-shift : goal.invariant-loop-shift
+invariant-loop-shift l = l.values.items ≡ table (later_part (value_at l.series)) l.shift

@@ -1,0 +1,315 @@
+-- The canonical forms are a dioid with a star and residuals.
+use Rattle.std.proofs.Common.{◌≡◌, ◌↔◌, refl, ap, arith, ℕ, ℤ, pos, negsuc, zero, suc, ◌+◌, ◌-◌, ◌≤◌, ◌<◌, ◌+ℤ◌, sym, ◌∙◌, subst, ⊎_elim, ◌⊎◌, inl, inr, List, [], ◌∷◌, length, get_or}
+use Rattle.std.specs.Prelude.{◌≤ℤ◌}
+use Rattle.std.proofs.lemmas.Int.{ints, clamps}
+use Rattle.dioid.specs.Laws.{IsAtMost, IsClosed, DioidLaws, StarLaws, ResidualLaws}
+use Rattle.dioid.specs.Dates.{later_of, earlier_of, date_product, date_left}
+use Rattle.dioid.specs.DateLaws.{later_assoc, later_commutes, later_idempotent, times_assoc, times_later, one_times, times_one}
+use Rattle.dioid.specs.declared.dates.Date.{Date}
+use Rattle.dioid.specs.declared.dates.Date.TheVariants.{Early, At, Never}
+use Rattle.series_form.specs.Order.{Le, move, le_refl, le_is, le_trans, le_antisym, early_le, le_never, product_le, later_le, le_later_left, le_later_right, le_earlier, earlier_le_left, earlier_le_right}
+use Rattle.series_form.specs.Periodic.{Rising}
+use Rattle.series_form.specs.Pointwise.{sum_at, least_at, later_is_left}
+use Rattle.series_ops.specs.Product.{product_at, le_product, product_at_le}
+use Rattle.series_ops.specs.Residual.{IsLeftAt}
+use Rattle.series_ops.specs.Stars.{total, date_of, ArePositive, IsStarAt}
+use Rattle.series_ops.specs.StarOf.{to_left, from_left, parts_star, parts_star_is, part_more, star_by, star_at}
+use Rattle.series_ops.specs.Items.{times_commutes}
+use Rattle.series_form.specs.Forms.{Form, form_with, size_of, start_of, value_at, IsForm, HasValues, IsCanonical}
+use Rattle.series_form.specs.Canonical.{constant_is, one_canonical, form_values, never_le}
+use Rattle.series_form.specs.Needs.{form_sum, form_least}
+use Rattle.series_ops.specs.Needs.{form_product, form_left, form_star, left_at}
+use Rattle.series_form.specs.Sums.{form_sum_is, form_sum_values, form_least_is, form_least_values}
+use Rattle.series_ops.specs.Products.{form_product_is, form_product_values, product_commutes, early_product}
+use Rattle.series_ops.specs.Lefts.{left_is, form_left_is, form_left_values}
+use Rattle.series_ops.specs.StarForms.{form_star_is, form_star_values}
+
+-- ---- laws of functions at a shift
+
+product_assoc_half : (s t u : ℕ → Date) (k : ℕ) → Le (product_at (product_at s t) u k) (product_at s (product_at t u) k)
+product_assoc_half s t u k = product_at_le (product_at s t) u k (product_at s (product_at t u) k) (λ m c e.
+    le_trans (le_is (times_commutes (product_at s t m) (u c))) (from_left (u c) (product_at_le s t m (date_left (u c) (product_at s (product_at t u) k)) (λ i j g.
+    to_left (u c) (le_trans (le_is (times_commutes (u c) (date_product (s i) (t j)) ∙ times_assoc (s i) (t j) (u c)))
+    (le_trans (product_le (le_refl (s i)) (le_product t u j c (j + c) refl)) (le_product s (product_at t u) i (j + c) k (omega arith))))))))
+
+product_assoc_back : (s t u : ℕ → Date) (k : ℕ) → Le (product_at s (product_at t u) k) (product_at (product_at s t) u k)
+product_assoc_back s t u k = product_at_le s (product_at t u) k (product_at (product_at s t) u k) (λ i m e.
+    from_left (s i) (product_at_le t u m (date_left (s i) (product_at (product_at s t) u k)) (λ j c g.
+    to_left (s i) (le_trans (le_is (sym (times_assoc (s i) (t j) (u c))))
+    (le_trans (product_le (le_product s t i j (i + j) refl) (le_refl (u c))) (le_product (product_at s t) u (i + j) c k (omega arith)))))))
+
+product_assoc : (s t u : ℕ → Date) (k : ℕ) → product_at (product_at s t) u k ≡ product_at s (product_at t u) k
+product_assoc s t u k = le_antisym (product_assoc_half s t u k) (product_assoc_back s t u k)
+
+product_sum : (s t u : ℕ → Date) (k : ℕ) → product_at s (sum_at t u) k ≡ later_of (product_at s t k) (product_at s u k)
+product_sum s t u k = le_antisym
+    (product_at_le s (sum_at t u) k (later_of (product_at s t k) (product_at s u k)) (λ i j e. le_trans (le_is (times_later (s i) (t j) (u j)))
+    (later_le (le_trans (le_product s t i j k e) (le_later_left (product_at s t k) (product_at s u k))) (le_trans (le_product s u i j k e) (le_later_right (product_at s t k) (product_at s u k))))))
+    (later_le
+    (product_at_le s t k (product_at s (sum_at t u) k) (λ i j e. le_trans (product_le (le_refl (s i)) (le_later_left (t j) (u j))) (le_product s (sum_at t u) i j k e)))
+    (product_at_le s u k (product_at s (sum_at t u) k) (λ i j e. le_trans (product_le (le_refl (s i)) (le_later_right (t j) (u j))) (le_product s (sum_at t u) i j k e))))
+
+one_product : (s t : ℕ → Date) → ((k : ℕ) → s k ≡ At (pos 0)) → Rising t → (k : ℕ) → product_at s t k ≡ t k
+one_product s t h up k = le_antisym
+    (product_at_le s t k (t k) (λ i j e. le_trans (le_is (ap (λ z. date_product z (t j)) (h i) ∙ one_times (t j))) (up.rises j k (omega arith))))
+    (le_trans (le_is (sym (ap (λ z. date_product z (t k)) (h 0) ∙ one_times (t k)))) (le_product s t 0 k k (omega arith)))
+
+-- ---- the star is a least solution
+
+star_zero : (s : ℕ → Date) (k : ℕ) → Le (At (pos 0)) (star_at s k)
+star_zero s k = cases (s 0) where
+  cases : (d : Date) → Le (At (pos 0)) (star_by d s k)
+  cases Early = (parts_star_is s k).zero_below
+  cases (At (pos zero)) = (parts_star_is s k).zero_below
+  cases (At (pos (suc n))) = le_never (At (pos 0))
+  cases (At (negsuc n)) = (parts_star_is s k).zero_below
+  cases Never = le_never (At (pos 0))
+
+star_more : (s : ℕ → Date) → Rising s → (i j k : ℕ) → i + j ≡ k → Le (date_product (s i) (star_at s j)) (star_at s k)
+star_more s up i j k e = cases (s 0) refl where
+  parts : Le (s 0) (At (pos 0)) → (i : ℕ) → i + j ≡ k → Le (date_product (s i) (parts_star s j)) (parts_star s k)
+  parts low zero e = le_trans (product_le low (le_refl (parts_star s j))) (le_is (one_times (parts_star s j) ∙ ap (parts_star s) (let h : j ≡ k = omega arith in h)))
+  parts low (suc i) e = part_more s up (suc i) j k (omega arith) e
+
+  cases : (d : Date) → s 0 ≡ d → Le (date_product (s i) (star_by d s j)) (star_by d s k)
+  cases Early h = parts (le_trans (le_is h) (early_le (At (pos 0)))) i e
+  cases (At (pos zero)) h = parts (le_is h) i e
+  cases (At (pos (suc n))) h = le_never (date_product (s i) Never)
+  cases (At (negsuc n)) h = parts (le_trans (le_is h) (record { holds = omega (arith, ints) })) i e
+  cases Never h = le_never (date_product (s i) Never)
+
+star_solves : (s b : ℕ → Date) → Rising s → (k : ℕ) → Le (later_of (product_at s (product_at (star_at s) b) k) (b k)) (product_at (star_at s) b k)
+star_solves s b up k = later_le
+    (le_trans (product_assoc_back s (star_at s) b k)
+    (product_at_le (product_at s (star_at s)) b k (product_at (star_at s) b k) (λ m c e.
+    le_trans (product_le (product_at_le s (star_at s) m (star_at s m) (λ i j g. star_more s up i j m g)) (le_refl (b c))) (le_product (star_at s) b m c k e))))
+    (le_trans (le_is (sym (one_times (b k)))) (le_trans (product_le (star_zero s 0) (le_refl (b k))) (le_product (star_at s) b 0 k k (omega arith))))
+
+module _ (s b x : ℕ → Date) (up : Rising x) (solves : (k : ℕ) → Le (later_of (product_at s x k) (b k)) (x k)) where
+  at_b : (k : ℕ) → Le (b k) (x k)
+  at_b k = le_trans (le_later_right (product_at s x k) (b k)) (solves k)
+
+  at_s : (i j k : ℕ) → i + j ≡ k → Le (date_product (s i) (x j)) (x k)
+  at_s i j k e = le_trans (le_product s x i j k e) (le_trans (le_later_left (product_at s x k) (b k)) (solves k))
+
+  list_solves : (l : List ℕ) (j k : ℕ) → total l + j ≡ k → Le (date_product (date_of s l) (b j)) (x k)
+  list_solves [] j k e = le_trans (le_is (one_times (b j))) (le_trans (at_b j) (up.rises j k (omega arith)))
+  list_solves (c ∷ l) j k e =
+      le_trans (le_is (times_assoc (s c) (date_of s l) (b j))) (le_trans (product_le (le_refl (s c)) (list_solves l j (total l + j) refl)) (at_s c (total l + j) k (omega arith)))
+
+  parts_least : (i j k : ℕ) → i + j ≡ k → Le (date_product (parts_star s i) (b j)) (x k)
+  parts_least i j k e =
+      let y : Date = date_left (b j) (x k) in
+      le_trans (le_is (times_commutes (parts_star s i) (b j))) (from_left (b j) ((parts_star_is s i).least y
+      (to_left (b j) (le_trans (le_is (times_one (b j))) (le_trans (at_b j) (up.rises j k (omega arith)))))
+      (λ l a g. to_left (b j) (le_trans (le_is (times_commutes (b j) (date_of s l))) (list_solves l j k (omega arith))))))
+
+  -- where the first value is above 0
+  never_least : (s 0 ≡ Never) ⊎ ((n : ℕ) × (s 0 ≡ At (pos (suc n)))) → (j k : ℕ) → j ≤ k → Le (date_product Never (b j)) (x k)
+  never_least above j k w = by_b (b j) (x j) refl refl where
+    full : x j ≡ Never → Le (date_product Never (b j)) (x k)
+    full e = le_trans (le_never (date_product Never (b j))) (le_trans (le_is (sym e)) (up.rises j k w))
+
+    again : Le (date_product (s 0) (x j)) (x j)
+    again = at_s 0 j j (omega arith)
+
+    by_x : (d : Date) → x j ≡ d → (b j ≡ Early → ⊥) → Le (date_product Never (b j)) (x k)
+    by_x Early e some = absurd (some (le_antisym (le_trans (at_b j) (le_is e)) (early_le (b j))))
+    by_x (At v) e some = absurd (⊎_elim
+        (λ never. let h : Le Never (At v) = le_trans (le_is (sym (ap (λ z. date_product z (x j)) never ∙ ap (date_product Never) e))) (le_trans again (le_is e)) in h.holds)
+        (λ number. let h : Le (At (pos (suc number.0) +ℤ v)) (At v) = le_trans (le_is (sym (ap (λ z. date_product z (x j)) number.1 ∙ ap (date_product (At (pos (suc number.0)))) e))) (le_trans again (le_is e)) in
+        let q : (pos (suc number.0) +ℤ v) ≤ℤ v = h.holds in absurd (omega (arith, ints)))
+        above)
+    by_x Never e some = full e
+
+    by_b : (d y : Date) → b j ≡ d → x j ≡ y → Le (date_product Never (b j)) (x k)
+    by_b Early y e g = le_trans (le_is (ap (date_product Never) e)) (early_le (x k))
+    by_b (At v) y e g = by_x y g (λ h. let c : At v ≡ Early = sym e ∙ h in cc)
+    by_b Never y e g = by_x y g (λ h. let c : Never ≡ Early = sym e ∙ h in cc)
+
+  star_least : (k : ℕ) → Le (product_at (star_at s) b k) (x k)
+  star_least k = product_at_le (star_at s) b k (x k) (λ i j e. cases (s 0) refl i j e) where
+    cases : (d : Date) → s 0 ≡ d → (i j : ℕ) → i + j ≡ k → Le (date_product (star_by d s i) (b j)) (x k)
+    cases Early h i j e = parts_least i j k e
+    cases (At (pos zero)) h i j e = parts_least i j k e
+    cases (At (pos (suc n))) h i j e = never_least (inr (n, h)) j k (omega arith)
+    cases (At (negsuc n)) h i j e = parts_least i j k e
+    cases Never h i j e = never_least (inl h) j k (omega arith)
+
+-- ---- forms
+
+abbrev pub early_form : Form
+early_form = record { values = Early ∷ []; period = 1; step = pos 0 }
+
+abbrev pub zero_form : Form
+zero_form = record { values = At (pos 0) ∷ []; period = 1; step = pos 0 }
+
+early_is : IsCanonical early_form
+early_is = (constant_is Early refl).0
+
+zero_is : IsCanonical zero_form
+zero_is = (constant_is (At (pos 0)) (ap At (omega (arith, ints)))).0
+
+early_values : HasValues early_form (λ _. Early)
+early_values = (constant_is Early refl).1
+
+zero_values : HasValues zero_form (λ _. At (pos 0))
+zero_values = (constant_is (At (pos 0)) (ap At (omega (arith, ints)))).1
+
+-- the functions of the results
+sum_path : (a b : Form) → IsForm a → IsForm b → value_at (form_sum a b) ≡ sum_at (value_at a) (value_at b)
+sum_path a b ia ib = λ i k. form_sum_values a b ia ib k i
+
+product_path : (a b : Form) → IsForm a → IsForm b → value_at (form_product a b) ≡ product_at (value_at a) (value_at b)
+product_path a b ia ib = λ i k. form_product_values a b ia ib k i
+
+star_path : (a : Form) → IsForm a → value_at (form_star a) ≡ star_at (value_at a)
+star_path a ia = λ i k. form_star_values a ia k i
+
+-- forms of one function
+by_path : (a b : Form) (s t : ℕ → Date) → IsCanonical a → IsCanonical b → value_at a ≡ s → value_at b ≡ t → ((k : ℕ) → s k ≡ t k) → a ≡ b
+by_path a b s t ca cb e g h = one_canonical a b ca cb (λ k. ap (λ (z : ℕ → Date). z k) e ∙ h k ∙ sym (ap (λ (z : ℕ → Date). z k) g))
+
+-- one is at most another exactly where each value is
+at_most_is : (a b : Form) → IsCanonical a → IsCanonical b → ((k : ℕ) → Le (value_at a k) (value_at b k)) → IsAtMost form_sum a b
+at_most_is a b ca cb h = one_canonical (form_sum a b) b (form_sum_is a b ca.form cb.form) cb (λ k.
+    form_sum_values a b ca.form cb.form k ∙ later_commutes (value_at a k) (value_at b k) ∙ later_is_left (h k))
+
+is_at_most : (a b : Form) → IsCanonical a → IsCanonical b → IsAtMost form_sum a b → (k : ℕ) → Le (value_at a k) (value_at b k)
+is_at_most a b ca cb h k = le_trans (le_later_left (value_at a k) (value_at b k)) (le_is (sym (form_sum_values a b ca.form cb.form k) ∙ ap (λ (z : Form). value_at z k) h))
+
+pub forms_closed : IsClosed IsCanonical early_form zero_form form_sum form_product
+forms_closed = record {
+  zero_is = early_is;
+  one_is = zero_is;
+  sum_is = λ a b ca cb. form_sum_is a b ca.form cb.form;
+  product_is = λ a b ca cb. form_product_is a b ca.form cb.form;
+}
+
+forms_sum_assoc : (a b c : Form) → IsCanonical a → IsCanonical b → IsCanonical c → form_sum (form_sum a b) c ≡ form_sum a (form_sum b c)
+forms_sum_assoc a b c ca cb cc' =
+    let ab : IsCanonical (form_sum a b) = form_sum_is a b ca.form cb.form in
+    let bc : IsCanonical (form_sum b c) = form_sum_is b c cb.form cc'.form in
+    by_path (form_sum (form_sum a b) c) (form_sum a (form_sum b c)) (sum_at (sum_at (value_at a) (value_at b)) (value_at c)) (sum_at (value_at a) (sum_at (value_at b) (value_at c)))
+    (form_sum_is (form_sum a b) c ab.form cc'.form) (form_sum_is a (form_sum b c) ca.form bc.form)
+    (sum_path (form_sum a b) c ab.form cc'.form ∙ ap (λ (z : ℕ → Date). sum_at z (value_at c)) (sum_path a b ca.form cb.form))
+    (sum_path a (form_sum b c) ca.form bc.form ∙ ap (sum_at (value_at a)) (sum_path b c cb.form cc'.form))
+    (λ k. later_assoc (value_at a k) (value_at b k) (value_at c k))
+
+forms_product_assoc : (a b c : Form) → IsCanonical a → IsCanonical b → IsCanonical c → form_product (form_product a b) c ≡ form_product a (form_product b c)
+forms_product_assoc a b c ca cb cc' =
+    let ab : IsCanonical (form_product a b) = form_product_is a b ca.form cb.form in
+    let bc : IsCanonical (form_product b c) = form_product_is b c cb.form cc'.form in
+    by_path (form_product (form_product a b) c) (form_product a (form_product b c)) (product_at (product_at (value_at a) (value_at b)) (value_at c)) (product_at (value_at a) (product_at (value_at b) (value_at c)))
+    (form_product_is (form_product a b) c ab.form cc'.form) (form_product_is a (form_product b c) ca.form bc.form)
+    (product_path (form_product a b) c ab.form cc'.form ∙ ap (λ (z : ℕ → Date). product_at z (value_at c)) (product_path a b ca.form cb.form))
+    (product_path a (form_product b c) ca.form bc.form ∙ ap (product_at (value_at a)) (product_path b c cb.form cc'.form))
+    (product_assoc (value_at a) (value_at b) (value_at c))
+
+forms_commute : (a b : Form) → IsCanonical a → IsCanonical b → form_product a b ≡ form_product b a
+forms_commute a b ca cb = by_path (form_product a b) (form_product b a) (product_at (value_at a) (value_at b)) (product_at (value_at b) (value_at a))
+    (form_product_is a b ca.form cb.form) (form_product_is b a cb.form ca.form) (product_path a b ca.form cb.form) (product_path b a cb.form ca.form) (product_commutes (value_at a) (value_at b))
+
+forms_distribute : (a b c : Form) → IsCanonical a → IsCanonical b → IsCanonical c → form_product a (form_sum b c) ≡ form_sum (form_product a b) (form_product a c)
+forms_distribute a b c ca cb cc' =
+    let bc : IsCanonical (form_sum b c) = form_sum_is b c cb.form cc'.form in
+    let ab : IsCanonical (form_product a b) = form_product_is a b ca.form cb.form in
+    let ac : IsCanonical (form_product a c) = form_product_is a c ca.form cc'.form in
+    by_path (form_product a (form_sum b c)) (form_sum (form_product a b) (form_product a c)) (product_at (value_at a) (sum_at (value_at b) (value_at c))) (sum_at (product_at (value_at a) (value_at b)) (product_at (value_at a) (value_at c)))
+    (form_product_is a (form_sum b c) ca.form bc.form) (form_sum_is (form_product a b) (form_product a c) ab.form ac.form)
+    (product_path a (form_sum b c) ca.form bc.form ∙ ap (product_at (value_at a)) (sum_path b c cb.form cc'.form))
+    (sum_path (form_product a b) (form_product a c) ab.form ac.form ∙ ap (λ (z : ℕ → Date). sum_at z (value_at (form_product a c))) (product_path a b ca.form cb.form) ∙ ap (sum_at (product_at (value_at a) (value_at b))) (product_path a c ca.form cc'.form))
+    (product_sum (value_at a) (value_at b) (value_at c))
+
+forms_distribute_right : (a b c : Form) → IsCanonical a → IsCanonical b → IsCanonical c → form_product (form_sum a b) c ≡ form_sum (form_product a c) (form_product b c)
+forms_distribute_right a b c ca cb cc' =
+    forms_commute (form_sum a b) c (form_sum_is a b ca.form cb.form) cc' ∙ forms_distribute c a b cc' ca cb
+    ∙ ap (λ (z : Form). form_sum z (form_product c b)) (forms_commute c a cc' ca) ∙ ap (form_sum (form_product a c)) (forms_commute c b cc' cb)
+
+one_neutral : (a : Form) → IsCanonical a → form_product zero_form a ≡ a
+one_neutral a ca = one_canonical (form_product zero_form a) a (form_product_is zero_form a zero_is.form ca.form) ca (λ k.
+    form_product_values zero_form a zero_is.form ca.form k ∙ one_product (value_at zero_form) (value_at a) zero_values ca.form.rising k)
+
+absorbs : (a : Form) → IsCanonical a → form_product early_form a ≡ early_form
+absorbs a ca = one_canonical (form_product early_form a) early_form (form_product_is early_form a early_is.form ca.form) early_is (λ k.
+    form_product_values early_form a early_is.form ca.form k ∙ early_product (value_at early_form) (value_at a) early_values k ∙ sym (early_values k))
+
+pub form_laws : DioidLaws IsCanonical early_form zero_form form_sum form_product
+form_laws = record {
+  sum_assoc = forms_sum_assoc;
+  sum_commutes = λ a b ca cb. one_canonical (form_sum a b) (form_sum b a) (form_sum_is a b ca.form cb.form) (form_sum_is b a cb.form ca.form)
+      (λ k. form_sum_values a b ca.form cb.form k ∙ later_commutes (value_at a k) (value_at b k) ∙ sym (form_sum_values b a cb.form ca.form k));
+  sum_idempotent = λ a ca. one_canonical (form_sum a a) a (form_sum_is a a ca.form ca.form) ca (λ k. form_sum_values a a ca.form ca.form k ∙ later_idempotent (value_at a k));
+  product_assoc = forms_product_assoc;
+  left_distributes = forms_distribute;
+  right_distributes = forms_distribute_right;
+  zero_neutral = λ a ca. one_canonical (form_sum early_form a) a (form_sum_is early_form a early_is.form ca.form) ca (λ k. form_sum_values early_form a early_is.form ca.form k ∙ ap (λ z. later_of z (value_at a k)) (early_values k));
+  zero_absorbs_left = absorbs;
+  zero_absorbs_right = λ a ca. forms_commute a early_form ca early_is ∙ absorbs a ca;
+  one_neutral_left = one_neutral;
+  one_neutral_right = λ a ca. forms_commute a zero_form ca zero_is ∙ one_neutral a ca;
+}
+
+pub form_star_laws : StarLaws IsCanonical form_sum form_product form_star
+form_star_laws = record { star_is = λ a ca. form_star_is a ca.form; solves = solves; least = least } where
+  solves : (a b : Form) → IsCanonical a → IsCanonical b → IsAtMost form_sum (form_sum (form_product a (form_product (form_star a) b)) b) (form_product (form_star a) b)
+  solves a b ca cb =
+      let cs : IsCanonical (form_star a) = form_star_is a ca.form in
+      let sb : IsCanonical (form_product (form_star a) b) = form_product_is (form_star a) b cs.form cb.form in
+      let asb : IsCanonical (form_product a (form_product (form_star a) b)) = form_product_is a (form_product (form_star a) b) ca.form sb.form in
+      let p : value_at (form_product (form_star a) b) ≡ product_at (star_at (value_at a)) (value_at b) = product_path (form_star a) b cs.form cb.form ∙ ap (λ (z : ℕ → Date). product_at z (value_at b)) (star_path a ca.form) in
+      let q : value_at (form_product a (form_product (form_star a) b)) ≡ product_at (value_at a) (product_at (star_at (value_at a)) (value_at b)) = product_path a (form_product (form_star a) b) ca.form sb.form ∙ ap (product_at (value_at a)) p in
+      at_most_is (form_sum (form_product a (form_product (form_star a) b)) b) (form_product (form_star a) b) (form_sum_is (form_product a (form_product (form_star a) b)) b asb.form cb.form) sb
+      (λ k. le_trans (le_is (form_sum_values (form_product a (form_product (form_star a) b)) b asb.form cb.form k ∙ ap (λ (z : ℕ → Date). later_of (z k) (value_at b k)) q))
+      (le_trans (star_solves (value_at a) (value_at b) ca.form.rising k) (le_is (sym (ap (λ (z : ℕ → Date). z k) p)))))
+
+  least : (a b x : Form) → IsCanonical a → IsCanonical b → IsCanonical x → IsAtMost form_sum (form_sum (form_product a x) b) x → IsAtMost form_sum (form_product (form_star a) b) x
+  least a b x ca cb cx h =
+      let cs : IsCanonical (form_star a) = form_star_is a ca.form in
+      let sb : IsCanonical (form_product (form_star a) b) = form_product_is (form_star a) b cs.form cb.form in
+      let ax : IsCanonical (form_product a x) = form_product_is a x ca.form cx.form in
+      let axb : IsCanonical (form_sum (form_product a x) b) = form_sum_is (form_product a x) b ax.form cb.form in
+      let p : value_at (form_product (form_star a) b) ≡ product_at (star_at (value_at a)) (value_at b) = product_path (form_star a) b cs.form cb.form ∙ ap (λ (z : ℕ → Date). product_at z (value_at b)) (star_path a ca.form) in
+      let holds : (k : ℕ) → Le (later_of (product_at (value_at a) (value_at x) k) (value_at b k)) (value_at x k) = λ k.
+      le_trans (le_is (sym (form_sum_values (form_product a x) b ax.form cb.form k ∙ ap (λ z. later_of z (value_at b k)) (form_product_values a x ca.form cx.form k)))) (is_at_most (form_sum (form_product a x) b) x axb cx h k) in
+      at_most_is (form_product (form_star a) b) x sb cx (λ k. le_trans (le_is (ap (λ (z : ℕ → Date). z k) p)) (star_least (value_at a) (value_at b) (value_at x) cx.form.rising holds k))
+
+pub form_residual_laws : ResidualLaws IsCanonical form_sum form_product form_left form_least
+form_residual_laws = record {
+  left_is = λ a b ca cb. form_left_is a b ca.form cb.form;
+  meet_is = λ a b ca cb. form_least_is a b ca.form cb.form;
+  galois = λ a x b ca cx cb. (to a x b ca cx cb, from a x b ca cx cb);
+  meet_greatest = λ x a b cx ca cb. (meet_to x a b cx ca cb, meet_from x a b cx ca cb);
+} where
+  to : (a x b : Form) → IsCanonical a → IsCanonical x → IsCanonical b → IsAtMost form_sum (form_product a x) b → IsAtMost form_sum x (form_left a b)
+  to a x b ca cx cb h =
+      let ax : IsCanonical (form_product a x) = form_product_is a x ca.form cx.form in
+      let ab : IsCanonical (form_left a b) = form_left_is a b ca.form cb.form in
+      at_most_is x (form_left a b) cx ab (λ k. le_trans
+      ((left_is a b ca.form cb.form k).greatest (value_at x k) (λ i. to_left (value_at a i)
+      (le_trans (le_product (value_at a) (value_at x) i k (k + i) (omega arith)) (le_trans (le_is (sym (form_product_values a x ca.form cx.form (k + i)))) (is_at_most (form_product a x) b ax cb h (k + i))))))
+      (le_is (sym (form_left_values a b ca.form cb.form k))))
+
+  from : (a x b : Form) → IsCanonical a → IsCanonical x → IsCanonical b → IsAtMost form_sum x (form_left a b) → IsAtMost form_sum (form_product a x) b
+  from a x b ca cx cb h =
+      let ax : IsCanonical (form_product a x) = form_product_is a x ca.form cx.form in
+      let ab : IsCanonical (form_left a b) = form_left_is a b ca.form cb.form in
+      at_most_is (form_product a x) b ax cb (λ k. le_trans (le_is (form_product_values a x ca.form cx.form k))
+      (product_at_le (value_at a) (value_at x) k (value_at b k) (λ i j e. from_left (value_at a i)
+      (le_trans (le_trans (is_at_most x (form_left a b) cx ab h j) (le_is (form_left_values a b ca.form cb.form j)))
+      (le_trans ((left_is a b ca.form cb.form j).below i) (le_is (let g : j + i ≡ k = omega arith in ap (λ (z : ℕ). date_left (value_at a i) (value_at b z)) g)))))))
+
+  meet_to : (x a b : Form) → IsCanonical x → IsCanonical a → IsCanonical b → IsAtMost form_sum x (form_least a b) → IsAtMost form_sum x a × IsAtMost form_sum x b
+  meet_to x a b cx ca cb h =
+      let ab : IsCanonical (form_least a b) = form_least_is a b ca.form cb.form in
+      let low : (k : ℕ) → Le (value_at x k) (earlier_of (value_at a k) (value_at b k)) = λ k. le_trans (is_at_most x (form_least a b) cx ab h k) (le_is (form_least_values a b ca.form cb.form k)) in
+      (at_most_is x a cx ca (λ k. le_trans (low k) (earlier_le_left (value_at a k) (value_at b k))), at_most_is x b cx cb (λ k. le_trans (low k) (earlier_le_right (value_at a k) (value_at b k))))
+
+  meet_from : (x a b : Form) → IsCanonical x → IsCanonical a → IsCanonical b → IsAtMost form_sum x a × IsAtMost form_sum x b → IsAtMost form_sum x (form_least a b)
+  meet_from x a b cx ca cb h = at_most_is x (form_least a b) cx (form_least_is a b ca.form cb.form)
+      (λ k. le_trans (le_earlier (is_at_most x a cx ca h.0 k) (is_at_most x b cx cb h.1 k)) (le_is (sym (form_least_values a b ca.form cb.form k))))
+
+stays : (d : Date) → move (pos 0) d ≡ d
+stays Early = refl
+stays (At t) = ap At (omega (arith, ints))
+stays Never = refl

@@ -1,0 +1,17 @@
+pub mod Product
+pub mod Listed
+pub mod Residual
+pub mod Pigeons
+pub mod Stars
+pub mod Items
+pub mod Anchors
+pub mod StarOf
+pub mod Needs
+pub mod Products
+pub mod Lefts
+pub mod StarForms
+pub mod FormLaws
+pub mod Closure
+pub mod Gains
+pub mod GainLaws
+pub mod Refusals

@@ -1,0 +1,11 @@
+-- Refusals of series as refusals of elements.
+use Rattle.std.specs.Prelude.{◌≡◌}
+use Rattle.dioid.specs.declared.algebra.Refused.{Refused}
+use Rattle.dioid.specs.declared.algebra.Refused.TheVariants.{Range}
+use Rattle.series_form.specs.declared.forms.SeriesRefused.{SeriesRefused}
+use Rattle.series_form.specs.declared.forms.SeriesRefused.TheVariants.{TooLong, TooGreat, OutOfMemory}
+
+abbrev pub IsRefusal : SeriesRefused → Refused → Type 0
+IsRefusal (TooLong n) r = r ≡ Range
+IsRefusal (TooGreat v) r = r ≡ Range
+IsRefusal OutOfMemory r = r ≡ Refused.OutOfMemory

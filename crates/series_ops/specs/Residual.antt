@@ -1,0 +1,72 @@
+-- The residual of series, and where it repeats.
+use Rattle.std.proofs.Common.{◌≡◌, refl, ap, arith, ℕ, ℤ, pos, negsuc, zero, suc, ◌+◌, ◌*◌, ◌-◌, ◌≤◌, ◌<◌, ◌+ℤ◌, ◌-ℤ◌, sym, ◌∙◌, subst, ⊎_elim}
+use Rattle.std.specs.Prelude.{◌≤ℤ◌}
+use Rattle.std.proofs.Math.Nat.{eq-or-lt_of_le}
+use Rattle.std.proofs.lemmas.Int.{ints, clamps}
+use Rattle.std.proofs.lemmas.Bool.{cases_lt}
+use Rattle.dioid.specs.Dates.{later_of, earlier_of, date_left}
+use Rattle.dioid.specs.declared.dates.Date.{Date}
+use Rattle.dioid.specs.declared.dates.Date.TheVariants.{Early, At, Never}
+use Rattle.series_form.specs.Order.{Le, move, le_refl, le_is, le_trans, le_antisym, earlier_le_left, earlier_le_right, le_earlier, move_le, move_le_back, move_zero, move_move, move_further, le_move_back, le_move_over, move_back, left_move, left_of_move}
+use Rattle.series_form.specs.Periodic.{Rising, Repeats, repeats_later, repeats_from, times, by_steps}
+
+-- x is the greatest date that is at most f i for each i
+pub record IsGreatestBelow (f : ℕ → Date) (x : Date) : Type 0 where
+  pub below : (i : ℕ) → Le x (f i)
+  pub greatest : (y : Date) → ((i : ℕ) → Le y (f i)) → Le y x
+
+-- x is the residual of t by s at k
+abbrev pub IsLeftAt : (ℕ → Date) → (ℕ → Date) → ℕ → Date → Type 0
+IsLeftAt s t k x = IsGreatestBelow (λ i. date_left (s i) (t (k + i))) x
+
+pub one_greatest : (f : ℕ → Date) (x y : Date) → IsGreatestBelow f x → IsGreatestBelow f y → x ≡ y
+one_greatest f x y a b = le_antisym (b.greatest x a.below) (a.greatest y b.below)
+
+pub greatest_moved : (f g : ℕ → Date) (x : ℤ) (d : Date) → ((i : ℕ) → g i ≡ move x (f i)) → IsGreatestBelow f d → IsGreatestBelow g (move x d)
+greatest_moved f g x d e a = record {
+  below = λ i. le_trans (move_le x (a.below i)) (le_is (sym (e i)));
+  greatest = λ y h. le_trans (le_is (sym (move_back x y))) (move_le x (a.greatest (move (pos 0 -ℤ x) y) (λ i. move_le_back x (le_trans (le_is (move_back x y)) (le_trans (h i) (le_is (e i)))))));
+}
+
+pub left_repeats : (s t left : ℕ → Date) (q n : ℕ) (x : ℤ) → ((k : ℕ) → IsLeftAt s t k (left k)) → Repeats t q n x → Repeats left q n x
+left_repeats s t left q n x is b = record {
+  at = λ k w.
+      one_greatest (λ i. date_left (s i) (t ((k + n) + i))) (left (k + n)) (move x (left k)) (is (k + n))
+      (greatest_moved (λ i. date_left (s i) (t (k + i))) (λ i. date_left (s i) (t ((k + n) + i))) x (left k)
+      (λ i. ap (λ (z : ℕ). date_left (s i) (t z)) (omega arith) ∙ ap (date_left (s i)) (b.at (k + i) (omega arith)) ∙ left_move x (s i) (t (k + i)))
+      (is k));
+}
+
+-- the least of f 0, .., f n
+abbrev pub least_of : (ℕ → Date) → ℕ → Date
+least_of f zero = f 0
+least_of f (suc n) = earlier_of (least_of f n) (f (suc n))
+
+pub least_of_le : (f : ℕ → Date) (n j : ℕ) → j ≤ n → Le (least_of f n) (f j)
+least_of_le f zero j h = le_is (ap f (omega arith))
+least_of_le f (suc n) j h = ⊎_elim
+    (λ q. let P : ℕ → Type 0 = λ k. Le (earlier_of (least_of f n) (f (suc n))) (f k) in subst P (sym q) (earlier_le_right (least_of f n) (f (suc n))))
+    (λ l. le_trans (earlier_le_left (least_of f n) (f (suc n))) (least_of_le f n j (omega arith)))
+    (eq-or-lt_of_le {n = j} {m = suc n} h)
+
+pub le_least_of : (f : ℕ → Date) (n : ℕ) (c : Date) → ((j : ℕ) → j ≤ n → Le c (f j)) → Le c (least_of f n)
+le_least_of f zero c h = h 0 (omega arith)
+le_least_of f (suc n) c h = le_earlier (le_least_of f n c (λ j w. h j (omega arith))) (h (suc n) (omega arith))
+
+-- where f never falls over l shifts from p on, the values below p + l decide
+pub first_decide : (f : ℕ → Date) (p l : ℕ) → ((i : ℕ) → p ≤ i → Le (f i) (f (i + suc l))) → IsGreatestBelow f (least_of f (p + l))
+first_decide f p l h = record {
+  below = λ i. ⊎_elim
+      (λ low. least_of_le f (p + l) i (omega arith))
+      (λ high. by_steps (λ j. Le (least_of f (p + l)) (f j)) p (suc l) (omega arith) (λ j u v. least_of_le f (p + l) j (omega arith)) (λ j u v. le_trans v (h j u)) i high)
+      (cases_lt i p);
+  greatest = λ y g. le_least_of f (p + l) y (λ j _. g j);
+}
+
+-- the first slope at most the second
+pub left_decided : (s t : ℕ → Date) (p l k : ℕ) (x y : ℤ) → Repeats s p (suc l) x → Repeats t p (suc l) y → x ≤ℤ y → IsLeftAt s t k (least_of (λ i. date_left (s i) (t (k + i))) (p + l))
+left_decided s t p l k x y a b h = first_decide (λ i. date_left (s i) (t (k + i))) p l (λ i w.
+    let d : Date = date_left (s i) (t (k + i)) in
+    le_trans (le_is (sym (move_zero d)))
+    (le_trans (move_further d (let f : pos 0 ≤ℤ (y -ℤ x) = omega (arith, ints) in f))
+    (le_is (sym (left_of_move x y (s i) (t (k + i))) ∙ ap (λ z. date_left z (move y (t (k + i)))) (sym (a.at i w)) ∙ ap (date_left (s (i + suc l))) (sym (b.at (k + i) (omega arith)) ∙ ap t (omega arith))))))

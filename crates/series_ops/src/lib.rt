@@ -1,0 +1,20 @@
+//! Products, residuals and stars of periodic series, and the series as a dioid. The contract of each
+//! operation is that of the functions: the result has, at every shift, the value that the book's
+//! definition gives, and the refusals come exactly where the need or a number is too great. Stands on
+//! `series_form` and `dioid`.
+#![tactic(auto)]
+
+mod gains;
+mod laws;
+mod products;
+mod residuals;
+mod stars;
+mod tables;
+#[cfg(test)]
+mod tests;
+
+pub use gains::Gain;
+pub use laws::series_are_closed;
+pub use products::product;
+pub use residuals::left;
+pub use stars::star;

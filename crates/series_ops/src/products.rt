@@ -1,0 +1,211 @@
+ghost use Rattle.std.specs.Prelude.{◌≡◌, ◌≤◌, ◌<◌, ◌+◌, ◌-◌, ◌*◌, ℕ, IfOk, length, pos, ◌<ℤ◌, ◌-ℤ◌};
+ghost use Rattle.std.specs.Int.RustNames.{unsigned_abs};
+ghost use Rattle.dioid.specs.declared.dates.Date.TheVariants.{Early, Never};
+ghost use Rattle.dioid.specs.Dates.{date_product};
+ghost use Rattle.series_form.specs.declared.plans.Slopes.TheVariants.{First};
+ghost use Rattle.series_form.specs.Periodic.{times};
+ghost use Rattle.series_form.specs.Forms.{value_at, table, HasValues};
+ghost use Rattle.series_form.specs.Bounds.{IsUpTo, IsSeries};
+ghost use Rattle.series_form.specs.Answer.{AnswersOf, Answers};
+ghost use Rattle.series_form.specs.Needs.{need_of, period_with, rise_of, fall_of, tail_of, slopes_of};
+ghost use Rattle.series_ops.specs.Product.{product_at, greatest};
+ghost use Rattle.series_ops.specs.Needs.{lifts_of, waits_of, product_first, product_by_slopes, product_plan, form_product};
+ghost use Rattle.series_ops.specs.Listed.{IsNumber, listed, AreUpTo};
+
+use crate::tables::{ended, first_values};
+use dioid::Date;
+use series_form::{
+    Plan, Series, SeriesRefused, Slopes, common_period, compare_slopes, gain_over, gains_for,
+    lead_gain, start, tail,
+};
+use std::alloc::{AllocError, Global};
+
+/// The common periods that cover the list of the first series.
+fn lifts(first: &Series, second: &Series) -> usize
+    ensures value { result ≡ lifts_of first.now second.now }
+    ensures bound { result ≤ 20000 }
+    ensures covers { result * period_with first.now second.now ≤ 400020000 }
+{
+    let shifts = common_period(first, second);
+    (first.values().len() + (shifts - 1)) / shifts
+}
+
+/// What the second series gains on the lifts.
+fn gain_on_lifts(first: &Series, second: &Series) -> i128
+    ensures value { result ≡ times (lifts_of first.now second.now) (fall_of first.now second.now) }
+    ensures bound { unsigned_abs result ≤ 1000000000000000000000000000 }
+{
+    let lifts = lifts(first, second);
+    let gain = gain_over(second, common_period(first, second));
+    lifts as i128 * gain
+}
+
+/// The common periods after which the first series, of the greater slope, has gained what the
+/// second gains on them and on the lifts.
+fn waits(first: &Series, second: &Series) -> u128
+    requires { pos 0 <ℤ (rise_of first.now second.now -ℤ fall_of first.now second.now) }
+    ensures value { result ≡ waits_of first.now second.now }
+    ensures bound { result ≤ 1800000000000000000000000000 }
+{
+    gains_for(gain_on_lifts(first, second), lead_gain(first, second))
+}
+
+/// From where the product repeats where both tails are numbers and the first slope is greater.
+fn plan_of_numbers(first: &Series, second: &Series) -> Plan
+    requires gain { pos 0 <ℤ (rise_of first.now second.now -ℤ fall_of first.now second.now) }
+    requires number { IsNumber (tail_of first.now) }
+    ensures value { result ≡ product_first first.now second.now }
+    ensures bound { result.from ≤ 10000000000000000000000000000000000000 }
+{
+    let shifts = common_period(first, second) as u128;
+    let begun = (first.values().len() + start(second)) as u128;
+    Plan {
+        from: begun + (lifts(first, second) as u128 * shifts + waits(first, second) * shifts),
+        turn: first.period(),
+    }
+}
+
+/// From where the product repeats where the first tail is Never and the second one a number.
+fn plan_of_never(first: &Series, second: &Series) -> Plan
+    requires never { tail_of first.now ≡ Never }
+    requires number { IsNumber (tail_of second.now) }
+    ensures value { result ≡ product_first first.now second.now }
+    ensures bound { result.from ≤ 10000000000000000000000000000000000000 }
+{
+    let shifts = common_period(first, second);
+    Plan {
+        from: (first.values().len() + start(second) + lifts(first, second) * shifts) as u128,
+        turn: 1,
+    }
+}
+
+/// From where the product repeats where the first slope is greater and the second tail not Early.
+fn plan_of_steeper(first: &Series, second: &Series) -> Plan
+    requires slopes { slopes_of first.now second.now ≡ First }
+    requires tail { tail_of second.now ≡ Early → ⊥ }
+    ensures value { result ≡ product_first first.now second.now }
+    ensures bound { result.from ≤ 10000000000000000000000000000000000000 }
+{
+    match (tail(first), tail(second)) {
+        (Date::At(_), Date::At(_)) => plan_of_numbers(first, second),
+        (Date::Never, Date::At(_)) => plan_of_never(first, second),
+        _ => Plan { from: 0, turn: 1 },
+    }
+}
+
+/// From where the product repeats where no factor is Early everywhere.
+fn plan_by_slopes(first: &Series, second: &Series) -> Plan
+    requires left { tail_of first.now ≡ Early → ⊥ }
+    requires right { tail_of second.now ≡ Early → ⊥ }
+    ensures value { result ≡ product_by_slopes (slopes_of first.now second.now) first.now second.now }
+    ensures bound { result.from ≤ 10000000000000000000000000000000000000 }
+{
+    match compare_slopes(first, second) {
+        Slopes::Equal => {
+            let shifts = common_period(first, second);
+            Plan {
+                from: (start(first) + start(second) + shifts) as u128,
+                turn: shifts,
+            }
+        }
+        Slopes::First => plan_of_steeper(first, second),
+        Slopes::Second => plan_of_steeper(second, first),
+    }
+}
+
+/// From where the product repeats, and by how many shifts.
+fn plan_of_product(first: &Series, second: &Series) -> Plan
+    ensures value { result ≡ product_plan first.now second.now }
+    ensures bound { result.from ≤ 10000000000000000000000000000000000000 }
+    ensures left { IsSeries first.now }
+    ensures right { IsSeries second.now }
+{
+    match (tail(first), tail(second)) {
+        (Date::Early, _) | (_, Date::Early) => Plan { from: 0, turn: 1 },
+        _ => plan_by_slopes(first, second),
+    }
+}
+
+/// The two dates added.
+fn added(first: Date, second: Date) -> Date
+    requires first { IsUpTo 20001000000000000000000 first }
+    requires second { IsUpTo 500000000000000000000000000 second }
+    ensures { result ≡ date_product first second }
+{
+    match (first, second) {
+        (Date::Early, _) | (_, Date::Early) => Date::Early,
+        (Date::At(first), Date::At(second)) => Date::At(first + second),
+        _ => Date::Never,
+    }
+}
+
+/// The greatest sum of a value of the one list and a value of the other, their places adding up to
+/// `shift`.
+pub(crate) fn product_value(first: &[Date], second: &[Date], shift: usize) -> Date
+    requires first { shift < length first.now }
+    requires second { shift < length second.now }
+    requires first_bound { AreUpTo 20001000000000000000000 first.now }
+    requires second_bound { AreUpTo 500000000000000000000000000 second.now }
+    ensures { result ≡ product_at (listed first.now) (listed second.now) shift }
+{
+    let mut best = added(first[0], second[shift]);
+    for place in 0..shift {
+        best = best.later(added(first[place + 1], second[shift - (place + 1)]));
+    }
+    best
+}
+
+/// The first values of the product of two lists.
+fn product_list(
+    alloc: Global,
+    first: &[Date],
+    second: &[Date],
+    count: usize,
+) -> Result<Vec<Date>, AllocError>
+    requires first { count ≤ length first.now }
+    requires second { count ≤ length second.now }
+    requires first_bound { AreUpTo 20001000000000000000000 first.now }
+    requires second_bound { AreUpTo 500000000000000000000000000 second.now }
+    ensures { IfOk result (λ values. values.items ≡ table (product_at (listed first.now) (listed second.now)) count) }
+{
+    let mut values = Vec::new(alloc);
+    for shift in 0..count {
+        values.push(product_value(first, second, shift))?;
+    }
+    Ok(values)
+}
+
+/// The first values of the product.
+pub(crate) fn product_values(
+    alloc: Global,
+    first: &Series,
+    second: &Series,
+    count: usize,
+) -> Result<Vec<Date>, AllocError>
+    requires { count ≤ 20001 }
+    ensures { IfOk result (λ values. values.items ≡ table (product_at (value_at first.now) (value_at second.now)) count) }
+{
+    let firsts = first_values(alloc, first, count)?;
+    let seconds = first_values(alloc, second, count)?;
+    product_list(alloc, firsts.as_slice(), seconds.as_slice(), count)
+}
+
+/// The product of two series (chapter 5): at each shift k the greatest sum of a value of the first
+/// at i and one of the second at k - i. TooLong exactly where its need exceeds 20,000; where not,
+/// TooGreat exactly where a number of the result exceeds 10^18.
+pub fn product(alloc: Global, first: &Series, second: &Series) -> Result<Series, SeriesRefused>
+    ensures answer { AnswersOf (λ r. HasValues r (product_at (value_at first.now) (value_at second.now))) (need_of (product_plan first.now second.now)) (need_of (product_plan first.now second.now)) result }
+    ensures model { Answers (need_of (product_plan first.now second.now)) (form_product first.now second.now) result }
+    ensures left { IsSeries first.now }
+    ensures right { IsSeries second.now }
+{
+    let plan = plan_of_product(first, second);
+    let need = plan.from + plan.turn as u128;
+    if need > 20_000 {
+        return Err(SeriesRefused::TooLong { need });
+    }
+    match product_values(alloc, first, second, need as usize + 1) {
+        Ok(values) => ended(values, plan.turn),
+        Err(_) => Err(SeriesRefused::OutOfMemory),
+    }
+}

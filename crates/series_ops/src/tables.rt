@@ -1,0 +1,40 @@
+ghost use Rattle.std.specs.Prelude.{◌≡◌, ◌≤◌, ◌<◌, ◌+◌, ◌-◌, ℕ, IfOk, length, take, get_or};
+ghost use Rattle.dioid.specs.declared.dates.Date.TheVariants.{Early};
+ghost use Rattle.series_form.specs.Forms.{value_at, table};
+ghost use Rattle.series_form.specs.Bounds.{IsSeries};
+ghost use Rattle.series_form.specs.Answer.{IsBeginning, IsShortest, form_before};
+ghost use Rattle.series_ops.specs.Listed.{AreUpTo, all_but_last, last_of};
+
+use dioid::Date;
+use series_form::{Series, SeriesRefused, shortest};
+use std::alloc::{AllocError, Global};
+
+/// The first values of a series.
+pub(crate) fn first_values(
+    alloc: Global,
+    series: &Series,
+    count: usize,
+) -> Result<Vec<Date>, AllocError>
+    requires { count ≤ 60001 }
+    ensures values { IfOk result (λ values. values.items ≡ table (value_at series.now) count) }
+    ensures series { IfOk result (λ values. IsSeries series.now) }
+{
+    let _period = series.period();
+    let mut values = Vec::new(alloc);
+    for shift in 0..count {
+        values.push(series.at(shift as u64))?;
+    }
+    Ok(values)
+}
+
+/// The series of a list whose last value is the one after the list of its form.
+pub(crate) fn ended(mut values: Vec<Date>, turn: usize) -> Result<Series, SeriesRefused>
+    requires some { 0 < length values.items }
+    requires beginning { IsBeginning (all_but_last values.items) turn (last_of values.items) }
+    ensures { IsShortest (value_at (form_before (all_but_last values.items) turn (last_of values.items))) result }
+{
+    let last = values.len() - 1;
+    let next = values[last];
+    values.truncate(last);
+    shortest(values, turn, next)
+}

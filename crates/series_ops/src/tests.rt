@@ -1,0 +1,141 @@
+use crate::{Gain, left, product, star};
+use dioid::{Date, Dioid, Kleene, Refused, Residuated};
+use series_form::{Series, SeriesRefused, least, sum};
+use std::alloc::Global;
+
+/// Whether this is the series with these values, period and step.
+fn is_form(series: &Series, values: &[Date], period: usize, step: i128) -> bool {
+    series.values() == values && series.period() == period && series.step() == step
+}
+
+/// Whether the answer is the series with these values, period and step.
+fn is_series(
+    answer: &Result<Series, SeriesRefused>,
+    values: &[Date],
+    period: usize,
+    step: i128,
+) -> bool {
+    match answer {
+        Ok(series) => is_form(series, values, period, step),
+        Err(_) => false,
+    }
+}
+
+/// Whether the answer is TooLong with this need.
+fn is_too_long(answer: &Result<Series, SeriesRefused>, wanted: u128) -> bool {
+    match answer {
+        Err(SeriesRefused::TooLong { need }) => *need == wanted,
+        _ => false,
+    }
+}
+
+/// The star of the monomial of shift 1.
+fn line(alloc: Global, date: i64) -> Result<Series, SeriesRefused> {
+    let part = Series::monomial(alloc, 1, date as i128)?;
+    star(alloc, &part)
+}
+
+#[test]
+fn products_and_stars(rt: HostRuntime) {
+    let alloc = rt.alloc();
+    let zero = Date::At(0);
+    let (two, three) = (line(alloc, 2), line(alloc, 3));
+    assert!(rt; is_series(&two, &[zero], 1, 2));
+    if let (Ok(two), Ok(three)) = (two, three) {
+        assert!(rt; is_series(&product(alloc, &two, &three), &[zero], 1, 3));
+        assert!(rt; is_series(&left(alloc, &three, &two), &[Date::Early], 1, 0));
+    }
+    if let (Ok(first), Ok(second)) = (
+        Series::monomial(alloc, 1, 2),
+        Series::monomial(alloc, 3, 4),
+    ) {
+        let early = Date::Early;
+        assert!(rt;
+            is_series(
+                &product(alloc, &first, &second),
+                &[early, early, early, early, Date::At(6)],
+                1,
+                0
+            )
+        );
+    }
+}
+
+#[test]
+fn stars_of_monomials(rt: HostRuntime) {
+    let alloc = rt.alloc();
+    let zero = Date::At(0);
+    if let Ok(part) = Series::monomial(alloc, 3, 1) {
+        assert!(rt; is_series(&star(alloc, &part), &[zero, zero, zero], 3, 1));
+    }
+    if let Ok(part) = Series::monomial(alloc, 0, 1) {
+        assert!(rt; is_series(&star(alloc, &part), &[Date::Never], 1, 0));
+    }
+    if let Ok(part) = Series::monomial(alloc, 200, 1) {
+        assert!(rt; is_too_long(&star(alloc, &part), 40_401));
+    }
+    if let (Ok(low), Ok(one)) = (Series::monomial(alloc, 0, -1_000_000), line(alloc, 1)) {
+        if let Ok(part) = product(alloc, &low, &one) {
+            assert!(rt; is_too_long(&star(alloc, &part), 1_000_001));
+        }
+    }
+}
+
+#[test]
+fn sums_with_stars(rt: HostRuntime) {
+    let alloc = rt.alloc();
+    if let (Ok(two), Ok(five)) = (line(alloc, 2), Series::monomial(alloc, 0, 5)) {
+        let (a, b) = (Date::At(5), Date::At(6));
+        assert!(rt; is_series(&sum(alloc, &two, &five), &[a, a, a, b], 1, 2));
+        assert!(rt;
+            is_series(
+                &least(alloc, &two, &five),
+                &[Date::At(0), Date::At(2), Date::At(4), a],
+                1,
+                0
+            )
+        );
+    }
+}
+
+/// Whether the answer is the gain with these values, period and step.
+fn is_gain(answer: &Result<Gain, Refused>, values: &[Date], period: usize, step: i128) -> bool {
+    match answer {
+        Ok(gain) => is_form(&gain.series, values, period, step),
+        Err(_) => false,
+    }
+}
+
+/// The sum, the product and a copy of the first, through the bound.
+fn sum_and_product<D: Dioid>(alloc: Global, a: &D, b: &D) -> [Result<D, Refused>; 3] {
+    [a.plus(alloc, b), a.times(alloc, b), a.duplicate(alloc)]
+}
+
+/// The star of the first, the residual and the meet, through the bounds.
+fn star_and_residual<D: Kleene + Residuated>(
+    alloc: Global,
+    a: &D,
+    b: &D,
+) -> [Result<D, Refused>; 3] {
+    [a.star(alloc), a.left(alloc, b), a.meet(alloc, b)]
+}
+
+#[test]
+fn gains_through_the_bounds(rt: HostRuntime) {
+    let alloc = rt.alloc();
+    let zero = Date::At(0);
+    assert!(rt; is_gain(&Gain::zero(alloc), &[Date::Early], 1, 0));
+    assert!(rt; is_gain(&Gain::one(alloc), &[zero], 1, 0));
+    if let (Ok(two), Ok(three)) = (line(alloc, 2), line(alloc, 3)) {
+        let (two, three) = (Gain { series: two }, Gain { series: three });
+        let [more, both, copy] = sum_and_product(alloc, &two, &three);
+        assert!(rt; is_gain(&more, &[zero], 1, 3));
+        assert!(rt; is_gain(&both, &[zero], 1, 3));
+        assert!(rt; is_gain(&copy, &[zero], 1, 2));
+        let [stars, rest, less] = star_and_residual(alloc, &two, &three);
+        assert!(rt; is_gain(&stars, &[zero], 1, 2));
+        assert!(rt; is_gain(&rest, &[zero], 1, 3));
+        assert!(rt; is_gain(&less, &[zero], 1, 2));
+        assert!(rt; !two.same(&three));
+    }
+}
