@@ -1,0 +1,116 @@
+//! The simple command, and what words give by it.
+ghost use Rattle.std.specs.Prelude.{◌≡◌, ◌≢◌, Some, None, [], map, IfOk, IsErrOf, string_bytes};
+ghost use Rattle.clap.specs.Words.{app_of, fault_of, found_of, matches_of, rows_of};
+ghost use Rattle.teg_words.specs.Meanings.{told};
+ghost use Rattle.teg_words.specs.Words.{flag_of, given_from, given_of, simple_command};
+
+use clap::error::ErrorKind;
+use clap::{Arg, ArgAction, ArgMatches, Command};
+use std::alloc::{AllocError, Global};
+
+/// What the words give.
+#[derive(Debug, PartialEq, Eq, Drop)]
+pub struct GivenWords<'a> {
+    /// The first positional word.
+    pub command: &'a str,
+    /// The positional words after it, in order.
+    pub rest: Vec<&'a str>,
+    /// The value of `--limit`, where it is given.
+    pub limit: Option<&'a str>,
+    /// Whether `--rounds` is given.
+    pub rounds: bool,
+}
+
+/// Why words give nothing.
+#[derive(Clone, Copy, Debug, PartialEq, Eq)]
+pub enum WordsRefusal {
+    /// The simple command refuses the words.
+    Refused,
+    /// No memory was found.
+    OutOfMemory,
+}
+
+fn simple_command<'a>(alloc: Global) -> Result<Command<'a>, AllocError>
+    ensures { IfOk result (λ command. app_of command ≡ simple_command) }
+{
+    let command = Arg::new(alloc, "command").required(true);
+    let rest = Arg::new(alloc, "rest").num_args(0..);
+    let limit = Arg::new(alloc, "limit").long("limit");
+    let rounds = Arg::new(alloc, "rounds")
+        .long("rounds")
+        .action(ArgAction::SetTrue);
+    Command::new(alloc, "teg")
+        .no_binary_name(true)
+        .disable_help_flag(true)
+        .disable_version_flag(true)
+        .arg(command)?
+        .arg(rest)?
+        .arg(limit)?
+        .arg(rounds)
+}
+
+// The reading of `clap`.
+fn parse<'a>(alloc: Global, words: &'a [String]) -> Result<ArgMatches<'a>, WordsRefusal>
+    ensures taken { IfOk result (λ _. fault_of simple_command (map string_bytes words.now) ≡ []) }
+    ensures rows { IfOk result (λ matches. rows_of (found_of matches) ≡ matches_of simple_command (map string_bytes words.now)) }
+    ensures refused { IsErrOf result WordsRefusal.Refused → fault_of simple_command (map string_bytes words.now) ≢ [] }
+{
+    let Ok(command) = simple_command(alloc) else {
+        return Err(WordsRefusal::OutOfMemory);
+    };
+    match command.try_get_matches_from(words) {
+        Ok(matches) => Ok(matches),
+        Err(error) => {
+            if error.kind() == ErrorKind::OutOfMemory {
+                Err(WordsRefusal::OutOfMemory)
+            } else {
+                Err(WordsRefusal::Refused)
+            }
+        }
+    }
+}
+
+// Whether `--rounds` is given.
+fn has_rounds(matches: &ArgMatches<'_>) -> bool
+    ensures { result ≡ flag_of (rows_of (found_of matches.now)) }
+{
+    match matches.get_str("rounds") {
+        Some(text) => text == "true",
+        None => false,
+    }
+}
+
+// What the rows of `clap` give.
+fn given<'a>(alloc: Global, matches: &ArgMatches<'a>) -> Result<GivenWords<'a>, WordsRefusal>
+    ensures ok { IfOk result (λ words. given_from (rows_of (found_of matches.now)) ≡ Some (told words)) }
+    ensures refused { IsErrOf result WordsRefusal.Refused → given_from (rows_of (found_of matches.now)) ≡ None }
+{
+    let Some(command) = matches.get_str("command") else {
+        return Err(WordsRefusal::Refused);
+    };
+    let rest = matches.get_strs("rest").unwrap_or(&[]);
+    let Ok(rest) = Vec::from_slice(alloc, rest) else {
+        return Err(WordsRefusal::OutOfMemory);
+    };
+    let limit = matches.get_str("limit");
+    let rounds = has_rounds(matches);
+    Ok(GivenWords {
+        command,
+        rest,
+        limit,
+        rounds,
+    })
+}
+
+/// What the words give, by one simple command: a required positional, any number of others, the
+/// option `--limit VALUE` and the flag `--rounds`, without help and version.
+///
+/// `words` are those after the name of the program. `--limit 5` and `--limit=5` mean the same, and
+/// after `--` every word is positional. `Refused` comes exactly where `clap` refuses the words.
+pub fn read_words<'a>(alloc: Global, words: &'a [String]) -> Result<GivenWords<'a>, WordsRefusal>
+    ensures ok { IfOk result (λ given. given_of (map string_bytes words.now) ≡ Some (told given)) }
+    ensures refused { IsErrOf result WordsRefusal.Refused → given_of (map string_bytes words.now) ≡ None }
+{
+    let matches = parse(alloc, words)?;
+    given(alloc, &matches)
+}
