@@ -1,6 +1,6 @@
 -- What the words of the command line ask for.
-use Rattle.std.specs.Prelude.{ℕ, Bool, false, List, [], ◌∷◌, Option, Some, None, codes, bytes_eq, if◌then◌else◌, ◌==◌}
-use Rattle.std.specs.Option.{option_map}
+use Rattle.std.specs.Prelude.{ℕ, Bool, false, List, [], ◌∷◌, Option, Some, None, codes, bytes_eq, if◌then◌else◌, option_and_then}
+use Rattle.teg_words.specs.Words.{Given, given_of}
 use Rattle.teg_run.specs.declared.order.NetCommand.{NetCommand}
 use Rattle.teg_run.specs.declared.order.NetCommand.TheVariants.{Check}
 use Rattle.teg_run.specs.declared.texts.Which.{Which}
@@ -10,21 +10,20 @@ use Rattle.teg_run.specs.declared.texts.Which.TheVariants.{Net as NetFile}
 pub data Order : Type 0 where
   OfNet : (command : NetCommand) (net : List ℕ) → Order
 
--- the command of a word that is followed by the name of a net alone
-abbrev pub net_command_of : List ℕ → Option NetCommand
-net_command_of word = if bytes_eq word (codes "check") then Some Check else None
+-- `check NET`
+abbrev pub check_asked : List (List ℕ) → Option (List ℕ) → Bool → Option Order
+check_asked (net ∷ []) None false = Some (OfNet Check net)
+check_asked rest limit rounds = None
 
--- the word is an option: it begins with a hyphen
-abbrev pub is_option : List ℕ → Bool
-is_option [] = false
-is_option (first ∷ word) = first == 45
+-- the order of a command with what is given to it: nothing for a command that is not built
+abbrev pub asked_for : Given → Option Order
+asked_for given =
+    if bytes_eq given.command (codes "check") then check_asked given.rest given.limit given.rounds
+    else None
 
 -- the order that the words give, if they give one
 abbrev pub order_of : List (List ℕ) → Option Order
-order_of [] = None
-order_of (word ∷ []) = None
-order_of (word ∷ net ∷ []) = if is_option net then None else option_map (λ command. OfNet command net) (net_command_of word)
-order_of (word ∷ net ∷ more ∷ words) = None
+order_of words = option_and_then asked_for (given_of words)
 
 -- the name of the net file, where the order has one
 abbrev pub net_of : Order → Option (List ℕ)

@@ -13,7 +13,7 @@ ghost use Rattle.teg_run.specs.Endings.{EndsWith};
 ghost use Rattle.teg_run.specs.Texts.{usage};
 
 use crate::ending::Ending;
-use crate::order::{Order, read_words};
+use crate::order::{Order, read_order};
 use crate::reading::answer_net;
 use crate::status::Status;
 use crate::texts;
@@ -60,9 +60,10 @@ fn answer_words<S: Shelf>(
         Answered (Asked asked (λ firings. map (λ m. line_text m firings) monitors.items)) (asked_files asked)
         (S.state shelf.old) (S.state shelf.new) (ended result) }
 {
-    match read_words(words) {
-        Some(order) => answer_order(alloc, order, shelf, monitors),
-        None => refuse_words(alloc),
+    match read_order(alloc, words) {
+        Ok(Some(order)) => answer_order(alloc, order, shelf, monitors),
+        Ok(None) => refuse_words(alloc),
+        Err(_) => Ending::Lost,
     }
 }
 

@@ -1,8 +1,13 @@
 //! What the words of the command line ask for.
-ghost use Rattle.std.specs.Prelude.{◌≡◌, map, string_bytes};
-ghost use Rattle.std.specs.Option.{option_map};
-ghost use Rattle.teg_run.specs.Orders.{order_of, net_command_of, is_option};
+ghost use Rattle.std.specs.Prelude.{◌≡◌, IfOk, map, string_bytes};
+ghost use Rattle.std.specs.Option.{option_copied, option_map};
+ghost use Rattle.teg_words.specs.Meanings.{told, texts};
+ghost use Rattle.teg_run.specs.Orders.{asked_for, check_asked, order_of};
 ghost use Rattle.teg_run.specs.Meanings.{meant};
+
+use std::alloc::Global;
+use teg_net::OutOfMemory;
+use teg_words::{GivenWords, WordsRefusal, read_words};
 
 /// A command that reads a net and no other file.
 #[derive(Clone, Copy, Debug, PartialEq, Eq)]
@@ -18,34 +23,37 @@ pub enum Order<'a> {
     OfNet { command: NetCommand, net: &'a str },
 }
 
-// The command of a word that is followed by the name of a net alone.
-fn net_command(word: &str) -> Option<NetCommand>
-    ensures { result ≡ net_command_of word.now }
+// `check NET`
+fn check<'a>(rest: &[&'a str], limit: Option<&'a str>, rounds: bool) -> Option<Order<'a>>
+    ensures { option_map meant result ≡ check_asked (texts rest.now) (option_copied limit.entry) rounds }
 {
-    match word {
-        "check" => Some(NetCommand::Check),
+    match (rest, limit, rounds) {
+        ([net], None, false) => Some(Order::OfNet {
+            command: NetCommand::Check,
+            net,
+        }),
         _ => None,
     }
 }
 
-// Whether a word is an option.
-fn is_option(word: &str) -> bool
-    ensures { result ≡ is_option word.now }
+// The order of a command with what is given to it. A command that is not built is none.
+fn asked_for<'a>(given: &GivenWords<'a>) -> Option<Order<'a>>
+    ensures { option_map meant result ≡ asked_for (told given.now) }
 {
-    word.as_bytes().first() == Some(&b'-')
+    let rest = given.rest.as_slice();
+    match given.command {
+        "check" => check(rest, given.limit, given.rounds),
+        _ => None,
+    }
 }
 
-/// The order that the words give, if they give one. It takes no memory.
-pub fn read_words<'a>(words: &'a [String]) -> Option<Order<'a>>
-    ensures { option_map meant result ≡ order_of (map string_bytes words.now) }
+/// The order that the words give, if they give one.
+pub fn read_order<'a>(alloc: Global, words: &'a [String]) -> Result<Option<Order<'a>>, OutOfMemory>
+    ensures { IfOk result (λ order. option_map meant order ≡ order_of (map string_bytes words.now)) }
 {
-    let [word, net] = words else {
-        return None;
-    };
-    if is_option(net.as_str()) {
-        return None;
+    match read_words(alloc, words) {
+        Ok(given) => Ok(asked_for(&given)),
+        Err(WordsRefusal::Refused) => Ok(None),
+        Err(WordsRefusal::OutOfMemory) => Err(OutOfMemory),
     }
-    let command = net_command(word.as_str())?;
-    let net = net.as_str();
-    Some(Order::OfNet { command, net })
 }

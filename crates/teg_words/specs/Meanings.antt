@@ -1,6 +1,6 @@
 -- What values of the code mean.
 use Rattle.std.specs.Option.{option_copied}
-use Rattle.clap.specs.Walk.{texts}
+pub use Rattle.clap.specs.Walk.{texts}
 use Rattle.teg_words.specs.declared.simple_command.GivenWords.{GivenWords}
 use Rattle.teg_words.specs.Words.{Given}
 

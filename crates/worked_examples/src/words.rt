@@ -1,5 +1,5 @@
-//! Words that are refused.
-use crate::bench::{LOOP, answers};
+//! Words: which are refused, and which name a net.
+use crate::bench::{LOOP, LOOP_IS_LIVE, answers};
 use std::test::Fail;
 use teg_run::Status;
 
@@ -7,22 +7,42 @@ const USAGE: &str = "usage: teg check NET\n";
 
 #[test]
 fn words_that_ask_for_nothing_get_the_usage(rt: HostRuntime) -> Result<(), Fail> {
-    let alloc = rt.alloc();
-    let net = LOOP.as_bytes();
-    assert!(rt; answers(alloc, &[], net, Status::Words, USAGE)?);
-    assert!(rt; answers(alloc, &["chek", "net"], net, Status::Words, USAGE)?);
-    assert!(rt; answers(alloc, &["check"], net, Status::Words, USAGE)?);
-    assert!(rt; answers(alloc, &["check", "-x"], net, Status::Words, USAGE)?);
-    assert!(rt;
-        answers(
-            alloc,
-            &["check", "net", "--rounds"],
-            net,
-            Status::Words,
-            USAGE
-        )?
-    );
-    assert!(rt; answers(alloc, &["check", "net", "net"], net, Status::Words, USAGE)?);
-    assert!(rt; answers(alloc, &["list", "net", "10001"], net, Status::Words, USAGE)?);
+    let table: [&[&str]; 16] = [
+        &[],
+        &["chek", "net"],
+        &["check"],
+        &["check", "-x"],
+        &["check", "net", "net"],
+        &["check", "net", "--rounds"],
+        &["check", "net", "--limit", "5"],
+        &["check", "net", "--limit=5"],
+        &["check", "net", "--limit"],
+        &["check", "net", "--help"],
+        &["--version"],
+        &["list", "net", "10001"],
+        &["list", "net", "0"],
+        &["list", "net", "+1"],
+        &["list", "net", "00000000000000000001"],
+        &["cycle", "net"],
+    ];
+    for words in table {
+        let net = LOOP.as_bytes();
+        assert!(rt; answers(rt.alloc(), words, net, Status::Words, USAGE)?);
+    }
+    Ok(())
+}
+
+#[test]
+fn after_two_hyphens_each_word_is_a_name(rt: HostRuntime) -> Result<(), Fail> {
+    let table: [&[&str]; 4] = [
+        &["check", "net"],
+        &["check", "--", "net"],
+        &["--", "check", "net"],
+        &["check", "net", "--"],
+    ];
+    for words in table {
+        let net = LOOP.as_bytes();
+        assert!(rt; answers(rt.alloc(), words, net, Status::Done, LOOP_IS_LIVE)?);
+    }
     Ok(())
 }
