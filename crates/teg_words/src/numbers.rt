@@ -1,5 +1,5 @@
 //! Numbers among the words.
-ghost use Rattle.std.specs.Prelude.{◌≡◌};
+ghost use Rattle.std.specs.Prelude.{◌≡◌, ◌≤◌, IfSome};
 ghost use Rattle.std.specs.Char.{is_ascii_digit};
 ghost use Rattle.std.specs.List.{list_all};
 ghost use Rattle.teg_words.specs.Numbers.{is_numeral, number_of, within};
@@ -18,7 +18,8 @@ fn is_numeral(text: &str) -> bool
 }
 
 fn within(low: u64, high: u64, value: u64) -> Option<u64>
-    ensures { result ≡ within low high value }
+    ensures value { result ≡ within low high value }
+    ensures in_range { IfSome result (λ value. (low ≤ value) × (value ≤ high)) }
 {
     if low <= value && value <= high {
         Some(value)
@@ -32,7 +33,8 @@ fn within(low: u64, high: u64, value: u64) -> Option<u64>
 /// A number is 1 to 19 decimal digits without a sign; leading zeros are allowed. The answer is none
 /// where the word is something else, or where its value is out of that range. It takes no memory.
 pub fn number(word: &str, low: u64, high: u64) -> Option<u64>
-    ensures { result ≡ number_of low high word.now }
+    ensures value { result ≡ number_of low high word.now }
+    ensures in_range { IfSome result (λ value. (low ≤ value) × (value ≤ high)) }
 {
     if !is_numeral(word) {
         return None;

@@ -46,3 +46,20 @@ fn after_two_hyphens_each_word_is_a_name(rt: HostRuntime) -> Result<(), Fail> {
     }
     Ok(())
 }
+
+#[test]
+fn a_lone_hyphen_is_a_name(rt: HostRuntime) -> Result<(), Fail> {
+    let net = LOOP.as_bytes();
+    let text = "fault: cannot read the net\n";
+    assert!(rt; answers(rt.alloc(), &["check", "-"], net, Status::ReadFault, text)?);
+    assert!(rt;
+        answers(
+            rt.alloc(),
+            &["check", "--", "-x"],
+            net,
+            Status::ReadFault,
+            text
+        )?
+    );
+    Ok(())
+}

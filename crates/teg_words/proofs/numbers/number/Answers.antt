@@ -20,18 +20,18 @@ small t h =
     let short : digits_value 10 t < 10000000000000000000 = digits_value_short own t 19 digits most in
     omega arith
 
-pub returns-in-Ok : goal.returns-in-Ok
-returns-in-Ok c =
+pub returns-in-Ok-clause-value : goal.returns-in-Ok-clause-value
+returns-in-Ok-clause-value c =
     let t = c.args.word.now in
     let yes : is_numeral t ≡ true = sym c.is_numeral.ensures ∙ c.if-not-is_numeral.false in
     let (some, most, digits) = parts t yes in
     let parsed : c.parse.result ≡ Ok (digits_value 10 t) = parse_gives own 64 t c.parse.result c.parse.ensures.value.0 digits (omega arith) (small t yes) in
     let value_is : c.in-Ok.value ≡ digits_value 10 t = cc in
-    c.within.ensures ∙ ap (within c.args.low c.args.high) value_is
+    c.within.ensures.value ∙ ap (within c.args.low c.args.high) value_is
     ∙ ap (λ (b : Bool). cond b (within c.args.low c.args.high (digits_value 10 t)) None) (sym yes)
 
-pub returns-in-Err : goal.returns-in-Err
-returns-in-Err c =
+pub returns-in-Err-clause-value : goal.returns-in-Err-clause-value
+returns-in-Err-clause-value c =
     let t = c.args.word.now in
     let yes : is_numeral t ≡ true = sym c.is_numeral.ensures ∙ c.if-not-is_numeral.false in
     let (some, most, digits) = parts t yes in
