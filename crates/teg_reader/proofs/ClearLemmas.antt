@@ -1,7 +1,6 @@
 -- What passes over the entries say where they find nothing.
 use Rattle.std.proofs.Common.{◌≡◌, ℕ, ◌+◌, ◌-◌, ◌≤◌, pos, negsuc, Bool, true, false, not, ◌&&◌, if◌then◌else◌, nat_le, List, [], ◌∷◌, ◌++◌, map, take, length, Option, Some, None, option_map, refl, ap, arith, append_assoc, append-nil, subst}
 use Rattle.std.proofs.lemmas.Bool.{and_parts}
-use Rattle.std.proofs.lemmas.Bool.Decides.{nat_tests}
 use Rattle.std.proofs.lemmas.List.{map-append, length-append}
 use Rattle.std.specs.List.{list_all}
 use Rattle.std.specs.Option.{option_map_or}
@@ -25,6 +24,7 @@ use Rattle.teg_reader.specs.BadNames.{bad_name, has_good_name}
 use Rattle.teg_reader.specs.Repeats.{repeats_earlier, repeated_at, repeated}
 use Rattle.teg_reader.specs.Ranges.{out_of_range, in_range, is_between_at, has_dates_in_range}
 use Rattle.teg_reader.specs.Documents.{bad_entries}
+use Rattle.teg_reader.proofs.Facts.{le_of, one_less}
 use Rattle.teg_reader.proofs.NumberLemmas.{stays_distinct}
 
 -- neither has a finding
@@ -43,9 +43,6 @@ none_if false x h = cc
 pub none_where : {A : Type 0} (b : Bool) (x : A) → (if b then Some x else None) ≡ None → b ≡ false
 none_where true x h = cc
 none_where false x h = refl
-
-le_of : (a b : ℕ) → nat_le a b ≡ true → a ≤ b
-le_of a b h = grind (arith, nat_tests)
 
 -- where a look at each entry finds nothing, each passes the test that it stands for
 pub all_clear : (look : Look) (section : Section) (p : Data → Bool) → ((n : ℕ) (d : Data) → look (spot_at section n) d ≡ None → p d ≡ true) → (n : ℕ) (es : List Data) → first_finding look section n es ≡ None → list_all p es ≡ true
@@ -106,9 +103,6 @@ pub places_named : (top : Data) → AreGood top → list_all has_good_name (list
 places_named top good = all_clear bad_name section.Place has_good_name place_named 1 (list_at key.Place top) (clear bad_name top good.names).places
 
 -- entries of which none repeats an earlier one have distinct texts
-one_less : (n : ℕ) → (n + 1) - 1 ≡ n
-one_less n = omega arith
-
 front_of : (front rest : List Data) → take ((length front + 1) - 1) (front ++ rest) ≡ front
 front_of front rest = rw (one_less (length front)) (taken front) where
   taken : (xs : List Data) → take (length xs) (xs ++ rest) ≡ xs

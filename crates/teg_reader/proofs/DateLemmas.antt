@@ -1,6 +1,6 @@
 -- The dates of an entry, as numbers.
 use Rattle.std.proofs.Common.{◌≡◌, ℕ, ◌-◌, ◌<◌, ◌≤◌, List, [], ◌∷◌, map, drop, length, get_or, None, slice_index, refl, ap, ◌∙◌, arith}
-use Rattle.std.proofs.lemmas.List.{length-map, length-drop, get_or-map, get_or_past}
+use Rattle.std.proofs.lemmas.List.{length-map, length-drop, get_or-map}
 use Rattle.toml.specs.declared.value.Value.{Value}
 use Rattle.toml.specs.View.{view}
 use Rattle.teg_reader.specs.Trees.{as_number}
@@ -10,11 +10,6 @@ pub number_at_index : (vs : List Value) (i : ℕ) (d : Value) → i < length vs 
 number_at_index vs i d lt =
     let there : i < length (map view vs) = rw length-map lt in
     get_or-map as_number (map view vs) i (view d) 0 there ∙ ap as_number (get_or-map view vs i d (view d) lt)
-
-pub no_number_at : (vs : List Value) (i : ℕ) → length vs ≤ i → slice_index (map as_number (map view vs)) i ≡ 0
-no_number_at vs i le =
-    let past : length (map as_number (map view vs)) ≤ i = rw (length-map, length-map) le in
-    get_or_past (map as_number (map view vs)) i 0 past
 
 short : (position : ℕ) (dates : List ℕ) → length dates ≤ 1 → first_fall position dates ≡ None
 short position [] le = refl

@@ -1,8 +1,7 @@
 -- What the passes over the graph say where they find nothing.
-use Rattle.std.proofs.Common.{◌≡◌, ℕ, ◌<◌, Bool, true, false, not, cond, ◌&&◌, ◌||◌, ◌==◌, if◌then◌else◌, List, [], ◌∷◌, length, bytes_eq, Option, Some, None, refl, arith}
+use Rattle.std.proofs.Common.{◌≡◌, ℕ, ◌<◌, Bool, true, false, not, cond, ◌&&◌, ◌==◌, if◌then◌else◌, List, [], ◌∷◌, length, bytes_eq, Option, Some, None, refl, arith}
 use Rattle.std.proofs.lemmas.Bool.{and_parts}
 use Rattle.std.proofs.lemmas.Bool.Decides.{nat_tests}
-use Rattle.std.proofs.lemmas.Slice.Eq.{bytes_eq-Decides}
 use Rattle.std.specs.List.{list_all}
 use Rattle.toml.specs.Data.{Data}
 use Rattle.teg_net.specs.Names.{is_name}
@@ -16,6 +15,7 @@ use Rattle.teg_reader.specs.UnknownTransitions.{unknown_among, unknown_text, unk
 use Rattle.teg_reader.specs.EventGraphs.{no_transitions, not_event_graph, first_text, end_at, is_input_named, input_has_upstream}
 use Rattle.teg_reader.specs.InputLists.{has_good_owner, bad_input}
 use Rattle.teg_reader.specs.Documents.{bad_graph}
+use Rattle.teg_reader.proofs.Facts.{same_text, or_true}
 use Rattle.teg_reader.proofs.ClearLemmas.{neither, unmapped, none_where, all_clear, all_passed, clear}
 
 -- the passes over the graph
@@ -88,13 +88,6 @@ pub owners_known : (top : Data) → finding (unknown_transition (names_of (list_
 owners_known top known =
     all_clear (unknown_transition (names_of (list_at key.Transition top))) section.Input (has_known_owner (names_of (list_at key.Transition top)))
     (owner_known (names_of (list_at key.Transition top))) 1 (list_at key.Input top) (clear _ top known).inputs
-
-same_text : (a b : List ℕ) → bytes_eq a b ≡ true → a ≡ b
-same_text a b h = (bytes_eq-Decides a b).0 h
-
-or_true : {P : Type 0} (b c : Bool) → (b || c) ≡ true → (b ≡ true → P) → (c ≡ true → P) → P
-or_true true c h f g = f (λ _. true)
-or_true false c h f g = g h
 
 -- a text that is the name of a transition is a name
 among_good : (ts : List Data) (text : List ℕ) → list_all has_good_name ts ≡ true → is_among (names_of ts) text ≡ true → is_name text ≡ true

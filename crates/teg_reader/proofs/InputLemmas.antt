@@ -1,5 +1,5 @@
 -- Input lists in which the last pass finds no fault keep the rules of a net.
-use Rattle.std.proofs.Common.{◌≡◌, ℕ, zero, suc, ◌+◌, ◌≤◌, Bool, true, false, ◌||◌, nat_le, nat_lt, if◌then◌else◌, List, [], ◌∷◌, map, length, get_or, Option, Some, None, option_map, refl, sym, arith, subst}
+use Rattle.std.proofs.Common.{◌≡◌, ℕ, zero, suc, ◌+◌, ◌≤◌, Bool, true, false, nat_le, nat_lt, if◌then◌else◌, List, [], ◌∷◌, map, length, get_or, Option, Some, None, option_map, refl, sym, arith, subst}
 use Rattle.std.proofs.lemmas.Bool.{and_parts}
 use Rattle.std.proofs.lemmas.Bool.Decides.{nat_tests}
 use Rattle.std.proofs.lemmas.List.{length-map}
@@ -16,10 +16,8 @@ use Rattle.teg_reader.specs.Ranges.{has_dates_in_range, is_between_at}
 use Rattle.teg_reader.specs.EventGraphs.{is_input_named}
 use Rattle.teg_reader.specs.InputLists.{dates_of, again_of, first_fall, is_bad_end, bad_date, fault_of, bad_input}
 use Rattle.teg_reader.specs.Sound.{has_small_every}
+use Rattle.teg_reader.proofs.Facts.{le_of, or_false, le_test}
 use Rattle.teg_reader.proofs.ClearLemmas.{neither, unmapped, none_where, between, number_up_to, has_numbers_in_range}
-
-le_of : (a b : ℕ) → nat_le a b ≡ true → a ≤ b
-le_of a b h = grind (arith, nat_tests)
 
 not_less : (a b : ℕ) → nat_lt a b ≡ false → b ≤ a
 not_less a b h = grind (arith, nat_tests)
@@ -59,10 +57,6 @@ dates_in (d ∷ ds) h =
     let parts = and_parts (is_between 0 greatest_date d) _ h in
     All-cons (λ n. n ≤ greatest_date) (as_number d) (map as_number ds) (between 0 greatest_date d parts.0).1 (dates_in ds parts.1)
 
-neither_true : (b c : Bool) → (b || c) ≡ false → (b ≡ false) × (c ≡ false)
-neither_true true c h = cc
-neither_true false c h = (λ _. false, h)
-
 -- a list that can go on does so as a net asks
 goes_on : (dates : List ℕ) (found : Option Data) (gap : ℕ) → option_map_or (is_between 1 most_every) found true ≡ true → gap ≤ greatest_date
     → is_bad_end dates (option_map (λ every. record { every = as_number every; gap = gap }) found) ≡ false
@@ -70,7 +64,7 @@ goes_on : (dates : List ℕ) (found : Option Data) (gap : ℕ) → option_map_or
 goes_on dates None gap range small good = tt
 goes_on dates (Some every) gap range small good =
     let in_range = between 1 most_every every range in
-    let parts = neither_true (nat_lt (length dates) (as_number every)) _ good in
+    let parts = or_false (nat_lt (length dates) (as_number every)) _ good in
     record {
       some = in_range.0;
       every_in = in_range.1;
@@ -110,9 +104,7 @@ good_input ts d none range =
 
 small_every : (found : Option Data) → option_map_or (is_between 1 most_every) found true ≡ true → option_map_or (λ every. nat_le (as_number every) most_every) found true ≡ true
 small_every None h = refl
-small_every (Some d) h = test (as_number d) (between 1 most_every d h).1 where
-  test : (n : ℕ) → n ≤ most_every → nat_le n most_every ≡ true
-  test n le = grind (arith, nat_tests)
+small_every (Some d) h = le_test _ _ (between 1 most_every d h).1
 
 pub every_small : (d : Data) → has_numbers_in_range d ≡ true → has_small_every d ≡ true
 unfolding has_small_every

@@ -1,3 +1,4 @@
+pub mod Facts
 pub mod TreeLemmas
 pub mod KeyLemmas
 pub mod UnknownLemmas

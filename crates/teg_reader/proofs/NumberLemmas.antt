@@ -1,5 +1,5 @@
 -- Texts as an index set keeps them, and the numbers of names.
-use Rattle.std.proofs.Common.{◌≡◌, ℕ, ◌+◌, ◌<◌, Bool, true, false, not, cond, ◌&&◌, ◌||◌, nat_lt, if◌then◌else◌, List, [], ◌∷◌, ◌++◌, length, get_or, drop, map, bytes_eq, Bor, Some, None, refl, ap, sym, ◌∙◌, append_assoc}
+use Rattle.std.proofs.Common.{◌≡◌, ℕ, ◌+◌, ◌<◌, Bool, true, false, not, cond, ◌||◌, nat_lt, if◌then◌else◌, List, [], ◌∷◌, ◌++◌, length, get_or, drop, map, bytes_eq, Bor, Some, None, refl, ap, sym, ◌∙◌, append_assoc}
 use Rattle.std.proofs.lemmas.Bool.{and_parts}
 use Rattle.std.proofs.lemmas.List.{drop_more}
 use Rattle.std.proofs.lemmas.Slice.Eq.{bytes_eq-Decides}
@@ -10,6 +10,7 @@ use Rattle.toml.specs.View.{view}
 use Rattle.teg_reader.specs.declared.keys.Key.TheVariants as key
 use Rattle.teg_reader.specs.Trees.{text_at, names_of}
 use Rattle.teg_reader.specs.Texts.{is_among, is_distinct}
+use Rattle.teg_reader.proofs.Facts.{or_false, negated, same_text, or_true, right_true, right_false}
 
 -- a text as an index set keeps it
 abbrev pub TextKey : Type 0
@@ -53,21 +54,6 @@ pub grown : (ks after : List TextKey) (n : TextKey) (b : Bool) → after ≡ (if
 grown ks after n true h e = cc
 grown ks after n false h e = h
 
-same_text : (a b : List ℕ) → bytes_eq a b ≡ true → a ≡ b
-same_text a b h = (bytes_eq-Decides a b).0 h
-
-or_true : {P : Type 0} (b c : Bool) → (b || c) ≡ true → (b ≡ true → P) → (c ≡ true → P) → P
-or_true true c h f g = f (λ _. true)
-or_true false c h f g = g h
-
-right_true : (b c : Bool) → c ≡ true → (b || c) ≡ true
-right_true true c h = λ _. true
-right_true false c h = h
-
-right_false : (b c : Bool) → c ≡ false → (b && c) ≡ false
-right_false true c h = h
-right_false false c h = λ _. false
-
 among_later : (t : List ℕ) (ks rest : List (List ℕ)) → is_among (ks ++ t ∷ rest) t ≡ true
 among_later t [] rest = rw ((bytes_eq-Decides t t).1 (λ _. t))
 among_later t (k ∷ ks) rest = right_true (bytes_eq t k) _ (among_later t ks rest)
@@ -96,14 +82,6 @@ pub all_more : (es : List Value) (i : ℕ) (v : Value) (ks : List TextKey) (n : 
 all_more es i v ks n names h is name before =
     let opened = rw (names_from-more es i v h is) at before in
     rw (map_deref-push ks n, name, append_assoc) opened
-
-or_false : (b c : Bool) → (b || c) ≡ false → (b ≡ false) × (c ≡ false)
-or_false true c h = cc
-or_false false c h = (λ _. false, h)
-
-negated : (b : Bool) → not b ≡ true → b ≡ false
-negated true h = cc
-negated false h = λ _. false
 
 differ : (a b : List ℕ) → bytes_eq a b ≡ false → bytes_eq b a ≡ false
 differ a b h = step (bytes_eq b a) (λ e. sym h ∙ (bytes_eq-Decides a b).1 (sym (same_text b a e))) where

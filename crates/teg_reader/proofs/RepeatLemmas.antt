@@ -1,5 +1,5 @@
 -- The first text that stands twice, step by step.
-use Rattle.std.proofs.Common.{◌≡◌, ℕ, ◌+◌, ◌-◌, ◌<◌, Bool, true, false, not, if◌then◌else◌, List, [], ◌∷◌, ◌++◌, map, take, get_or, length, bytes_eq, Option, Some, None, sym, ◌∙◌, arith}
+use Rattle.std.proofs.Common.{◌≡◌, ℕ, ◌+◌, ◌-◌, ◌<◌, Bool, true, false, not, if◌then◌else◌, List, [], ◌∷◌, ◌++◌, map, take, get_or, length, bytes_eq, Option, Some, None, sym, ◌∙◌}
 use Rattle.std.proofs.lemmas.List.{take_more, map-append}
 use Rattle.std.specs.List.{list_any, take-map}
 use Rattle.std.specs.Map.Iter.{deref}
@@ -13,6 +13,7 @@ use Rattle.teg_reader.specs.Texts.{is_among}
 use Rattle.teg_reader.specs.Trees.{text_at}
 use Rattle.teg_reader.specs.Walks.{first_finding, spot_at}
 use Rattle.teg_reader.specs.Repeats.{repeats_earlier}
+use Rattle.teg_reader.proofs.Facts.{one_less}
 use Rattle.teg_reader.proofs.TreeLemmas.{entries_from, entries_from-more}
 use Rattle.teg_reader.proofs.NumberLemmas.{TextKey, any_deref, map_deref-push, was_there, was_new, grown}
 
@@ -22,9 +23,6 @@ texts_before key i es = map (text_at key) (map view (take i es))
 
 texts_before-more : (key : Key) (i : ℕ) (es : List Value) (v : Value) → i < length es → v ≡ get_or es i v → texts_before key (i + 1) es ≡ texts_before key i es ++ text_at key (view v) ∷ []
 texts_before-more key i es v h is = rw (take_more es i v h, map-append, map-append, ← is)
-
-one_less : (n : ℕ) → (n + 1) - 1 ≡ n
-one_less n = omega arith
 
 taken : (es : List Value) (i : ℕ) → take ((i + 1) - 1) (map view es) ≡ map view (take i es)
 taken es i = rw (one_less i) (take-map view i es)

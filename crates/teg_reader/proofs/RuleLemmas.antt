@@ -1,7 +1,6 @@
 -- The net of a tree without a finding keeps the rules of a net.
-use Rattle.std.proofs.Common.{◌≡◌, ◌≢◌, ℕ, suc, ◌+◌, ◌<◌, ◌≤◌, Bool, true, false, not, cond, ◌||◌, nat_le, List, [], ◌∷◌, length, map, bytes_eq, None, IsTrue, refl, ap, sym, ◌∙◌, subst, arith}
+use Rattle.std.proofs.Common.{◌≡◌, ◌≢◌, ℕ, suc, ◌+◌, ◌<◌, ◌≤◌, Bool, true, false, not, cond, ◌||◌, List, [], ◌∷◌, length, map, bytes_eq, None, IsTrue, refl, ap, sym, ◌∙◌, subst, arith}
 use Rattle.std.proofs.lemmas.Bool.{and_parts, false≢true}
-use Rattle.std.proofs.lemmas.Bool.Decides.{nat_tests}
 use Rattle.std.proofs.lemmas.Slice.Eq.{bytes_eq-Decides}
 use Rattle.std.proofs.lemmas.List.{length-map, get_or-map}
 use Rattle.std.proofs.lemmas.List.Elements.{All-nil, All-cons}
@@ -26,19 +25,12 @@ use Rattle.teg_reader.specs.InputLists.{bad_input}
 use Rattle.teg_reader.specs.NetOf.{transition_of, place_of, input_of, id_of, net_of}
 use Rattle.teg_reader.specs.Sound.{is_sound_place, is_sound_input}
 use Rattle.teg_reader.specs.Documents.{refused, bad_entries, bad_graph}
+use Rattle.teg_reader.proofs.Facts.{negated, or_false, differs, le_test}
 use Rattle.teg_reader.proofs.NumberLemmas.{TextKey}
 use Rattle.teg_reader.proofs.ClearLemmas.{neither, AreGood, good_entries, transitions_named, places_named, distinct, few, has_small_numbers, places_in_range, has_numbers_in_range, inputs_in_range, number_up_to}
 use Rattle.teg_reader.proofs.GraphLemmas.{IsGraph, good_graph, at_least_one, both_pass, has_known_texts, places_known, has_known_owner, owners_known, has_one_end, places_joined, has_known_ends, ends_known, enters_no_input, places_free}
 use Rattle.teg_reader.proofs.RoleLemmas.{number_in, is_input-from_named, named-from_is_input}
 use Rattle.teg_reader.proofs.InputLemmas.{IsGoodInput, good_input, every_small}
-
-negated : (b : Bool) → not b ≡ true → b ≡ false
-negated true h = cc
-negated false h = λ _. false
-
-or_false : (b c : Bool) → (b || c) ≡ false → (b ≡ false) × (c ≡ false)
-or_false true c h = cc
-or_false false c h = (λ _. false, h)
 
 position_within : {A : Type 0} (p : A → Bool) (xs : List A) → list_any p xs ≡ true → position_or_len p xs < length xs
 position_within p [] h = absurd (false≢true h)
@@ -46,9 +38,6 @@ position_within p (x ∷ xs) h = step (p x) (position_or_len p xs) (length xs) (
   step : (b : Bool) (n m : ℕ) (c : Bool) → (b || c) ≡ true → (c ≡ true → n < m) → cond (not b) (1 + n) 0 < suc m
   step true n m c h k = omega arith
   step false n m c h k = let lt : n < m = k h in omega arith
-
-differs : (a b : List ℕ) → bytes_eq a b ≡ false → a ≢ b
-differs a b h same = false≢true (sym h ∙ (bytes_eq-Decides a b).1 same)
 
 -- a text that is not among others is different from each
 differs_from_all : (name : List ℕ) (names : List (List ℕ)) → is_among names name ≡ false → All (λ other. name ≢ other) names
@@ -217,9 +206,6 @@ net_rules top none =
       one_list = one_list (names_of ts) ls distinct_names.inputs (owners_known top h.graph.known);
       each_input = inputs_fit _ ts ls refl h.graph.inputs (inputs_in_range top h.entries);
     }
-
-le_test : (a b : ℕ) → a ≤ b → nat_le a b ≡ true
-le_test a b h = grind (arith, nat_tests)
 
 sound_place : (names : List (List ℕ)) (d : Data) → has_good_name d ≡ true → has_small_numbers d ≡ true → has_known_ends names d ≡ true → is_sound_place names d ≡ true
 unfolding is_sound_place

@@ -1,7 +1,6 @@
 -- The parts of sound entries.
-use Rattle.std.proofs.Common.{◌≡◌, ℕ, ◌≤◌, true, nat_le, List, Option, Some, None, subst, arith}
+use Rattle.std.proofs.Common.{◌≡◌, ℕ, ◌≤◌, true, nat_le, List, Option, Some, None, subst}
 use Rattle.std.proofs.lemmas.Bool.{and_parts}
-use Rattle.std.proofs.lemmas.Bool.Decides.{nat_tests}
 use Rattle.std.specs.Option.{option_map_or}
 use Rattle.toml.specs.Data.{Data}
 use Rattle.teg_net.specs.Limits.{most_tokens, most_every}
@@ -11,9 +10,7 @@ use Rattle.teg_reader.specs.Trees.{value_at, text_at, number_at, as_number}
 use Rattle.teg_reader.specs.BadNames.{has_good_name}
 use Rattle.teg_reader.specs.EventGraphs.{end_at}
 use Rattle.teg_reader.specs.Sound.{is_sound_place, has_small_every, is_sound_input}
-
-le_of : (a b : ℕ) → nat_le a b ≡ true → a ≤ b
-le_of a b h = grind (arith, nat_tests)
+use Rattle.teg_reader.proofs.Facts.{le_of}
 
 pub record SoundPlace (names : List (List ℕ)) (d : Data) : Type 0 where
   pub name : has_good_name d ≡ true
