@@ -1,0 +1,14 @@
+pub mod Facts
+pub mod TreeLemmas
+pub mod KeyLemmas
+pub mod UnknownLemmas
+pub mod NumberLemmas
+pub mod RepeatLemmas
+pub mod DocumentLemmas
+pub mod ClearLemmas
+pub mod GraphLemmas
+pub mod RoleLemmas
+pub mod InputLemmas
+pub mod RuleLemmas
+pub mod SoundLemmas
+pub mod DateLemmas

@@ -1,0 +1,31 @@
+-- A tree's lists beside the code's.
+use Rattle.std.proofs.Common.{◌≡◌, ℕ, ◌+◌, ◌<◌, zero, suc, get_or, drop, true, arith, ◌∙◌, Bool, length, List, [], ◌∷◌, map, refl, ap}
+use Rattle.std.proofs.lemmas.Bool.{and_parts}
+use Rattle.std.proofs.lemmas.List.{length-map, drop_more}
+use Rattle.std.specs.List.{list_all}
+use Rattle.toml.specs.Data.{Data}
+use Rattle.toml.specs.declared.value.Value.{Value}
+use Rattle.toml.specs.View.{view, items_view}
+use Rattle.teg_reader.specs.Trees.{list_of}
+
+pub list_of_view : (vs : List Value) → list_of (items_view vs) ≡ map view vs
+list_of_view [] = refl
+list_of_view (v ∷ vs) = ap (λ t. view v ∷ t) (list_of_view vs)
+
+pub ruleset lengths = length-map
+
+-- the entries from an index on
+abbrev pub entries_from : ℕ → List Value → List Data
+entries_from i es = map view (drop i es)
+
+pub entries_from-more : (es : List Value) (i : ℕ) (v : Value) → i < length es → v ≡ get_or es i v → entries_from i es ≡ view v ∷ entries_from (i + 1) es
+entries_from-more es i v h is = rw (drop_more es i v h, ← is)
+
+passes_at : (p : Data → Bool) (es : List Value) (i : ℕ) (d : Value) → i < length es → list_all p (map view es) ≡ true → p (view (get_or es i d)) ≡ true
+passes_at p [] i d h all = absurd (omega arith)
+passes_at p (e ∷ es) zero d h all = (and_parts _ _ all).0
+passes_at p (e ∷ es) (suc i) d h all = passes_at p es i d (omega arith) (and_parts _ _ all).1
+
+-- what passes at each entry passes at this one
+pub entry_passes : (p : Data → Bool) (es : List Value) (i : ℕ) (v : Value) → i < length es → v ≡ get_or es i v → list_all p (map view es) ≡ true → p (view v) ≡ true
+entry_passes p es i v h is all = ap (λ x. p (view x)) is ∙ passes_at p es i v h all

@@ -1,0 +1,8 @@
+use Rattle.std.proofs.Common.{map}
+use Rattle.std.specs.Map.Iter.{deref}
+use Rattle.teg_reader.specs.Sound.{is_sound_place}
+use Rattle.teg_reader.proofs.TreeLemmas.{entry_passes}
+use Rattle.teg_reader.proofs.entries.make_places.Goals as goal
+
+pub make_place-requires-clause-sound : goal.make_place-requires-clause-sound
+make_place-requires-clause-sound c = entry_passes (is_sound_place (map deref c.args.names.now.keys)) c.args.entries.now c.loop-entry.entry-index c.entry-item.result c.loop-entry-test.true c.entry-item.is c.requires.sound

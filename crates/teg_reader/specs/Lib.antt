@@ -1,0 +1,17 @@
+pub mod Keys
+pub mod Fields
+pub mod Trees
+pub mod Texts
+pub mod Walks
+pub mod UnknownKeys
+pub mod WrongKinds
+pub mod MissingKeys
+pub mod BadNames
+pub mod Repeats
+pub mod Ranges
+pub mod UnknownTransitions
+pub mod EventGraphs
+pub mod InputLists
+pub mod NetOf
+pub mod Sound
+pub mod Documents

@@ -1,0 +1,49 @@
+-- The net of a tree: its entries in order.
+use Rattle.std.specs.Prelude.{ℕ, if◌then◌else◌, List, map, bytes_eq, codes}
+use Rattle.std.specs.List.{position_or_len}
+use Rattle.toml.specs.Data.{Data}
+use Rattle.teg_net.specs.Nets.{NetLists}
+use Rattle.teg_net.specs.declared.entries.Role.{Role}
+use Rattle.teg_net.specs.declared.entries.Role.TheVariants as role
+use Rattle.teg_net.specs.declared.entries.Transition.{Transition}
+use Rattle.teg_net.specs.declared.entries.TransitionId.{TransitionId}
+use Rattle.teg_net.specs.declared.entries.Place.{Place}
+use Rattle.teg_net.specs.declared.entries.InputList.{InputList}
+use Rattle.teg_reader.specs.declared.keys.Key.TheVariants as key
+use Rattle.teg_reader.specs.Trees.{text_at, list_at, number_at, names_of}
+use Rattle.teg_reader.specs.EventGraphs.{end_at}
+use Rattle.teg_reader.specs.InputLists.{dates_of, again_of}
+
+-- the role of this text; without one a transition is internal
+unfoldable pub role_of : List ℕ → Role
+role_of text = if bytes_eq text (codes "input") then role.Input else if bytes_eq text (codes "output") then role.Output else role.Internal
+
+-- the transition of an entry
+unfoldable pub transition_of : Data → Transition
+transition_of d = record { name = text_at key.Name d; role = role_of (text_at key.Role d) }
+
+-- the number of the first of the names that is this text
+unfoldable pub id_of : List (List ℕ) → List ℕ → TransitionId
+id_of names text = record { index = position_or_len (bytes_eq text) names }
+
+-- the place of an entry: hold and tokens are 0 where they are not there
+unfoldable pub place_of : List (List ℕ) → Data → Place
+place_of names d = record {
+  name = text_at key.Name d;
+  from = id_of names (end_at key.From d);
+  to = id_of names (end_at key.To d);
+  hold = number_at key.Hold d;
+  tokens = number_at key.Tokens d;
+}
+
+-- the input list of an entry
+unfoldable pub input_of : List (List ℕ) → Data → InputList
+input_of names d = record { transition = id_of names (text_at key.Transition d); dates = dates_of d; again = again_of d }
+
+-- the net of the entries in order
+unfoldable pub net_of : Data → NetLists
+net_of top = record {
+  transitions = map transition_of (list_at key.Transition top);
+  places = map (place_of (names_of (list_at key.Transition top))) (list_at key.Place top);
+  inputs = map (input_of (names_of (list_at key.Transition top))) (list_at key.Input top);
+}

@@ -1,0 +1,30 @@
+//! Reads net files: TOML with transitions, places and input lists.
+//!
+//! `read_net` answers the net that `document` defines for the bytes, or the first fault of the
+//! file, or want of memory. The crate stands on `teg_net` for the net, on `toml` for the grammar
+//! and on `indexmap` for the numbers of names.
+#![tactic(auto)]
+
+mod bad_names;
+mod entries;
+mod event_graph;
+mod fields;
+mod input_lists;
+mod keys;
+mod missing_keys;
+mod numbers;
+mod ranges;
+mod reader;
+mod refusals;
+mod repeats;
+#[cfg(test)]
+mod tests;
+mod trees;
+mod unknown_keys;
+mod unknown_transitions;
+mod walk;
+mod wrong_kinds;
+
+pub use keys::Key;
+pub use reader::read_net;
+pub use refusals::{ReadRefusal, Section, Spot};

@@ -1,0 +1,52 @@
+//! The numbers of names.
+ghost use Rattle.std.specs.Prelude.{◌≡◌, ◌<◌, ◌^◌, true, map, length, IfOk};
+ghost use Rattle.std.specs.Map.Iter.{deref};
+ghost use Rattle.toml.specs.View.{view};
+ghost use Rattle.teg_reader.specs.Texts.{is_among, is_distinct};
+ghost use Rattle.teg_reader.specs.Trees.{names_of};
+ghost use Rattle.teg_reader.specs.NetOf.{id_of};
+
+use crate::keys::Key;
+use crate::trees::text_at;
+use indexmap::IndexSet;
+use std::alloc::{AllocError, Global};
+use teg_net::TransitionId;
+use toml::Value;
+
+/// The names of the entries in order, of which none stands twice.
+pub(crate) fn number_names(alloc: Global, entries: &[Value]) -> Result<IndexSet<&str>, AllocError>
+    requires { is_distinct (names_of (map view entries.now)) ≡ true }
+    ensures { IfOk result (λ names. map deref names.keys ≡ names_of (map view entries.now)) }
+{
+    let mut names = IndexSet::new(alloc);
+    for entry in entries {
+        let name = text_at(entry, Key::Name);
+        match names.insert_full(name) {
+            Ok((_, true)) => {}
+            Ok((_, false)) => unreachable!(),
+            Err(_) => return Err(AllocError),
+        }
+    }
+    Ok(names)
+}
+
+/// Whether a name has a number.
+pub(crate) fn has_number(names: &IndexSet<&str>, text: &str) -> bool
+    ensures { result ≡ is_among (map deref names.now.keys) text.now }
+{
+    names.get_index_of(&text).is_some()
+}
+
+/// The number of a name.
+pub(crate) fn number_of(names: &IndexSet<&str>, text: &str) -> TransitionId
+    requires known { is_among (map deref names.now.keys) text.now ≡ true }
+    requires few { length names.now.keys < 2 ^ 32 }
+    ensures { result ≡ id_of (map deref names.now.keys) text.now }
+{
+    match names.get_index_of(&text) {
+        Some(index) => TransitionId {
+            index: index as u32,
+        },
+        None => unreachable!(),
+    }
+}

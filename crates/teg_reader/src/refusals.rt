@@ -1,0 +1,85 @@
+//! What the reader refuses, and where.
+use crate::keys::Key;
+use teg_net::{Label, Name};
+
+/// A part of a net file.
+#[derive(Clone, Copy, Debug, PartialEq, Eq)]
+pub enum Section {
+    /// The top table.
+    Top,
+    /// The `[[transition]]` entries.
+    Transition,
+    /// The `[[place]]` entries.
+    Place,
+    /// The `[[input]]` entries.
+    Input,
+}
+
+/// A table of a net file.
+#[derive(Clone, Copy, Debug, PartialEq, Eq)]
+pub struct Spot {
+    pub section: Section,
+    /// From 1 among the entries of the section, and 0 for the top.
+    pub position: u32,
+}
+
+/// Why the bytes of a net file give no net. The variants stand in the order in which the reader
+/// looks for them: the first one that is found is the answer.
+#[derive(Debug, Drop)]
+pub enum ReadRefusal {
+    /// The bytes are no text, or the grammar of TOML does not read them.
+    NotToml,
+    /// The table has a key that does not belong there: the least of them, byte by byte.
+    UnknownKey {
+        spot: Spot,
+        key: Label,
+    },
+    /// Another kind stands at the key.
+    WrongKind {
+        spot: Spot,
+        key: Key,
+    },
+    /// The key is needed and absent.
+    MissingKey {
+        spot: Spot,
+        key: Key,
+    },
+    /// The entry's name is none.
+    BadName {
+        spot: Spot,
+    },
+    /// The entry's name is that of an earlier one, or its transition has a list already.
+    Repeated {
+        spot: Spot,
+    },
+    /// The value, or the number of entries, is out of its range.
+    OutOfRange {
+        spot: Spot,
+        key: Key,
+    },
+    /// There is no transition.
+    NoTransitions,
+    /// The text is the name of no transition.
+    UnknownTransition {
+        spot: Spot,
+        name: Label,
+    },
+    /// The place has not one producer and one consumer.
+    NotEventGraph {
+        place: Name,
+        producers: u32,
+        consumers: u32,
+    },
+    /// The place leads to an input transition.
+    InputHasUpstream {
+        place: Name,
+    },
+    /// The list does not belong to an input (position 0), falls at this date, or cannot go on
+    /// (the position after its last date).
+    BadInput {
+        transition: Name,
+        position: u32,
+    },
+    /// No memory was found.
+    OutOfMemory,
+}

@@ -1,0 +1,375 @@
+//! What files are answered. The refusals are compared as `Debug` writes them.
+use crate::read_net;
+use std::alloc::Global;
+
+/// Whether the file is answered so; an accepted file is answered `accepted`.
+fn is_answered(alloc: Global, file: &str, wanted: &str) -> bool {
+    match read_net(alloc, file.as_bytes()) {
+        Ok(_) => wanted == "accepted",
+        Err(refusal) => match format!(in alloc; "{refusal:?}") {
+            Ok(text) => text.as_str() == wanted,
+            Err(_) => false,
+        },
+    }
+}
+
+/// The number of the first file that is not answered as wanted, or the number of files.
+fn first_other_answer(alloc: Global, files: &[(&str, &str)]) -> usize {
+    for (index, (file, wanted)) in files.iter().enumerate() {
+        if !is_answered(alloc, file, wanted) {
+            return index;
+        }
+    }
+    files.len()
+}
+
+const KEYS: [(&str, &str); 20] = [
+    (
+        "x = 1\n",
+        "UnknownKey { spot: Spot { section: Top, position: 0 }, key: Label { text: \"x\" } }",
+    ),
+    (
+        "b = 1\na = 1\nB = 1\n",
+        "UnknownKey { spot: Spot { section: Top, position: 0 }, key: Label { text: \"B\" } }",
+    ),
+    (
+        "[[transition]]\nname = \"a\"\nhold = 1\n",
+        "UnknownKey { spot: Spot { section: Transition, position: 1 }, key: Label { text: \"hold\" } }",
+    ),
+    (
+        "transition = [{name = \"a\"}]\nplace = [{name = \"p\", from = \"a\", to = \"a\", gap = 1}]\n",
+        "UnknownKey { spot: Spot { section: Place, position: 1 }, key: Label { text: \"gap\" } }",
+    ),
+    (
+        "transition = [{name = \"a\", role = \"input\"}]\ninput = [{transition = \"a\", dates = [], name = \"a\"}]\n",
+        "UnknownKey { spot: Spot { section: Input, position: 1 }, key: Label { text: \"name\" } }",
+    ),
+    (
+        "[[transition]]\n",
+        "MissingKey { spot: Spot { section: Transition, position: 1 }, key: Name }",
+    ),
+    (
+        "transition = [{name = \"a\"}]\nplace = [{from = \"a\"}]\n",
+        "MissingKey { spot: Spot { section: Place, position: 1 }, key: Name }",
+    ),
+    (
+        "transition = [{name = \"a\"}]\nplace = [{name = \"p\"}]\n",
+        "MissingKey { spot: Spot { section: Place, position: 1 }, key: From }",
+    ),
+    (
+        "transition = [{name = \"a\"}]\nplace = [{name = \"p\", from = \"a\"}]\n",
+        "MissingKey { spot: Spot { section: Place, position: 1 }, key: To }",
+    ),
+    (
+        "transition = [{name = \"a\", role = \"input\"}]\ninput = [{dates = []}]\n",
+        "MissingKey { spot: Spot { section: Input, position: 1 }, key: Transition }",
+    ),
+    (
+        "transition = [{name = \"a\", role = \"input\"}]\ninput = [{transition = \"a\"}]\n",
+        "MissingKey { spot: Spot { section: Input, position: 1 }, key: Dates }",
+    ),
+    (
+        "transition = [{name = \"a\", role = \"input\"}]\ninput = [{transition = \"a\", dates = [], every = 1}]\n",
+        "MissingKey { spot: Spot { section: Input, position: 1 }, key: Gap }",
+    ),
+    (
+        "transition = [{name = \"a\", role = \"input\"}]\ninput = [{transition = \"a\", dates = [], gap = 1}]\n",
+        "MissingKey { spot: Spot { section: Input, position: 1 }, key: Every }",
+    ),
+    (
+        "[[transition]]\nname = \"\"\n",
+        "BadName { spot: Spot { section: Transition, position: 1 } }",
+    ),
+    (
+        "transition = [{name = \"a\"}]\nplace = [{name = \"p q\", from = \"a\", to = \"a\"}]\n",
+        "BadName { spot: Spot { section: Place, position: 1 } }",
+    ),
+    (
+        "[[transition]]\nname = \"a\"\n[[transition]]\nname = \"a\"\n",
+        "Repeated { spot: Spot { section: Transition, position: 2 } }",
+    ),
+    (
+        "transition = [{name = \"a\"}]\nplace = [{name = \"p\", from = \"a\", to = \"a\"}, {name = \"p\", from = \"a\", to = \"a\"}]\n",
+        "Repeated { spot: Spot { section: Place, position: 2 } }",
+    ),
+    (
+        "transition = [{name = \"a\", role = \"input\"}]\ninput = [{transition = \"a\", dates = []}, {transition = \"a\", dates = []}]\n",
+        "Repeated { spot: Spot { section: Input, position: 2 } }",
+    ),
+    ("", "NoTransitions"),
+    ("[[transition]]\nname = \"a", "NotToml"),
+];
+
+const KINDS: [(&str, &str); 19] = [
+    (
+        "version = \"1\"\n",
+        "WrongKind { spot: Spot { section: Top, position: 0 }, key: Version }",
+    ),
+    (
+        "version = 1.0\n",
+        "WrongKind { spot: Spot { section: Top, position: 0 }, key: Version }",
+    ),
+    (
+        "transition = 3\n",
+        "WrongKind { spot: Spot { section: Top, position: 0 }, key: Transition }",
+    ),
+    (
+        "transition = [{name = \"a\"}, 3]\n",
+        "WrongKind { spot: Spot { section: Top, position: 0 }, key: Transition }",
+    ),
+    (
+        "place = {}\n",
+        "WrongKind { spot: Spot { section: Top, position: 0 }, key: Place }",
+    ),
+    (
+        "input = \"u\"\n",
+        "WrongKind { spot: Spot { section: Top, position: 0 }, key: Input }",
+    ),
+    (
+        "transition = [{name = 1}]\n",
+        "WrongKind { spot: Spot { section: Transition, position: 1 }, key: Name }",
+    ),
+    (
+        "transition = [{name = \"a\", role = [\"input\"]}]\n",
+        "WrongKind { spot: Spot { section: Transition, position: 1 }, key: Role }",
+    ),
+    (
+        "transition = [{name = \"a\"}]\nplace = [{name = true}]\n",
+        "WrongKind { spot: Spot { section: Place, position: 1 }, key: Name }",
+    ),
+    (
+        "transition = [{name = \"a\"}]\nplace = [{name = \"p\", from = 1}]\n",
+        "WrongKind { spot: Spot { section: Place, position: 1 }, key: From }",
+    ),
+    (
+        "transition = [{name = \"a\"}]\nplace = [{name = \"p\", from = [\"a\", 1]}]\n",
+        "WrongKind { spot: Spot { section: Place, position: 1 }, key: From }",
+    ),
+    (
+        "transition = [{name = \"a\"}]\nplace = [{name = \"p\", from = \"a\", to = {}}]\n",
+        "WrongKind { spot: Spot { section: Place, position: 1 }, key: To }",
+    ),
+    (
+        "transition = [{name = \"a\"}]\nplace = [{name = \"p\", from = \"a\", to = \"a\", hold = \"3\"}]\n",
+        "WrongKind { spot: Spot { section: Place, position: 1 }, key: Hold }",
+    ),
+    (
+        "transition = [{name = \"a\"}]\nplace = [{name = \"p\", from = \"a\", to = \"a\", tokens = 1.0}]\n",
+        "WrongKind { spot: Spot { section: Place, position: 1 }, key: Tokens }",
+    ),
+    (
+        "transition = [{name = \"a\", role = \"input\"}]\ninput = [{transition = [\"a\"]}]\n",
+        "WrongKind { spot: Spot { section: Input, position: 1 }, key: Transition }",
+    ),
+    (
+        "transition = [{name = \"a\", role = \"input\"}]\ninput = [{transition = \"a\", dates = 4}]\n",
+        "WrongKind { spot: Spot { section: Input, position: 1 }, key: Dates }",
+    ),
+    (
+        "transition = [{name = \"a\", role = \"input\"}]\ninput = [{transition = \"a\", dates = [1, \"2\"]}]\n",
+        "WrongKind { spot: Spot { section: Input, position: 1 }, key: Dates }",
+    ),
+    (
+        "transition = [{name = \"a\", role = \"input\"}]\ninput = [{transition = \"a\", dates = [], every = \"1\"}]\n",
+        "WrongKind { spot: Spot { section: Input, position: 1 }, key: Every }",
+    ),
+    (
+        "transition = [{name = \"a\", role = \"input\"}]\ninput = [{transition = \"a\", dates = [], every = 1, gap = 1979-05-27}]\n",
+        "WrongKind { spot: Spot { section: Input, position: 1 }, key: Gap }",
+    ),
+];
+
+const RANGES: [(&str, &str); 18] = [
+    (
+        "version = 0\ntransition = [{name = \"a\"}]\n",
+        "OutOfRange { spot: Spot { section: Top, position: 0 }, key: Version }",
+    ),
+    (
+        "version = 2\ntransition = [{name = \"a\"}]\n",
+        "OutOfRange { spot: Spot { section: Top, position: 0 }, key: Version }",
+    ),
+    ("version = 1\ntransition = [{name = \"a\"}]\n", "accepted"),
+    (
+        "transition = [{name = \"a\", role = \"Input\"}]\n",
+        "OutOfRange { spot: Spot { section: Transition, position: 1 }, key: Role }",
+    ),
+    (
+        "transition = [{name = \"a\"}]\nplace = [{name = \"p\", from = \"a\", to = \"a\", hold = -1}]\n",
+        "OutOfRange { spot: Spot { section: Place, position: 1 }, key: Hold }",
+    ),
+    (
+        "transition = [{name = \"a\"}]\nplace = [{name = \"p\", from = \"a\", to = \"a\", hold = 1000000001}]\n",
+        "OutOfRange { spot: Spot { section: Place, position: 1 }, key: Hold }",
+    ),
+    (
+        "transition = [{name = \"a\"}]\nplace = [{name = \"p\", from = \"a\", to = \"a\", hold = 9223372036854775807}]\n",
+        "OutOfRange { spot: Spot { section: Place, position: 1 }, key: Hold }",
+    ),
+    (
+        "transition = [{name = \"a\"}]\nplace = [{name = \"p\", from = \"a\", to = \"a\", hold = 1000000000, tokens = 1000}]\n",
+        "accepted",
+    ),
+    (
+        "transition = [{name = \"a\"}]\nplace = [{name = \"p\", from = \"a\", to = \"a\", tokens = -1}]\n",
+        "OutOfRange { spot: Spot { section: Place, position: 1 }, key: Tokens }",
+    ),
+    (
+        "transition = [{name = \"a\"}]\nplace = [{name = \"p\", from = \"a\", to = \"a\", tokens = 1001}]\n",
+        "OutOfRange { spot: Spot { section: Place, position: 1 }, key: Tokens }",
+    ),
+    (
+        "transition = [{name = \"a\", role = \"input\"}]\ninput = [{transition = \"a\", dates = [-1]}]\n",
+        "OutOfRange { spot: Spot { section: Input, position: 1 }, key: Dates }",
+    ),
+    (
+        "transition = [{name = \"a\", role = \"input\"}]\ninput = [{transition = \"a\", dates = [1000000000001]}]\n",
+        "OutOfRange { spot: Spot { section: Input, position: 1 }, key: Dates }",
+    ),
+    (
+        "transition = [{name = \"a\", role = \"input\"}]\ninput = [{transition = \"a\", dates = [0], every = 0, gap = 0}]\n",
+        "OutOfRange { spot: Spot { section: Input, position: 1 }, key: Every }",
+    ),
+    (
+        "transition = [{name = \"a\", role = \"input\"}]\ninput = [{transition = \"a\", dates = [0], every = 1001, gap = 0}]\n",
+        "OutOfRange { spot: Spot { section: Input, position: 1 }, key: Every }",
+    ),
+    (
+        "transition = [{name = \"a\", role = \"input\"}]\ninput = [{transition = \"a\", dates = [0], every = 1, gap = -1}]\n",
+        "OutOfRange { spot: Spot { section: Input, position: 1 }, key: Gap }",
+    ),
+    (
+        "transition = [{name = \"a\", role = \"input\"}]\ninput = [{transition = \"a\", dates = [0], every = 1, gap = 1000000000001}]\n",
+        "OutOfRange { spot: Spot { section: Input, position: 1 }, key: Gap }",
+    ),
+    (
+        "transition = [{name = \"a\", role = \"input\"}]\ninput = [{transition = \"a\", dates = [1000000000000], every = 1, gap = 1000000000000}]\n",
+        "accepted",
+    ),
+    (
+        "transition = [{name = \"a\"}]\nplace = [{name = \"p\", from = \"a\", to = \"a\", hold = 9223372036854775808}]\n",
+        "NotToml",
+    ),
+];
+
+const GRAPHS: [(&str, &str); 19] = [
+    (
+        "transition = [{name = \"a\"}, {name = \"b\"}]\nplace = [{name = \"ab\", from = \"a\", to = \"b\", hold = 3}, {name = \"ba\", from = \"b\", to = \"a\", hold = 2, tokens = 1}]\n",
+        "accepted",
+    ),
+    (
+        "transition = [{name = \"a\"}, {name = \"b\"}]\nplace = [{name = \"ab\", from = [\"a\"], to = [\"b\"], hold = 3}, {name = \"ba\", from = \"b\", to = \"a\", hold = 2, tokens = 1}]\n",
+        "accepted",
+    ),
+    (
+        "transition = [{name = \"a\"}, {name = \"b\"}]\nplace = [{name = \"ab\", from = [\"a\", \"b\"], to = \"b\", hold = 3}, {name = \"ba\", from = \"b\", to = \"a\", hold = 2, tokens = 1}]\n",
+        "NotEventGraph { place: Name { text: \"ab\" }, producers: 2, consumers: 1 }",
+    ),
+    (
+        "transition = [{name = \"a\"}, {name = \"b\"}]\nplace = [{name = \"ab\", from = [], to = \"b\", hold = 3}, {name = \"ba\", from = \"b\", to = \"a\", hold = 2, tokens = 1}]\n",
+        "NotEventGraph { place: Name { text: \"ab\" }, producers: 0, consumers: 1 }",
+    ),
+    (
+        "transition = [{name = \"a\"}, {name = \"b\"}]\nplace = [{name = \"ab\", from = \"a\", to = [\"b\", \"b\"], hold = 3}, {name = \"ba\", from = \"b\", to = \"a\", hold = 2, tokens = 1}]\n",
+        "NotEventGraph { place: Name { text: \"ab\" }, producers: 1, consumers: 2 }",
+    ),
+    (
+        "transition = [{name = \"a\"}, {name = \"b\"}]\nplace = [{name = \"ab\", from = \"a\", to = \"B\", hold = 3}, {name = \"ba\", from = \"b\", to = \"a\", hold = 2, tokens = 1}]\n",
+        "UnknownTransition { spot: Spot { section: Place, position: 1 }, name: Label { text: \"B\" } }",
+    ),
+    (
+        "transition = [{name = \"a\"}, {name = \"b\"}]\nplace = [{name = \"ab\", from = [\"a\", \"c\"], to = \"B\", hold = 3}, {name = \"ba\", from = \"b\", to = \"a\", hold = 2, tokens = 1}]\n",
+        "UnknownTransition { spot: Spot { section: Place, position: 1 }, name: Label { text: \"c\" } }",
+    ),
+    (
+        "transition = [{name = \"a\", role = \"input\"}]\ninput = [{transition = \"c\", dates = []}]\n",
+        "UnknownTransition { spot: Spot { section: Input, position: 1 }, name: Label { text: \"c\" } }",
+    ),
+    (
+        "transition = [{name = \"a\"}, {name = \"b\", role = \"input\"}]\nplace = [{name = \"ab\", from = \"a\", to = \"b\", hold = 3}, {name = \"ba\", from = \"b\", to = \"a\", hold = 2, tokens = 1}]\n",
+        "InputHasUpstream { place: Name { text: \"ab\" } }",
+    ),
+    (
+        "transition = [{name = \"a\"}, {name = \"b\"}]\nplace = [{name = \"ab\", from = \"a\", to = \"b\", hold = 3}, {name = \"ba\", from = \"b\", to = \"a\", hold = 2, tokens = 1}]\ninput = [{transition = \"a\", dates = [0]}]\n",
+        "BadInput { transition: Name { text: \"a\" }, position: 0 }",
+    ),
+    (
+        "transition = [{name = \"u\", role = \"input\"}, {name = \"a\"}]\nplace = [{name = \"ua\", from = \"u\", to = \"a\", hold = 2}]\ninput = [{transition = \"u\", dates = [0, 4]}]\n",
+        "accepted",
+    ),
+    (
+        "transition = [{name = \"u\", role = \"input\"}, {name = \"a\"}]\nplace = [{name = \"ua\", from = \"u\", to = \"a\", hold = 2}]\ninput = [{transition = \"u\", dates = []}]\n",
+        "accepted",
+    ),
+    (
+        "transition = [{name = \"u\", role = \"output\"}, {name = \"a\"}]\nplace = [{name = \"ua\", from = \"u\", to = \"a\", hold = 2}]\ninput = [{transition = \"u\", dates = [0, 4]}]\n",
+        "BadInput { transition: Name { text: \"u\" }, position: 0 }",
+    ),
+    (
+        "transition = [{name = \"u\", role = \"input\"}, {name = \"a\"}]\nplace = [{name = \"ua\", from = \"u\", to = \"a\", hold = 2}]\ninput = [{transition = \"u\", dates = [4, 0]}]\n",
+        "BadInput { transition: Name { text: \"u\" }, position: 2 }",
+    ),
+    (
+        "transition = [{name = \"u\", role = \"input\"}, {name = \"a\"}]\nplace = [{name = \"ua\", from = \"u\", to = \"a\", hold = 2}]\ninput = [{transition = \"u\", dates = [0, 4, 4, 3]}]\n",
+        "BadInput { transition: Name { text: \"u\" }, position: 4 }",
+    ),
+    (
+        "transition = [{name = \"u\", role = \"input\"}, {name = \"a\"}]\nplace = [{name = \"ua\", from = \"u\", to = \"a\", hold = 2}]\ninput = [{transition = \"u\", dates = [0, 4], every = 3, gap = 9}]\n",
+        "BadInput { transition: Name { text: \"u\" }, position: 3 }",
+    ),
+    (
+        "transition = [{name = \"u\", role = \"input\"}, {name = \"a\"}]\nplace = [{name = \"ua\", from = \"u\", to = \"a\", hold = 2}]\ninput = [{transition = \"u\", dates = [], every = 1, gap = 9}]\n",
+        "BadInput { transition: Name { text: \"u\" }, position: 1 }",
+    ),
+    (
+        "transition = [{name = \"u\", role = \"input\"}, {name = \"a\"}]\nplace = [{name = \"ua\", from = \"u\", to = \"a\", hold = 2}]\ninput = [{transition = \"u\", dates = [0, 4], every = 2, gap = 3}]\n",
+        "BadInput { transition: Name { text: \"u\" }, position: 3 }",
+    ),
+    (
+        "transition = [{name = \"u\", role = \"input\"}, {name = \"a\"}]\nplace = [{name = \"ua\", from = \"u\", to = \"a\", hold = 2}]\ninput = [{transition = \"u\", dates = [0, 4], every = 2, gap = 4}]\n",
+        "accepted",
+    ),
+];
+
+#[test]
+fn keys_and_names(rt: HostRuntime) {
+    assert!(rt; first_other_answer(rt.alloc(), &KEYS) == KEYS.len());
+}
+
+#[test]
+fn kinds(rt: HostRuntime) {
+    assert!(rt; first_other_answer(rt.alloc(), &KINDS) == KINDS.len());
+}
+
+#[test]
+fn ranges(rt: HostRuntime) {
+    assert!(rt; first_other_answer(rt.alloc(), &RANGES) == RANGES.len());
+}
+
+#[test]
+fn graphs_and_input_lists(rt: HostRuntime) {
+    assert!(rt; first_other_answer(rt.alloc(), &GRAPHS) == GRAPHS.len());
+}
+
+#[test]
+fn roles_and_lists_are_kept(rt: HostRuntime) {
+    let file =
+        "transition = [{name = \"u\", role = \"input\"}, {name = \"y\", role = \"output\"}]\ninput = [{transition = \"u\", dates = [0, 4], every = 2, gap = 9}]\n";
+    let Ok(net) = read_net(rt.alloc(), file.as_bytes()) else {
+        panic!(rt; "it is a net");
+    };
+    assert!(rt; net.transitions().len() == 2 && net.inputs().len() == 1);
+    for input in net.inputs() {
+        assert!(rt; input.dates.as_slice() == [0, 4].as_slice() && input.transition.index == 0);
+        assert!(rt;
+            input
+                .again
+                .is_some_and(|again| again.every == 2 && again.gap == 9)
+        );
+    }
+}
+
+#[test]
+fn bytes_that_are_no_text_are_not_read(rt: HostRuntime) {
+    assert!(rt; read_net(rt.alloc(), b"\xFF").is_err());
+    assert!(rt; read_net(rt.alloc(), b"\xEF\xBB\xBF[[transition]]\nname = \"a\"\n").is_ok());
+}

@@ -1,0 +1,71 @@
+//! Keys that a table does not list.
+ghost use Rattle.std.specs.Prelude.{◌≡◌, not, option_map, option_copied, string_bytes, string_cmp, find};
+ghost use Rattle.std.specs.List.{filter};
+ghost use Rattle.std.specs.List.Sorted.{IsStrictlySortedBy};
+ghost use Rattle.std.specs.BTreeMap.{keys as keys_in};
+ghost use Rattle.toml.specs.View.{view, table_view};
+ghost use Rattle.teg_reader.specs.Trees.{keys_of};
+ghost use Rattle.teg_reader.specs.UnknownKeys.{is_field, least_of, unlisted_keys};
+
+use crate::fields::{Field, fields_of};
+use crate::refusals::{ReadRefusal, Spot};
+use crate::walk::Pass;
+use std::alloc::Global;
+use teg_net::Label;
+use toml::{Table, Value};
+
+#[tactic(auto, unfolding(crate::specs::UnknownKeys::is_field))]
+fn is_field(text: &str, fields: &[Field]) -> bool
+    ensures { result ≡ is_field fields.now text.now }
+{
+    fields.iter().any(|field| text == field.key.text())
+}
+
+fn unlisted_in<'a>(table: &'a Table, fields: &[Field]) -> Option<&'a String>
+    ensures first { option_copied result ≡ find (λ k. not (is_field fields.now (string_bytes k))) (keys_in table.now) }
+    ensures ordered { IsStrictlySortedBy string_cmp (keys_in table.now) }
+{
+    table.keys().find(|key| !is_field(key.as_str(), fields))
+}
+
+/// The first key, in the table's order, that is none of the fields. A table keeps its keys in
+/// order, so it is the least one.
+fn unlisted_text<'a>(table: &'a Table, fields: &[Field]) -> Option<&'a str>
+    ensures { option_map (λ k. k.now) result ≡ least_of (filter (λ k. not (is_field fields.now k)) (keys_of (table_view table.now))) }
+{
+    match unlisted_in(table, fields) {
+        Some(key) => Some(key.as_str()),
+        None => None,
+    }
+}
+
+#[tactic(auto, using(crate::proofs::KeyLemmas::least_of_none), unfolding(crate::specs::UnknownKeys::unlisted_keys))]
+fn unlisted_key<'a>(entry: &'a Value, fields: &[Field]) -> Option<&'a str>
+    ensures { option_map (λ k. k.now) result ≡ least_of (unlisted_keys fields.now (view entry.now)) }
+{
+    match entry.as_table() {
+        Some(table) => unlisted_text(table, fields),
+        None => None,
+    }
+}
+
+/// Finds keys that a table does not list.
+#[derive(Drop)]
+pub(crate) struct UnknownKeys;
+
+impl Pass for UnknownKeys {
+    ghost use Rattle.teg_reader.specs.UnknownKeys.{unknown_key};
+
+    ghost looks = { λ _. unknown_key };
+
+    #[tactic(auto, unfolding(crate::specs::UnknownKeys::unknown_key))]
+    fn look(&self, alloc: Global, spot: Spot, entry: &Value) -> Result<(), ReadRefusal> {
+        match unlisted_key(entry, fields_of(spot.section)) {
+            Some(text) => match Label::new(alloc, text) {
+                Ok(key) => Err(ReadRefusal::UnknownKey { spot, key }),
+                Err(_) => Err(ReadRefusal::OutOfMemory),
+            },
+            None => Ok(()),
+        }
+    }
+}
