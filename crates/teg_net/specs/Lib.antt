@@ -2,10 +2,6 @@ pub mod Limits
 pub mod Names
 pub mod Nets
 pub mod Circuits
-pub mod Keys
-pub mod Trees
-pub mod Plain
-pub mod Documents
 pub mod Paths
 pub mod Inputs
 pub mod Walks

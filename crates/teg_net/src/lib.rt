@@ -1,27 +1,22 @@
 //! Timed event graphs: their entries, names and rules, and what paths and circuits of them are.
 //!
 //! A [`Net`] is seen by contracts as its three lists (`NetLists`), which keep the rules of `IsNet`.
-//! Its reader of plain files stands on `toml` and `indexmap`; what speaks of dates stands in crates
-//! above it.
+//! This crate stands on std alone; what speaks of dates stands in crates above it.
 #![tactic(auto)]
 
 mod circuits;
 mod copies;
 mod entries;
 mod inputs;
-mod keys;
 mod labels;
 mod lookups;
 mod memory;
 mod names;
 mod net;
-mod numbers;
 mod paths;
 mod ratios;
-mod reader;
 #[cfg(test)]
 mod tests;
-mod trees;
 mod walks;
 
 pub use circuits::Circuit;
@@ -32,5 +27,4 @@ pub use names::{Name, NameRefused};
 pub use net::Net;
 pub use paths::{is_circuit, is_path, time_of, tokens_of};
 pub use ratios::Ratio;
-pub use reader::{ReadRefusal, read_net};
 pub use walks::{Step, Walk, is_walk, walk_end, walk_time};

@@ -46,7 +46,7 @@ fn has_name_bytes(text: &str) -> bool
 }
 
 /// Whether the text can be a name.
-pub(crate) fn is_name(text: &str) -> bool
+fn is_name(text: &str) -> bool
     ensures { result ≡ is_name text.now }
 {
     let size = text.len();

@@ -1,7 +1,0 @@
-use Rattle.std.proofs.Common.{◌≡◌, map, take}
-use Rattle.toml.specs.View.{view}
-use Rattle.teg_net.specs.Plain.{transition_of}
-use Rattle.teg_net.proofs.reader.make_transitions.Given as goal
-
-abbrev pub invariant-loop-entry : goal.invariant-loop-entry
-invariant-loop-entry l = l.transitions.items ≡ map transition_of (map view (take l.entry-index l.entries))
