@@ -138,9 +138,11 @@ module _ (s b x : ℕ → Date) (up : Rising x) (solves : (k : ℕ) → Le (late
 
 -- ---- forms
 
+-- the form of the function that is Early everywhere
 abbrev pub early_form : Form
 early_form = record { values = Early ∷ []; period = 1; step = pos 0 }
 
+-- the form of the function that is 0 everywhere
 abbrev pub zero_form : Form
 zero_form = record { values = At (pos 0) ∷ []; period = 1; step = pos 0 }
 

@@ -38,6 +38,7 @@ turned u v w = sym (times_assoc u v w) ∙ ap (λ z. date_product z w) (times_co
 pub exchanged : (u v w : Date) → date_product u (date_product v w) ≡ date_product v (date_product u w)
 exchanged u v w = turned u v w ∙ times_assoc v u w
 
+-- an item of a list of parts: a part of some length, or a step of the period
 pub data Item : Type 0 where
   part : ℕ → Item
   step : Item

@@ -135,7 +135,7 @@ left_is_by_slopes f g isf isg some k First h = cases (tail_of f) (tail_of g) ref
       early_below (value_at f) (value_at g) k p (ap (λ z. date_left z (value_at g (k + p))) (tail_never f isf ea p (omega arith)) ∙ ap (date_left Never) vt.1)
   cases Never Never ea eb h = absurd cc
 
--- the residual is D17's at every shift
+-- the residual is that of the definition at every shift
 pub left_is : (f g : Form) → IsForm f → IsForm g → (k : ℕ) → IsLeftAt (value_at f) (value_at g) k (left_at f g k)
 left_is f g isf isg k = cases (tail_of f) refl where
   cases : (a : Date) → tail_of f ≡ a → IsLeftAt (value_at f) (value_at g) k (left_by a f g k)

@@ -11,6 +11,7 @@ use Rattle.series_form.specs.Order.{Le, move, le_refl, le_is, le_trans, le_antis
 use Rattle.series_form.specs.Periodic.{Rising, Repeats, repeats_later, repeats_from, repeats_times, times, times_add}
 use Rattle.series_ops.specs.Pigeons.{pigeons, difference}
 
+-- the parts added
 abbrev pub total : List ℕ → ℕ
 total [] = 0
 total (c ∷ l) = c + total l
@@ -20,6 +21,7 @@ abbrev pub date_of : (ℕ → Date) → List ℕ → Date
 date_of s [] = At (pos 0)
 date_of s (c ∷ l) = date_product (s c) (date_of s l)
 
+-- each part is above 0
 abbrev pub ArePositive : List ℕ → Type 0
 ArePositive [] = Unit {0}
 ArePositive (c ∷ l) = (0 < c) × ArePositive l
