@@ -1,5 +1,5 @@
 -- Closure: the operations lead from forms to canonical forms of their functions, of at most the need.
-use Rattle.std.specs.Prelude.{◌≡◌, ◌≤◌, ◌+◌, ℕ}
+use Rattle.std.specs.Prelude.{◌≡◌, ◌≤◌, ℕ}
 use Rattle.dioid.specs.declared.dates.Date.{Date}
 use Rattle.series_form.specs.Forms.{Form, size_of, value_at, IsForm, HasValues, IsCanonical}
 use Rattle.series_form.specs.Pointwise.{sum_at, least_at}

@@ -1,10 +1,8 @@
 -- From where the result of each operation repeats, and by how many shifts. Their sum is the need.
-use Rattle.std.specs.Prelude.{◌≡◌, ◌≤◌, ◌<◌, ◌+◌, ◌-◌, ◌*◌, ◌/◌, ◌%◌, ◌⊎◌, ℕ, ℤ, pos, negsuc, zero, suc, max, Bool, true, false, cond, ltb, eqb, not, List, [], ◌∷◌, length, get_or, ◌-ℤ◌}
-use Rattle.std.specs.Int.{int_max}
+use Rattle.std.specs.Prelude.{◌+◌, ◌-◌, ◌*◌, ◌/◌, ℕ, ℤ, pos, negsuc, zero, suc, max, Bool, true, false, cond, ltb, not, [], ◌∷◌, ◌-ℤ◌}
 use Rattle.std.specs.Prelude.{int_lt}
 use Rattle.dioid.specs.declared.dates.Date.{Date}
 use Rattle.dioid.specs.declared.dates.Date.TheVariants.{Early, At, Never}
-use Rattle.series_form.specs.Order.{move}
 use Rattle.series_form.specs.Periodic.{times}
 use Rattle.series_form.specs.Forms.{Form, size_of, start_of, value_at, gap}
 use Rattle.series_form.specs.declared.plans.Plan.{Plan}
@@ -12,7 +10,6 @@ use Rattle.series_form.specs.declared.plans.Slopes.{Slopes}
 use Rattle.series_form.specs.declared.plans.Slopes.TheVariants.{Equal, First, Second}
 use Rattle.series_ops.specs.declared.stars.Anchor.{Anchor}
 use Rattle.series_form.specs.Needs.{plan, need_of, form_by, period_with, rise_of, fall_of, tail_of, slopes_of, greatest_int, ceiling, later_start, sum_plan, form_sum}
-use Rattle.series_form.specs.Pointwise.{sum_at, least_at}
 use Rattle.series_ops.specs.Product.{product_at}
 use Rattle.series_ops.specs.Stars.{scaled}
 use Rattle.series_ops.specs.StarOf.{star_at}

@@ -1,14 +1,12 @@
 -- The star of a series as a function.
-use Rattle.std.proofs.Common.{◌≡◌, refl, ap, arith, ℕ, ℤ, pos, negsuc, zero, suc, max, ◌+◌, ◌*◌, ◌-◌, ◌≤◌, ◌<◌, ◌+ℤ◌, ◌-ℤ◌, sym, ◌∙◌, subst, ⊎_elim, ◌⊎◌, inl, inr, Bool, true, false, cond, eqb, List, [], ◌∷◌, length, get_or}
-use Rattle.std.specs.Prelude.{◌≤ℤ◌}
+use Rattle.std.proofs.Common.{◌≡◌, refl, ap, arith, ℕ, ℤ, pos, negsuc, zero, suc, ◌+◌, ◌-◌, ◌≤◌, ◌<◌, sym, ◌∙◌, ⊎_elim, ◌⊎◌, inl, inr, Bool, true, false, List, [], ◌∷◌, length}
 use Rattle.std.specs.Int.{int_max}
 use Rattle.std.proofs.lemmas.Int.{ints, clamps, by_lt_z}
-use Rattle.std.proofs.lemmas.Bool.{cases_lt}
-use Rattle.dioid.specs.Dates.{later_of, earlier_of, date_product, date_left}
-use Rattle.dioid.specs.DateLaws.{times_early, times_assoc, one_times, times_one, date_galois, later_times}
+use Rattle.dioid.specs.Dates.{later_of, date_product, date_left}
+use Rattle.dioid.specs.DateLaws.{times_early, one_times, times_one, date_galois, later_times}
 use Rattle.dioid.specs.declared.dates.Date.{Date}
 use Rattle.dioid.specs.declared.dates.Date.TheVariants.{Early, At, Never}
-use Rattle.series_form.specs.Order.{Le, move, le_refl, le_is, le_trans, le_antisym, early_le, le_never, product_le, later_le, le_later_left, le_later_right}
+use Rattle.series_form.specs.Order.{Le, le_refl, le_is, le_trans, le_antisym, early_le, product_le, later_le, le_later_left, le_later_right}
 use Rattle.series_form.specs.Periodic.{Rising}
 use Rattle.series_ops.specs.Product.{greatest, le_greatest, greatest_le, product_at, le_product, product_at_le}
 use Rattle.series_ops.specs.Stars.{total, date_of, ArePositive, IsStarAt}
