@@ -4,3 +4,4 @@ pub mod Steps
 pub mod FirstPart
 pub mod Finished
 pub mod PointwiseTables
+pub mod FormLaws

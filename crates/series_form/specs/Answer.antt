@@ -88,6 +88,7 @@ pub record IsFirstGreat (l : List Date) (n : ℕ) (v : ℤ) : Type 0 where
   pub great : 1000000000000000000 < unsigned_abs v
   pub before : (k : ℕ) → k < place → IsSmallDate (get_or l k Early)
 
+-- the first of the first n values that is too great, or none of them is
 abbrev pub IsNumberCheck : List Date → ℕ → Option ℤ → Type 0
 IsNumberCheck l n (Some v) = IsFirstGreat l n v
 IsNumberCheck l n None = (k : ℕ) → k < n → IsSmallDate (get_or l k Early)

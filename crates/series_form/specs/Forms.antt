@@ -6,14 +6,17 @@ use Rattle.dioid.specs.declared.dates.Date.TheVariants.{Early, At, Never}
 use Rattle.series_form.specs.Order.{move}
 use Rattle.series_form.specs.Periodic.{Rising, times}
 
+-- a list of values of any length, a period in shifts and a step of any size
 pub record Form : Type 0 where
   pub values : List Date
   pub period : ℕ
   pub step : ℤ
 
+-- the form of a list, a period and a step
 abbrev pub form_with : List Date → ℕ → ℤ → Form
 form_with l n x = record { values = l; period = n; step = x }
 
+-- the number N of values in the list
 abbrev pub size_of : Form → ℕ
 size_of f = length f.values
 
@@ -26,12 +29,14 @@ abbrev pub value_at : Form → ℕ → Date
 value_at f k = cond (ltb k (size_of f)) (get_or f.values k Early)
     (move (times ((k - start_of f) / f.period) f.step) (get_or f.values (start_of f + (k - start_of f) % f.period) Early))
 
+-- the period is from 1 to N, the function never falls, and a tail of Never or Early has period 1 and step 0
 pub record IsForm (f : Form) : Type 0 where
   pub period_positive : 0 < f.period
   pub period_fits : f.period ≤ size_of f
   pub rising : Rising (value_at f)
   pub tail : (value_at f (start_of f) ≡ Never) ⊎ (value_at f (start_of f) ≡ Early) → (f.period ≡ 1) × (f.step ≡ pos 0)
 
+-- the function of the form is s
 abbrev pub HasValues : Form → (ℕ → Date) → Type 0
 HasValues f s = (k : ℕ) → value_at f k ≡ s k
 
@@ -43,6 +48,7 @@ pub record IsCanonical (f : Form) : Type 0 where
 
 -- ---- the canonical form of a function that repeats
 
+-- whether two dates are equal
 abbrev pub date_eqb : Date → Date → Bool
 date_eqb Early Early = true
 date_eqb Early (At t) = false
@@ -62,6 +68,7 @@ gap (At s) (At t) = t -ℤ s
 gap (At s) Never = pos 0
 gap Never b = pos 0
 
+-- the first n values of a function
 abbrev pub table : (ℕ → Date) → ℕ → List Date
 table f zero = []
 table f (suc n) = f 0 ∷ table (λ i. f (suc i)) n
@@ -80,12 +87,15 @@ abbrev pub first_of : (ℕ → Bool) → ℕ → ℕ → ℕ
 first_of t a zero = a
 first_of t a (suc m) = cond (t a) a (first_of t (suc a) m)
 
+-- the least number of shifts, from 1 to n, that repeats the function from p on
 abbrev pub least_period_of : (ℕ → Date) → ℕ → ℕ → ℕ
 least_period_of f p n = first_of (λ i. repeats_test f i (gap (f p) (f (p + i))) p n) 1 (n - 1)
 
+-- the least shift from which n shifts move each value up to p by x
 abbrev pub least_start_of : (ℕ → Date) → ℕ → ℕ → ℤ → ℕ
 least_start_of f p n x = first_of (λ q. repeats_test f n x q (p - q)) 0 p
 
+-- the form of the period n and the step x with the shortest list
 abbrev pub shortest : (ℕ → Date) → ℕ → ℕ → ℤ → Form
 shortest f p n x = record { values = table f (least_start_of f p n x + n); period = n; step = x }
 

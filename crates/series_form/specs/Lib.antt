@@ -8,3 +8,4 @@ pub mod Answer
 pub mod Shapes
 pub mod Needs
 pub mod Sums
+pub mod Laws

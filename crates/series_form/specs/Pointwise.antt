@@ -7,9 +7,11 @@ use Rattle.dioid.specs.declared.dates.Date.{Date}
 use Rattle.series_form.specs.Order.{Le, move, le_refl, le_is, le_trans, le_antisym, le_later_left, later_le, earlier_le_right, le_earlier, move_le, move_zero, move_move, move_further, later_move, earlier_move}
 use Rattle.series_form.specs.Periodic.{Repeats, repeats_from, times, by_steps}
 
+-- the sum of two functions: at each shift the greater value
 abbrev pub sum_at : (ℕ → Date) → (ℕ → Date) → ℕ → Date
 sum_at s t k = later_of (s k) (t k)
 
+-- the minimum of two functions: at each shift the lesser value
 abbrev pub least_at : (ℕ → Date) → (ℕ → Date) → ℕ → Date
 least_at s t k = earlier_of (s k) (t k)
 

@@ -5,6 +5,7 @@
 #![tactic(auto)]
 
 mod forms;
+mod laws;
 mod plans;
 mod pointwise;
 mod shorten;
@@ -13,6 +14,7 @@ mod tests;
 mod values;
 
 pub use forms::{Series, SeriesRefused};
+pub use laws::forms_are_lawful;
 pub use plans::{
     Plan, Slopes, common_period, compare_slopes, gain_over, gains_for, lead_gain, start, tail,
 };

@@ -1,17 +1,15 @@
 -- Closure.
-use Rattle.std.proofs.Common.{◌≡◌, ℕ, sym, subst}
+use Rattle.std.proofs.Common.{ℕ, sym, subst}
 use Rattle.dioid.specs.declared.dates.Date.{Date}
-use Rattle.series_form.specs.Forms.{Form, value_at, IsForm}
+use Rattle.series_form.specs.Forms.{value_at}
 use Rattle.series_form.specs.Periodic.{Rising}
-use Rattle.series_form.specs.Pointwise.{sum_at, least_at}
-use Rattle.series_ops.specs.Product.{product_at}
 use Rattle.series_ops.specs.Residual.{IsLeftAt}
 use Rattle.series_ops.specs.StarOf.{star_at, IsStarOf, star_words}
 use Rattle.series_form.specs.Canonical.{canonical_short, one_canonical}
 use Rattle.series_ops.specs.Closure.{IsFormOf, AreClosed}
 use Rattle.series_form.specs.declared.plans.Plan.{Plan}
 use Rattle.series_form.specs.Needs.{need_of, form_by}
-use Rattle.series_ops.specs.Needs.{left_at, left_plan, form_left, star_need, form_star}
+use Rattle.series_ops.specs.Needs.{left_at, left_plan, star_need, form_star}
 use Rattle.series_form.specs.Sums.{Serves, served_is, served_values, sum_rises, least_rises, sum_serves, least_serves}
 use Rattle.series_ops.specs.Products.{product_rises, product_serves}
 use Rattle.series_ops.specs.Lefts.{left_is, left_rises, left_serves, form_left_values}

@@ -1,17 +1,15 @@
 -- Lists of first values.
-use Rattle.std.proofs.Common.{◌≡◌, refl, ap, arith, ℕ, ℤ, zero, suc, ◌+◌, ◌*◌, ◌-◌, ◌/◌, ◌%◌, ◌≤◌, ◌<◌, ◌+ℤ◌, sym, ◌∙◌, subst, ⊎_elim, List, [], ◌∷◌, length, get_or, take, Result}
-use Rattle.std.specs.Int.RustNames.{unsigned_abs}
+use Rattle.std.proofs.Common.{◌≡◌, refl, ap, arith, ℕ, zero, suc, ◌+◌, ◌-◌, ◌≤◌, ◌<◌, sym, ◌∙◌, subst, ⊎_elim, List, [], ◌∷◌, length, get_or, take}
 use Rattle.std.proofs.lemmas.Bool.{cases_lt}
 use Rattle.std.proofs.lemmas.List.{get_or-take, length-take-le}
 use Rattle.std.proofs.Math.ListN.{get_or-eq_default}
-use Rattle.dioid.specs.Dates.{later_of, date_product}
+use Rattle.dioid.specs.Dates.{date_product}
 use Rattle.dioid.specs.declared.dates.Date.{Date}
 use Rattle.dioid.specs.declared.dates.Date.TheVariants.{Early, At, Never}
 use Rattle.series_form.specs.declared.plans.Plan.{Plan}
-use Rattle.series_form.specs.declared.forms.SeriesRefused.{SeriesRefused}
 use Rattle.series_form.specs.Order.{Le, le_is, le_trans, le_antisym}
 use Rattle.series_form.specs.Periodic.{Rising}
-use Rattle.series_form.specs.Forms.{Form, value_at, table, IsForm, HasValues}
+use Rattle.series_form.specs.Forms.{Form, value_at, table}
 use Rattle.series_form.specs.Canonical.{table_at, table_length, same_lists}
 use Rattle.series_form.specs.Bounds.{IsUpTo, IsSeries}
 use Rattle.series_form.specs.Needs.{need_of}

@@ -1,23 +1,21 @@
 -- The plan of a product, as the code computes it.
-use Rattle.std.proofs.Common.{◌≡◌, refl, ap, arith, ℕ, ℤ, pos, suc, ◌+◌, ◌*◌, ◌-◌, ◌/◌, ◌%◌, ◌≤◌, ◌<◌, ◌-ℤ◌, ◌*ℤ◌, sym, ◌∙◌, subst, ⊎_elim, List, to_z, of_z, FitsSigned}
+use Rattle.std.proofs.Common.{◌≡◌, refl, ap, arith, ℕ, ℤ, pos, suc, ◌+◌, ◌*◌, ◌-◌, ◌/◌, ◌%◌, ◌≤◌, ◌<◌, ◌-ℤ◌, sym, ◌∙◌, subst, ⊎_elim, List}
 use Rattle.std.specs.Prelude.{◌<ℤ◌}
-use Rattle.std.specs.Int.{w128}
 use Rattle.std.specs.Int.RustNames.{unsigned_abs}
-use Rattle.std.proofs.lemmas.Int.{ints, unsigned_abs-mul, to_z-of_z}
+use Rattle.std.proofs.lemmas.Int.{ints, unsigned_abs-mul}
 use Rattle.std.proofs.lemmas.Nat.{mul-le, div-add-mod'}
 use Rattle.std.proofs.lemmas.Bool.{cases_lt}
 use Rattle.std.proofs.Math.Nat.{le-mul_of_pos_right, mul-le-mul_right}
 use Rattle.dioid.specs.declared.dates.Date.{Date}
 use Rattle.dioid.specs.declared.dates.Date.TheVariants.{Early, At, Never}
 use Rattle.series_form.specs.declared.plans.Plan.{Plan}
-use Rattle.series_form.specs.declared.plans.Slopes.{Slopes}
-use Rattle.series_form.specs.declared.plans.Slopes.TheVariants.{Equal, First, Second}
+use Rattle.series_form.specs.declared.plans.Slopes.TheVariants.{First}
 use Rattle.series_form.specs.Periodic.{times}
 use Rattle.series_form.specs.Forms.{Form, size_of, start_of, value_at}
 use Rattle.series_form.specs.Bounds.{IsSeries}
 use Rattle.series_form.specs.Needs.{plan, period_with, rise_of, fall_of, tail_of, slopes_by, slopes_of}
-use Rattle.series_form.specs.Sums.{common_positive, common_second, sign_first}
-use Rattle.series_form.proofs.Numbers.{times_product, step_of, mul_fits}
+use Rattle.series_form.specs.Sums.{sign_first}
+use Rattle.series_form.proofs.Numbers.{times_product}
 use Rattle.series_form.specs.Forms.{table}
 use Rattle.series_form.specs.Needs.{need_of}
 use Rattle.series_form.specs.Sums.{Serves}

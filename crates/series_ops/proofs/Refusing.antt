@@ -1,10 +1,8 @@
 -- A refusal of a series as one of an element.
-use Rattle.std.proofs.Common.{rules, ◌≡◌, ◌≤◌, ◌<◌, ◌⊎◌, ℕ, ℤ, Bool, true, IsTrue, sym, subst, arith, inl, inr, get_or, Result, Ok, Err}
+use Rattle.std.proofs.Common.{rules, ◌≤◌, ◌<◌, ◌⊎◌, ℕ, ℤ, true, sym, subst, arith, inl, inr, Err}
 use Rattle.std.specs.Int.RustNames.{unsigned_abs}
 use Rattle.dioid.specs.declared.dates.Date.{Date}
-use Rattle.dioid.specs.declared.dates.Date.TheVariants.{Early, At}
 use Rattle.dioid.specs.declared.algebra.Refused.{Refused}
-use Rattle.dioid.specs.declared.algebra.Refused.TheVariants.{Range}
 use Rattle.dioid.specs.Answer.{Answers}
 use Rattle.series_form.specs.declared.forms.SeriesRefused.{SeriesRefused}
 use Rattle.series_form.specs.declared.forms.SeriesRefused.TheVariants.{TooLong, TooGreat, OutOfMemory}

@@ -1,10 +1,9 @@
 -- The star by its first values.
-use Rattle.std.proofs.Common.{◌≡◌, refl, ap, arith, ℕ, ℤ, pos, negsuc, zero, suc, max, ◌+◌, ◌*◌, ◌-◌, ◌≤◌, ◌<◌, ◌+ℤ◌, ◌-ℤ◌, sym, ◌∙◌, subst, ⊎_elim, ◌⊎◌, inl, inr, List, [], ◌∷◌, length, get_or, take, true, false, ltb, cond, Result, Ok, Err, to_z, of_z}
+use Rattle.std.proofs.Common.{◌≡◌, refl, ap, arith, ℕ, ℤ, pos, negsuc, zero, suc, ◌+◌, ◌*◌, ◌-◌, ◌≤◌, ◌<◌, ◌+ℤ◌, ◌-ℤ◌, sym, ◌∙◌, subst, ⊎_elim, ◌⊎◌, inl, inr, List, [], ◌∷◌, length, get_or, take, true, false, ltb, cond, Result, Ok, Err, to_z, of_z}
 use Rattle.std.specs.Int.{w128}
 use Rattle.std.proofs.lemmas.Int.{to_z-of_z}
-use Rattle.std.specs.Prelude.{◌≤ℤ◌}
 use Rattle.std.specs.Int.RustNames.{unsigned_abs}
-use Rattle.std.proofs.lemmas.Int.{ints, clamps}
+use Rattle.std.proofs.lemmas.Int.{ints}
 use Rattle.std.proofs.lemmas.Bool.{cases_lt}
 use Rattle.std.proofs.lemmas.Bool.Decides.{nat_tests}
 use Rattle.std.proofs.lemmas.List.{get_or-take, length-take-le}
@@ -16,22 +15,22 @@ use Rattle.series_form.specs.declared.plans.Plan.{Plan}
 use Rattle.series_form.specs.declared.forms.SeriesRefused.{SeriesRefused}
 use Rattle.series_form.specs.declared.forms.SeriesRefused.TheVariants.{TooLong, TooGreat, OutOfMemory}
 use Rattle.series_form.specs.Order.{Le, move, le_is, early_le}
-use Rattle.series_form.specs.Periodic.{Rising, Repeats, times}
+use Rattle.series_form.specs.Periodic.{Rising, Repeats}
 use Rattle.series_form.specs.Pointwise.{sum_at}
 use Rattle.series_form.specs.Forms.{Form, form_with, size_of, start_of, value_at, gap, table, IsForm, HasValues, IsCanonical, monomial_at}
-use Rattle.series_form.specs.Canonical.{table_at, table_length, value_in, value_repeats, one_canonical, constant_is}
+use Rattle.series_form.specs.Canonical.{table_length, value_in, value_repeats, one_canonical, constant_is}
 use Rattle.series_form.specs.Bounds.{IsUpTo, IsSeries}
-use Rattle.series_form.specs.Answer.{AnswersOf, IsGreatIn, IsConstant, IsBeginning, form_before}
+use Rattle.series_form.specs.Answer.{AnswersOf, IsConstant, IsBeginning, form_before}
 use Rattle.series_form.specs.Shapes.{IsCanonicalPart}
 use Rattle.series_form.specs.declared.shorten.Shape.{Shape}
-use Rattle.series_form.specs.Needs.{plan, need_of, sum_plan, form_sum, tail_of}
+use Rattle.series_form.specs.Needs.{need_of, sum_plan, form_sum}
 use Rattle.series_form.specs.Sums.{Serves}
 use Rattle.series_form.proofs.Numbers.{abs_difference}
 use Rattle.series_form.proofs.Finished.{IsTabled, up_to_more, monomial_below, monomial_from}
 use Rattle.series_form.proofs.PointwiseTables.{later_up_to, listed_up_to}
 use Rattle.series_ops.specs.Listed.{listed, AreUpTo, all_but_last, last_of, later_part, star_listed}
 use Rattle.series_ops.specs.Product.{product_at}
-use Rattle.series_ops.specs.StarOf.{parts_star, parts_star_is, first_parts, first_parts_is, star_rises, from_one, above_zero, star_by, star_at, IsStarBy, IsStarOf, IsGreatestSum, parts_star_greatest}
+use Rattle.series_ops.specs.StarOf.{parts_star, parts_star_is, first_parts, first_parts_is, star_rises, from_one, above_zero, IsStarBy, IsStarOf, IsGreatestSum, parts_star_greatest}
 use Rattle.series_ops.specs.Stars.{one_star}
 use Rattle.series_ops.specs.Needs.{one_shift, at_least, own_plan, star_plan, star_plan_by, carried_of, star_carried_by, star_need, star_carried}
 use Rattle.series_ops.specs.StarForms.{one_shift_is, one_shift_values, parts_serves}

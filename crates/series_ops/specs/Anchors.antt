@@ -1,16 +1,16 @@
 -- Where the star of a series repeats.
-use Rattle.std.proofs.Common.{◌≡◌, refl, ap, arith, ℕ, ℤ, pos, negsuc, zero, suc, ◌+◌, ◌*◌, ◌-◌, ◌≤◌, ◌<◌, ◌+ℤ◌, ◌-ℤ◌, sym, ◌∙◌, subst, ⊎_elim, ◌⊎◌, inl, inr, List, [], ◌∷◌, ◌++◌, length}
+use Rattle.std.proofs.Common.{◌≡◌, ap, arith, ℕ, ℤ, pos, zero, suc, ◌+◌, ◌*◌, ◌-◌, ◌≤◌, ◌<◌, ◌+ℤ◌, ◌-ℤ◌, sym, ◌∙◌, subst, ⊎_elim, ◌⊎◌, inl, inr, List, [], ◌∷◌, ◌++◌, length}
 use Rattle.std.specs.Prelude.{◌≤ℤ◌}
-use Rattle.std.proofs.lemmas.Int.{ints, clamps}
+use Rattle.std.proofs.lemmas.Int.{ints}
 use Rattle.std.proofs.lemmas.Bool.{cases_lt}
 use Rattle.dioid.specs.Dates.{date_product}
-use Rattle.dioid.specs.DateLaws.{times_assoc, one_times, times_one}
+use Rattle.dioid.specs.DateLaws.{one_times, times_one}
 use Rattle.dioid.specs.declared.dates.Date.{Date}
-use Rattle.dioid.specs.declared.dates.Date.TheVariants.{Early, At, Never}
-use Rattle.series_form.specs.Order.{Le, move, le_refl, le_is, le_trans, le_antisym, product_le, product_move_left, product_move_right, move_le, move_zero, move_move, move_further, le_move_back, le_move_over}
-use Rattle.series_form.specs.Periodic.{Rising, Repeats, repeats_later, repeats_from, repeats_times, times, times_add, by_steps}
-use Rattle.series_ops.specs.Stars.{total, date_of, ArePositive, IsStarAt, star_repeats, scaled, scaled_product, scaled_zero, scaled_le, scaled_le_back, scaled_move, times_over, times_swap}
-use Rattle.series_ops.specs.Items.{Item, times_commutes, at_product, turned, exchanged, length_of, worth_of, lengths, worths, StepFree, Fit, lengths_append, worths_append, fit_first, fit_second, fit_join, free_first, free_second, free_join, lengths_most, Run, run_of, realised, Cores, cores_of}
+use Rattle.dioid.specs.declared.dates.Date.TheVariants.{At}
+use Rattle.series_form.specs.Order.{Le, move, le_refl, le_is, le_trans, product_le, product_move_left, product_move_right, move_le, move_zero, move_move}
+use Rattle.series_form.specs.Periodic.{Repeats, times, times_add, by_steps}
+use Rattle.series_ops.specs.Stars.{total, date_of, ArePositive, IsStarAt, star_repeats, scaled, scaled_product, scaled_zero, scaled_le_back, scaled_move, times_over, times_swap}
+use Rattle.series_ops.specs.Items.{Item, at_product, lengths, worths, StepFree, Fit, lengths_append, worths_append, fit_first, fit_second, fit_join, free_first, free_second, free_join, lengths_most, Run, run_of, realised, Cores, cores_of}
 use Rattle.series_ops.specs.Items.Item.{part, step}
 
 -- ---- case 2: a shift b whose ratio a / b no other shift exceeds

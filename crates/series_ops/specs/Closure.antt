@@ -1,5 +1,5 @@
 -- Closure: the operations lead from forms to canonical forms of their functions, of at most the need.
-use Rattle.std.specs.Prelude.{◌≡◌, ◌≤◌, ◌+◌, ℕ}
+use Rattle.std.specs.Prelude.{◌≡◌, ◌≤◌, ℕ}
 use Rattle.dioid.specs.declared.dates.Date.{Date}
 use Rattle.series_form.specs.Forms.{Form, size_of, value_at, IsForm, HasValues, IsCanonical}
 use Rattle.series_form.specs.Pointwise.{sum_at, least_at}
@@ -15,6 +15,7 @@ pub record IsFormOf (s : ℕ → Date) (need : ℕ) (r : Form) : Type 0 where
   pub values : HasValues r s
   pub short : size_of r ≤ need
 
+-- each operation of two forms, of any length and any numbers, has a canonical form of its need with the values of the definition, and a function has one canonical form
 pub record AreClosed : Type 0 where
   pub sum : (f g : Form) → IsForm f → IsForm g → IsFormOf (sum_at (value_at f) (value_at g)) (need_of (sum_plan f g)) (form_sum f g)
   pub least : (f g : Form) → IsForm f → IsForm g → IsFormOf (least_at (value_at f) (value_at g)) (need_of (least_plan f g)) (form_least f g)

@@ -1,7 +1,7 @@
 -- The canonical forms are a dioid with a star and residuals.
-use Rattle.std.proofs.Common.{◌≡◌, ◌↔◌, refl, ap, arith, ℕ, ℤ, pos, negsuc, zero, suc, ◌+◌, ◌-◌, ◌≤◌, ◌<◌, ◌+ℤ◌, sym, ◌∙◌, subst, ⊎_elim, ◌⊎◌, inl, inr, List, [], ◌∷◌, length, get_or}
+use Rattle.std.proofs.Common.{◌≡◌, refl, ap, arith, ℕ, pos, negsuc, zero, suc, ◌+◌, ◌≤◌, ◌+ℤ◌, sym, ◌∙◌, ⊎_elim, ◌⊎◌, inl, inr, List, [], ◌∷◌}
 use Rattle.std.specs.Prelude.{◌≤ℤ◌}
-use Rattle.std.proofs.lemmas.Int.{ints, clamps}
+use Rattle.std.proofs.lemmas.Int.{ints}
 use Rattle.dioid.specs.Laws.{IsAtMost, IsClosed, DioidLaws, StarLaws, ResidualLaws}
 use Rattle.dioid.specs.Dates.{later_of, earlier_of, date_product, date_left}
 use Rattle.dioid.specs.DateLaws.{later_assoc, later_commutes, later_idempotent, times_assoc, times_later, one_times, times_one}
@@ -9,16 +9,15 @@ use Rattle.dioid.specs.declared.dates.Date.{Date}
 use Rattle.dioid.specs.declared.dates.Date.TheVariants.{Early, At, Never}
 use Rattle.series_form.specs.Order.{Le, move, le_refl, le_is, le_trans, le_antisym, early_le, le_never, product_le, later_le, le_later_left, le_later_right, le_earlier, earlier_le_left, earlier_le_right}
 use Rattle.series_form.specs.Periodic.{Rising}
-use Rattle.series_form.specs.Pointwise.{sum_at, least_at, later_is_left}
+use Rattle.series_form.specs.Pointwise.{sum_at, later_is_left}
 use Rattle.series_ops.specs.Product.{product_at, le_product, product_at_le}
-use Rattle.series_ops.specs.Residual.{IsLeftAt}
-use Rattle.series_ops.specs.Stars.{total, date_of, ArePositive, IsStarAt}
+use Rattle.series_ops.specs.Stars.{total, date_of}
 use Rattle.series_ops.specs.StarOf.{to_left, from_left, parts_star, parts_star_is, part_more, star_by, star_at}
 use Rattle.series_ops.specs.Items.{times_commutes}
-use Rattle.series_form.specs.Forms.{Form, form_with, size_of, start_of, value_at, IsForm, HasValues, IsCanonical}
-use Rattle.series_form.specs.Canonical.{constant_is, one_canonical, form_values, never_le}
+use Rattle.series_form.specs.Forms.{Form, value_at, IsForm, HasValues, IsCanonical}
+use Rattle.series_form.specs.Canonical.{constant_is, one_canonical}
 use Rattle.series_form.specs.Needs.{form_sum, form_least}
-use Rattle.series_ops.specs.Needs.{form_product, form_left, form_star, left_at}
+use Rattle.series_ops.specs.Needs.{form_product, form_left, form_star}
 use Rattle.series_form.specs.Sums.{form_sum_is, form_sum_values, form_least_is, form_least_values}
 use Rattle.series_ops.specs.Products.{form_product_is, form_product_values, product_commutes, early_product}
 use Rattle.series_ops.specs.Lefts.{left_is, form_left_is, form_left_values}
@@ -138,9 +137,11 @@ module _ (s b x : ℕ → Date) (up : Rising x) (solves : (k : ℕ) → Le (late
 
 -- ---- forms
 
+-- the form of the function that is Early everywhere
 abbrev pub early_form : Form
 early_form = record { values = Early ∷ []; period = 1; step = pos 0 }
 
+-- the form of the function that is 0 everywhere
 abbrev pub zero_form : Form
 zero_form = record { values = At (pos 0) ∷ []; period = 1; step = pos 0 }
 

@@ -1,19 +1,18 @@
 -- A list of parts, with its long parts written as a core and steps.
-use Rattle.std.proofs.Common.{◌≡◌, refl, ap, arith, ℕ, ℤ, pos, negsuc, zero, suc, ◌+◌, ◌*◌, ◌-◌, ◌/◌, ◌%◌, ◌≤◌, ◌<◌, ◌+ℤ◌, ◌-ℤ◌, sym, ◌∙◌, subst, ⊎_elim, ◌⊎◌, inl, inr, List, [], ◌∷◌, ◌++◌, take, drop, length, length-append, length-drop}
-use Rattle.std.specs.Prelude.{◌≤ℤ◌}
-use Rattle.std.proofs.lemmas.Int.{ints, clamps}
+use Rattle.std.proofs.Common.{◌≡◌, refl, ap, arith, ℕ, ℤ, pos, zero, suc, ◌+◌, ◌*◌, ◌-◌, ◌/◌, ◌%◌, ◌≤◌, ◌<◌, sym, ◌∙◌, subst, ⊎_elim, ◌⊎◌, inl, inr, List, [], ◌∷◌, ◌++◌, take, drop, length, length-drop}
+use Rattle.std.proofs.lemmas.Int.{ints}
 use Rattle.std.proofs.lemmas.Bool.{cases_lt}
 use Rattle.std.proofs.lemmas.List.{take-append-drop, length-take-le}
 use Rattle.std.proofs.lemmas.Nat.{div-add-mod', mod_below}
 use Rattle.std.proofs.Math.Seq.{take-add}
-use Rattle.dioid.specs.Dates.{later_of, earlier_of, date_product}
+use Rattle.dioid.specs.Dates.{date_product}
 use Rattle.dioid.specs.DateLaws.{times_assoc, one_times, times_one}
 use Rattle.dioid.specs.declared.dates.Date.{Date}
 use Rattle.dioid.specs.declared.dates.Date.TheVariants.{Early, At, Never}
-use Rattle.series_form.specs.Order.{Le, move, le_refl, le_is, le_trans, le_antisym, product_le, product_move_left, product_move_right, move_le, move_zero, move_move, move_further, le_move_back, le_move_over}
-use Rattle.series_form.specs.Periodic.{Rising, Repeats, repeats_later, repeats_from, repeats_times, times, times_add}
+use Rattle.series_form.specs.Order.{Le, move, le_is, le_trans, product_move_left, product_move_right, move_zero, move_move}
+use Rattle.series_form.specs.Periodic.{Repeats, repeats_times, times}
 use Rattle.series_ops.specs.Pigeons.{pigeons, difference}
-use Rattle.series_ops.specs.Stars.{total, date_of, ArePositive, IsStarAt, scaled, scaled_product, scaled_zero, scaled_le, scaled_le_back, times_over, times_swap}
+use Rattle.series_ops.specs.Stars.{total, date_of, ArePositive, IsStarAt}
 
 pub times_commutes : (a b : Date) → date_product a b ≡ date_product b a
 times_commutes Early Early = refl
@@ -38,6 +37,7 @@ turned u v w = sym (times_assoc u v w) ∙ ap (λ z. date_product z w) (times_co
 pub exchanged : (u v w : Date) → date_product u (date_product v w) ≡ date_product v (date_product u w)
 exchanged u v w = turned u v w ∙ times_assoc v u w
 
+-- an item of a list of parts: a part of some length, or a step of the period
 pub data Item : Type 0 where
   part : ℕ → Item
   step : Item

@@ -1,20 +1,17 @@
 -- The residual of forms is a form of the need.
-use Rattle.std.proofs.Common.{◌≡◌, refl, ap, arith, ℕ, ℤ, pos, negsuc, zero, suc, max, ◌+◌, ◌*◌, ◌-◌, ◌/◌, ◌%◌, ◌≤◌, ◌<◌, ◌+ℤ◌, ◌-ℤ◌, sym, ◌∙◌, subst, ⊎_elim, ◌⊎◌, inl, inr, List, [], ◌∷◌, length, get_or}
+use Rattle.std.proofs.Common.{◌≡◌, refl, ap, arith, ℕ, ℤ, pos, negsuc, zero, suc, max, ◌+◌, ◌*◌, ◌-◌, ◌≤◌, ◌<◌, ◌+ℤ◌, ◌-ℤ◌, sym, ◌∙◌, subst}
 use Rattle.std.specs.Prelude.{◌≤ℤ◌}
-use Rattle.std.proofs.lemmas.Int.{ints, clamps}
-use Rattle.std.proofs.lemmas.Bool.{cases_lt}
-use Rattle.dioid.specs.Dates.{later_of, earlier_of, date_product, date_left}
+use Rattle.std.proofs.lemmas.Int.{ints}
+use Rattle.dioid.specs.Dates.{date_left}
 use Rattle.dioid.specs.declared.dates.Date.{Date}
 use Rattle.dioid.specs.declared.dates.Date.TheVariants.{Early, At, Never}
-use Rattle.series_form.specs.Order.{Le, move, le_refl, le_is, le_trans, le_antisym, early_le, le_never, product_le, left_of_move}
-use Rattle.series_form.specs.Periodic.{Rising, Repeats, repeats_later, repeats_from, repeats_times, repeats_is, times, times_add, by_steps}
-use Rattle.series_ops.specs.Residual.{IsGreatestBelow, IsLeftAt, one_greatest, left_repeats, left_decided, least_of}
+use Rattle.series_form.specs.Order.{Le, move, le_refl, le_is, le_trans, early_le, le_never}
+use Rattle.series_form.specs.Periodic.{Rising, Repeats, repeats_later, repeats_times, repeats_is, times}
+use Rattle.series_ops.specs.Residual.{IsLeftAt, left_repeats, left_decided, least_of}
 use Rattle.series_form.specs.Forms.{Form, size_of, start_of, value_at, IsForm, HasValues, IsCanonical}
-use Rattle.series_form.specs.Canonical.{never_le}
-use Rattle.series_form.specs.declared.plans.Plan.{Plan}
 use Rattle.series_form.specs.declared.plans.Slopes.{Slopes}
 use Rattle.series_form.specs.declared.plans.Slopes.TheVariants.{Equal, First, Second}
-use Rattle.series_form.specs.Needs.{plan, form_by, period_with, rise_of, fall_of, tail_of, by_sign, slopes_by, slopes_of, later_start}
+use Rattle.series_form.specs.Needs.{plan, period_with, rise_of, fall_of, tail_of, by_sign, slopes_by, slopes_of, later_start}
 use Rattle.series_ops.specs.Needs.{offsets_of, left_over, left_by_slopes, left_by, left_at, long_left, short_left, left_plan_by_slopes, left_plan_by, left_plan, form_left}
 use Rattle.series_form.specs.Sums.{Serves, served_is, served_values, form_repeats_own, common_positive, rise_repeats, fall_repeats, tail_never, tail_early, tail_number, sign_first, equal_repeats}
 
@@ -135,7 +132,7 @@ left_is_by_slopes f g isf isg some k First h = cases (tail_of f) (tail_of g) ref
       early_below (value_at f) (value_at g) k p (ap (λ z. date_left z (value_at g (k + p))) (tail_never f isf ea p (omega arith)) ∙ ap (date_left Never) vt.1)
   cases Never Never ea eb h = absurd cc
 
--- the residual is D17's at every shift
+-- the residual is that of the definition at every shift
 pub left_is : (f g : Form) → IsForm f → IsForm g → (k : ℕ) → IsLeftAt (value_at f) (value_at g) k (left_at f g k)
 left_is f g isf isg k = cases (tail_of f) refl where
   cases : (a : Date) → tail_of f ≡ a → IsLeftAt (value_at f) (value_at g) k (left_by a f g k)

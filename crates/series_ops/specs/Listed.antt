@@ -17,12 +17,15 @@ listed l k = get_or l k Early
 abbrev pub AreUpTo : ℕ → List Date → Type 0
 AreUpTo n l = (k : ℕ) → IsUpTo n (get_or l k Early)
 
+-- the list without its last value
 abbrev pub all_but_last : List Date → List Date
 all_but_last l = take (length l - 1) l
 
+-- the last value of the list
 abbrev pub last_of : List Date → Date
 last_of l = get_or l (length l - 1) Early
 
+-- the date is a number
 abbrev pub IsNumber : Date → Type 0
 IsNumber Early = ⊥
 IsNumber (At t) = Unit {0}

@@ -1,14 +1,12 @@
 -- The product of series, and where it repeats.
-use Rattle.std.proofs.Common.{◌≡◌, refl, ap, arith, ℕ, ℤ, pos, negsuc, zero, suc, ◌+◌, ◌*◌, ◌-◌, ◌≤◌, ◌<◌, ◌+ℤ◌, ◌-ℤ◌, sym, ◌∙◌, subst, ⊎_elim, ◌⊎◌, inl, inr}
+use Rattle.std.proofs.Common.{◌≡◌, ap, arith, ℕ, ℤ, zero, suc, ◌+◌, ◌-◌, ◌≤◌, ◌<◌, sym, ◌∙◌, subst, ⊎_elim}
 use Rattle.std.specs.Prelude.{◌≤ℤ◌}
 use Rattle.std.proofs.Math.Nat.{eq-or-lt_of_le}
-use Rattle.std.proofs.lemmas.Int.{ints, clamps}
 use Rattle.std.proofs.lemmas.Bool.{cases_lt}
-use Rattle.dioid.specs.Dates.{later_of, earlier_of, date_product, date_left}
+use Rattle.dioid.specs.Dates.{later_of, date_product}
 use Rattle.dioid.specs.declared.dates.Date.{Date}
-use Rattle.dioid.specs.declared.dates.Date.TheVariants.{Early, At, Never}
 use Rattle.series_form.specs.Order.{Le, move, le_refl, le_is, le_trans, le_antisym, le_later_left, le_later_right, later_le, move_le, move_further, le_move_over, le_move_back, product_move_left, product_move_right, product_le}
-use Rattle.series_form.specs.Periodic.{Rising, Repeats, repeats_later, repeats_from}
+use Rattle.series_form.specs.Periodic.{Rising, Repeats, repeats_from}
 
 -- the greatest of f 0, .., f n
 abbrev pub greatest : (ℕ → Date) → ℕ → Date

@@ -1,25 +1,22 @@
 -- The product of forms is a form of the need.
-use Rattle.std.proofs.Common.{◌≡◌, refl, ap, arith, ℕ, ℤ, pos, negsuc, zero, suc, max, ◌+◌, ◌*◌, ◌-◌, ◌/◌, ◌%◌, ◌≤◌, ◌<◌, ◌+ℤ◌, ◌-ℤ◌, sym, ◌∙◌, subst, ⊎_elim, ◌⊎◌, inl, inr, List, [], ◌∷◌, length, get_or}
+use Rattle.std.proofs.Common.{◌≡◌, refl, ap, arith, ℕ, ℤ, pos, zero, suc, ◌+◌, ◌*◌, ◌-◌, ◌/◌, ◌%◌, ◌≤◌, ◌<◌, ◌+ℤ◌, ◌-ℤ◌, sym, ◌∙◌, subst}
 use Rattle.std.specs.Prelude.{◌≤ℤ◌}
-use Rattle.std.proofs.lemmas.Int.{ints, clamps}
-use Rattle.std.proofs.lemmas.Bool.{cases_lt}
+use Rattle.std.proofs.lemmas.Int.{ints}
 use Rattle.std.proofs.lemmas.Nat.{mod_below, div-add-mod'}
-use Rattle.dioid.specs.Dates.{later_of, earlier_of, date_product}
-use Rattle.dioid.specs.DateLaws.{times_early}
+use Rattle.dioid.specs.Dates.{date_product}
 use Rattle.dioid.specs.declared.dates.Date.{Date}
 use Rattle.dioid.specs.declared.dates.Date.TheVariants.{Early, At, Never}
-use Rattle.series_form.specs.Order.{Le, move, le_refl, le_is, le_trans, le_antisym, early_le, le_never, product_le}
-use Rattle.series_form.specs.Periodic.{Rising, Repeats, repeats_later, repeats_from, repeats_times, repeats_is, times, times_add, by_steps}
+use Rattle.series_form.specs.Order.{Le, move, le_refl, le_is, le_trans, le_antisym, early_le, product_le}
+use Rattle.series_form.specs.Periodic.{Rising, Repeats, repeats_times, repeats_is, times, times_add}
 use Rattle.series_ops.specs.Product.{product_at, le_product, product_at_le, product_repeats_equal, product_repeats_unequal}
 use Rattle.series_ops.specs.Items.{times_commutes}
 use Rattle.series_form.specs.Forms.{Form, size_of, start_of, value_at, IsForm, HasValues, IsCanonical}
 use Rattle.series_form.specs.Canonical.{never_le}
-use Rattle.series_form.specs.declared.plans.Plan.{Plan}
 use Rattle.series_form.specs.declared.plans.Slopes.{Slopes}
 use Rattle.series_form.specs.declared.plans.Slopes.TheVariants.{Equal, First, Second}
-use Rattle.series_form.specs.Needs.{plan, form_by, period_with, rise_of, fall_of, tail_of, by_sign, slopes_by, slopes_of, ceiling}
+use Rattle.series_form.specs.Needs.{plan, period_with, rise_of, fall_of, tail_of, slopes_by, slopes_of, ceiling}
 use Rattle.series_ops.specs.Needs.{lifts_of, waits_of, product_first, product_first_by, product_by_slopes, product_plan_by, product_plan, form_product}
-use Rattle.series_form.specs.Sums.{Serves, served_is, served_values, serves_same, form_repeats_own, common_positive, rise_repeats, fall_repeats, tail_never, tail_early, tail_number, ceiling_enough, sign_first, equal_repeats, second_first}
+use Rattle.series_form.specs.Sums.{Serves, served_is, served_values, serves_same, form_repeats_own, common_positive, rise_repeats, fall_repeats, tail_early, tail_number, ceiling_enough, sign_first, equal_repeats, second_first}
 
 pub product_rises : (s t : ℕ → Date) → Rising s → Rising t → Rising (product_at s t)
 product_rises s t a b = record {

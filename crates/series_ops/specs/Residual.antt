@@ -1,14 +1,13 @@
 -- The residual of series, and where it repeats.
-use Rattle.std.proofs.Common.{◌≡◌, refl, ap, arith, ℕ, ℤ, pos, negsuc, zero, suc, ◌+◌, ◌*◌, ◌-◌, ◌≤◌, ◌<◌, ◌+ℤ◌, ◌-ℤ◌, sym, ◌∙◌, subst, ⊎_elim}
+use Rattle.std.proofs.Common.{◌≡◌, ap, arith, ℕ, ℤ, pos, zero, suc, ◌+◌, ◌≤◌, ◌-ℤ◌, sym, ◌∙◌, subst, ⊎_elim}
 use Rattle.std.specs.Prelude.{◌≤ℤ◌}
 use Rattle.std.proofs.Math.Nat.{eq-or-lt_of_le}
-use Rattle.std.proofs.lemmas.Int.{ints, clamps}
+use Rattle.std.proofs.lemmas.Int.{ints}
 use Rattle.std.proofs.lemmas.Bool.{cases_lt}
-use Rattle.dioid.specs.Dates.{later_of, earlier_of, date_left}
+use Rattle.dioid.specs.Dates.{earlier_of, date_left}
 use Rattle.dioid.specs.declared.dates.Date.{Date}
-use Rattle.dioid.specs.declared.dates.Date.TheVariants.{Early, At, Never}
-use Rattle.series_form.specs.Order.{Le, move, le_refl, le_is, le_trans, le_antisym, earlier_le_left, earlier_le_right, le_earlier, move_le, move_le_back, move_zero, move_move, move_further, le_move_back, le_move_over, move_back, left_move, left_of_move}
-use Rattle.series_form.specs.Periodic.{Rising, Repeats, repeats_later, repeats_from, times, by_steps}
+use Rattle.series_form.specs.Order.{Le, move, le_is, le_trans, le_antisym, earlier_le_left, earlier_le_right, le_earlier, move_le, move_le_back, move_zero, move_further, move_back, left_move, left_of_move}
+use Rattle.series_form.specs.Periodic.{Repeats, by_steps}
 
 -- x is the greatest date that is at most f i for each i
 pub record IsGreatestBelow (f : ℕ → Date) (x : Date) : Type 0 where

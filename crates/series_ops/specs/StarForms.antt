@@ -1,23 +1,21 @@
 -- The star of a form is a form of the need.
-use Rattle.std.proofs.Common.{◌≡◌, refl, ap, arith, ℕ, ℤ, pos, negsuc, zero, suc, max, ◌+◌, ◌*◌, ◌-◌, ◌≤◌, ◌<◌, ◌+ℤ◌, ◌-ℤ◌, sym, ◌∙◌, subst, ⊎_elim, ◌⊎◌, inl, inr, Bool, true, false, cond, not, List, [], ◌∷◌, length, get_or}
+use Rattle.std.proofs.Common.{◌≡◌, refl, ap, arith, ℕ, ℤ, pos, negsuc, zero, suc, max, ◌+◌, ◌*◌, ◌-◌, ◌≤◌, ◌<◌, ◌+ℤ◌, ◌-ℤ◌, sym, ◌∙◌, subst, ⊎_elim, ◌⊎◌, inl, inr, Bool, true, false, cond, not}
 use Rattle.std.specs.Prelude.{◌≤ℤ◌}
-use Rattle.std.specs.Int.{int_max}
 use Rattle.std.specs.Prelude.{int_lt}
-use Rattle.std.proofs.lemmas.Int.{ints, clamps}
-use Rattle.std.proofs.lemmas.Bool.{cases_lt}
+use Rattle.std.proofs.lemmas.Int.{ints}
 use Rattle.std.proofs.Math.Nat.{eq-or-lt_of_le, mul-le-mul_left}
 use Rattle.dioid.specs.Dates.{later_of}
 use Rattle.dioid.specs.declared.dates.Date.{Date}
 use Rattle.dioid.specs.declared.dates.Date.TheVariants.{Early, At, Never}
-use Rattle.series_form.specs.Order.{Le, move, le_refl, le_is, le_trans, le_antisym, early_le, le_never, move_le, later_le, le_later_left, le_later_right}
-use Rattle.series_form.specs.Periodic.{Rising, Repeats, repeats_later, repeats_is, times, times_add}
-use Rattle.series_ops.specs.Stars.{total, date_of, ArePositive, IsStarAt, star_never, scaled, scaled_zero, scaled_le, scaled_move, times_up, times_back, times_swap}
-use Rattle.series_ops.specs.StarOf.{parts_star, parts_star_is, star_by, star_at, star_rises, from_one, with_one, with_one_is}
+use Rattle.series_form.specs.Order.{Le, move, le_refl, le_is, le_trans, early_le, move_le, later_le, le_later_right}
+use Rattle.series_form.specs.Periodic.{Rising, Repeats, repeats_later, times, times_add}
+use Rattle.series_ops.specs.Stars.{IsStarAt, star_never, scaled, scaled_zero, scaled_le, scaled_move, times_up, times_back, times_swap}
+use Rattle.series_ops.specs.StarOf.{parts_star, star_by, star_at, star_rises, from_one, with_one, with_one_is}
 use Rattle.series_ops.specs.Anchors.{star_repeats_anchored, star_repeats_tail}
 use Rattle.series_form.specs.Forms.{Form, size_of, start_of, value_at, IsForm, HasValues, IsCanonical, gap}
 use Rattle.series_form.specs.Canonical.{never_le, form_values}
 use Rattle.series_form.specs.declared.plans.Plan.{Plan}
-use Rattle.series_form.specs.Needs.{plan, need_of, form_by, tail_of, greatest_int, sum_plan, form_sum}
+use Rattle.series_form.specs.Needs.{plan, need_of, tail_of, greatest_int, sum_plan, form_sum}
 use Rattle.series_ops.specs.declared.stars.Anchor.{Anchor}
 use Rattle.series_ops.specs.Needs.{beats, anchor_step, anchor_upto, anchor_of, natural_of, loss_of, worst_loss, anchored_plan, own_plan_by, own_plan, one_shift, at_least, star_plan, star_plan_by, form_star}
 use Rattle.series_form.specs.Sums.{Serves, served_is, served_values, form_repeats_own, tail_never, tail_early, tail_number, le_greatest_int, form_sum_is, form_sum_values}

@@ -1,14 +1,12 @@
 -- The star of a series as a function.
-use Rattle.std.proofs.Common.{◌≡◌, refl, ap, arith, ℕ, ℤ, pos, negsuc, zero, suc, max, ◌+◌, ◌*◌, ◌-◌, ◌≤◌, ◌<◌, ◌+ℤ◌, ◌-ℤ◌, sym, ◌∙◌, subst, ⊎_elim, ◌⊎◌, inl, inr, Bool, true, false, cond, eqb, List, [], ◌∷◌, length, get_or}
-use Rattle.std.specs.Prelude.{◌≤ℤ◌}
+use Rattle.std.proofs.Common.{◌≡◌, refl, ap, arith, ℕ, ℤ, pos, negsuc, zero, suc, ◌+◌, ◌-◌, ◌≤◌, ◌<◌, sym, ◌∙◌, ⊎_elim, ◌⊎◌, inl, inr, Bool, true, false, List, [], ◌∷◌, length}
 use Rattle.std.specs.Int.{int_max}
 use Rattle.std.proofs.lemmas.Int.{ints, clamps, by_lt_z}
-use Rattle.std.proofs.lemmas.Bool.{cases_lt}
-use Rattle.dioid.specs.Dates.{later_of, earlier_of, date_product, date_left}
-use Rattle.dioid.specs.DateLaws.{times_early, times_assoc, one_times, times_one, date_galois, later_times}
+use Rattle.dioid.specs.Dates.{later_of, date_product, date_left}
+use Rattle.dioid.specs.DateLaws.{times_early, one_times, times_one, date_galois, later_times}
 use Rattle.dioid.specs.declared.dates.Date.{Date}
 use Rattle.dioid.specs.declared.dates.Date.TheVariants.{Early, At, Never}
-use Rattle.series_form.specs.Order.{Le, move, le_refl, le_is, le_trans, le_antisym, early_le, le_never, product_le, later_le, le_later_left, le_later_right}
+use Rattle.series_form.specs.Order.{Le, le_refl, le_is, le_trans, le_antisym, early_le, product_le, later_le, le_later_left, le_later_right}
 use Rattle.series_form.specs.Periodic.{Rising}
 use Rattle.series_ops.specs.Product.{greatest, le_greatest, greatest_le, product_at, le_product, product_at_le}
 use Rattle.series_ops.specs.Stars.{total, date_of, ArePositive, IsStarAt}
@@ -30,6 +28,7 @@ power_at s zero zero = At (pos 0)
 power_at s zero (suc k) = Early
 power_at s (suc m) k = product_at (positive_part s) (power_at s m) k
 
+-- the greater of 0 and the greatest power
 abbrev pub parts_star : (ℕ → Date) → ℕ → Date
 parts_star s k = later_of (At (pos 0)) (greatest (λ m. power_at s m k) k)
 
@@ -67,6 +66,7 @@ star_by (At (pos (suc n))) s k = Never
 star_by (At (negsuc n)) s k = parts_star s k
 star_by Never s k = Never
 
+-- the star at k
 abbrev pub star_at : (ℕ → Date) → ℕ → Date
 star_at s = star_by (s 0) s
 
@@ -89,6 +89,7 @@ abbrev pub from_one : ℕ → Date
 from_one zero = Early
 from_one (suc k) = At (pos 0)
 
+-- the sum with that monomial
 abbrev pub with_one : (ℕ → Date) → ℕ → Date
 with_one s k = later_of (s k) (from_one k)
 
@@ -115,6 +116,7 @@ with_one_is s up k = record {
 
 -- ---- the star by its first part, as a table computes it
 
+-- the greater of 0 and the greatest sum of a first part and the star of the rest
 abbrev pub first_parts : (ℕ → Date) → (ℕ → Date) → ℕ → Date
 first_parts s star zero = At (pos 0)
 first_parts s star (suc k) = later_of (At (pos 0)) (greatest (λ c. date_product (s (suc c)) (star (k - c))) k)
@@ -168,6 +170,7 @@ pub record IsGreatestSum (s : ℕ → Date) (k : ℕ) (x : Date) : Type 0 where
   pub below : (l : List ℕ) → ArePositive l → total l ≡ k → Le (date_of s l) x
   pub reached : (x ≡ At (pos 0)) ⊎ ((l : List ℕ) × ArePositive l × (total l ≡ k) × (date_of s l ≡ x))
 
+-- x is the star at k, by the first value
 abbrev pub IsStarBy : Date → (ℕ → Date) → ℕ → Date → Type 0
 IsStarBy Early s k x = IsGreatestSum s k x
 IsStarBy (At (pos zero)) s k x = IsGreatestSum s k x
@@ -179,6 +182,7 @@ IsStarBy Never s k x = x ≡ Never
 abbrev pub IsStarOf : (ℕ → Date) → ℕ → Date → Type 0
 IsStarOf s = IsStarBy (s 0) s
 
+-- whether a date is above 0
 abbrev pub above_zero : Date → Bool
 above_zero Early = false
 above_zero (At (pos zero)) = false

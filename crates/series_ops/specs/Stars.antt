@@ -1,16 +1,15 @@
 -- Lists of parts, the star of a series, and where it repeats.
-use Rattle.std.proofs.Common.{◌≡◌, refl, ap, arith, ℕ, ℤ, pos, negsuc, zero, suc, ◌+◌, ◌*◌, ◌-◌, ◌%◌, ◌≤◌, ◌<◌, ◌+ℤ◌, ◌-ℤ◌, sym, ◌∙◌, subst, ⊎_elim, ◌⊎◌, inl, inr, List, [], ◌∷◌, ◌++◌, take, drop, length}
+use Rattle.std.proofs.Common.{◌≡◌, refl, ap, arith, ℕ, ℤ, pos, zero, suc, ◌+◌, ◌*◌, ◌≤◌, ◌<◌, ◌+ℤ◌, ◌-ℤ◌, sym, ◌∙◌, ⊎_elim, ◌⊎◌, inl, inr, List, [], ◌∷◌}
 use Rattle.std.specs.Prelude.{◌≤ℤ◌}
-use Rattle.std.proofs.lemmas.Int.{ints, clamps, by_lt_z}
-use Rattle.std.proofs.lemmas.Bool.{cases_lt}
-use Rattle.dioid.specs.Dates.{later_of, earlier_of, date_product}
-use Rattle.dioid.specs.DateLaws.{times_assoc, one_times, times_one}
+use Rattle.std.proofs.lemmas.Int.{ints, by_lt_z}
+use Rattle.dioid.specs.Dates.{date_product}
+use Rattle.dioid.specs.DateLaws.{one_times}
 use Rattle.dioid.specs.declared.dates.Date.{Date}
 use Rattle.dioid.specs.declared.dates.Date.TheVariants.{Early, At, Never}
-use Rattle.series_form.specs.Order.{Le, move, le_refl, le_is, le_trans, le_antisym, le_never, product_le, product_move_left, product_move_right, move_le, move_zero, move_move, move_further, le_move_back, le_move_over}
-use Rattle.series_form.specs.Periodic.{Rising, Repeats, repeats_later, repeats_from, repeats_times, times, times_add}
-use Rattle.series_ops.specs.Pigeons.{pigeons, difference}
+use Rattle.series_form.specs.Order.{Le, move, le_refl, le_is, le_trans, le_antisym, le_never, product_le, le_move_back, le_move_over}
+use Rattle.series_form.specs.Periodic.{Repeats, times, times_add}
 
+-- the parts added
 abbrev pub total : List ℕ → ℕ
 total [] = 0
 total (c ∷ l) = c + total l
@@ -20,6 +19,7 @@ abbrev pub date_of : (ℕ → Date) → List ℕ → Date
 date_of s [] = At (pos 0)
 date_of s (c ∷ l) = date_product (s c) (date_of s l)
 
+-- each part is above 0
 abbrev pub ArePositive : List ℕ → Type 0
 ArePositive [] = Unit {0}
 ArePositive (c ∷ l) = (0 < c) × ArePositive l

@@ -106,18 +106,40 @@ fn is_gain(answer: &Result<Gain, Refused>, values: &[Date], period: usize, step:
     }
 }
 
-/// The sum, the product and a copy of the first, through the bound.
-fn sum_and_product<D: Dioid>(alloc: Global, a: &D, b: &D) -> [Result<D, Refused>; 3] {
-    [a.plus(alloc, b), a.times(alloc, b), a.duplicate(alloc)]
+/// The sum through the bound.
+fn sum_of<D: Dioid>(alloc: Global, a: &D, b: &D) -> Result<D, Refused> {
+    a.plus(alloc, b)
 }
 
-/// The star of the first, the residual and the meet, through the bounds.
-fn star_and_residual<D: Kleene + Residuated>(
-    alloc: Global,
-    a: &D,
-    b: &D,
-) -> [Result<D, Refused>; 3] {
-    [a.star(alloc), a.left(alloc, b), a.meet(alloc, b)]
+/// The product through the bound.
+fn product_of<D: Dioid>(alloc: Global, a: &D, b: &D) -> Result<D, Refused> {
+    a.times(alloc, b)
+}
+
+/// A copy through the bound.
+fn copy_of<D: Dioid>(alloc: Global, a: &D) -> Result<D, Refused> {
+    a.duplicate(alloc)
+}
+
+/// The star through the bound.
+fn star_of<D: Kleene>(alloc: Global, a: &D) -> Result<D, Refused> {
+    a.star(alloc)
+}
+
+/// The residual through the bound.
+fn left_of<D: Residuated>(alloc: Global, a: &D, b: &D) -> Result<D, Refused> {
+    a.left(alloc, b)
+}
+
+/// The greatest lower bound through the bound.
+fn meet_of<D: Residuated>(alloc: Global, a: &D, b: &D) -> Result<D, Refused> {
+    a.meet(alloc, b)
+}
+
+/// The star of the monomial of shift 1, as a gain.
+fn gain(alloc: Global, date: i64) -> Result<Gain, SeriesRefused> {
+    let series = line(alloc, date)?;
+    Ok(Gain { series })
 }
 
 #[test]
@@ -126,16 +148,13 @@ fn gains_through_the_bounds(rt: HostRuntime) {
     let zero = Date::At(0);
     assert!(rt; is_gain(&Gain::zero(alloc), &[Date::Early], 1, 0));
     assert!(rt; is_gain(&Gain::one(alloc), &[zero], 1, 0));
-    if let (Ok(two), Ok(three)) = (line(alloc, 2), line(alloc, 3)) {
-        let (two, three) = (Gain { series: two }, Gain { series: three });
-        let [more, both, copy] = sum_and_product(alloc, &two, &three);
-        assert!(rt; is_gain(&more, &[zero], 1, 3));
-        assert!(rt; is_gain(&both, &[zero], 1, 3));
-        assert!(rt; is_gain(&copy, &[zero], 1, 2));
-        let [stars, rest, less] = star_and_residual(alloc, &two, &three);
-        assert!(rt; is_gain(&stars, &[zero], 1, 2));
-        assert!(rt; is_gain(&rest, &[zero], 1, 3));
-        assert!(rt; is_gain(&less, &[zero], 1, 2));
+    if let (Ok(two), Ok(three)) = (gain(alloc, 2), gain(alloc, 3)) {
+        assert!(rt; is_gain(&sum_of(alloc, &two, &three), &[zero], 1, 3));
+        assert!(rt; is_gain(&product_of(alloc, &two, &three), &[zero], 1, 3));
+        assert!(rt; is_gain(&copy_of(alloc, &two), &[zero], 1, 2));
+        assert!(rt; is_gain(&star_of(alloc, &two), &[zero], 1, 2));
+        assert!(rt; is_gain(&left_of(alloc, &two, &three), &[zero], 1, 3));
+        assert!(rt; is_gain(&meet_of(alloc, &two, &three), &[zero], 1, 2));
         assert!(rt; !two.same(&three));
     }
 }

@@ -1,11 +1,9 @@
-use Rattle.std.proofs.Common.{◌≡◌, ◌≤◌, ◌<◌, ◌*◌, ◌/◌, ◌*ℤ◌, ℕ, ℤ, ap, sym, subst, ◌∙◌, arith, to_z, of_z, FitsSigned}
+use Rattle.std.proofs.Common.{◌≡◌, ◌≤◌, ◌*◌, ◌/◌, ◌*ℤ◌, ℕ, ℤ, ap, sym, subst, ◌∙◌, arith, to_z, of_z}
 use Rattle.std.specs.Int.{w128}
 use Rattle.std.specs.Int.RustNames.{unsigned_abs}
 use Rattle.std.proofs.lemmas.Int.{to_z-of_z}
 use Rattle.std.proofs.lemmas.Nat.{mul-le}
 use Rattle.series_form.specs.Periodic.{times}
-use Rattle.series_form.specs.Forms.{Form}
-use Rattle.series_form.specs.Bounds.{IsSeries}
 use Rattle.series_form.specs.Needs.{period_with, fall_of}
 use Rattle.series_form.specs.Sums.{common_second}
 use Rattle.series_form.proofs.Numbers.{times_product, step_of, mul_fits}

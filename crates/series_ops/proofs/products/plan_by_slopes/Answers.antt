@@ -1,4 +1,4 @@
-use Rattle.std.proofs.Common.{◌≡◌, ◌∙◌, sym}
+use Rattle.std.proofs.Common.{◌∙◌, sym}
 use Rattle.series_form.specs.Sums.{second_first}
 use Rattle.series_ops.proofs.products.plan_by_slopes.Goals as goal
 

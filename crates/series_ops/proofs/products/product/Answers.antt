@@ -1,6 +1,6 @@
-use Rattle.std.proofs.Common.{◌≡◌, ℕ, subst}
+use Rattle.std.proofs.Common.{subst}
 use Rattle.series_form.specs.declared.plans.Plan.{Plan}
-use Rattle.series_form.specs.Forms.{Form, value_at, HasValues}
+use Rattle.series_form.specs.Forms.{value_at, HasValues}
 use Rattle.series_form.specs.Needs.{need_of}
 use Rattle.series_form.specs.Answer.{AnswersOf, Answers}
 use Rattle.series_form.proofs.Finished.{tabled_begins, tabled_answer, model_answer}

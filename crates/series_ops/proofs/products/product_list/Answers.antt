@@ -1,4 +1,4 @@
-use Rattle.std.proofs.Common.{◌≡◌, ◌∙◌}
+use Rattle.std.proofs.Common.{◌∙◌}
 use Rattle.series_form.proofs.Finished.{table_push}
 use Rattle.series_ops.specs.Product.{product_at}
 use Rattle.series_ops.specs.Listed.{listed}

@@ -1,10 +1,8 @@
-use Rattle.std.proofs.Common.{◌≡◌, ◌≤◌, ◌∙◌, ◌+◌, List, Result, Ok, Err, ap, sym, subst, arith, length}
+use Rattle.std.proofs.Common.{◌≡◌, ◌∙◌, List, ap, subst, arith, length}
 use Rattle.std.specs.Prelude.{IfOk}
 use Rattle.dioid.specs.declared.dates.Date.{Date}
-use Rattle.series_form.specs.Forms.{value_at, table}
+use Rattle.series_form.specs.Forms.{value_at}
 use Rattle.series_form.specs.Canonical.{table_length}
-use Rattle.series_ops.specs.Listed.{listed, AreUpTo}
-use Rattle.series_ops.specs.Product.{product_at}
 use Rattle.series_ops.proofs.FirstValues.{wide, table_up_to, product_table}
 use Rattle.series_ops.proofs.products.product_values.Goals as goal
 

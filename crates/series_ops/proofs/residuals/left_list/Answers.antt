@@ -1,4 +1,4 @@
-use Rattle.std.proofs.Common.{◌≡◌, ◌∙◌}
+use Rattle.std.proofs.Common.{◌∙◌}
 use Rattle.series_form.proofs.Finished.{table_push}
 use Rattle.series_ops.specs.Listed.{left_listed}
 use Rattle.series_ops.proofs.residuals.left_list.Goals as goal

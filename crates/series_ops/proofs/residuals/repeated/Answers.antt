@@ -1,4 +1,4 @@
-use Rattle.std.proofs.Common.{◌≡◌, ◌∙◌, refl}
+use Rattle.std.proofs.Common.{◌∙◌, refl}
 use Rattle.series_form.proofs.Finished.{table_push}
 use Rattle.series_ops.proofs.residuals.repeated.Goals as goal
 

@@ -1,7 +1,7 @@
-use Rattle.std.proofs.Common.{◌≡◌, ◌≤◌, ◌<◌, ◌∙◌, ◌+◌, List, ap, sym, subst, arith, length}
+use Rattle.std.proofs.Common.{◌≡◌, ◌∙◌, ◌+◌, List, ap, subst, arith, length}
 use Rattle.std.specs.Prelude.{IfOk}
 use Rattle.dioid.specs.declared.dates.Date.{Date}
-use Rattle.series_form.specs.Forms.{value_at, table}
+use Rattle.series_form.specs.Forms.{value_at}
 use Rattle.series_form.specs.Canonical.{table_length}
 use Rattle.series_ops.proofs.LeftValues.{long_table_up_to, left_table}
 use Rattle.series_ops.proofs.residuals.values_by_offsets.Goals as goal

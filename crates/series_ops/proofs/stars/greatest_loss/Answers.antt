@@ -2,7 +2,7 @@ use Rattle.std.proofs.Common.{◌≡◌, ◌≤◌, ◌+◌, ◌-◌, ℕ, ℤ, 
 use Rattle.std.specs.Int.{w128, int_max}
 use Rattle.std.specs.Int.RustNames.{unsigned_abs}
 use Rattle.std.proofs.lemmas.Int.{to_z-of_z}
-use Rattle.series_form.specs.Forms.{form_with, start_of}
+use Rattle.series_form.specs.Forms.{form_with}
 use Rattle.series_form.specs.Needs.{greatest_int}
 use Rattle.series_form.proofs.Numbers.{within_fits}
 use Rattle.series_form.proofs.PointwiseTables.{max_up_to}

@@ -5,7 +5,7 @@ use Rattle.std.proofs.lemmas.Int.{to_z-of_z}
 use Rattle.dioid.specs.declared.dates.Date.{Date}
 use Rattle.dioid.specs.declared.dates.Date.TheVariants.{Early, At}
 use Rattle.series_form.specs.Periodic.{times}
-use Rattle.series_form.specs.Forms.{Form, form_with, size_of, value_at, gap}
+use Rattle.series_form.specs.Forms.{Form, form_with, size_of, gap}
 use Rattle.series_form.specs.Canonical.{value_in}
 use Rattle.series_form.specs.Bounds.{IsUpTo}
 use Rattle.series_form.proofs.Numbers.{abs_difference, moderate_fits, within_fits}

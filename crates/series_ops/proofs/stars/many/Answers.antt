@@ -1,4 +1,4 @@
-use Rattle.std.proofs.Common.{◌≡◌, ◌≤◌, ℤ, sym, subst}
+use Rattle.std.proofs.Common.{◌≤◌, ℤ, sym, subst}
 use Rattle.std.specs.Int.RustNames.{unsigned_abs}
 use Rattle.series_ops.proofs.Many.{many_fits, many_code, many_bound}
 use Rattle.series_ops.proofs.stars.many.Goals as goal

@@ -1,6 +1,5 @@
-use Rattle.std.proofs.Common.{◌≡◌, ◌≤◌, ◌∙◌, List, ap, sym, subst, take}
+use Rattle.std.proofs.Common.{◌∙◌, List, ap, sym, subst}
 use Rattle.dioid.specs.declared.dates.Date.{Date}
-use Rattle.series_form.specs.Forms.{Form}
 use Rattle.series_form.specs.Answer.{IsBeginning}
 use Rattle.series_form.specs.Shapes.{IsCanonicalPart}
 use Rattle.series_ops.specs.Needs.{at_least, own_plan}

@@ -1,6 +1,5 @@
-use Rattle.std.proofs.Common.{◌≡◌, ◌∙◌, ℕ, sym, ap}
+use Rattle.std.proofs.Common.{◌∙◌, ℕ, sym, ap}
 use Rattle.series_form.specs.Forms.{value_at}
-use Rattle.series_form.specs.Answer.{AnswersOf}
 use Rattle.series_form.proofs.Finished.{model_answer}
 use Rattle.series_ops.specs.StarOf.{above_zero, star_at, IsStarOf, star_only}
 use Rattle.series_ops.specs.Needs.{star_need, star_carried, form_star}

@@ -1,5 +1,5 @@
-use Rattle.std.proofs.Common.{◌≡◌, ◌≤◌, ◌∙◌, ◌+◌, ap, arith, length}
-use Rattle.series_form.specs.Forms.{value_at, table}
+use Rattle.std.proofs.Common.{◌≡◌, ◌∙◌, ap, arith, length}
+use Rattle.series_form.specs.Forms.{value_at}
 use Rattle.series_form.specs.Canonical.{table_length}
 use Rattle.series_form.proofs.Finished.{table_push}
 use Rattle.series_ops.specs.Listed.{later_part}

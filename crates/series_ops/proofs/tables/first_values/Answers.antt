@@ -1,4 +1,4 @@
-use Rattle.std.proofs.Common.{◌≡◌, ◌∙◌}
+use Rattle.std.proofs.Common.{◌∙◌}
 use Rattle.series_form.specs.Forms.{value_at}
 use Rattle.series_form.proofs.Finished.{table_push}
 use Rattle.series_ops.proofs.tables.first_values.Goals as goal
