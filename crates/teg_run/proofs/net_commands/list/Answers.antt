@@ -1,0 +1,5 @@
+use Rattle.teg_run.proofs.Listed.{says_list}
+use Rattle.teg_run.proofs.net_commands.list.Goals as goal
+
+pub returns-in_ok-text : goal.returns-in_ok-text
+returns-in_ok-text c = says_list c.args.net.now c.in_ok-table.table c.args.count _ c.in_ok-table.ensures.least c.in_ok-table.ensures.count c.in_ok-text.ensures
