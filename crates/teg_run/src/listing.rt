@@ -58,8 +58,9 @@ pub fn list(alloc: Global, net: &Net, table: &Table) -> Result<Vec<u8>, OutOfMem
     ensures { IfOk result (λ text. text.items ≡ list_text net.now (date_at table.now) table.now.count) }
 {
     let width = net.transitions().len();
-    let mut text = head(alloc, net, table.count())?;
-    for number in 0..table.count() {
+    let count = table.count();
+    let mut text = head(alloc, net, count)?;
+    for number in 0..count {
         push_line(&mut text, table, width, number as u64 + 1)?;
     }
     Ok(text.into_bytes())
