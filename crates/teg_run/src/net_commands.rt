@@ -6,11 +6,10 @@ ghost use Rattle.teg_run.specs.Ranges.{IsInRange};
 ghost use Rattle.teg_run.specs.Says.{Tells, SaysCheck, SaysList, SaysNet};
 
 use crate::ending::Report;
-use crate::listing;
 use crate::live_net::LiveNet;
 use crate::order::NetCommand;
 use crate::status::Verdict;
-use crate::texts;
+use crate::{listing, texts};
 use std::alloc::Global;
 use teg_net::OutOfMemory;
 

@@ -115,7 +115,10 @@ pub fn read_words<'a>(words: &'a [String]) -> Option<Order<'a>>
     match words {
         [word, net] => command_on(net_command(word.as_str()), net.as_str()),
         [word, net, number] => {
-            command_on(counted_command(word.as_str(), number.as_str()), net.as_str())
+            command_on(
+                counted_command(word.as_str(), number.as_str()),
+                net.as_str(),
+            )
         }
         _ => None,
     }
