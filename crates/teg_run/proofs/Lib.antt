@@ -1,6 +1,7 @@
 pub mod Answering
 pub mod Causes
 pub mod Growing
+pub mod Listed
 pub mod Promises
 pub mod ReadOrder
 pub mod Refusing

@@ -6,13 +6,14 @@ use Rattle.teg_outside.specs.Causes.{Rested}
 use Rattle.teg_outside.specs.Shelves.{ShelfState}
 use Rattle.teg_outside.specs.Sinks.{SinkState, BytesGrow, PrefixGrows}
 use Rattle.teg_run.specs.declared.order.NetCommand.{NetCommand}
-use Rattle.teg_run.specs.declared.order.NetCommand.TheVariants.{Check}
+use Rattle.teg_run.specs.declared.order.NetCommand.TheVariants.{Check, List as ListCommand}
 use Rattle.teg_run.specs.declared.status.Status.{Status}
 use Rattle.teg_run.specs.declared.status.Status.TheVariants.{Done, Words, Text, Net, WriteFault, NoMemory}
 use Rattle.teg_run.specs.declared.status.Verdict.{Verdict}
 use Rattle.teg_run.specs.declared.status.Verdict.TheVariants.{Done as VerdictDone}
 use Rattle.teg_run.specs.Endings.{Ending, Whole, Lost}
-use Rattle.teg_run.specs.Headline.{Ends, Opens, TextCause, NetCause, Follows}
+use Rattle.teg_run.specs.Headline.{Ends, Opens, TextCause, NetCause, Follows, SaysLeastDates}
+use Rattle.teg_run.specs.Listing.{list_text}
 use Rattle.teg_run.specs.Orders.{Order, OfNet, order_of, asked_files}
 use Rattle.teg_run.specs.Reading.{ReadsAll}
 use Rattle.teg_run.specs.Replies.{Reply}
@@ -20,6 +21,7 @@ use Rattle.teg_run.specs.Runs.{Answered, Finished, Runs}
 use Rattle.teg_run.specs.Says.{SaysNet, Asked}
 use Rattle.teg_run.specs.Statuses.{status_of}
 use Rattle.teg_run.specs.Texts.{usage, live_text}
+use Rattle.teg_run.proofs.Listed.{listed_is}
 use Rattle.teg_run.proofs.ReadOrder.{none_read}
 use Rattle.teg_run.proofs.Ways.{Way, Unread, Overlong, NoToml, NoNet, NotLive, Reported, way_of, no_text_way, refused_way, opened_way}
 
@@ -143,6 +145,14 @@ check_follows words lines shelf shelf' sink sink' status h files name net asks t
     (λ (said : _). let way = opened_way shelf shelf' files name net (SaysNet Check) said.0 said.1 told rested opens said.2 in
     ends_with sink sink' status said.0 Done said.1 (live_text net) (way.1 ∙ verdict_is way.0) way.2.1 said.3)
     (λ (lost : _). inr (inr lost)) (some_way words lines shelf shelf' sink sink' status Check name h asks)
+
+pub list_follows : (words : List (List ℕ)) (lines : List Firing → List (List ℕ)) (shelf shelf' : ShelfState) (sink sink' : SinkState) (status : Status) →
+    Runs words lines shelf shelf' sink sink' status → SaysLeastDates words shelf shelf' sink sink' status
+list_follows words lines shelf shelf' sink sink' status h files name count net asks told rested opens x least =
+    ⊎_elim
+    (λ (said : _). let way = opened_way shelf shelf' files name net (SaysNet (ListCommand count)) said.0 said.1 told rested opens said.2 in
+    ends_with sink sink' status said.0 Done said.1 (list_text net x count) (way.1 ∙ verdict_is way.0) (listed_is net count said.1 x least way.2.1) said.3)
+    (λ (lost : _). inr (inr lost)) (some_way words lines shelf shelf' sink sink' status (ListCommand count) name h asks)
 
 -- a status comes only from its cause
 

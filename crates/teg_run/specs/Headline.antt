@@ -1,5 +1,7 @@
 -- What the whole call promises its caller, one promise at a time.
 use Rattle.std.specs.Prelude.{ℕ, ◌≡◌, ◌≢◌, ◌≤◌, ◌<◌, ◌⊎◌, List, [], ◌∷◌, ◌++◌, length, take, map, Some, IsSomeAnd, Ok, Err}
+use Rattle.dioid.specs.declared.dates.Date.{Date}
+use Rattle.teg_model.specs.Datings.{IsLeastDating}
 use Rattle.teg_net.specs.declared.entries.PlaceId.{PlaceId}
 use Rattle.teg_net.specs.declared.reader.ReadRefusal.{ReadRefusal}
 use Rattle.teg_net.specs.declared.reader.ReadRefusal.TheVariants.{NotToml}
@@ -11,13 +13,14 @@ use Rattle.teg_outside.specs.Causes.{Rose, Rested}
 use Rattle.teg_outside.specs.Shelves.{ShelfState, ReadsGrow, file_of}
 use Rattle.teg_outside.specs.Sinks.{SinkState, BytesGrow, PrefixGrows}
 use Rattle.teg_run.specs.declared.order.NetCommand.{NetCommand}
-use Rattle.teg_run.specs.declared.order.NetCommand.TheVariants.{Check}
+use Rattle.teg_run.specs.declared.order.NetCommand.TheVariants.{Check, List as ListCommand}
 use Rattle.teg_run.specs.declared.status.Status.{Status}
 use Rattle.teg_run.specs.declared.status.Status.TheVariants.{Done, WriteFault, NoMemory}
 use Rattle.teg_run.specs.declared.status.Verdict.{Verdict}
 use Rattle.teg_run.specs.declared.status.Verdict.TheVariants.{Done as VerdictDone}
 use Rattle.teg_run.specs.declared.texts.Which.{Which}
 use Rattle.teg_run.specs.declared.texts.Which.TheVariants.{Net as NetFile}
+use Rattle.teg_run.specs.Listing.{list_text}
 use Rattle.teg_run.specs.Orders.{Order, OfNet, order_of, net_of, asked_files}
 use Rattle.teg_run.specs.Reading.{ReadsAll}
 use Rattle.teg_run.specs.Replies.{Reply, limit}
@@ -123,6 +126,7 @@ AcceptsFiles files (OfNet command name) = (net : NetLists) × Opens files name n
 -- how a command on a net may end, once its files are accepted
 abbrev pub AllowsNet : NetCommand → Verdict → Type 0
 AllowsNet Check verdict = verdict ≡ VerdictDone
+AllowsNet (ListCommand count) verdict = verdict ≡ VerdictDone
 
 -- how an order may end, once its files are accepted
 abbrev pub Allows : Order → Verdict → Type 0
@@ -133,6 +137,13 @@ abbrev pub SaysLive : List (List ℕ) → ShelfState → ShelfState → SinkStat
 SaysLive words shelf shelf' sink sink' status =
     (files : List (List ℕ × List ℕ)) (name : List ℕ) (net : NetLists) → order_of words ≡ Some (OfNet Check name) → shelf.files ≡ Some files →
     Rested shelf.faults shelf'.faults → Opens files name net → Ends sink sink' status Done (live_text net)
+
+-- over told files and without a fault of the shelf, a live net that is listed is told with the first dates of its least dating
+abbrev pub SaysLeastDates : List (List ℕ) → ShelfState → ShelfState → SinkState → SinkState → Status → Type 0
+SaysLeastDates words shelf shelf' sink sink' status =
+    (files : List (List ℕ × List ℕ)) (name : List ℕ) (count : ℕ) (net : NetLists) → order_of words ≡ Some (OfNet (ListCommand count) name) →
+    shelf.files ≡ Some files → Rested shelf.faults shelf'.faults → Opens files name net →
+    (x : ℕ → ℕ → Date) → IsLeastDating net x → Ends sink sink' status Done (list_text net x count)
 
 -- over told files, accepted words and files without a fault lead to an ending of the command itself, or to want of memory
 abbrev pub EndsAsAllowed : List (List ℕ) → ShelfState → ShelfState → SinkState → SinkState → Status → Type 0

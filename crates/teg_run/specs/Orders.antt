@@ -1,8 +1,10 @@
 -- What the words of the command line ask for.
 use Rattle.std.specs.Prelude.{ℕ, Bool, false, List, [], ◌∷◌, Option, Some, None, codes, bytes_eq, if◌then◌else◌, option_and_then}
+use Rattle.std.specs.Option.{option_map}
+use Rattle.teg_words.specs.Numbers.{number_of}
 use Rattle.teg_words.specs.Words.{Given, given_of}
 use Rattle.teg_run.specs.declared.order.NetCommand.{NetCommand}
-use Rattle.teg_run.specs.declared.order.NetCommand.TheVariants.{Check}
+use Rattle.teg_run.specs.declared.order.NetCommand.TheVariants.{Check, List as ListCommand}
 use Rattle.teg_run.specs.declared.texts.Which.{Which}
 use Rattle.teg_run.specs.declared.texts.Which.TheVariants.{Net as NetFile}
 
@@ -15,11 +17,17 @@ abbrev pub check_asked : List (List ℕ) → Option (List ℕ) → Bool → Opti
 check_asked (net ∷ []) None false = Some (OfNet Check net)
 check_asked rest limit rounds = None
 
+-- `list NET K`, with K from 1 to 10,000
+abbrev pub list_asked : List (List ℕ) → Option (List ℕ) → Bool → Option Order
+list_asked (net ∷ word ∷ []) None false = option_map (λ count. OfNet (ListCommand count) net) (number_of 1 10000 word)
+list_asked rest limit rounds = None
+
 -- the order of a command with what is given to it: nothing for a command that is not built
 abbrev pub asked_for : Given → Option Order
 asked_for given =
     if bytes_eq given.command (codes "check") then check_asked given.rest given.limit given.rounds
-    else None
+    else (if bytes_eq given.command (codes "list") then list_asked given.rest given.limit given.rounds
+    else None)
 
 -- the order that the words give, if they give one
 abbrev pub order_of : List (List ℕ) → Option Order

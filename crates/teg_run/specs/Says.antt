@@ -1,13 +1,16 @@
 -- What each command says, by what its reads gave.
 use Rattle.std.specs.Prelude.{ℕ, ◌≡◌, List, [], ◌∷◌, Option, Some, None}
+use Rattle.dioid.specs.declared.dates.Date.{Date}
+use Rattle.teg_model.specs.Datings.{IsLeastDating}
 use Rattle.teg_net.specs.Nets.{NetLists}
 use Rattle.teg_outside.specs.declared.monitor.Firing.{Firing}
 use Rattle.teg_run.specs.declared.order.NetCommand.{NetCommand}
-use Rattle.teg_run.specs.declared.order.NetCommand.TheVariants.{Check}
+use Rattle.teg_run.specs.declared.order.NetCommand.TheVariants.{Check, List as ListCommand}
 use Rattle.teg_run.specs.declared.status.Status.{Status}
 use Rattle.teg_run.specs.declared.status.Status.TheVariants.{Words}
 use Rattle.teg_run.specs.declared.status.Verdict.{Verdict}
 use Rattle.teg_run.specs.declared.status.Verdict.TheVariants.{Done as VerdictDone}
+use Rattle.teg_run.specs.Listing.{list_text}
 use Rattle.teg_run.specs.Orders.{Order, OfNet}
 use Rattle.teg_run.specs.Openings.{Opening, Accepted, Refused, OpensNet}
 use Rattle.teg_run.specs.Replies.{Reply}
@@ -18,9 +21,15 @@ use Rattle.teg_run.specs.Texts.{usage, live_text}
 abbrev pub SaysCheck : NetLists → Verdict → List ℕ → Type 0
 SaysCheck net verdict text = (verdict ≡ VerdictDone) × (text ≡ live_text net)
 
+-- of a live net the first dates of its least dating are said
+abbrev pub SaysList : ℕ → NetLists → Verdict → List ℕ → Type 0
+SaysList count net verdict text =
+    (verdict ≡ VerdictDone) × ((x : ℕ → ℕ → Date) × IsLeastDating net x × (text ≡ list_text net x count))
+
 -- what a command says of a live net
 abbrev pub SaysNet : NetCommand → NetLists → Verdict → List ℕ → Type 0
 SaysNet Check = SaysCheck
+SaysNet (ListCommand count) = SaysList count
 
 -- a claim on what a command reports, where it found memory
 abbrev pub Tells : (Verdict → List ℕ → Type 0) → Option (Verdict × List ℕ) → Type 0

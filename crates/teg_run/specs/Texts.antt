@@ -11,7 +11,7 @@ use Rattle.teg_run.specs.declared.texts.Which.TheVariants.{Net as NetFile}
 
 -- the commands that are built, each with what follows it
 abbrev pub command_forms : List (List ℕ)
-command_forms = codes "check NET" ∷ []
+command_forms = codes "check NET" ∷ codes "list NET K" ∷ []
 
 -- a line of the usage but the first
 abbrev pub usage_line : List ℕ → List ℕ

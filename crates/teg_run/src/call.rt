@@ -4,9 +4,10 @@ ghost use Rattle.teg_outside.specs.declared.monitor.Firing.{Firing};
 ghost use Rattle.teg_outside.specs.Causes.{Rose, Rested};
 ghost use Rattle.teg_outside.specs.Shelves.{ShelfState};
 ghost use Rattle.teg_outside.specs.Sinks.{SinkState};
-ghost use Rattle.teg_run.specs.Headline.{ComesOnly, Ends, EndsAsAllowed, Follows, NamesLastRead, NetCause, OverlongRose, ReadsFirstOf, SaysLive, TextCause, WrotePrefix, WroteWhole};
+ghost use Rattle.teg_run.specs.Headline.{ComesOnly, Ends, EndsAsAllowed, Follows, NamesLastRead, NetCause, OverlongRose, ReadsFirstOf, SaysLeastDates, SaysLive, TextCause, WrotePrefix, WroteWhole};
 ghost use Rattle.teg_run.specs.Meanings.{meant, ended};
 ghost use Rattle.teg_run.specs.Orders.{order_of, files_of, asked_files};
+ghost use Rattle.teg_run.specs.Ranges.{IsOrderInRange};
 ghost use Rattle.teg_run.specs.Runs.{Answered, Runs};
 ghost use Rattle.teg_run.specs.Says.{Says, Said, Asked};
 ghost use Rattle.teg_run.specs.Endings.{EndsWith};
@@ -28,6 +29,7 @@ fn answer_order<S: Shelf>(
     shelf: &mut S,
     monitors: Vec<Box<dyn Monitor>>,
 ) -> Ending
+    requires { IsOrderInRange (meant order) }
     ensures { Answered (Says (meant order.entry) (λ firings. map (λ m. line_text m firings) monitors.items)) (files_of (meant order.entry))
         (S.state shelf.old) (S.state shelf.new) (ended result) }
 {
@@ -105,6 +107,10 @@ pub fn workbench<S: Shelf, W: Sink>(
 
     // A live net: its size is written.
     ensures check { SaysLive (map string_bytes words.now)
+        (S.state shelf.old) (S.state shelf.new) (W.state out.old) (W.state out.new) result }
+
+    // A live net: the first dates of its least dating are written.
+    ensures list { SaysLeastDates (map string_bytes words.now)
         (S.state shelf.old) (S.state shelf.new) (W.state out.old) (W.state out.new) result }
 
     // What was written: the whole text, a first part before a fault, nothing for want of memory.

@@ -4,12 +4,14 @@ ghost use Rattle.teg_net.specs.Documents.{document, is_memory};
 ghost use Rattle.teg_outside.specs.Shelves.{ShelfState};
 ghost use Rattle.teg_run.specs.Meanings.{RefusesWith, ended, replied, opened};
 ghost use Rattle.teg_run.specs.Openings.{OpensNet, OpensDocument, OpensNetLists, read_status};
+ghost use Rattle.teg_run.specs.Ranges.{IsInRange};
 ghost use Rattle.teg_run.specs.Reading.{OpenedBy};
 ghost use Rattle.teg_run.specs.Replies.{Reads};
 ghost use Rattle.teg_run.specs.Runs.{Answered};
 ghost use Rattle.teg_run.specs.Says.{SaysFile, SaysReport, SaysNet};
 
 use crate::ending::{Ending, closed};
+use crate::live_net::LiveNet;
 use crate::net_commands::of_net;
 use crate::order::NetCommand;
 use crate::status::Status;
@@ -67,11 +69,11 @@ fn refused<T: Drop>(status: Status, text: Result<Vec<u8>, OutOfMemory>) -> Opene
 }
 
 // A live net, or the refusal of one that has a circuit without tokens.
-fn open_live(alloc: Global, net: Net) -> Opened<Net>
+fn open_live(alloc: Global, net: Net) -> Opened<LiveNet>
     ensures { IfSome (opened result) (OpensNetLists net) }
 {
     match check(alloc, &net) {
-        Ok(_) => Opened::Accepted(net),
+        Ok(live) => Opened::Accepted(LiveNet::new(net, live)),
         Err(CheckRefusal::TokenFree { circuit }) => {
             refused(Status::Net, texts::token_free(alloc, &net, &circuit))
         }
@@ -97,7 +99,7 @@ fn is_memory(refusal: &ReadRefusal) -> bool
 }
 
 // The live net that the bytes of a file say, or their refusal.
-fn open_document(alloc: Global, bytes: &[u8]) -> Opened<Net>
+fn open_document(alloc: Global, bytes: &[u8]) -> Opened<LiveNet>
     ensures { IfSome (opened result) (OpensDocument (document bytes.now)) }
 {
     match read_net(alloc, bytes) {
@@ -113,7 +115,7 @@ fn open_document(alloc: Global, bytes: &[u8]) -> Opened<Net>
 }
 
 // The live net of the file that was read, or its refusal.
-fn judge_net(alloc: Global, reply: Fetched) -> Opened<Net>
+fn judge_net(alloc: Global, reply: Fetched) -> Opened<LiveNet>
     ensures { IfSome (opened result) (OpensNet (replied reply)) }
 {
     match reply {
@@ -125,7 +127,7 @@ fn judge_net(alloc: Global, reply: Fetched) -> Opened<Net>
 }
 
 // The live net in the file of that name.
-fn open_net<S: Shelf>(alloc: Global, name: &str, shelf: &mut S) -> Opened<Net>
+fn open_net<S: Shelf>(alloc: Global, name: &str, shelf: &mut S) -> Opened<LiveNet>
     ensures { OpenedBy OpensNet name.now (S.state shelf.old) (S.state shelf.new) (opened result) }
 {
     let reply = fetch(alloc, name, shelf);
@@ -134,6 +136,7 @@ fn open_net<S: Shelf>(alloc: Global, name: &str, shelf: &mut S) -> Opened<Net>
 
 /// Carries out a command on the net in the file of that name.
 pub fn answer_net<S: Shelf>(alloc: Global, command: NetCommand, net: &str, shelf: &mut S) -> Ending
+    requires { IsInRange command }
     ensures { Answered (SaysFile OpensNet (λ file. SaysReport (SaysNet command file))) ((Which.Net, net.now) ∷ [])
         (S.state shelf.old) (S.state shelf.new) (ended result) }
 {

@@ -32,7 +32,7 @@ fn file(which: Which) -> &'static str
 pub fn usage(alloc: Global) -> Result<Vec<u8>, OutOfMemory>
     ensures { IfOk result (λ text. text.items ≡ usage) }
 {
-    bytes_of(alloc, "usage: teg check NET\n")
+    bytes_of(alloc, "usage: teg check NET\n       teg list NET K\n")
 }
 
 /// That the net is live, and its size.

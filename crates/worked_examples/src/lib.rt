@@ -11,4 +11,6 @@ mod checks;
 #[cfg(test)]
 mod faults;
 #[cfg(test)]
+mod lists;
+#[cfg(test)]
 mod words;

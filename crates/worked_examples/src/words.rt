@@ -3,7 +3,7 @@ use crate::bench::{LOOP, LOOP_IS_LIVE, answers};
 use std::test::Fail;
 use teg_run::Status;
 
-const USAGE: &str = "usage: teg check NET\n";
+const USAGE: &str = "usage: teg check NET\n       teg list NET K\n";
 
 #[test]
 fn words_that_ask_for_nothing_get_the_usage(rt: HostRuntime) -> Result<(), Fail> {
