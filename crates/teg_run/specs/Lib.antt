@@ -4,6 +4,7 @@ pub mod Meanings
 pub mod Openings
 pub mod Orders
 pub mod Reading
+pub mod Refusals
 pub mod Replies
 pub mod Runs
 pub mod Says

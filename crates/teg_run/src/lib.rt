@@ -4,7 +4,7 @@
 //! after, the sink before and after, the monitors and the status in three parts: what the words ask
 //! for, what the reads gave and what answer they lead to, and how that answer was written. Its other
 //! clauses say what follows from it, one promise each.
-//! It stands on `teg_net`, `teg_check`, `teg_words` and `teg_outside`.
+//! It stands on `teg_net`, `teg_reader`, `teg_check`, `teg_words` and `teg_outside`.
 #![tactic(auto)]
 
 mod call;
@@ -12,6 +12,7 @@ mod ending;
 mod net_commands;
 mod order;
 mod reading;
+mod refusal_texts;
 mod status;
 mod texts;
 mod writing;
