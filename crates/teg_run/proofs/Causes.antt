@@ -1,7 +1,7 @@
 -- The causes from which alone a status comes, and what a read that failed is told to have been.
 use Rattle.std.proofs.Common.{◌≡◌, ℕ, inl, inr, List, [], ◌∷◌, ◌++◌, length, Option, Some, refl, sym, subst, ap, ◌∙◌, arith}
 use Rattle.std.proofs.lemmas.List.{append_cancel_left}
-use Rattle.teg_net.specs.declared.reader.ReadRefusal.TheVariants.{NotToml}
+use Rattle.teg_reader.specs.declared.refusals.ReadRefusal.TheVariants.{NotToml}
 use Rattle.teg_outside.specs.declared.monitor.Firing.{Firing}
 use Rattle.teg_outside.specs.Causes.{Rose, Rested}
 use Rattle.teg_outside.specs.Shelves.{ShelfState, ReadsGrow}
@@ -15,7 +15,8 @@ use Rattle.teg_run.specs.Headline.{NetIsNoText, NetIsRefused, TextCause, NetCaus
 use Rattle.teg_run.specs.Orders.{Order, OfNet, order_of, asked_files}
 use Rattle.teg_run.specs.Runs.{Runs}
 use Rattle.teg_run.specs.Says.{SaysNet}
-use Rattle.teg_run.specs.Texts.{read_text, too_large_text, fault_text}
+use Rattle.teg_run.specs.Refusals.{read_text}
+use Rattle.teg_run.specs.Texts.{too_large_text, fault_text}
 use Rattle.teg_run.proofs.Promises.{verdict_is, EndedWay, ended}
 use Rattle.teg_run.proofs.Ways.{Way, Unread, Overlong, NoToml, NoNet, NotLive, Reported, told_file, told_long}
 

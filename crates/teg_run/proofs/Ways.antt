@@ -1,11 +1,11 @@
 -- The ways in which a command on a net ends, by what the one read of its file gave.
 use Rattle.std.proofs.Common.{◌≡◌, ◌≢◌, ℕ, ◌≤◌, ◌⊎◌, ⊎_elim, inl, inr, List, [], ◌∷◌, length, Option, Some, Result, Ok, Err, refl, sym, subst, ap, ◌∙◌, arith}
 use Rattle.teg_net.specs.declared.entries.PlaceId.{PlaceId}
-use Rattle.teg_net.specs.declared.reader.ReadRefusal.{ReadRefusal}
-use Rattle.teg_net.specs.declared.reader.ReadRefusal.TheVariants.{NotToml}
+use Rattle.teg_reader.specs.declared.refusals.ReadRefusal.{ReadRefusal}
+use Rattle.teg_reader.specs.declared.refusals.ReadRefusal.TheVariants.{NotToml}
 use Rattle.teg_net.specs.Nets.{NetLists}
 use Rattle.teg_net.specs.Circuits.{IsLive, IsTokenFree}
-use Rattle.teg_net.specs.Documents.{document}
+use Rattle.teg_reader.specs.Documents.{document}
 use Rattle.teg_outside.specs.Causes.{Rose, Rested}
 use Rattle.teg_outside.specs.Shelves.{ShelfState, IsFile, IsLongFile, ReadsGrow, file_of}
 use Rattle.teg_outside.proofs.Counts.{rose_not_rested}
@@ -19,7 +19,8 @@ use Rattle.teg_run.specs.Reading.{ReadsAll}
 use Rattle.teg_run.specs.Replies.{limit, Reply, Got, Long, Fault, Lost, Reads}
 use Rattle.teg_run.specs.Says.{SaysFile, SaysOpening, SaysReport}
 use Rattle.teg_run.specs.Statuses.{status_of}
-use Rattle.teg_run.specs.Texts.{read_text, token_free_text, too_large_text, fault_text}
+use Rattle.teg_run.specs.Refusals.{read_text}
+use Rattle.teg_run.specs.Texts.{token_free_text, too_large_text, fault_text}
 
 -- how a command on the net of this name ends, where it says this of a live net
 pub data Way (old new : ShelfState) (name : List ℕ) (says : NetLists → Verdict → List ℕ → Type 0) (status : Status) (text : List ℕ) : Type 0 where

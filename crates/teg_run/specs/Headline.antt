@@ -3,11 +3,11 @@ use Rattle.std.specs.Prelude.{ℕ, ◌≡◌, ◌≢◌, ◌≤◌, ◌<◌, ◌
 use Rattle.dioid.specs.declared.dates.Date.{Date}
 use Rattle.teg_model.specs.Datings.{IsLeastDating}
 use Rattle.teg_net.specs.declared.entries.PlaceId.{PlaceId}
-use Rattle.teg_net.specs.declared.reader.ReadRefusal.{ReadRefusal}
-use Rattle.teg_net.specs.declared.reader.ReadRefusal.TheVariants.{NotToml}
+use Rattle.teg_reader.specs.declared.refusals.ReadRefusal.{ReadRefusal}
+use Rattle.teg_reader.specs.declared.refusals.ReadRefusal.TheVariants.{NotToml}
 use Rattle.teg_net.specs.Nets.{NetLists}
 use Rattle.teg_net.specs.Circuits.{IsLive, IsTokenFree}
-use Rattle.teg_net.specs.Documents.{document}
+use Rattle.teg_reader.specs.Documents.{document}
 use Rattle.teg_outside.specs.declared.monitor.Firing.{Firing}
 use Rattle.teg_outside.specs.Causes.{Rose, Rested}
 use Rattle.teg_outside.specs.Shelves.{ShelfState, ReadsGrow, file_of}
@@ -26,7 +26,8 @@ use Rattle.teg_run.specs.Reading.{ReadsAll}
 use Rattle.teg_run.specs.Replies.{Reply, limit}
 use Rattle.teg_run.specs.Says.{Asked}
 use Rattle.teg_run.specs.Statuses.{status_of}
-use Rattle.teg_run.specs.Texts.{live_text, read_text, token_free_text, too_large_text, fault_text}
+use Rattle.teg_run.specs.Refusals.{read_text}
+use Rattle.teg_run.specs.Texts.{live_text, token_free_text, too_large_text, fault_text}
 
 -- the call ended with this status and the whole of this text, unless writing or memory failed first
 abbrev pub Ends : SinkState → SinkState → Status → Status → List ℕ → Type 0

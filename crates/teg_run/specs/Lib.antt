@@ -6,6 +6,7 @@ pub mod Openings
 pub mod Orders
 pub mod Ranges
 pub mod Reading
+pub mod Refusals
 pub mod Replies
 pub mod Runs
 pub mod Says

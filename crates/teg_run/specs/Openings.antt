@@ -1,17 +1,18 @@
 -- What the reply to a read opens: a value that the command goes on with, or a refusal.
 use Rattle.std.specs.Prelude.{ℕ, ◌≡◌, List, Result, Ok, Err}
 use Rattle.teg_net.specs.declared.entries.PlaceId.{PlaceId}
-use Rattle.teg_net.specs.declared.reader.ReadRefusal.{ReadRefusal}
-use Rattle.teg_net.specs.declared.reader.ReadRefusal.TheVariants.{NotToml}
+use Rattle.teg_reader.specs.declared.refusals.ReadRefusal.{ReadRefusal}
+use Rattle.teg_reader.specs.declared.refusals.ReadRefusal.TheVariants.{NotToml}
 use Rattle.teg_net.specs.Nets.{NetLists}
 use Rattle.teg_net.specs.Circuits.{IsLive, IsTokenFree}
-use Rattle.teg_net.specs.Documents.{document}
+use Rattle.teg_reader.specs.Documents.{document}
 use Rattle.teg_run.specs.declared.status.Status.{Status}
 use Rattle.teg_run.specs.declared.status.Status.TheVariants.{Text, Net, ReadFault}
 use Rattle.teg_run.specs.declared.texts.Which.{Which}
 use Rattle.teg_run.specs.declared.texts.Which.TheVariants.{Net as NetFile}
 use Rattle.teg_run.specs.Replies.{Reply, Got, Long, Fault, Lost}
-use Rattle.teg_run.specs.Texts.{read_text, token_free_text, too_large_text, fault_text}
+use Rattle.teg_run.specs.Refusals.{read_text}
+use Rattle.teg_run.specs.Texts.{token_free_text, too_large_text, fault_text}
 
 -- what the file says, or the status and the text of its refusal
 pub data Opening (A : Type 0) : Type 0 where

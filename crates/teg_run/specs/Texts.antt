@@ -2,8 +2,6 @@
 use Rattle.std.specs.Prelude.{ℕ, List, [], ◌∷◌, ◌++◌, length, flat_map, codes}
 use Rattle.std.specs.Fmt.{decimal}
 use Rattle.teg_net.specs.declared.entries.PlaceId.{PlaceId}
-use Rattle.teg_net.specs.declared.reader.ReadRefusal.{ReadRefusal}
-use Rattle.teg_net.specs.declared.reader.ReadRefusal.TheVariants.{NotToml, NotBuilt, OutOfMemory}
 use Rattle.teg_net.specs.Nets.{NetLists}
 use Rattle.teg_net.specs.Circuits.{place_at}
 use Rattle.teg_run.specs.declared.texts.Which.{Which}
@@ -34,12 +32,6 @@ file_text NetFile = codes "the net"
 abbrev pub live_text : NetLists → List ℕ
 live_text net =
     codes "live\ntransitions " ++ (decimal (length net.transitions) ++ (codes "\nplaces " ++ (decimal (length net.places) ++ codes "\n")))
-
--- why the bytes of a file say no net
-abbrev pub read_text : ReadRefusal → List ℕ
-read_text NotToml = codes "refused: not TOML\n"
-read_text NotBuilt = codes "refused: form not built\n"
-read_text OutOfMemory = []
 
 -- a blank and the name of a place
 abbrev pub named_place : NetLists → PlaceId → List ℕ

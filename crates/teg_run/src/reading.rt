@@ -1,6 +1,7 @@
 //! Reading the files that an order names, each once, and going on with what they say.
 ghost use Rattle.std.specs.Prelude.{◌≡◌, [], ◌∷◌, IfSome};
-ghost use Rattle.teg_net.specs.Documents.{document, is_memory};
+ghost use Rattle.teg_reader.specs.Documents.{document};
+ghost use Rattle.teg_reader.specs.Walks.{is_memory};
 ghost use Rattle.teg_outside.specs.Shelves.{ShelfState};
 ghost use Rattle.teg_run.specs.Meanings.{RefusesWith, ended, replied, opened};
 ghost use Rattle.teg_run.specs.Openings.{OpensNet, OpensDocument, OpensNetLists, read_status};
@@ -14,12 +15,14 @@ use crate::ending::{Ending, closed};
 use crate::live_net::LiveNet;
 use crate::net_commands::of_net;
 use crate::order::NetCommand;
+use crate::refusal_texts::read_text;
 use crate::status::Status;
 use crate::texts::{self, Which};
 use std::alloc::Global;
 use teg_check::{CheckRefusal, check};
-use teg_net::{Net, OutOfMemory, ReadRefusal, read_net};
+use teg_net::{Net, OutOfMemory};
 use teg_outside::{Shelf, ShelfFault};
+use teg_reader::{ReadRefusal, read_net};
 
 // The most bytes that a file may have.
 const LIMIT: usize = 4194304;
@@ -108,7 +111,7 @@ fn open_document(alloc: Global, bytes: &[u8]) -> Opened<LiveNet>
             if is_memory(&refusal) {
                 Opened::Lost
             } else {
-                refused(read_status(&refusal), texts::refusal(alloc, &refusal))
+                refused(read_status(&refusal), read_text(alloc, &refusal))
             }
         }
     }

@@ -1,10 +1,10 @@
 //! The texts that the workbench writes. Each line ends with a line feed.
 ghost use Rattle.std.specs.Prelude.{◌≡◌, IfOk};
 ghost use Rattle.teg_net.specs.Circuits.{AreInRange};
-ghost use Rattle.teg_run.specs.Texts.{usage, live_text, read_text, token_free_text, too_large_text, fault_text, file_text};
+ghost use Rattle.teg_run.specs.Texts.{usage, live_text, token_free_text, too_large_text, fault_text, file_text};
 
 use std::alloc::Global;
-use teg_net::{Circuit, Net, OutOfMemory, ReadRefusal};
+use teg_net::{Circuit, Net, OutOfMemory};
 
 /// What a file is for.
 #[derive(Clone, Copy, Debug, PartialEq, Eq)]
@@ -13,7 +13,8 @@ pub enum Which {
     Net,
 }
 
-fn bytes_of(alloc: Global, text: &str) -> Result<Vec<u8>, OutOfMemory>
+/// The bytes of a text.
+pub fn bytes_of(alloc: Global, text: &str) -> Result<Vec<u8>, OutOfMemory>
     ensures { IfOk result (λ bytes. bytes.items ≡ text.now) }
 {
     Ok(Vec::from_slice(alloc, text.as_bytes())?)
@@ -43,17 +44,6 @@ pub fn live(alloc: Global, net: &Net) -> Result<Vec<u8>, OutOfMemory>
     let places = net.places().len();
     let text = format!(in alloc; "live\ntransitions {transitions}\nplaces {places}\n")?;
     Ok(text.into_bytes())
-}
-
-/// Why the bytes of a file say no net.
-pub fn refusal(alloc: Global, refusal: &ReadRefusal) -> Result<Vec<u8>, OutOfMemory>
-    ensures { IfOk result (λ text. text.items ≡ read_text refusal.now) }
-{
-    match refusal {
-        ReadRefusal::NotToml => bytes_of(alloc, "refused: not TOML\n"),
-        ReadRefusal::NotBuilt => bytes_of(alloc, "refused: form not built\n"),
-        ReadRefusal::OutOfMemory => Err(OutOfMemory),
-    }
 }
 
 /// The circuit for whose sake a net is not live.
