@@ -13,6 +13,7 @@ use Rattle.series_ops.specs.Needs.{left_at, left_plan, star_need, form_star}
 use Rattle.series_form.specs.Sums.{Serves, served_is, served_values, sum_rises, least_rises, sum_serves, least_serves}
 use Rattle.series_ops.specs.Products.{product_rises, product_serves}
 use Rattle.series_ops.specs.Lefts.{left_is, left_rises, left_serves, form_left_values}
+use Rattle.series_ops.proofs.AnchorLaws.{anchor_law}
 use Rattle.series_ops.specs.StarForms.{star_at_rises, star_serves}
 
 served : (s : ℕ → Date) (r : Plan) → Rising s → Serves s r → IsFormOf s (need_of r) (form_by s r)
@@ -29,4 +30,5 @@ closed = record {
   left = λ f g a b k. subst (λ (z : Date). IsLeftAt (value_at f) (value_at g) k z) (sym (form_left_values f g a b k)) (left_is f g a b k);
   left_canonical = λ f g a b. (served (left_at f g) (left_plan f g) (left_rises f g a b) (left_serves f g a b)).canonical;
   left_short = λ f g a b. (served (left_at f g) (left_plan f g) (left_rises f g a b) (left_serves f g a b)).short;
+  anchor = anchor_law;
 }

@@ -1,3 +1,4 @@
+pub mod AnchorLaws
 pub mod Closed
 pub mod FirstValues
 pub mod ProductPlans

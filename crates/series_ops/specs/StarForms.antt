@@ -21,7 +21,7 @@ use Rattle.series_ops.specs.Needs.{beats, anchor_step, anchor_upto, anchor_of, n
 use Rattle.series_form.specs.Sums.{Serves, served_is, served_values, form_repeats_own, tail_never, tail_early, tail_number, le_greatest_int, form_sum_is, form_sum_values}
 
 -- u / b is at most a / c, and so on: ratios
-ratio_trans : (b c d : ℕ) (u a v : ℤ) → 0 < b → times b u ≤ℤ times d a → times c a ≤ℤ times b v → times c u ≤ℤ times d v
+pub ratio_trans : (b c d : ℕ) (u a v : ℤ) → 0 < b → times b u ≤ℤ times d a → times c a ≤ℤ times b v → times c u ≤ℤ times d v
 ratio_trans b c d u a v pos_b h k = times_back b (times c u) (times d v) pos_b
     (let e : times c (times b u) ≤ℤ times c (times d a) = times_up c (times b u) (times d a) h in
     let f : times d (times c a) ≤ℤ times d (times b v) = times_up d (times c a) (times b v) k in
@@ -36,17 +36,17 @@ ratio_trans_date b c d (At u) a v pos_b h k = record { holds = ratio_trans b c d
 ratio_trans_date b c d Never a v pos_b h k = absurd h.holds
 
 -- what is known of the anchor among the shifts 1 to m
-record AnchorIs (f : Form) (m : ℕ) (a : Anchor) : Type 0 where
-  positive : 0 < a.shift
-  slow : times a.shift f.step ≤ℤ times f.period a.value
-  cheap : (c : ℕ) → 0 < c → c ≤ m → Le (scaled a.shift (value_at f c)) (At (times c a.value))
-  when_found : a.found ≡ true → (value_at f a.shift ≡ At a.value) × (a.shift ≤ m)
-  when_not : a.found ≡ false → (a.shift ≡ f.period) × (a.value ≡ f.step) × ((c : ℕ) → 0 < c → c ≤ m → Le (scaled f.period (value_at f c)) (At (times c f.step -ℤ pos 1)))
+pub record AnchorIs (f : Form) (m : ℕ) (a : Anchor) : Type 0 where
+  pub positive : 0 < a.shift
+  pub slow : times a.shift f.step ≤ℤ times f.period a.value
+  pub cheap : (c : ℕ) → 0 < c → c ≤ m → Le (scaled a.shift (value_at f c)) (At (times c a.value))
+  pub when_found : a.found ≡ true → (value_at f a.shift ≡ At a.value) × (a.shift ≤ m)
+  pub when_not : a.found ≡ false → (a.shift ≡ f.period) × (a.value ≡ f.step) × ((c : ℕ) → 0 < c → c ≤ m → Le (scaled f.period (value_at f c)) (At (times c f.step -ℤ pos 1)))
 
-not_lt : (x y : ℤ) → int_lt x y ≡ false → y ≤ℤ x
+pub not_lt : (x y : ℤ) → int_lt x y ≡ false → y ≤ℤ x
 not_lt x y h = grind (arith, ints)
 
-is_lt : (x y : ℤ) → int_lt x y ≡ true → (x +ℤ pos 1) ≤ℤ y
+pub is_lt : (x y : ℤ) → int_lt x y ≡ true → (x +ℤ pos 1) ≤ℤ y
 is_lt x y h = grind (arith, ints)
 
 module _ (f : Form) (is : IsForm f) where
@@ -116,7 +116,7 @@ module _ (f : Form) (is : IsForm f) where
           not_false false q = cc
   stepped m a Never old e some = absurd (some refl)
 
-  anchor_is : (m : ℕ) → ((c : ℕ) → value_at f c ≡ Never → ⊥) → AnchorIs f m (anchor_upto f m)
+  pub anchor_is : (m : ℕ) → ((c : ℕ) → value_at f c ≡ Never → ⊥) → AnchorIs f m (anchor_upto f m)
   anchor_is zero some = record {
     positive = is.period_positive;
     slow = omega (arith, ints);
