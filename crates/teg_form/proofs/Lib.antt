@@ -1,0 +1,3 @@
+mod FreePaths
+mod Recursion
+
