@@ -1,3 +1,6 @@
 mod FreePaths
 mod Recursion
-
+mod StarTimes
+mod Cells
+mod Holds
+mod StarEntries

@@ -1,9 +1,9 @@
 -- Kleene's recursion on the holds of the places without tokens of a net with ranks: each value is a time of a path, and
 -- each operation fits.
-use Rattle.std.proofs.Common.{ℕ, ℤ, pos, zero, suc, ◌+◌, ◌<◌, ◌≤◌, ◌≡◌, ◌+ℤ◌, FitsSigned, List, Bool, true, false, cond, eqb, get_or, refl, sym, ap, subst, ◌∙◌, arith, ⊎_elim}
+use Rattle.std.proofs.Common.{ℕ, ℤ, pos, zero, suc, ◌+◌, ◌<◌, ◌≤◌, ◌≡◌, ◌+ℤ◌, FitsSigned, unsigned_abs, ◌^◌, List, Bool, true, false, cond, eqb, get_or, refl, sym, ap, subst, ◌∙◌, arith, ⊎_elim}
 use Rattle.std.specs.Prelude.{⊤, ⊥, IsTrue, ◌≢◌}
 use Rattle.std.specs.Int.{w128}
-use Rattle.std.proofs.lemmas.Int.{ints}
+use Rattle.std.proofs.lemmas.Int.{ints, fits_signed_from_abs}
 use Rattle.dioid.specs.declared.dates.Date.{Date}
 use Rattle.dioid.specs.declared.dates.Date.TheVariants.{Early, At, Never}
 use Rattle.dioid.specs.declared.algebra.Dioid.{Ghosts as DioidOf}
@@ -45,7 +45,7 @@ IsSmall Never = ⊥
 pub small_fits : (x y : Date) → IsSmall x → IsSmall y → DateProductFits x y
 small_fits Early y h l = tt
 small_fits (At x) Early h l = tt
-small_fits (At x) (At y) (m, e, a) (n, f, b) = rw e (rw f (omega (arith, ints)))
+small_fits (At x) (At y) (m, e, a) (n, f, b) = rw e (rw f (fits_signed_from_abs w128 (pos m +ℤ pos n) (let g : unsigned_abs (pos m +ℤ pos n) < 2 ^ 127 = omega arith in g)))
 small_fits (At x) Never h l = tt
 small_fits Never y h l = tt
 
