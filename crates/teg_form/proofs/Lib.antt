@@ -4,3 +4,4 @@ mod StarTimes
 mod Cells
 mod Holds
 mod StarEntries
+mod Sorting

@@ -1,7 +1,7 @@
 -- Kleene's recursion on the holds of the places without tokens of a net with ranks: each value is a time of a path, and
 -- each operation fits.
 use Rattle.std.proofs.Common.{ℕ, ℤ, pos, zero, suc, ◌+◌, ◌<◌, ◌≤◌, ◌≡◌, ◌+ℤ◌, FitsSigned, unsigned_abs, ◌^◌, List, Bool, true, false, cond, eqb, get_or, refl, sym, ap, subst, ◌∙◌, arith, ⊎_elim}
-use Rattle.std.specs.Prelude.{⊤, ⊥, IsTrue, ◌≢◌}
+use Rattle.std.specs.Prelude.{⊤, IsTrue, ◌≢◌}
 use Rattle.std.specs.Int.{w128}
 use Rattle.std.proofs.lemmas.Int.{ints, fits_signed_from_abs}
 use Rattle.dioid.specs.declared.dates.Date.{Date}
@@ -72,7 +72,7 @@ module _ (net : NetLists) (ranks : List ℕ) (ok : IsNet net) (r : IsRanking net
   -- no path without tokens leads back
   no_way_back : (a : ℕ) (x : Date) → IsWay net ranks a a x → x ≡ Early
   no_way_back a Early h = refl
-  no_way_back a (At x) h = absurd (omega (arith, h.2.2.0))
+  no_way_back a (At x) h = absurd (omega (arith, h.2))
   no_way_back a Never h = absurd h
 
   one_before : (y : Date) → date_product (At (pos 0)) y ≡ y

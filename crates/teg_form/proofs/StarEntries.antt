@@ -32,13 +32,13 @@ time_held net times a b x h ha hb e =
     let s : IsTimeBetween net a b (At x) = subst (IsTimeBetween net a b) e (h.sound a b ha hb) in
     record {
       time = s.0;
-      is = s.2.0;
-      few = s.2.1;
+      is = s.2;
+      few = s.3;
       greatest = record {
         reached = s.1;
         greatest = λ other p.
             let most : IsAtMostDate (At (pos other)) (At x) = subst (IsAtMostDate (At (pos other))) e (h.complete a b other ha p) in
-            let q : x ≡ pos s.0 = s.2.0 in
+            let q : x ≡ pos s.0 = s.2 in
             omega (arith, ints, most, q);
       };
     }

@@ -1,5 +1,5 @@
 -- Working definitions of the matrix of places without tokens, and of its star.
-use Rattle.std.specs.Prelude.{ℕ, pos, ◌<◌, ◌≤◌, ◌+◌, ◌*◌, ◌≡◌, List, length, get_or, ⊤, ⊥}
+use Rattle.std.specs.Prelude.{ℕ, pos, ◌<◌, ◌≤◌, ◌+◌, ◌*◌, ◌≡◌, List, length, get_or, ⊤}
 use Rattle.dioid.specs.declared.dates.Date.{Date}
 use Rattle.dioid.specs.declared.dates.Date.TheVariants.{Early, At, Never}
 use Rattle.dioid.specs.Dates.{IsAtMostDate}
