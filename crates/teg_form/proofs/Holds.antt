@@ -42,7 +42,7 @@ holds_same net holds i h t = record {
 pub holds_more :
     (net : NetLists) (holds : List Date) (i : ℕ) → IsNet net → HoldsUpTo net holds i → i < length net.places → (place net i).tokens ≡ 0
     → HoldsUpTo net (set holds ((place net i).from.index * length net.transitions + (place net i).to.index)
-        (later_of (cell holds (length net.transitions) (place net i).from.index (place net i).to.index) (At (pos (place net i).hold)))) (i + 1)
+    (later_of (cell holds (length net.transitions) (place net i).from.index (place net i).to.index) (At (pos (place net i).hold)))) (i + 1)
 holds_more net holds i ok h l z =
     let n : ℕ = length net.transitions in
     let p : Place = place net i in
@@ -57,9 +57,9 @@ holds_more net holds i ok h l z =
     let here : get_or (set holds at new) at Early ≡ new = get_or-set_same holds at new Early at_in in
     let free : IsHoldBetween net from to hold = (record { index = i }, record { in_range = l; begins = refl; ends = refl; no_tokens = z }, refl) in
     let new_sound : IsHoldBetween net from to new = ⊎_elim
-        (λ e. subst (IsHoldBetween net from to) (sym e) (h.sound from to is.from_in is.to_in))
-        (λ e. subst (IsHoldBetween net from to) (sym e) free)
-        (later_either old hold) in
+    (λ e. subst (IsHoldBetween net from to) (sym e) (h.sound from to is.from_in is.to_in))
+    (λ e. subst (IsHoldBetween net from to) (sym e) free)
+    (later_either old hold) in
     record {
       count = length-set holds at new ∙ h.count;
       sound = λ a b ha hb. ⊎_elim
@@ -73,9 +73,9 @@ holds_more net holds i ok h l z =
       complete = λ k m y.
           let c : ℕ = (place net k).from.index * n + (place net k).to.index in
           let kept : IsAtMostDate (get_or holds c Early) (get_or (set holds at new) c Early) = ⊎_elim
-              (λ (q : c ≡ at). subst (λ v. IsAtMostDate (get_or holds v Early) (get_or (set holds at new) v Early)) (sym q) (subst (IsAtMostDate old) (sym here) (later_left old hold)))
-              (λ (q : c ≢ at). subst (IsAtMostDate (get_or holds c Early)) (sym (get_or-set_other holds at c new Early q)) (at_most_refl (get_or holds c Early)))
-              (cases_eq c at) in
+          (λ (q : c ≡ at). subst (λ v. IsAtMostDate (get_or holds v Early) (get_or (set holds at new) v Early)) (sym q) (subst (IsAtMostDate old) (sym here) (later_left old hold)))
+          (λ (q : c ≢ at). subst (IsAtMostDate (get_or holds c Early)) (sym (get_or-set_other holds at c new Early q)) (at_most_refl (get_or holds c Early)))
+          (cases_eq c at) in
           ⊎_elim
           (λ (q : k < i). at_most_trans (At (pos (place net k).hold)) (get_or holds c Early) (get_or (set holds at new) c Early) (h.complete k q y) kept)
           (λ (q : i ≤ k).

@@ -5,3 +5,4 @@ mod Cells
 mod Holds
 mod StarEntries
 mod Sorting
+mod StarIs

@@ -106,9 +106,10 @@ module _ (net : NetLists) (ranks : List ℕ) (ok : IsNet net) (r : IsRanking net
         let star : At (pos 0) ≡ s.star (x k k) = sym (is.star_is (x k k) ∙ ap date_star early) in
         let one : IsSmall (At (pos 0)) = (0, refl, omega arith) in
         let out = way_small k j (x k j) (steps_way k k j lek hk hj) in
-        let into = way_small i k (x i k) (steps_way k i k lek hi hk) in
-        ((is.stars_fit (x k k), subst (λ z. d.product_fits z (x k j)) star (is.products_fit _ _ (small_fits (At (pos 0)) (x k j) one out))),
-        (subst (λ z. d.product_fits (x i k) z) (sym (loop_is (x k k) (x k j) early)) (is.products_fit _ _ (small_fits (x i k) (x k j) into out)), is.sums_fit _ _))
+        let into = way_small i k (x i k) (steps_way k i k lek hi hk) in (
+          (is.stars_fit (x k k), subst (λ z. d.product_fits z (x k j)) star (is.products_fit _ _ (small_fits (At (pos 0)) (x k j) one out))),
+          (subst (λ z. d.product_fits (x i k) z) (sym (loop_is (x k k) (x k j) early)) (is.products_fit _ _ (small_fits (x i k) (x k j) into out)), is.sums_fit _ _),
+        )
 
     pub last_fits : (i j : ℕ) → LastFits d (steps_of d s a n) i j
     last_fits i j t = is.sums_fit _ _

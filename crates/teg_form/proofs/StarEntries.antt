@@ -1,5 +1,5 @@
 -- The loop of `stars_of`, and what a cell of the times says.
-use Rattle.std.proofs.Common.{ℕ, ℤ, pos, zero, suc, ◌+◌, ◌*◌, ◌/◌, ◌%◌, ◌<◌, ◌≤◌, ◌≡◌, ◌≢◌, ◌≤ℤ◌, List, [], ◌∷◌, ◌++◌, length, get_or, refl, sym, ap, subst, ◌∙◌, arith, ⊎_elim, inl, inr, mod-lt}
+use Rattle.std.proofs.Common.{ℕ, ℤ, pos, zero, suc, ◌+◌, ◌*◌, ◌/◌, ◌%◌, ◌<◌, ◌≤◌, ◌≡◌, ◌≢◌, ◌≤ℤ◌, ◌⊎◌, List, [], ◌∷◌, ◌++◌, length, get_or, refl, sym, ap, subst, ◌∙◌, arith, ⊎_elim, inl, inr, mod-lt}
 use Rattle.std.specs.Prelude.{All, Any, AllPairs}
 use Rattle.std.proofs.lemmas.Bool.{cases_lt}
 use Rattle.std.proofs.lemmas.Grind.{common_steps}
@@ -92,7 +92,7 @@ at_pair n a b pair ha hn l = ⊎_elim
     (λ (q : pair ≤ b * n + a).
     let whole : pair / n * n + pair % n ≡ pair = div-add-mod' pair n in
     let same : b * n + a ≡ pair / n * n + pair % n = omega (arith, whole) in
-    inr (one_cell n b a (pair / n) (pair % n) ha (mod-lt pair n hn) same))
+    inr (one_cell n b a (pair / n) (pair % n) ha (mod-lt pair hn) same))
     (cases_lt (b * n + a) pair)
 
 -- a pair that gives no entry
@@ -118,7 +118,7 @@ pub stars_more : (net : NetLists) (stars : List StarEntry) (pair : ℕ) (e : Sta
 stars_more net stars pair e hn h is to from =
     let m : ℕ = length net.transitions in
     let whole : pair / m * m + pair % m ≡ pair = div-add-mod' pair m in
-    let column : pair % m < m = mod-lt pair m hn in
+    let column : pair % m < m = mod-lt pair hn in
     let row : e.to.index * m ≡ pair / m * m = ap (λ x. x * m) to in
     record {
       known = All-push (IsStarEntry net) stars e h.known is;

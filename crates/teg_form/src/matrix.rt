@@ -39,6 +39,8 @@ pub(crate) fn free_times(alloc: Global, net: &Net, live: &Live) -> Result<Matrix
     match matrix.star(alloc) {
         Ok(times) => Ok(times),
         Err(MatrixRefused::OutOfMemory) => Err(OutOfMemory),
-        Err(_) => unreachable!(),
+        Err(MatrixRefused::Count { .. }) => unreachable!(),
+        Err(MatrixRefused::Shape { .. }) => unreachable!(),
+        Err(MatrixRefused::Range { .. }) => unreachable!(),
     }
 }
