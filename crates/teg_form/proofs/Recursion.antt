@@ -70,7 +70,7 @@ module _ (net : NetLists) (ranks : List ℕ) (ok : IsNet net) (r : IsRanking net
   product_way a b c Never y h l = absurd h
 
   -- no path without tokens leads back
-  no_way_back : (a : ℕ) (x : Date) → IsWay net ranks a a x → x ≡ Early
+  pub no_way_back : (a : ℕ) (x : Date) → IsWay net ranks a a x → x ≡ Early
   no_way_back a Early h = refl
   no_way_back a (At x) h = absurd (omega (arith, h.2))
   no_way_back a Never h = absurd h

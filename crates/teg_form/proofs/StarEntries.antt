@@ -1,9 +1,10 @@
 -- The loop of `stars_of`, and what a cell of the times says.
-use Rattle.std.proofs.Common.{ℕ, ℤ, pos, zero, suc, ◌+◌, ◌*◌, ◌/◌, ◌%◌, ◌<◌, ◌≤◌, ◌≡◌, ◌≢◌, ◌≤ℤ◌, ◌⊎◌, List, [], ◌∷◌, ◌++◌, length, get_or, refl, sym, ap, subst, ◌∙◌, arith, ⊎_elim, inl, inr, mod-lt}
+use Rattle.std.proofs.Common.{ℕ, ℤ, pos, zero, suc, ◌+◌, ◌*◌, ◌/◌, ◌%◌, ◌<◌, ◌≤◌, ◌≡◌, ◌≢◌, ◌≤ℤ◌, ◌⊎◌, ◌^◌, FitsSigned, unsigned_abs, nat_abs, to_z, of_z, to_z-of_z, List, [], ◌∷◌, ◌++◌, length, get_or, refl, sym, ap, subst, ◌∙◌, arith, ⊎_elim, inl, inr, mod-lt}
 use Rattle.std.specs.Prelude.{All, Any, AllPairs}
+use Rattle.std.specs.Int.{w128}
 use Rattle.std.proofs.lemmas.Bool.{cases_lt}
 use Rattle.std.proofs.lemmas.Grind.{common_steps}
-use Rattle.std.proofs.lemmas.Int.{ints}
+use Rattle.std.proofs.lemmas.Int.{ints, fits_signed_from_abs}
 use Rattle.std.proofs.lemmas.Nat.{div-add-mod'}
 use Rattle.std.proofs.lemmas.List.Elements.{All-push}
 use Rattle.std.proofs.lemmas.List.Quantifiers.{Any-push, all_pairs_push}
@@ -63,6 +64,19 @@ start_in net (p ∷ ps) a b ok n w = omega (arith, w.1, (ok.each_place p.index n
 
 pub any_more : {X : Type 0} (P : X → Type 0) (xs : List X) (y : X) → Any P xs → Any P (xs ++ y ∷ [])
 any_more P xs y (i, d, l, e, p) = (i, d, grind (arith, common_steps), grind (arith, common_steps), p)
+
+-- the number that a cell holds, as the program reads it
+pub read_time : (net : NetLists) (a b : ℕ) (x : ℤ) (h : IsTimeHeld net a b x) → nat_abs (to_z w128 (of_z w128 x)) ≡ h.time
+read_time net a b x h =
+    let fits : FitsSigned w128 (pos h.time) = fits_signed_from_abs w128 (pos h.time) (let g : unsigned_abs (pos h.time) < 2 ^ 127 = omega (arith, h.few) in g) in
+    rw (h.is, to_z-of_z w128 (pos h.time) fits) refl
+
+pub star_entry_is : (net : NetLists) (times : Table Date) (to from : ℕ) (x : ℤ) → AreFreeTimes net times → to < length net.transitions → from < length net.transitions → to ≢ from
+    → cell times.entries times.columns from to ≡ At x
+    → IsStarEntry net (record { to = record { index = to }; from = record { index = from }; time = nat_abs (to_z w128 (of_z w128 x)) })
+star_entry_is net times to from x h ht hf n e =
+    let held = time_held net times from to x h hf ht e in
+    record { different = n; time = subst (IsGreatestTime (IsTimeOfFreePath net from to)) (sym (read_time net from to x held)) held.greatest }
 
 abbrev pub joins : ℕ → ℕ → StarEntry → Type 0
 joins a b e = (e.to.index ≡ b) × (e.from.index ≡ a)

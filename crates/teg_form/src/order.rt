@@ -5,11 +5,11 @@ ghost use Rattle.teg_form.specs.Order.{IsOrder};
 use std::alloc::{AllocError, Global};
 use teg_net::{Net, PlaceId};
 
-/// A place with the number of its upstream transition and its tokens.
+/// A place with its key: the number of its upstream transition by 1,001, plus its tokens, which are
+/// at most 1,000.
 #[derive(Clone, Copy, Debug, Drop)]
 pub(crate) struct Marked {
-    pub(crate) from: u32,
-    pub(crate) tokens: u32,
+    pub(crate) key: u64,
     pub(crate) place: PlaceId,
 }
 
@@ -21,14 +21,13 @@ pub(crate) fn by_source(alloc: Global, net: &Net) -> Result<Vec<Marked>, AllocEr
     for (index, place) in net.places().iter().enumerate() {
         if place.tokens != 0 {
             order.push(Marked {
-                from: place.from.index,
-                tokens: place.tokens,
+                key: u64::from(place.from.index) * 1001 + u64::from(place.tokens),
                 place: PlaceId {
                     index: index as u32,
                 },
             })?;
         }
     }
-    order.sort_by_key(|m| (m.from, m.tokens))?;
+    order.sort_by_key(|m| m.key)?;
     Ok(order)
 }
