@@ -69,7 +69,7 @@ any_more P xs y (i, d, l, e, p) = (i, d, grind (arith, common_steps), grind (ari
 pub read_time : (net : NetLists) (a b : ℕ) (x : ℤ) (h : IsTimeHeld net a b x) → nat_abs (to_z w128 (of_z w128 x)) ≡ h.time
 read_time net a b x h =
     let fits : FitsSigned w128 (pos h.time) = fits_signed_from_abs w128 (pos h.time) (let g : unsigned_abs (pos h.time) < 2 ^ 127 = omega (arith, h.few) in g) in
-    rw (h.is, to_z-of_z w128 (pos h.time) fits) refl
+    rw (h.is, to_z-of_z fits) refl
 
 pub star_entry_is : (net : NetLists) (times : Table Date) (to from : ℕ) (x : ℤ) → AreFreeTimes net times → to < length net.transitions → from < length net.transitions → to ≢ from
     → cell times.entries times.columns from to ≡ At x

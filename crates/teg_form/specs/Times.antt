@@ -7,6 +7,7 @@ use Rattle.dioid_matrix.specs.Tables.{Table}
 use Rattle.teg_net.specs.declared.entries.PlaceId.{PlaceId}
 use Rattle.teg_net.specs.Nets.{NetLists}
 use Rattle.teg_net.specs.Circuits.{place_at}
+use Rattle.teg_form.specs.declared.form.Entry.{Entry}
 use Rattle.teg_form.specs.Forms.{IsTimeOfFreePath}
 
 -- the date in this row and column of a list of rows
@@ -46,3 +47,14 @@ pub record AreFreeTimes (net : NetLists) (times : Table Date) : Type 0 where
   pub sound : (a b : ℕ) → a < length net.transitions → b < length net.transitions → IsTimeBetween net a b (cell times.entries times.columns a b)
   pub complete : (a b time : ℕ) → a < length net.transitions → IsTimeOfFreePath net a b time
       → IsAtMostDate (At (pos time)) (cell times.entries times.columns a b)
+
+-- some path that begins with this place, and goes on to b by places without tokens, takes this time
+pub record IsTimeFrom (net : NetLists) (id : PlaceId) (b time : ℕ) : Type 0 where
+  pub others : ℕ
+  pub path : IsTimeOfFreePath net (place_at net id).to.index b others
+  pub is : time ≡ (place_at net id).hold + others
+
+-- the entry tells where the place begins and its tokens
+pub record IsFirstPlaceOf (net : NetLists) (id : PlaceId) (e : Entry) : Type 0 where
+  pub from : e.from.index ≡ (place_at net id).from.index
+  pub tokens : e.tokens ≡ (place_at net id).tokens

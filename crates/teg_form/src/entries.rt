@@ -1,14 +1,14 @@
 //! The entries, by the transitions to which their paths lead, and the places with tokens.
-ghost use Rattle.std.specs.Prelude.{◌≡◌, ◌∷◌, [], ◌<◌, List, IfOk, length};
-ghost use Rattle.teg_form.specs.Forms.{AreEntries};
-ghost use Rattle.teg_form.specs.Times.{AreFreeTimes};
+ghost use Rattle.std.specs.Prelude.{ℕ, ◌≡◌, ◌<◌, IfOk, IfNone, IfSome, length};
+ghost use Rattle.teg_form.specs.Forms.{AreEntries, IsGreatestTime};
+ghost use Rattle.teg_form.specs.Times.{AreFreeTimes, IsTimeFrom, IsFirstPlaceOf};
 
 use crate::form::Entry;
 use crate::order::by_source;
 use dioid::Date;
 use dioid_matrix::Matrix;
 use std::alloc::{AllocError, Global};
-use teg_net::{Net, OutOfMemory, TransitionId};
+use teg_net::{Net, OutOfMemory, PlaceId, TransitionId};
 
 /// Adds an entry behind the others, or raises the time of the last where that is of the same kind.
 fn add(entries: &mut Vec<Entry>, entry: Entry) -> Result<(), AllocError> {
@@ -24,6 +24,29 @@ fn add(entries: &mut Vec<Entry>, entry: Entry) -> Result<(), AllocError> {
     Ok(())
 }
 
+/// The entry of the paths to this transition that begin with this place, where there are any.
+fn entry_of(net: &Net, times: &Matrix<Date>, id: PlaceId, to: usize) -> Option<Entry>
+    requires times { AreFreeTimes net.now times.now }
+    requires place { id.index < length net.now.places }
+    requires to { to < length net.now.transitions }
+    ensures none { IfNone result ((time : ℕ) → IsTimeFrom net.now id to time → ⊥) }
+    ensures to { IfSome result (λ e. e.to.index ≡ to) }
+    ensures place { IfSome result (IsFirstPlaceOf net.now id) }
+    ensures time { IfSome result (λ e. IsGreatestTime (IsTimeFrom net.now id to) e.time) }
+{
+    let place = &net.places()[id.index as usize];
+    match *times.entry(place.to.index as usize, to) {
+        Date::At(time) => Some(Entry {
+            to: TransitionId { index: to as u32 },
+            from: place.from,
+            tokens: place.tokens,
+            time: place.hold + time as u64,
+        }),
+        Date::Early => None,
+        Date::Never => None,
+    }
+}
+
 /// For each pair of transitions and number of tokens the greatest time of a path whose first place
 /// has so many tokens, and whose others have none.
 pub(crate) fn entries_of(
@@ -35,19 +58,11 @@ pub(crate) fn entries_of(
     ensures { IfOk result (λ entries. AreEntries net.now entries.items) }
 {
     let order = by_source(alloc, net)?;
-    let places = net.places();
     let mut entries = Vec::new(alloc);
     for turn in 0..net.transitions().len() * order.len() {
         let to = turn / order.len();
         let marked = order[turn % order.len()];
-        let place = &places[marked.place.index as usize];
-        if let Date::At(time) = *times.entry(place.to.index as usize, to) {
-            let entry = Entry {
-                to: TransitionId { index: to as u32 },
-                from: place.from,
-                tokens: place.tokens,
-                time: place.hold + time as u64,
-            };
+        if let Some(entry) = entry_of(net, times, marked.place, to) {
             add(&mut entries, entry)?;
         }
     }

@@ -1,4 +1,4 @@
-use Rattle.std.proofs.Common.{ℕ, pos, ◌≡◌, ◌≢◌, ◌*◌, ◌+◌, length, get_or, set, List, refl, sym, ap, subst, ◌∙◌, arith, rules}
+use Rattle.std.proofs.Common.{ℕ, pos, ◌≡◌, ◌≢◌, ◌*◌, ◌+◌, ◌<◌, length, get_or, set, List, refl, sym, ap, subst, ◌∙◌, arith, rules}
 use Rattle.std.proofs.lemmas.List.{get_or_read}
 use Rattle.dioid.specs.declared.dates.Date.{Date}
 use Rattle.dioid.specs.declared.dates.Date.TheVariants.{Early, At}

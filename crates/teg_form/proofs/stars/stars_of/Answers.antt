@@ -16,5 +16,5 @@ loop-pair-preserved c =
 pub returns : goal.returns
 returns c =
     let net = c.args.net.now in
-    let end : c.loop-pair.pair ≡ length net.transitions * length net.transitions = rw c.transitions-count.ensures.value at (search rules) in
+    let end : c.loop-pair.pair ≡ length net.transitions * length net.transitions = rw (← c.transitions-count.ensures.value) (let e : c.loop-pair.pair ≡ length c.transitions-count.result.now * length c.transitions-count.result.now = search rules in e) in
     stars_are net c.loop-pair.stars.items c.transitions-count.ensures.rules (rw end at c.loop-pair.invariant)
