@@ -12,12 +12,14 @@ use Rattle.dioid.specs.declared.dates.Date.{Date}
 use Rattle.dioid.specs.declared.dates.Date.TheVariants.{Early, At, Never}
 use Rattle.dioid.specs.Dates.{IsAtMostDate}
 use Rattle.dioid_matrix.specs.Tables.{Table}
+use Rattle.teg_net.specs.declared.entries.Place.{Place}
 use Rattle.teg_net.specs.declared.entries.PlaceId.{PlaceId}
+use Rattle.std.proofs.lemmas.List.{get_or_read}
 use Rattle.teg_net.specs.Nets.{NetLists, IsNet}
 use Rattle.teg_net.specs.Circuits.{no_place, place_at, IsPathBetween}
 use Rattle.teg_form.specs.declared.form.StarEntry.{StarEntry}
 use Rattle.teg_form.specs.Forms.{IsTimeOfFreePath, IsGreatestTime, IsStarEntry, IsStarBefore, AreStars}
-use Rattle.teg_form.specs.Times.{cell, IsTimeBetween, AreFreeTimes}
+use Rattle.teg_form.specs.Times.{cell, IsTimeBetween, AreFreeTimes, IsTimeFrom}
 use Rattle.teg_form.proofs.Cells.{cell_in, earlier_cell, one_cell}
 
 -- the number that a cell holds is the greatest time
@@ -155,3 +157,26 @@ stars_are net stars ok h = record {
       h.all a b time ha (cell_in (length net.transitions) b a hb ha) n p;
   sorted = h.sorted;
 }
+
+-- the greatest time of the paths that begin with a place, from that of those without tokens that go on
+pub time_from : (net : NetLists) (times : Table Date) (id : PlaceId) (to : ℕ) (x : ℤ) (p : Place) → IsNet net → AreFreeTimes net times → id.index < length net.places → to < length net.transitions → p ≡ place_at net id
+    → cell times.entries times.columns p.to.index to ≡ At x → IsGreatestTime (IsTimeFrom net id to) (p.hold + nat_abs (to_z w128 (of_z w128 x)))
+time_from net times id to x p ok h l ht is e =
+    let start : (place_at net id).to.index < length net.transitions = (ok.each_place id.index no_place l).to_in in
+    let read : cell times.entries times.columns (place_at net id).to.index to ≡ At x = subst (λ q. cell times.entries times.columns q.to.index to ≡ At x) is e in
+    let held = time_held net times (place_at net id).to.index to x h start ht read in
+    let sum : (place_at net id).hold + held.time ≡ p.hold + nat_abs (to_z w128 (of_z w128 x)) = omega (arith, ap (λ q. q.hold) is, read_time net (place_at net id).to.index to x held) in
+    subst (IsGreatestTime (IsTimeFrom net id to)) sum (record {
+      reached = record { others = held.time; path = held.greatest.reached; is = refl };
+      greatest = λ other w. omega (arith, w.is, held.greatest.greatest w.others w.path);
+    })
+
+pub none_from : (net : NetLists) (times : Table Date) (id : PlaceId) (to time : ℕ) (p : Place) → IsNet net → AreFreeTimes net times → id.index < length net.places → p ≡ place_at net id
+    → cell times.entries times.columns p.to.index to ≡ Early → IsTimeFrom net id to time → ⊥
+none_from net times id to time p ok h l is e w =
+    let read : cell times.entries times.columns (place_at net id).to.index to ≡ Early = subst (λ q. cell times.entries times.columns q.to.index to ≡ Early) is e in
+    some_held net times (place_at net id).to.index to w.others h (ok.each_place id.index no_place l).to_in w.path read
+
+-- what is read from the places is that place
+pub read_place : (net : NetLists) (places : List Place) (q : ℕ) (p : Place) → places ≡ net.places → q < length net.places → p ≡ get_or places q p → p ≡ get_or net.places q no_place
+read_place net places q p e l read = rw e at (get_or_read places q p (rw e l) read no_place)
