@@ -6,3 +6,4 @@ mod Holds
 mod StarEntries
 mod Sorting
 mod StarIs
+mod Merging

@@ -1,5 +1,6 @@
 //! The entries, by the transitions to which their paths lead, and the places with tokens.
-ghost use Rattle.std.specs.Prelude.{ℕ, ◌≡◌, ◌<◌, IfOk, IfNone, IfSome, length};
+ghost use Rattle.std.specs.Prelude.{ℕ, ◌≡◌, ◌<◌, IfOk, IfNone, IfSome, IsTrue, IsFalse, length};
+ghost use Rattle.teg_form.specs.Adding.{IsOfKind, last_of, IsAdded};
 ghost use Rattle.teg_form.specs.Forms.{AreEntries, IsGreatestTime};
 ghost use Rattle.teg_form.specs.Times.{AreFreeTimes, IsTimeFrom, IsFirstPlaceOf};
 
@@ -10,15 +11,30 @@ use dioid_matrix::Matrix;
 use std::alloc::{AllocError, Global};
 use teg_net::{Net, OutOfMemory, PlaceId, TransitionId};
 
-/// Adds an entry behind the others, or raises the time of the last where that is of the same kind.
-fn add(entries: &mut Vec<Entry>, entry: Entry) -> Result<(), AllocError> {
-    if let Some(last) = entries.last_mut() {
-        if last.to == entry.to && last.from == entry.from && last.tokens == entry.tokens {
-            if last.time < entry.time {
-                last.time = entry.time;
-            }
-            return Ok(());
+/// Whether the last entry is of the same kind: of the same ends and tokens.
+fn ends_in_kind(entries: &[Entry], entry: &Entry) -> bool
+    ensures some { IsTrue result → 0 < length entries.now }
+    ensures kind { IsTrue result → IsOfKind (last_of entries.now) entry.now }
+    ensures other { IsFalse result → 0 < length entries.now → IsOfKind (last_of entries.now) entry.now → ⊥ }
+{
+    let count = entries.len();
+    0 < count
+        && entries[count - 1].to.index == entry.to.index
+        && entries[count - 1].from.index == entry.from.index
+        && entries[count - 1].tokens == entry.tokens
+}
+
+/// Adds an entry behind the others, or in place of the last where that is of the same kind and
+/// takes less time.
+fn add(entries: &mut Vec<Entry>, entry: Entry) -> Result<(), AllocError>
+    ensures { IfOk result (λ _. IsAdded entries.old.items entry entries.new.items) }
+{
+    if ends_in_kind(entries, &entry) {
+        let last = entries.len() - 1;
+        if entries[last].time < entry.time {
+            entries[last] = entry;
         }
+        return Ok(());
     }
     entries.push(entry)?;
     Ok(())
