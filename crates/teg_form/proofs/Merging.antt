@@ -1,23 +1,24 @@
 -- The loop of `entries_of`.
-use Rattle.std.proofs.Common.{ℕ, ◌+◌, ◌-◌, ◌*◌, ◌/◌, ◌%◌, ◌<◌, ◌≤◌, ◌≡◌, ◌≢◌, ◌⊎◌, List, [], ◌∷◌, ◌++◌, length, get_or, set, refl, sym, ap, subst, ◌∙◌, arith, ⊎_elim, inl, inr, mod-lt}
+use Rattle.std.proofs.Common.{ℕ, ◌+◌, ◌-◌, ◌*◌, ◌/◌, ◌%◌, ◌<◌, ◌≤◌, ◌≡◌, ◌≢◌, ◌⊎◌, List, [], ◌∷◌, ◌++◌, length, get_or, set, refl, sym, ap, subst, ◌∙◌, arith, ⊎_elim, inl, inr, mod-lt, mul_comm}
 use Rattle.std.specs.Prelude.{All, Any, AllPairs}
 use Rattle.std.specs.List.Sorted.{IsNonDecreasingBy}
 use Rattle.std.proofs.lemmas.Bool.{cases_lt, cases_eq}
-use Rattle.std.proofs.lemmas.Nat.{div-add-mod'}
+use Rattle.std.proofs.lemmas.Nat.{div-add-mod', mul-add-lt}
 use Rattle.std.proofs.lemmas.List.{get_or_default, length-set, get_or-set_same, get_or-set_other}
+use Rattle.std.proofs.lemmas.List.Sums.{sum_by-cons}
 use Rattle.std.proofs.lemmas.List.Elements.{All-push, All-set}
 use Rattle.std.proofs.lemmas.List.Quantifiers.{Any-push, all_pairs_push, any-set}
 use Rattle.teg_net.specs.declared.entries.PlaceId.{PlaceId}
 use Rattle.teg_net.specs.Nets.{NetLists, IsNet}
-use Rattle.teg_net.specs.Circuits.{no_place, place_at}
+use Rattle.teg_net.specs.Circuits.{no_place, place_at, time_of}
 use Rattle.teg_form.specs.declared.form.Entry.{Entry}
 use Rattle.teg_form.specs.declared.order.Marked.{Marked}
 use Rattle.teg_form.specs.Forms.{IsTimeOfMarkedPath, IsGreatestTime, IsEntry, IsEntryBefore, AreEntries}
 use Rattle.teg_form.specs.Times.{IsTimeFrom, IsFirstPlaceOf}
-use Rattle.teg_form.specs.Order.{IsOrder, IsMarkedPlace}
+use Rattle.teg_form.specs.Order.{IsOrder, IsMarkedPlace, marked_at}
 use Rattle.teg_form.specs.Adding.{IsOfKind, no_entry, last_of, IsBehind, IsMerged, IsAdded}
 use Rattle.teg_form.proofs.Cells.{earlier_cell, one_cell}
-use Rattle.teg_form.proofs.StarEntries.{any_more}
+use Rattle.teg_form.proofs.StarEntries.{any_more, end_in}
 
 abbrev pub no_mark : Marked
 no_mark = record { key = 0; place = record { index = 0 } }
@@ -250,3 +251,73 @@ of_turn net order turn e ok ord some to place time =
       to_is = to;
       greatest = time.greatest;
     }
+
+-- an entry of these ends and tokens that takes this time or more
+abbrev pub IsAbove : ℕ → ℕ → ℕ → ℕ → Entry → Type 0
+IsAbove a b tokens time f = (f.to.index ≡ b) × (f.from.index ≡ a) × (f.tokens ≡ tokens) × (time ≤ f.time)
+
+module _ (net : NetLists) (order : List Marked) (entries : List Entry) (ok : IsNet net) (ord : IsOrder net order) (h : EntriesUpTo net order entries (length net.transitions * length order)) where
+  above : (a b tokens time : ℕ) → 1 ≤ tokens → IsTimeOfMarkedPath net a b tokens time → Any (IsAbove a b tokens time) entries
+  above a b tokens time some w =
+      let id : PlaceId = w.first in
+      let n : ℕ = length net.transitions in
+      let in_range : id.index < length net.places = w.path.0 in
+      let begins : (place_at net id).from.index ≡ a = w.path.1 in
+      let marks : 1 ≤ (place_at net id).tokens = omega (arith, some, w.first_tokens) in
+      let found = ord.all id.index in_range marks in
+      let pos : ℕ = found.0 in
+      let read : mark_at order pos ≡ marked_at net id.index = get_or_default order pos no_mark (marked_at net id.index) found.1 ∙ found.2 in
+      let place : (mark_at order pos).place ≡ id = ap (λ m. m.place) read in
+      let end : b < n = end_in net w.others (place_at net id).to.index b ok (ok.each_place id.index no_place in_range).to_in w.path.2 in
+      let sum : time_of net (id ∷ w.others) ≡ (place_at net id).hold + time_of net w.others = sum_by-cons (λ q. (place_at net q).hold) id w.others in
+      let from : IsTimeFrom net id b time = record { others = time_of net w.others; path = record { places = w.others; path = w.path.2; no_tokens = w.no_tokens; is = refl }; is = w.is ∙ sum } in
+      let within : b * length order + pos < n * length order = rw (mul_comm n (length order)) (mul-add-lt b (length order) pos n end found.1) in
+      let c = h.covers b pos time found.1 within (subst (λ q. IsTimeFrom net q b time) (sym place) from) in
+      let f : Covers net id b time c.1 = subst (λ q. Covers net q b time c.1) place c.4 in
+      (c.0, c.1, c.2, c.3, (f.to_is, f.place.from ∙ begins, f.place.tokens ∙ w.first_tokens, f.enough))
+
+  reached : (e : Entry) → IsFromTurn net order (length net.transitions * length order) e → IsTimeOfMarkedPath net e.from.index e.to.index e.tokens e.time
+  reached e t =
+      let m : IsMarkedPlace net (mark_at order t.pos) = ord.known t.pos no_mark t.in_order in
+      let id : PlaceId = (mark_at order t.pos).place in
+      let path = t.time.path in
+      record {
+        first = id;
+        others = path.places;
+        path = (m.in_range, sym t.place.from, path.path);
+        first_tokens = sym t.place.tokens;
+        no_tokens = path.no_tokens;
+        is = omega (arith, t.time.is, path.is, sum_by-cons (λ q. (place_at net q).hold) id path.places);
+      }
+
+  -- two entries of one kind are one
+  one_of_kind : (i j : ℕ) (d : Entry) → i < length entries → j < length entries → code (get_or entries i d) ≡ code (get_or entries j d) → i ≡ j
+  one_of_kind i j d li lj q = ⊎_elim
+      (λ (s : i < j). absurd (omega (arith, h.sorted i j d s lj, q)))
+      (λ (s : j ≤ i). ⊎_elim
+      (λ (t : j < i). absurd (omega (arith, h.sorted j i d t li, q)))
+      (λ (t : i ≤ j). omega (arith, s, t))
+      (cases_lt j i))
+      (cases_lt i j)
+
+  pub entries_are : AreEntries net entries
+  entries_are = record {
+    known = λ i d l.
+        let e : Entry = get_or entries i d in
+        let t = h.known i d l in
+        record {
+          marked = t.some;
+          time = record {
+            reached = reached e t;
+            greatest = λ other w.
+                let a = above e.from.index e.to.index e.tokens other t.some w in
+                let read : get_or entries a.0 d ≡ a.1 = get_or_default entries a.0 d a.1 a.2 ∙ a.3 in
+                let is : code (get_or entries a.0 d) ≡ code e = ap code read ∙ code_of a.1 e (a.4.0, a.4.1, a.4.2) in
+                let same : a.0 ≡ i = one_of_kind a.0 i d a.2 l is in
+                let time : a.1.time ≡ e.time = ap (λ x. x.time) (sym read) ∙ ap (λ k. (get_or entries k d).time) same in
+                omega (arith, a.4.3, time);
+          };
+        };
+    all = λ a b tokens time some w. let f = above a b tokens time some w in (f.0, f.1, f.2, f.3, (f.4.0, f.4.1, f.4.2));
+    sorted = λ i j d l m. before_of net order (length net.transitions * length order) (get_or entries i d) (get_or entries j d) (h.known i d (omega (arith, l, m))) (h.known j d m) (h.sorted i j d l m);
+  }

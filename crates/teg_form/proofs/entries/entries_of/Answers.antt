@@ -1,6 +1,31 @@
-use Rattle.std.proofs.Common.{ℕ, ◌≡◌, ◌*◌, ◌/◌, ◌%◌, ◌<◌, length, get_or, sym, rules, arith}
-use Rattle.teg_form.proofs.Merging.{EntriesUpTo, entries_same, entries_added, of_turn}
+use Rattle.std.proofs.Common.{ℕ, ◌≡◌, ◌*◌, ◌/◌, ◌%◌, ◌<◌, length, get_or, sym, subst, rules, arith, mod-lt}
+use Rattle.std.proofs.lemmas.List.{get_or_read}
+use Rattle.teg_form.specs.declared.order.Marked.{Marked}
+use Rattle.teg_form.proofs.Merging.{EntriesUpTo, entries_same, entries_added, of_turn, entries_are, no_mark, mark_at}
 use Rattle.teg_form.proofs.entries.entries_of.Goals as goal
+use Rattle.teg_form.proofs.entries.entries_of.Goals.{in-Some+in_ok-add, in_default}
+
+some_order : (n m t : ℕ) → t < n * m → 0 < m
+some_order n m t l = grind arith
+
+pub loop-turn-preserved : goal.loop-turn-preserved
+loop-turn-preserved c =
+    let net = c.args.net.now in
+    let ok = c.transitions.ensures.rules in
+    let order = c.in_ok-order.order.items in
+    let turn = c.loop-turn.turn in
+    let l : turn < length c.transitions.result.now * length order = search rules in
+    let some : 0 < length order = some_order (length c.transitions.result.now) (length order) turn l in
+    let mark : c.index-marked.result.now ≡ mark_at order (turn % length order) = get_or_read order (turn % length order) c.index-marked.result.now (mod-lt turn some) (search rules) no_mark in
+    elim c.match-entry_of.branch [
+      | in-Some+in_ok-add w ↦ rw w.entries-is (entries_added net order c.loop-turn.entries.items _ turn _ ok c.in_ok-order.ensures some c.loop-turn.invariant ? w.in_ok-add.ensures)
+      | in_default w ↦ rw w.entries-is (entries_same net order c.loop-turn.entries.items turn some c.loop-turn.invariant (let n = w.in_default.ensures.none in rw mark at n))
+    ]
 
 pub returns : goal.returns
-returns c = ?
+returns c =
+    let net = c.args.net.now in
+    let order = c.in_ok-order.order.items in
+    let end : c.loop-turn.turn ≡ length c.transitions.result.now * length order = search rules in
+    let whole : c.loop-turn.turn ≡ length net.transitions * length order = rw c.transitions.ensures.value at end in
+    entries_are net order c.loop-turn.entries.items c.transitions.ensures.rules c.in_ok-order.ensures (rw whole at c.loop-turn.invariant)
