@@ -17,9 +17,15 @@ loop-turn-preserved c =
     let l : turn < length c.transitions.result.now * length order = search rules in
     let some : 0 < length order = some_order (length c.transitions.result.now) (length order) turn l in
     let mark : c.index-marked.result.now ≡ mark_at order (turn % length order) = get_or_read order (turn % length order) c.index-marked.result.now (mod-lt turn some) (search rules) no_mark in
+    let len : c.len-in-loop-turn.result ≡ length order = search rules in
     elim c.match-entry_of.branch [
-      | in-Some+in_ok-add w ↦ rw w.entries-is (entries_added net order c.loop-turn.entries.items _ turn _ ok c.in_ok-order.ensures some c.loop-turn.invariant ? w.in_ok-add.ensures)
-      | in_default w ↦ rw w.entries-is (entries_same net order c.loop-turn.entries.items turn some c.loop-turn.invariant (let n = w.in_default.ensures.none in rw mark at n))
+      | in-Some+in_ok-add w ↦
+          let place = w.in-Some.ensures.place in
+          let to = w.in-Some.ensures.to in
+          let time = w.in-Some.ensures.time in
+          let of = of_turn net order turn w.in-Some.entry ok c.in_ok-order.ensures some (rw len at to) (rw mark at place) (rw (mark, len) at time) in
+          rw w.entries-is (entries_added net order c.loop-turn.entries.items _ turn w.in-Some.entry c.in_ok-order.ensures some c.loop-turn.invariant of w.in_ok-add.ensures)
+      | in_default w ↦ rw w.entries-is (entries_same net order c.loop-turn.entries.items turn some c.loop-turn.invariant (let n = w.in_default.ensures.none in rw (mark, len) at n))
     ]
 
 pub returns : goal.returns
