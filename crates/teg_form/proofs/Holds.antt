@@ -1,16 +1,15 @@
 -- The loop of `free_holds`.
-use Rattle.std.proofs.Common.{ℕ, ℤ, pos, zero, suc, ◌+◌, ◌*◌, ◌<◌, ◌≤◌, ◌≡◌, ◌≢◌, List, length, get_or, set, refl, sym, ap, subst, ◌∙◌, arith, ⊎_elim}
+use Rattle.std.proofs.Common.{ℕ, pos, ◌+◌, ◌*◌, ◌<◌, ◌≤◌, ◌≡◌, ◌≢◌, List, length, get_or, set, refl, sym, ap, subst, ◌∙◌, arith, ⊎_elim}
 use Rattle.std.proofs.lemmas.Bool.{cases_eq, cases_lt}
 use Rattle.std.proofs.lemmas.List.{length-set, get_or-set_same, get_or-set_other}
 use Rattle.dioid.specs.declared.dates.Date.{Date}
-use Rattle.dioid.specs.declared.dates.Date.TheVariants.{Early, At, Never}
+use Rattle.dioid.specs.declared.dates.Date.TheVariants.{Early, At}
 use Rattle.dioid.specs.Dates.{IsAtMostDate, later_of}
 use Rattle.dioid.proofs.DateOrder.{at_most_refl, at_most_trans, later_left, later_right, later_either}
 use Rattle.teg_net.specs.declared.entries.Place.{Place}
-use Rattle.teg_net.specs.declared.entries.PlaceId.{PlaceId}
 use Rattle.teg_net.specs.Nets.{NetLists, IsNet, IsPlaceOf}
-use Rattle.teg_net.specs.Circuits.{no_place, place_at}
-use Rattle.teg_form.specs.Times.{cell, IsHoldBetween, IsFreePlace, AreFreeHolds}
+use Rattle.teg_net.specs.Circuits.{no_place}
+use Rattle.teg_form.specs.Times.{cell, IsHoldBetween, AreFreeHolds}
 use Rattle.teg_form.proofs.Cells.{cell_in, one_cell}
 
 -- the place of this number

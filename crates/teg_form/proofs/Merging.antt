@@ -1,7 +1,6 @@
 -- The loop of `entries_of`.
 use Rattle.std.proofs.Common.{ℕ, ◌+◌, ◌-◌, ◌*◌, ◌/◌, ◌%◌, ◌<◌, ◌≤◌, ◌≡◌, ◌≢◌, ◌⊎◌, List, [], ◌∷◌, ◌++◌, length, get_or, set, refl, sym, ap, subst, ◌∙◌, arith, ⊎_elim, inl, inr, mod-lt, mul_comm}
 use Rattle.std.specs.Prelude.{All, Any, AllPairs}
-use Rattle.std.specs.List.Sorted.{IsNonDecreasingBy}
 use Rattle.std.proofs.lemmas.Bool.{cases_lt, cases_eq}
 use Rattle.std.proofs.lemmas.Nat.{div-add-mod', mul-add-lt}
 use Rattle.std.proofs.lemmas.List.{get_or_default, length-set, get_or-set_same, get_or-set_other}
@@ -13,7 +12,7 @@ use Rattle.teg_net.specs.Nets.{NetLists, IsNet}
 use Rattle.teg_net.specs.Circuits.{no_place, place_at, time_of}
 use Rattle.teg_form.specs.declared.form.Entry.{Entry}
 use Rattle.teg_form.specs.declared.order.Marked.{Marked}
-use Rattle.teg_form.specs.Forms.{IsTimeOfMarkedPath, IsGreatestTime, IsEntry, IsEntryBefore, AreEntries}
+use Rattle.teg_form.specs.Forms.{IsTimeOfMarkedPath, IsGreatestTime, IsEntryBefore, AreEntries}
 use Rattle.teg_form.specs.Times.{IsTimeFrom, IsFirstPlaceOf}
 use Rattle.teg_form.specs.Order.{IsOrder, IsMarkedPlace, marked_at}
 use Rattle.teg_form.specs.Adding.{IsOfKind, no_entry, last_of, IsBehind, IsMerged, IsAdded}

@@ -1,21 +1,20 @@
 -- Kleene's recursion on the holds of the places without tokens of a net with ranks: each value is a time of a path, and
 -- each operation fits.
-use Rattle.std.proofs.Common.{ℕ, ℤ, pos, zero, suc, ◌+◌, ◌<◌, ◌≤◌, ◌≡◌, ◌+ℤ◌, FitsSigned, unsigned_abs, ◌^◌, List, Bool, true, false, cond, eqb, get_or, refl, sym, ap, subst, ◌∙◌, arith, ⊎_elim}
-use Rattle.std.specs.Prelude.{⊤, IsTrue, ◌≢◌}
+use Rattle.std.proofs.Common.{ℕ, pos, zero, suc, ◌+◌, ◌<◌, ◌≤◌, ◌≡◌, ◌+ℤ◌, unsigned_abs, ◌^◌, List, get_or, refl, sym, ap, subst, ◌∙◌, arith, ⊎_elim}
+use Rattle.std.specs.Prelude.{⊤}
 use Rattle.std.specs.Int.{w128}
 use Rattle.std.proofs.lemmas.Int.{ints, fits_signed_from_abs}
 use Rattle.dioid.specs.declared.dates.Date.{Date}
 use Rattle.dioid.specs.declared.dates.Date.TheVariants.{Early, At, Never}
 use Rattle.dioid.specs.declared.algebra.Dioid.{Ghosts as DioidOf}
 use Rattle.dioid.specs.declared.algebra.Kleene.{Ghosts as KleeneOf}
-use Rattle.dioid.specs.Dates.{IsAtMostDate, later_of, date_product, date_star, DateProductFits}
+use Rattle.dioid.specs.Dates.{later_of, date_product, date_star, DateProductFits}
 use Rattle.dioid.proofs.DateOrder.{later_either}
-use Rattle.dioid_matrix.specs.Stars.{through, steps_of, star_of}
+use Rattle.dioid_matrix.specs.Stars.{steps_of}
 use Rattle.dioid_matrix.specs.Turns.{EntryFits, LastFits}
 use Rattle.teg_net.specs.Nets.{NetLists, IsNet}
 use Rattle.teg_check.specs.Ranks.{IsRanking}
 use Rattle.teg_form.specs.Forms.{IsTimeOfFreePath}
-use Rattle.teg_form.specs.Times.{IsTimeBetween}
 use Rattle.teg_form.proofs.FreePaths.{joined, time_below}
 
 -- these are the operations of dates

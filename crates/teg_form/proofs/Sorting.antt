@@ -1,9 +1,8 @@
 -- The loop of `by_source`.
-use Rattle.std.proofs.Common.{ℕ, ◌+◌, ◌<◌, ◌≤◌, ◌≡◌, ◌≢◌, List, [], ◌∷◌, ◌++◌, length, get_or, refl, sym, ap, ◌∙◌, arith, ⊎_elim, length-append}
+use Rattle.std.proofs.Common.{ℕ, ◌+◌, ◌<◌, ◌≤◌, ◌≡◌, ◌≢◌, List, [], ◌∷◌, ◌++◌, length, get_or, refl, ap, arith, ⊎_elim, length-append}
 use Rattle.std.specs.Prelude.{All, Contains}
 use Rattle.std.proofs.lemmas.Bool.{cases_lt}
 use Rattle.std.proofs.lemmas.List.Elements.{All-push, Contains-push, Contains-append_left}
-use Rattle.teg_net.specs.declared.entries.Place.{Place}
 use Rattle.teg_net.specs.Nets.{NetLists}
 use Rattle.teg_net.specs.Circuits.{no_place}
 use Rattle.teg_form.specs.declared.order.Marked.{Marked}

@@ -1,5 +1,5 @@
 -- The star of the matrix of holds: there is one, and it holds the greatest times.
-use Rattle.std.proofs.Common.{ℕ, ℤ, pos, ◌+◌, ◌*◌, ◌<◌, ◌≤◌, ◌≡◌, ◌≢◌, ◌⊎◌, List, [], Bool, true, false, cond, eqb, get_or, length, refl, sym, ap, subst, ◌∙◌, arith, ⊎_elim}
+use Rattle.std.proofs.Common.{ℕ, pos, ◌+◌, ◌*◌, ◌<◌, ◌≡◌, ◌≢◌, List, [], true, false, cond, eqb, get_or, length, refl, sym, ap, subst, ◌∙◌, arith, ⊎_elim}
 use Rattle.std.proofs.lemmas.Bool.{cases_eq}
 use Rattle.std.proofs.lemmas.Bool.Decides.{nat_tests}
 use Rattle.dioid.specs.declared.dates.Date.{Date}
@@ -10,11 +10,9 @@ use Rattle.dioid.specs.Dates.{IsAtMostDate, later_of}
 use Rattle.dioid_matrix.specs.Stars.{steps_of, star_of}
 use Rattle.dioid_matrix.specs.Tables.{Table, table_of, entry_of}
 use Rattle.dioid_matrix.specs.Turns.{IsStar, StarRefused}
-use Rattle.dioid_matrix.specs.declared.refusals.MatrixRefused.{MatrixRefused}
-use Rattle.dioid_matrix.specs.declared.refusals.MatrixRefused.TheVariants.{Count, Shape, Range, OutOfMemory}
-use Rattle.teg_net.specs.declared.entries.PlaceId.{PlaceId}
+use Rattle.dioid_matrix.specs.declared.refusals.MatrixRefused.TheVariants.{Range}
 use Rattle.teg_net.specs.Nets.{NetLists, IsNet}
-use Rattle.teg_net.specs.Circuits.{no_place, place_at, IsPathBetween, time_of}
+use Rattle.teg_net.specs.Circuits.{no_place, place_at, time_of}
 use Rattle.teg_check.specs.Ranks.{IsRanking}
 use Rattle.teg_form.specs.Forms.{IsTimeOfFreePath}
 use Rattle.teg_form.specs.Times.{cell, IsHoldBetween, AreFreeHolds, IsTimeBetween, AreFreeTimes}

@@ -1,7 +1,6 @@
 -- The star of the matrix of holds: its entries are the greatest times of paths without tokens.
-use Rattle.std.proofs.Common.{ℕ, ℤ, pos, zero, suc, ◌+◌, ◌<◌, ◌≤◌, ◌≡◌, ◌≢◌, ◌+ℤ◌, List, [], ◌∷◌, Bool, true, false, cond, eqb, get_or, length, refl, sym, ap, subst, ◌∙◌, arith, ⊎_elim}
+use Rattle.std.proofs.Common.{ℕ, pos, zero, suc, ◌+◌, ◌<◌, ◌≤◌, ◌≡◌, ◌≢◌, ◌+ℤ◌, List, [], ◌∷◌, cond, eqb, length, refl, sym, ap, subst, ◌∙◌, arith, ⊎_elim}
 use Rattle.std.proofs.lemmas.Int.{ints}
-use Rattle.std.proofs.lemmas.Bool.{cases_eq}
 use Rattle.std.proofs.lemmas.Bool.Decides.{nat_tests}
 use Rattle.std.proofs.lemmas.List.Sums.{sum_by-cons}
 use Rattle.std.proofs.Math.Nat.{eq-or-lt_of_le}
@@ -10,9 +9,9 @@ use Rattle.dioid.specs.declared.dates.Date.TheVariants.{Early, At, Never}
 use Rattle.dioid.specs.declared.algebra.Dioid.{Ghosts as DioidOf}
 use Rattle.dioid.specs.declared.algebra.Kleene.{Ghosts as KleeneOf}
 use Rattle.dioid.specs.Dates.{IsAtMostDate, later_of, date_product}
-use Rattle.dioid.proofs.DateOrder.{at_most_trans, at_most_refl, later_left, later_right, later_either}
+use Rattle.dioid.proofs.DateOrder.{at_most_trans, later_left, later_right}
 use Rattle.dioid_matrix.specs.Sums.{total, dot}
-use Rattle.dioid_matrix.specs.Stars.{steps_of, star_of, IsLeastSolution}
+use Rattle.dioid_matrix.specs.Stars.{IsLeastSolution}
 use Rattle.teg_net.specs.declared.entries.PlaceId.{PlaceId}
 use Rattle.teg_net.specs.Nets.{NetLists, IsNet}
 use Rattle.teg_net.specs.Circuits.{no_place, place_at, IsPathBetween, time_of, tokens_of}

@@ -1,7 +1,6 @@
-use Rattle.std.proofs.Common.{ℕ, ◌≡◌, ◌*◌, ◌/◌, ◌%◌, ◌<◌, length, get_or, sym, subst, rules, arith, mod-lt}
+use Rattle.std.proofs.Common.{ℕ, ◌≡◌, ◌*◌, ◌%◌, ◌<◌, length, rules, arith, mod-lt}
 use Rattle.std.proofs.lemmas.List.{get_or_read}
-use Rattle.teg_form.specs.declared.order.Marked.{Marked}
-use Rattle.teg_form.proofs.Merging.{EntriesUpTo, entries_same, entries_added, of_turn, entries_are, no_mark, mark_at}
+use Rattle.teg_form.proofs.Merging.{entries_same, entries_added, of_turn, entries_are, no_mark, mark_at}
 use Rattle.teg_form.proofs.entries.entries_of.Goals as goal
 use Rattle.teg_form.proofs.entries.entries_of.Goals.{in-Some+in_ok-add, in_default}
 

@@ -1,4 +1,4 @@
-use Rattle.std.proofs.Common.{ℕ, ℤ, pos, FitsSigned, unsigned_abs, to_z, of_z, to_z-of_z, ◌^◌, ◌≡◌, ◌≢◌, ◌*◌, ◌+◌, ◌<◌, length, get_or, set, List, refl, sym, ap, subst, ◌∙◌, arith, rules}
+use Rattle.std.proofs.Common.{ℕ, ℤ, pos, FitsSigned, unsigned_abs, to_z, of_z, to_z-of_z, ◌^◌, ◌≡◌, ◌≢◌, ◌*◌, ◌+◌, ◌<◌, length, get_or, set, List, sym, ap, subst, ◌∙◌, arith}
 use Rattle.std.specs.Int.{w128}
 use Rattle.std.proofs.lemmas.Int.{fits_signed_from_abs}
 use Rattle.std.proofs.lemmas.List.{get_or_read}

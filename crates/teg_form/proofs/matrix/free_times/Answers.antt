@@ -1,11 +1,9 @@
-use Rattle.std.proofs.Common.{ℕ, ◌≡◌, List, refl, sym, subst, length, ◌∙◌, ap, rules}
-use Rattle.dioid.specs.declared.dates.Date.{Date}
+use Rattle.std.proofs.Common.{◌≡◌, refl, length}
 use Rattle.dioid.specs.contracts.max_plus.DateDioid.TheImpl.{ghosts as dates}
 use Rattle.dioid.specs.contracts.max_plus.DateKleene.TheImpl.{ghosts as stars}
-use Rattle.dioid_matrix.specs.Tables.{Table, table_of}
+use Rattle.dioid_matrix.specs.Tables.{table_of}
 use Rattle.dioid_matrix.specs.Turns.{IsStar, StarRefused}
-use Rattle.dioid_matrix.specs.declared.refusals.MatrixRefused.{MatrixRefused}
-use Rattle.dioid_matrix.specs.declared.refusals.MatrixRefused.TheVariants.{Count, Shape, Range, OutOfMemory}
+use Rattle.dioid_matrix.specs.declared.refusals.MatrixRefused.TheVariants.{Range}
 use Rattle.teg_net.specs.Nets.{NetLists}
 use Rattle.teg_form.proofs.Recursion.{AreOfDates}
 use Rattle.teg_form.proofs.StarIs.{free_times_are, range_never}

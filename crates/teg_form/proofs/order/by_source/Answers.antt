@@ -1,9 +1,6 @@
-use Rattle.std.proofs.Common.{ℕ, ◌≡◌, ◌≤◌, length, get_or, arith, rules}
-use Rattle.std.proofs.lemmas.List.{get_or_read}
+use Rattle.std.proofs.Common.{ℕ, ◌≡◌, ◌≤◌, length, arith, rules}
 use Rattle.std.proofs.lemmas.List.Sorted.{All-permutation, Contains-permutation, IsNonDecreasingBy-from_sort_by_key}
-use Rattle.teg_net.specs.Circuits.{no_place}
 use Rattle.teg_form.specs.Order.{IsMarkedPlace, marked_at}
-use Rattle.teg_form.proofs.Sorting.{order_same, order_more}
 use Rattle.teg_form.proofs.order.by_source.Goals as goal
 
 few_of : {n l i p : ℕ} → n ≡ l → l ≤ i → i ≤ p → n ≤ p

@@ -1,4 +1,4 @@
-use Rattle.std.proofs.Common.{◌≡◌, sym, ◌∙◌}
+use Rattle.std.proofs.Common.{sym, ◌∙◌}
 use Rattle.teg_form.proofs.StarEntries.{star_entry_is, some_held}
 use Rattle.teg_form.proofs.stars.star_entry.Goals as goal
 

@@ -1,5 +1,5 @@
-use Rattle.std.proofs.Common.{ℕ, ◌≡◌, ◌*◌, ◌/◌, ◌%◌, ◌<◌, length, sym, rules, arith}
-use Rattle.teg_form.proofs.StarEntries.{StarsUpTo, stars_same, stars_more, stars_are}
+use Rattle.std.proofs.Common.{◌≡◌, ◌*◌, ◌<◌, length, rules, arith}
+use Rattle.teg_form.proofs.StarEntries.{stars_same, stars_more, stars_are}
 use Rattle.teg_form.proofs.stars.stars_of.Goals as goal
 use Rattle.teg_form.proofs.stars.stars_of.Goals.{in-Some+in_ok-push, in_default}
 
