@@ -1,0 +1,9 @@
+mod FreePaths
+mod Recursion
+mod StarTimes
+mod Cells
+mod Holds
+mod StarEntries
+mod Sorting
+mod StarIs
+mod Merging

@@ -1,0 +1,81 @@
+//! The form and its two lists.
+ghost use Rattle.std.specs.Prelude.{◌≡◌, IfOk};
+ghost use Rattle.teg_check.specs.Ranks.{IsRanking};
+ghost use Rattle.teg_form.specs.Forms.{IsFormOf};
+
+use crate::entries::entries_of;
+use crate::matrix::free_times;
+use crate::stars::stars_of;
+use std::alloc::Global;
+use std::marker::Model;
+use teg_check::Live;
+use teg_net::{Net, OutOfMemory, TransitionId};
+
+/// The greatest time of a path of places without tokens, between two different transitions.
+#[derive(Clone, Copy, Debug, Drop, PartialEq, Eq)]
+pub struct StarEntry {
+    pub to: TransitionId,
+    pub from: TransitionId,
+    /// In the user's unit: at most 400 times 1,000,000,000.
+    pub time: u64,
+}
+
+/// The greatest time of a path whose first place has `tokens` tokens, and whose others have none.
+#[derive(Clone, Copy, Debug, Drop, PartialEq, Eq)]
+pub struct Entry {
+    pub to: TransitionId,
+    pub from: TransitionId,
+    /// At least 1.
+    pub tokens: u32,
+    /// In the user's unit: at most 400 times 1,000,000,000.
+    pub time: u64,
+}
+
+/// The standard form of a net (chapter 2). Contracts see its two lists.
+#[derive(Debug, Drop)]
+pub struct Form {
+    stars: Vec<StarEntry>,
+    entries: Vec<Entry>,
+}
+
+impl Model for Form {
+    ghost use Rattle.teg_form.specs.Forms.{FormLists};
+
+    ghost Value = { FormLists };
+
+    ghost view = { λ f. record { stars = f.stars.items; entries = f.entries.items } };
+}
+
+impl Form {
+    /// For each pair of different transitions that a path without tokens joins, the greatest time of
+    /// one, sorted by `to`, then `from`. It takes no memory.
+    pub fn stars(&self) -> &[StarEntry]
+        ensures { result.now ≡ self.now.stars }
+    {
+        &self.stars
+    }
+
+    /// For each pair of transitions and number of tokens, at least 1, for which there is a path whose
+    /// first place has so many tokens and whose others have none, the greatest time of one, sorted by
+    /// `to`, `from`, `tokens`. It takes no memory.
+    pub fn entries(&self) -> &[Entry]
+        ensures { result.now ≡ self.now.entries }
+    {
+        &self.entries
+    }
+}
+
+/// The standard form of a live net (chapter 2): all its star entries and all its entries, and no
+/// others, sorted. Only the net's own places count.
+///
+/// `OutOfMemory` comes only where no memory is found. It takes time of order n^3 + n p for n
+/// transitions and p places.
+pub fn standard_form(alloc: Global, net: &Net, live: &Live) -> Result<Form, OutOfMemory>
+    requires stands { IsRanking net.now live.now }
+    ensures form { IfOk result (λ form. IsFormOf net.now form) }
+{
+    let times = free_times(alloc, net, live)?;
+    let stars = stars_of(alloc, net, &times)?;
+    let entries = entries_of(alloc, net, &times)?;
+    Ok(Form { stars, entries })
+}

@@ -1,0 +1,18 @@
+//! The standard form of a timed event graph: the greatest times of its paths without tokens, and of
+//! those that begin with a place with tokens (chapter 2, the explicit form).
+//!
+//! Its one contract: [`standard_form`] answers exactly these times, sorted, for each pair of
+//! transitions that such a path joins. Only the net's own places count. The crate stands on
+//! `teg_net`, on `teg_check` for the ranks of a live net, on `dioid_matrix` for the star of a matrix,
+//! and on `dioid` for dates.
+#![tactic(auto)]
+
+mod entries;
+mod form;
+mod matrix;
+mod order;
+mod stars;
+#[cfg(test)]
+mod tests;
+
+pub use form::{Entry, Form, StarEntry, standard_form};
