@@ -1,0 +1,10 @@
+pub mod Answers
+pub mod Forms
+pub mod Kept
+pub mod Lines
+pub mod Lists
+pub mod Meanings
+pub mod Refusals
+pub mod Reports
+pub mod Spots
+pub mod Texts

@@ -1,0 +1,54 @@
+-- The lines of the short answers.
+use Rattle.std.specs.Prelude.{ℕ, List, [], ◌∷◌, ◌++◌, map, codes}
+use Rattle.std.specs.Fmt.{decimal}
+use Rattle.teg_net.specs.declared.entries.PlaceId.{PlaceId}
+use Rattle.teg_net.specs.Nets.{NetLists}
+use Rattle.teg_net.specs.Circuits.{place_at}
+use Rattle.teg_report.specs.declared.answer.Which.{Which}
+use Rattle.teg_report.specs.declared.answer.Which.TheVariants.{Net as NetFile}
+use Rattle.teg_report.specs.Lines.{phrase}
+
+-- the commands that are built, each with what follows it
+abbrev pub command_forms : List (List ℕ)
+command_forms = codes "check NET" ∷ codes "list NET K" ∷ codes "form NET" ∷ []
+
+-- a line of the usage but the first
+abbrev pub usage_line : List ℕ → List (List ℕ)
+usage_line form = phrase (codes "       teg " ++ form)
+
+-- how these commands are used, one line each
+abbrev pub usage_of : List (List ℕ) → List (List (List ℕ))
+usage_of [] = []
+usage_of (form ∷ forms) = phrase (codes "usage: teg " ++ form) ∷ map usage_line forms
+
+-- what is told where words are refused
+abbrev pub usage_lines : List (List (List ℕ))
+usage_lines = usage_of command_forms
+
+-- a word and a number
+abbrev pub counted : List ℕ → ℕ → List (List ℕ)
+counted word count = word ∷ decimal count ∷ []
+
+-- that a net of so many transitions and places is live
+abbrev pub live_lines : ℕ → ℕ → List (List (List ℕ))
+live_lines transitions places = phrase (codes "live") ∷ counted (codes "transitions") transitions ∷ counted (codes "places") places ∷ []
+
+-- how texts speak of a file
+abbrev pub file_words : Which → List (List ℕ)
+file_words NetFile = phrase (codes "the net")
+
+-- that a file is longer than its limit
+abbrev pub too_large_line : Which → List (List ℕ)
+too_large_line file = phrase (codes "refused:") ++ (file_words file ++ phrase (codes "is longer than 4194304 bytes"))
+
+-- that a file could not be read
+abbrev pub fault_line : Which → List (List ℕ)
+fault_line file = phrase (codes "fault: cannot read") ++ file_words file
+
+-- the name of a place
+abbrev pub name_of_place : NetLists → PlaceId → List ℕ
+name_of_place net id = (place_at net id).name
+
+-- a circuit without tokens, as the names of its places in order
+abbrev pub token_free_line : NetLists → List PlaceId → List (List ℕ)
+token_free_line net circuit = phrase (codes "refused: token-free circuit") ++ map (name_of_place net) circuit

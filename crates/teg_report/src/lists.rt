@@ -1,0 +1,67 @@
+//! The text of a list of dates: two lines before the dates, and one line for each number.
+ghost use Rattle.std.specs.Prelude.{◌≡◌, ◌++◌, ◌≤◌, [], IfOk, length, codes, string_bytes};
+ghost use Rattle.teg_net.specs.Limits.{most_transitions};
+ghost use Rattle.teg_dates.specs.Tables.{date_at};
+ghost use Rattle.teg_report.specs.Lines.{line_then, written};
+ghost use Rattle.teg_report.specs.Lists.{count_line, date_word, list_lines, names_line, number_line};
+
+use dioid::Date;
+use std::alloc::{AllocError, Global};
+use teg_dates::Table;
+use teg_net::{Net, OutOfMemory, TransitionId};
+
+/// Appends a blank and a date.
+fn push_date(text: &mut String, date: Date) -> Result<(), AllocError>
+    ensures { IfOk result (λ _. string_bytes text.new ≡ string_bytes text.old ++ (codes " " ++ date_word date)) }
+{
+    match date {
+        Date::Early => text.push_str(" epsilon"),
+        Date::At(date) => write!(text, " {date}"),
+        Date::Never => text.push_str(" never"),
+    }
+}
+
+/// Appends the line of a number.
+fn push_line(text: &mut String, table: &Table, width: usize, number: u64) -> Result<(), AllocError>
+    requires width { width ≡ table.now.width }
+    requires few { width ≤ most_transitions }
+    requires number { 1 ≤ number }
+    requires last { number ≤ table.now.count }
+    ensures { IfOk result (λ _. string_bytes text.new ≡ string_bytes text.old ++ line_then (number_line width (date_at table.now) number) []) }
+{
+    write!(text, "{number}")?;
+    for index in 0..width {
+        let transition = TransitionId {
+            index: index as u32,
+        };
+        push_date(text, table.date(transition, number))?;
+    }
+    text.push('\n')
+}
+
+/// The lines before the dates.
+fn head(alloc: Global, net: &Net, count: u32) -> Result<String, AllocError>
+    ensures { IfOk result (λ text. string_bytes text ≡ line_then (count_line count) (line_then (names_line net.now) [])) }
+{
+    let mut text = format!(in alloc; "dates of {count} firings\ntransition")?;
+    for transition in net.transitions() {
+        text.push(' ')?;
+        text.push_str(transition.name.as_str())?;
+    }
+    text.push('\n')?;
+    Ok(text)
+}
+
+/// The dates of the table, one line for each of its numbers.
+pub(crate) fn list(alloc: Global, net: &Net, table: &Table) -> Result<Vec<u8>, OutOfMemory>
+    requires { table.now.width ≡ length net.now.transitions }
+    ensures { IfOk result (λ text. text.items ≡ written (list_lines net.now (date_at table.now) table.now.count)) }
+{
+    let width = net.transitions().len();
+    let count = table.count();
+    let mut text = head(alloc, net, count)?;
+    for number in 0..count {
+        push_line(&mut text, table, width, number as u64 + 1)?;
+    }
+    Ok(text.into_bytes())
+}

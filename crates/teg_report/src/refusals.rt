@@ -1,0 +1,152 @@
+//! The texts of refused net files.
+ghost use Rattle.std.specs.Prelude.{◌≡◌, ◌++◌, ◌<◌, [], ◌∷◌, IfOk, string_bytes};
+ghost use Rattle.teg_report.specs.Lines.{written};
+ghost use Rattle.teg_report.specs.Refusals.{ends_line, entered_line, fault_line, hex_digit, input_line, label_byte, label_word, read_line};
+ghost use Rattle.teg_report.specs.Spots.{spot_text};
+
+use crate::texts::bytes_of;
+use std::alloc::{AllocError, Global};
+use teg_net::{Label, Name, OutOfMemory};
+use teg_reader::{ReadRefusal, Section, Spot};
+
+/// A table of the file.
+fn spot_text(alloc: Global, spot: &Spot) -> Result<String, OutOfMemory>
+    ensures { IfOk result (λ text. string_bytes text ≡ spot_text spot.now) }
+{
+    let position = spot.position;
+    match spot.section {
+        Section::Top => Ok(String::from_str(alloc, "top")?),
+        Section::Transition => Ok(format!(in alloc; "transition {position}")?),
+        Section::Place => Ok(format!(in alloc; "place {position}")?),
+        Section::Input => Ok(format!(in alloc; "input {position}")?),
+    }
+}
+
+/// The byte of a hexadecimal digit.
+fn hex_digit(digit: u8) -> u8
+    requires { digit < 16 }
+    ensures result { result ≡ hex_digit digit }
+    ensures ascii { result < 128 }
+{
+    if 10 <= digit { 87 + digit } else { 48 + digit }
+}
+
+/// Appends a byte of a label.
+fn push_label_byte(text: &mut String, byte: u8) -> Result<(), AllocError>
+    ensures { IfOk result (λ _. string_bytes text.new ≡ string_bytes text.old ++ label_byte byte) }
+{
+    if byte == b'\\' {
+        text.push_str("\\\\")
+    } else if (0x21..=0x7E).contains(&byte) {
+        text.push(char::from(byte))
+    } else {
+        text.push_str("\\x")?;
+        text.push(char::from(hex_digit(byte / 16)))?;
+        text.push(char::from(hex_digit(byte % 16)))
+    }
+}
+
+/// A label, byte by byte.
+fn label_word(alloc: Global, label: &Label) -> Result<String, OutOfMemory>
+    ensures { IfOk result (λ text. string_bytes text ≡ label_word label.now) }
+{
+    let mut text = String::new(alloc);
+    for byte in label.as_str().as_bytes() {
+        push_label_byte(&mut text, *byte)?;
+    }
+    Ok(text)
+}
+
+/// What is wrong at a table.
+fn fault_at(alloc: Global, spot: &Spot, fault: &str) -> Result<Vec<u8>, OutOfMemory>
+    ensures { IfOk result (λ text. text.items ≡ written (fault_line spot.now fault.now [] ∷ [])) }
+{
+    let spot = spot_text(alloc, spot)?;
+    let text = format!(in alloc; "refused: {spot} {fault}\n")?;
+    Ok(text.into_bytes())
+}
+
+/// What is wrong at a table, and with which key or text.
+fn fault_with(alloc: Global, spot: &Spot, fault: &str, about: &str) -> Result<Vec<u8>, OutOfMemory>
+    ensures { IfOk result (λ text. text.items ≡ written (fault_line spot.now fault.now (about.now ∷ []) ∷ [])) }
+{
+    let spot = spot_text(alloc, spot)?;
+    let text = format!(in alloc; "refused: {spot} {fault} {about}\n")?;
+    Ok(text.into_bytes())
+}
+
+/// What is wrong at a table, and with which text.
+fn fault_with_label(
+    alloc: Global,
+    spot: &Spot,
+    fault: &str,
+    label: &Label,
+) -> Result<Vec<u8>, OutOfMemory>
+    ensures { IfOk result (λ text. text.items ≡ written (fault_line spot.now fault.now (label_word label.now ∷ []) ∷ [])) }
+{
+    let label = label_word(alloc, label)?;
+    fault_with(alloc, spot, fault, label.as_str())
+}
+
+/// How many producers and consumers a place has.
+fn ends(alloc: Global, place: &Name, producers: u32, consumers: u32) -> Result<Vec<u8>, OutOfMemory>
+    ensures { IfOk result (λ text. text.items ≡ written (ends_line place.now producers consumers ∷ [])) }
+{
+    let place = place.as_str();
+    let text = format!(in alloc;
+        "refused: place {place} has {producers} producers and {consumers} consumers\n"
+    )?;
+    Ok(text.into_bytes())
+}
+
+/// That a place leads to an input.
+fn entered(alloc: Global, place: &Name) -> Result<Vec<u8>, OutOfMemory>
+    ensures { IfOk result (λ text. text.items ≡ written (entered_line place.now ∷ [])) }
+{
+    let place = place.as_str();
+    let text = format!(in alloc; "refused: place {place} enters an input\n")?;
+    Ok(text.into_bytes())
+}
+
+/// Where the list of an input is faulty.
+fn input(alloc: Global, transition: &Name, position: u32) -> Result<Vec<u8>, OutOfMemory>
+    ensures { IfOk result (λ text. text.items ≡ written (input_line transition.now position ∷ [])) }
+{
+    let transition = transition.as_str();
+    let text = format!(in alloc; "refused: input of {transition} bad at {position}\n")?;
+    Ok(text.into_bytes())
+}
+
+/// Why the bytes of a file say no net.
+pub(crate) fn read(alloc: Global, refusal: &ReadRefusal) -> Result<Vec<u8>, OutOfMemory>
+    ensures { IfOk result (λ text. text.items ≡ written (read_line refusal.now ∷ [])) }
+{
+    match refusal {
+        ReadRefusal::NotToml => bytes_of(alloc, "refused: not TOML\n"),
+        ReadRefusal::UnknownKey { spot, key } => {
+            fault_with_label(alloc, spot, "unknown key", key)
+        }
+        ReadRefusal::WrongKind { spot, key } => fault_with(alloc, spot, "wrong kind", key.text()),
+        ReadRefusal::MissingKey { spot, key } => fault_with(alloc, spot, "missing", key.text()),
+        ReadRefusal::BadName { spot } => fault_at(alloc, spot, "bad name"),
+        ReadRefusal::Repeated { spot } => fault_at(alloc, spot, "repeated"),
+        ReadRefusal::OutOfRange { spot, key } => {
+            fault_with(alloc, spot, "out of range", key.text())
+        }
+        ReadRefusal::NoTransitions => bytes_of(alloc, "refused: no transitions\n"),
+        ReadRefusal::UnknownTransition { spot, name } => {
+            fault_with_label(alloc, spot, "unknown transition", name)
+        }
+        ReadRefusal::NotEventGraph {
+            place,
+            producers,
+            consumers,
+        } => ends(alloc, place, *producers, *consumers),
+        ReadRefusal::InputHasUpstream { place } => entered(alloc, place),
+        ReadRefusal::BadInput {
+            transition,
+            position,
+        } => input(alloc, transition, *position),
+        ReadRefusal::OutOfMemory => Err(OutOfMemory),
+    }
+}
