@@ -4,8 +4,8 @@ use Rattle.teg_net.specs.Nets.{NetLists}
 use Rattle.teg_outside.specs.Shelves.{ShelfState}
 use Rattle.teg_run.specs.declared.status.Status.{Status}
 use Rattle.teg_run.specs.declared.status.Verdict.{Verdict}
-use Rattle.teg_run.specs.declared.texts.Which.{Which}
-use Rattle.teg_run.specs.declared.texts.Which.TheVariants.{Net as NetFile}
+use Rattle.teg_report.specs.declared.answer.Which.{Which}
+use Rattle.teg_report.specs.declared.answer.Which.TheVariants.{Net as NetFile}
 use Rattle.teg_run.specs.Endings.{Ending, Whole, Lost, ending_of}
 use Rattle.teg_run.specs.Openings.{Opening, Accepted, Refused, OpensNet}
 use Rattle.teg_run.specs.Reading.{GoesOn, ReadsAll, OpenedBy}

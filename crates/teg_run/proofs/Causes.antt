@@ -9,14 +9,13 @@ use Rattle.teg_outside.specs.Sinks.{SinkState, BytesGrow}
 use Rattle.teg_run.specs.declared.order.NetCommand.{NetCommand}
 use Rattle.teg_run.specs.declared.status.Status.{Status}
 use Rattle.teg_run.specs.declared.status.Status.TheVariants.{Text, Net, ReadFault}
-use Rattle.teg_run.specs.declared.texts.Which.{Which}
-use Rattle.teg_run.specs.declared.texts.Which.TheVariants.{Net as NetFile}
+use Rattle.teg_report.specs.declared.answer.Which.{Which}
+use Rattle.teg_report.specs.declared.answer.Which.TheVariants.{Net as NetFile}
 use Rattle.teg_run.specs.Headline.{NetIsNoText, NetIsRefused, TextCause, NetCause, ComesOnly, OverlongRose, NamesLastRead, as_told}
 use Rattle.teg_run.specs.Orders.{Order, OfNet, order_of, asked_files}
 use Rattle.teg_run.specs.Runs.{Runs}
 use Rattle.teg_run.specs.Says.{SaysNet}
-use Rattle.teg_run.specs.Refusals.{read_text}
-use Rattle.teg_run.specs.Texts.{too_large_text, fault_text}
+use Rattle.teg_run.specs.Texts.{read_text, too_large_text, fault_text}
 use Rattle.teg_run.proofs.Promises.{verdict_is, EndedWay, ended}
 use Rattle.teg_run.proofs.Ways.{Way, Unread, Overlong, NoToml, NoNet, NotLive, Reported, told_file, told_long}
 

@@ -1,5 +1,6 @@
 pub mod Answering
 pub mod Causes
+pub mod Formed
 pub mod Growing
 pub mod Listed
 pub mod Promises

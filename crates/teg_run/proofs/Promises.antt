@@ -6,21 +6,20 @@ use Rattle.teg_outside.specs.Causes.{Rested}
 use Rattle.teg_outside.specs.Shelves.{ShelfState}
 use Rattle.teg_outside.specs.Sinks.{SinkState, BytesGrow, PrefixGrows}
 use Rattle.teg_run.specs.declared.order.NetCommand.{NetCommand}
-use Rattle.teg_run.specs.declared.order.NetCommand.TheVariants.{Check, List as ListCommand}
+use Rattle.teg_run.specs.declared.order.NetCommand.TheVariants.{Check, Form, List as ListCommand}
 use Rattle.teg_run.specs.declared.status.Status.{Status}
 use Rattle.teg_run.specs.declared.status.Status.TheVariants.{Done, Words, Text, Net, WriteFault, NoMemory}
 use Rattle.teg_run.specs.declared.status.Verdict.{Verdict}
 use Rattle.teg_run.specs.declared.status.Verdict.TheVariants.{Done as VerdictDone}
 use Rattle.teg_run.specs.Endings.{Ending, Whole, Lost}
-use Rattle.teg_run.specs.Headline.{Ends, Opens, TextCause, NetCause, Follows, SaysLeastDates}
-use Rattle.teg_run.specs.Listing.{list_text}
+use Rattle.teg_run.specs.Headline.{Ends, Opens, TextCause, NetCause, Follows, SaysLeastDates, SaysStandardForm}
 use Rattle.teg_run.specs.Orders.{Order, OfNet, order_of, asked_files}
 use Rattle.teg_run.specs.Reading.{ReadsAll}
 use Rattle.teg_run.specs.Replies.{Reply}
 use Rattle.teg_run.specs.Runs.{Answered, Finished, Runs}
 use Rattle.teg_run.specs.Says.{SaysNet, Asked}
 use Rattle.teg_run.specs.Statuses.{status_of}
-use Rattle.teg_run.specs.Texts.{usage, live_text}
+use Rattle.teg_run.specs.Texts.{usage, live_text, list_text, form_text}
 use Rattle.teg_run.proofs.Listed.{listed_is}
 use Rattle.teg_run.proofs.ReadOrder.{none_read}
 use Rattle.teg_run.proofs.Ways.{Way, Unread, Overlong, NoToml, NoNet, NotLive, Reported, way_of, no_text_way, refused_way, opened_way}
@@ -153,6 +152,14 @@ list_follows words lines shelf shelf' sink sink' status h files name count net a
     (λ (said : _). let way = opened_way shelf shelf' files name net (SaysNet (ListCommand count)) said.0 said.1 told rested opens said.2 in
     ends_with sink sink' status said.0 Done said.1 (list_text net x count) (way.1 ∙ verdict_is way.0) (listed_is net count said.1 x least way.2.1) said.3)
     (λ (lost : _). inr (inr lost)) (some_way words lines shelf shelf' sink sink' status (ListCommand count) name h asks)
+
+pub form_follows : (words : List (List ℕ)) (lines : List Firing → List (List ℕ)) (shelf shelf' : ShelfState) (sink sink' : SinkState) (status : Status) →
+    Runs words lines shelf shelf' sink sink' status → SaysStandardForm words shelf shelf' sink sink' status
+form_follows words lines shelf shelf' sink sink' status h files name net asks told rested opens =
+    ⊎_elim
+    (λ (said : _). let way = opened_way shelf shelf' files name net (SaysNet Form) said.0 said.1 told rested opens said.2 in
+    inl (way.2.1.0, way.2.1.1, ends_with sink sink' status said.0 Done said.1 (form_text net way.2.1.0) (way.1 ∙ verdict_is way.0) way.2.1.2 said.3))
+    (λ (lost : _). inr lost) (some_way words lines shelf shelf' sink sink' status Form name h asks)
 
 -- a status comes only from its cause
 

@@ -12,15 +12,14 @@ use Rattle.teg_outside.proofs.Counts.{rose_not_rested}
 use Rattle.teg_run.specs.declared.status.Status.{Status}
 use Rattle.teg_run.specs.declared.status.Status.TheVariants.{Text, Net, ReadFault}
 use Rattle.teg_run.specs.declared.status.Verdict.{Verdict}
-use Rattle.teg_run.specs.declared.texts.Which.TheVariants.{Net as NetFile}
+use Rattle.teg_report.specs.declared.answer.Which.TheVariants.{Net as NetFile}
 use Rattle.teg_run.specs.Headline.{IsTooLong, NetIsNoText, NetIsRefused, Opens}
 use Rattle.teg_run.specs.Openings.{Opening, Accepted, Refused, OpensNet, OpensDocument, read_status}
 use Rattle.teg_run.specs.Reading.{ReadsAll}
 use Rattle.teg_run.specs.Replies.{limit, Reply, Got, Long, Fault, Lost, Reads}
 use Rattle.teg_run.specs.Says.{SaysFile, SaysOpening, SaysReport}
 use Rattle.teg_run.specs.Statuses.{status_of}
-use Rattle.teg_run.specs.Refusals.{read_text}
-use Rattle.teg_run.specs.Texts.{token_free_text, too_large_text, fault_text}
+use Rattle.teg_run.specs.Texts.{read_text, token_free_text, too_large_text, fault_text}
 
 -- how a command on the net of this name ends, where it says this of a live net
 pub data Way (old new : ShelfState) (name : List ℕ) (says : NetLists → Verdict → List ℕ → Type 0) (status : Status) (text : List ℕ) : Type 0 where

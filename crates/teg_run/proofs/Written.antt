@@ -7,11 +7,11 @@ use Rattle.teg_outside.specs.Shelves.{ShelfState}
 use Rattle.teg_outside.specs.Sinks.{SinkState, PrefixGrows}
 use Rattle.teg_outside.proofs.Counts.{rose_not_rested}
 use Rattle.teg_run.specs.declared.order.NetCommand.{NetCommand}
-use Rattle.teg_run.specs.declared.order.NetCommand.TheVariants.{Check, List as ListCommand}
+use Rattle.teg_run.specs.declared.order.NetCommand.TheVariants.{Check, Form, List as ListCommand}
 use Rattle.teg_run.specs.declared.status.Status.{Status}
 use Rattle.teg_run.specs.declared.status.Status.TheVariants.{WriteFault, NoMemory}
 use Rattle.teg_run.specs.declared.status.Verdict.{Verdict}
-use Rattle.teg_run.specs.declared.texts.Which.{Which}
+use Rattle.teg_report.specs.declared.answer.Which.{Which}
 use Rattle.teg_run.specs.Endings.{Ending, Whole, Lost}
 use Rattle.teg_run.specs.Headline.{WroteWhole, WrotePrefix, ReadsFirstOf, AcceptsFiles, AllowsNet, Allows}
 use Rattle.teg_run.specs.Orders.{Order, OfNet, order_of, asked_files}
@@ -92,6 +92,7 @@ reads_in_order words lines shelf shelf' sink sink' status h =
 allowed : (command : NetCommand) (net : NetLists) (verdict : Verdict) (text : List ℕ) → SaysNet command net verdict text → AllowsNet command verdict
 allowed Check net verdict text h = h.0
 allowed (ListCommand count) net verdict text h = h.0
+allowed Form net verdict text h = h.0
 
 pub ends_as_allowed : (words : List (List ℕ)) (lines : List Firing → List (List ℕ)) (shelf shelf' : ShelfState) (sink sink' : SinkState) (status : Status) →
     Runs words lines shelf shelf' sink sink' status → (files : List (List ℕ × List ℕ)) (order : Order) → order_of words ≡ Some order → shelf.files ≡ Some files →

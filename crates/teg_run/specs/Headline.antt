@@ -1,6 +1,7 @@
 -- What the whole call promises its caller, one promise at a time.
 use Rattle.std.specs.Prelude.{ℕ, ◌≡◌, ◌≢◌, ◌≤◌, ◌<◌, ◌⊎◌, List, [], ◌∷◌, ◌++◌, length, take, map, Some, IsSomeAnd, Ok, Err}
 use Rattle.dioid.specs.declared.dates.Date.{Date}
+use Rattle.teg_form.specs.Forms.{FormLists, IsFormOf}
 use Rattle.teg_model.specs.Datings.{IsLeastDating}
 use Rattle.teg_net.specs.declared.entries.PlaceId.{PlaceId}
 use Rattle.teg_reader.specs.declared.refusals.ReadRefusal.{ReadRefusal}
@@ -13,21 +14,19 @@ use Rattle.teg_outside.specs.Causes.{Rose, Rested}
 use Rattle.teg_outside.specs.Shelves.{ShelfState, ReadsGrow, file_of}
 use Rattle.teg_outside.specs.Sinks.{SinkState, BytesGrow, PrefixGrows}
 use Rattle.teg_run.specs.declared.order.NetCommand.{NetCommand}
-use Rattle.teg_run.specs.declared.order.NetCommand.TheVariants.{Check, List as ListCommand}
+use Rattle.teg_run.specs.declared.order.NetCommand.TheVariants.{Check, Form, List as ListCommand}
 use Rattle.teg_run.specs.declared.status.Status.{Status}
 use Rattle.teg_run.specs.declared.status.Status.TheVariants.{Done, WriteFault, NoMemory}
 use Rattle.teg_run.specs.declared.status.Verdict.{Verdict}
 use Rattle.teg_run.specs.declared.status.Verdict.TheVariants.{Done as VerdictDone}
-use Rattle.teg_run.specs.declared.texts.Which.{Which}
-use Rattle.teg_run.specs.declared.texts.Which.TheVariants.{Net as NetFile}
-use Rattle.teg_run.specs.Listing.{list_text}
+use Rattle.teg_report.specs.declared.answer.Which.{Which}
+use Rattle.teg_report.specs.declared.answer.Which.TheVariants.{Net as NetFile}
 use Rattle.teg_run.specs.Orders.{Order, OfNet, order_of, net_of, asked_files}
 use Rattle.teg_run.specs.Reading.{ReadsAll}
 use Rattle.teg_run.specs.Replies.{Reply, limit}
 use Rattle.teg_run.specs.Says.{Asked}
 use Rattle.teg_run.specs.Statuses.{status_of}
-use Rattle.teg_run.specs.Refusals.{read_text}
-use Rattle.teg_run.specs.Texts.{live_text, token_free_text, too_large_text, fault_text}
+use Rattle.teg_run.specs.Texts.{read_text, live_text, token_free_text, too_large_text, fault_text}
 
 -- the call ended with this status and the whole of this text, unless writing or memory failed first
 abbrev pub Ends : SinkState → SinkState → Status → Status → List ℕ → Type 0
@@ -128,6 +127,7 @@ AcceptsFiles files (OfNet command name) = (net : NetLists) × Opens files name n
 abbrev pub AllowsNet : NetCommand → Verdict → Type 0
 AllowsNet Check verdict = verdict ≡ VerdictDone
 AllowsNet (ListCommand count) verdict = verdict ≡ VerdictDone
+AllowsNet Form verdict = verdict ≡ VerdictDone
 
 -- how an order may end, once its files are accepted
 abbrev pub Allows : Order → Verdict → Type 0
@@ -145,6 +145,13 @@ SaysLeastDates words shelf shelf' sink sink' status =
     (files : List (List ℕ × List ℕ)) (name : List ℕ) (count : ℕ) (net : NetLists) → order_of words ≡ Some (OfNet (ListCommand count) name) →
     shelf.files ≡ Some files → Rested shelf.faults shelf'.faults → Opens files name net →
     (x : ℕ → ℕ → Date) → IsLeastDating net x → Ends sink sink' status Done (list_text net x count)
+
+-- over told files and without a fault of the shelf, a live net is told with its standard form, unless memory ran out
+abbrev pub SaysStandardForm : List (List ℕ) → ShelfState → ShelfState → SinkState → SinkState → Status → Type 0
+SaysStandardForm words shelf shelf' sink sink' status =
+    (files : List (List ℕ × List ℕ)) (name : List ℕ) (net : NetLists) → order_of words ≡ Some (OfNet Form name) → shelf.files ≡ Some files →
+    Rested shelf.faults shelf'.faults → Opens files name net →
+    ((form : FormLists) × IsFormOf net form × Ends sink sink' status Done (form_text net form)) ⊎ ((status ≡ NoMemory) × (sink' ≡ sink))
 
 -- over told files, accepted words and files without a fault lead to an ending of the command itself, or to want of memory
 abbrev pub EndsAsAllowed : List (List ℕ) → ShelfState → ShelfState → SinkState → SinkState → Status → Type 0

@@ -1,12 +1,10 @@
 pub mod Endings
 pub mod Headline
-pub mod Listing
 pub mod Meanings
 pub mod Openings
 pub mod Orders
 pub mod Ranges
 pub mod Reading
-pub mod Refusals
 pub mod Replies
 pub mod Runs
 pub mod Says

@@ -4,9 +4,9 @@ use Rattle.std.specs.Option.{option_map}
 use Rattle.teg_words.specs.Numbers.{number_of}
 use Rattle.teg_words.specs.Words.{Given, given_of}
 use Rattle.teg_run.specs.declared.order.NetCommand.{NetCommand}
-use Rattle.teg_run.specs.declared.order.NetCommand.TheVariants.{Check, List as ListCommand}
-use Rattle.teg_run.specs.declared.texts.Which.{Which}
-use Rattle.teg_run.specs.declared.texts.Which.TheVariants.{Net as NetFile}
+use Rattle.teg_run.specs.declared.order.NetCommand.TheVariants.{Check, Form, List as ListCommand}
+use Rattle.teg_report.specs.declared.answer.Which.{Which}
+use Rattle.teg_report.specs.declared.answer.Which.TheVariants.{Net as NetFile}
 
 -- what words can ask for: a command on the net in the file of this name
 pub data Order : Type 0 where
@@ -22,12 +22,18 @@ abbrev pub list_asked : List (List ℕ) → Option (List ℕ) → Bool → Optio
 list_asked (net ∷ word ∷ []) None false = option_map (λ count. OfNet (ListCommand count) net) (number_of 1 10000 word)
 list_asked rest limit rounds = None
 
+-- `form NET`
+abbrev pub form_asked : List (List ℕ) → Option (List ℕ) → Bool → Option Order
+form_asked (net ∷ []) None false = Some (OfNet Form net)
+form_asked rest limit rounds = None
+
 -- the order of a command with what is given to it: nothing for a command that is not built
 abbrev pub asked_for : Given → Option Order
 asked_for given =
     if bytes_eq given.command (codes "check") then check_asked given.rest given.limit given.rounds
     else (if bytes_eq given.command (codes "list") then list_asked given.rest given.limit given.rounds
-    else None)
+    else (if bytes_eq given.command (codes "form") then form_asked given.rest given.limit given.rounds
+    else None))
 
 -- the order that the words give, if they give one
 abbrev pub order_of : List (List ℕ) → Option Order

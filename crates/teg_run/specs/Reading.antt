@@ -1,7 +1,7 @@
 -- Reads one after another.
 use Rattle.std.specs.Prelude.{ℕ, ◌≡◌, List, [], ◌∷◌, Option, Some, None}
 use Rattle.teg_outside.specs.Shelves.{ShelfState}
-use Rattle.teg_run.specs.declared.texts.Which.{Which}
+use Rattle.teg_report.specs.declared.answer.Which.{Which}
 use Rattle.teg_run.specs.Replies.{Reply, Reads}
 use Rattle.teg_run.specs.Openings.{Opening, IsAccepted}
 

@@ -6,7 +6,7 @@ use Rattle.teg_outside.specs.Shelves.{ShelfState}
 use Rattle.teg_outside.specs.Sinks.{SinkState, BytesGrow, PrefixGrows}
 use Rattle.teg_run.specs.declared.status.Status.{Status}
 use Rattle.teg_run.specs.declared.status.Status.TheVariants.{WriteFault, NoMemory}
-use Rattle.teg_run.specs.declared.texts.Which.{Which}
+use Rattle.teg_report.specs.declared.answer.Which.{Which}
 use Rattle.teg_run.specs.Endings.{Ending, Whole, Lost}
 use Rattle.teg_run.specs.Orders.{order_of, asked_files}
 use Rattle.teg_run.specs.Reading.{ReadsAll}

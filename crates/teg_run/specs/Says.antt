@@ -1,21 +1,21 @@
 -- What each command says, by what its reads gave.
 use Rattle.std.specs.Prelude.{ℕ, ◌≡◌, List, [], ◌∷◌, Option, Some, None}
 use Rattle.dioid.specs.declared.dates.Date.{Date}
+use Rattle.teg_form.specs.Forms.{FormLists, IsFormOf}
 use Rattle.teg_model.specs.Datings.{IsLeastDating}
 use Rattle.teg_net.specs.Nets.{NetLists}
 use Rattle.teg_outside.specs.declared.monitor.Firing.{Firing}
 use Rattle.teg_run.specs.declared.order.NetCommand.{NetCommand}
-use Rattle.teg_run.specs.declared.order.NetCommand.TheVariants.{Check, List as ListCommand}
+use Rattle.teg_run.specs.declared.order.NetCommand.TheVariants.{Check, Form, List as ListCommand}
 use Rattle.teg_run.specs.declared.status.Status.{Status}
 use Rattle.teg_run.specs.declared.status.Status.TheVariants.{Words}
 use Rattle.teg_run.specs.declared.status.Verdict.{Verdict}
 use Rattle.teg_run.specs.declared.status.Verdict.TheVariants.{Done as VerdictDone}
-use Rattle.teg_run.specs.Listing.{list_text}
 use Rattle.teg_run.specs.Orders.{Order, OfNet}
 use Rattle.teg_run.specs.Openings.{Opening, Accepted, Refused, OpensNet}
 use Rattle.teg_run.specs.Replies.{Reply}
 use Rattle.teg_run.specs.Statuses.{status_of}
-use Rattle.teg_run.specs.Texts.{usage, live_text}
+use Rattle.teg_run.specs.Texts.{usage, live_text, list_text, form_text}
 
 -- of a live net its size is said
 abbrev pub SaysCheck : NetLists → Verdict → List ℕ → Type 0
@@ -26,10 +26,15 @@ abbrev pub SaysList : ℕ → NetLists → Verdict → List ℕ → Type 0
 SaysList count net verdict text =
     (verdict ≡ VerdictDone) × ((x : ℕ → ℕ → Date) × IsLeastDating net x × (text ≡ list_text net x count))
 
+-- of a live net the standard form is said
+abbrev pub SaysForm : NetLists → Verdict → List ℕ → Type 0
+SaysForm net verdict text = (verdict ≡ VerdictDone) × ((form : FormLists) × IsFormOf net form × (text ≡ form_text net form))
+
 -- what a command says of a live net
 abbrev pub SaysNet : NetCommand → NetLists → Verdict → List ℕ → Type 0
 SaysNet Check = SaysCheck
 SaysNet (ListCommand count) = SaysList count
+SaysNet Form = SaysForm
 
 -- a claim on what a command reports, where it found memory
 abbrev pub Tells : (Verdict → List ℕ → Type 0) → Option (Verdict × List ℕ) → Type 0

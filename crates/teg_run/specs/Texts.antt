@@ -1,50 +1,44 @@
--- The texts that the workbench writes. Each line ends with a line feed.
-use Rattle.std.specs.Prelude.{ℕ, List, [], ◌∷◌, ◌++◌, length, flat_map, codes}
-use Rattle.std.specs.Fmt.{decimal}
+-- The texts that the workbench writes, each that of an answer.
+use Rattle.std.specs.Prelude.{ℕ, List, Some, None, length}
+use Rattle.dioid.specs.declared.dates.Date.{Date}
+use Rattle.teg_form.specs.Forms.{FormLists}
 use Rattle.teg_net.specs.declared.entries.PlaceId.{PlaceId}
 use Rattle.teg_net.specs.Nets.{NetLists}
-use Rattle.teg_net.specs.Circuits.{place_at}
-use Rattle.teg_run.specs.declared.texts.Which.{Which}
-use Rattle.teg_run.specs.declared.texts.Which.TheVariants.{Net as NetFile}
-
--- the commands that are built, each with what follows it
-abbrev pub command_forms : List (List ℕ)
-command_forms = codes "check NET" ∷ codes "list NET K" ∷ []
-
--- a line of the usage but the first
-abbrev pub usage_line : List ℕ → List ℕ
-usage_line form = codes "       teg " ++ form ++ codes "\n"
-
--- how these commands are used, one line each
-abbrev pub usage_of : List (List ℕ) → List ℕ
-usage_of [] = []
-usage_of (form ∷ forms) = (codes "usage: teg " ++ form ++ codes "\n") ++ flat_map usage_line forms
+use Rattle.teg_reader.specs.declared.refusals.ReadRefusal.{ReadRefusal}
+use Rattle.teg_report.specs.declared.answer.Which.{Which}
+use Rattle.teg_report.specs.Answers.{Usage, Live, Form, Read, TooLarge, TokenFree, Fault}
+use Rattle.teg_report.specs.Lines.{written}
+use Rattle.teg_report.specs.Lists.{list_lines}
+use Rattle.teg_report.specs.Reports.{text_of}
 
 -- what is written where words are refused
 abbrev pub usage : List ℕ
-usage = usage_of command_forms
-
--- how texts speak of a file
-abbrev pub file_text : Which → List ℕ
-file_text NetFile = codes "the net"
+usage = text_of None Usage
 
 -- that a net is live, and its size
 abbrev pub live_text : NetLists → List ℕ
-live_text net =
-    codes "live\ntransitions " ++ (decimal (length net.transitions) ++ (codes "\nplaces " ++ (decimal (length net.places) ++ codes "\n")))
+live_text net = text_of (Some net) (Live (length net.transitions) (length net.places))
 
--- a blank and the name of a place
-abbrev pub named_place : NetLists → PlaceId → List ℕ
-named_place net id = codes " " ++ (place_at net id).name
+-- the dates that x gives to the firings of the numbers 1 to count
+abbrev pub list_text : NetLists → (ℕ → ℕ → Date) → ℕ → List ℕ
+list_text net x count = written (list_lines net x count)
 
--- a circuit without tokens, as the names of its places in order
+-- a standard form
+abbrev pub form_text : NetLists → FormLists → List ℕ
+form_text net form = text_of (Some net) (Form form)
+
+-- why the bytes of a file say no net
+abbrev pub read_text : ReadRefusal → List ℕ
+read_text refusal = text_of None (Read refusal)
+
+-- a circuit without tokens
 abbrev pub token_free_text : NetLists → List PlaceId → List ℕ
-token_free_text net circuit = codes "refused: token-free circuit" ++ flat_map (named_place net) circuit ++ codes "\n"
+token_free_text net circuit = text_of (Some net) (TokenFree circuit)
 
 -- that a file is longer than its limit
 abbrev pub too_large_text : Which → List ℕ
-too_large_text which = codes "refused: " ++ file_text which ++ codes " is longer than 4194304 bytes\n"
+too_large_text which = text_of None (TooLarge which)
 
 -- that a file could not be read
 abbrev pub fault_text : Which → List ℕ
-fault_text which = codes "fault: cannot read " ++ file_text which ++ codes "\n"
+fault_text which = text_of None (Fault which)

@@ -4,7 +4,7 @@ ghost use Rattle.teg_outside.specs.declared.monitor.Firing.{Firing};
 ghost use Rattle.teg_outside.specs.Causes.{Rose, Rested};
 ghost use Rattle.teg_outside.specs.Shelves.{ShelfState};
 ghost use Rattle.teg_outside.specs.Sinks.{SinkState};
-ghost use Rattle.teg_run.specs.Headline.{ComesOnly, Ends, EndsAsAllowed, Follows, NamesLastRead, NetCause, OverlongRose, ReadsFirstOf, SaysLeastDates, SaysLive, TextCause, WrotePrefix, WroteWhole};
+ghost use Rattle.teg_run.specs.Headline.{ComesOnly, Ends, EndsAsAllowed, Follows, NamesLastRead, NetCause, OverlongRose, ReadsFirstOf, SaysLeastDates, SaysLive, SaysStandardForm, TextCause, WrotePrefix, WroteWhole};
 ghost use Rattle.teg_run.specs.Meanings.{meant, ended};
 ghost use Rattle.teg_run.specs.Orders.{order_of, files_of, asked_files};
 ghost use Rattle.teg_run.specs.Ranges.{IsOrderInRange};
@@ -17,10 +17,10 @@ use crate::ending::Ending;
 use crate::order::{Order, read_order};
 use crate::reading::answer_net;
 use crate::status::Status;
-use crate::texts;
 use crate::writing::finish;
 use std::alloc::Global;
 use teg_outside::{Monitor, Shelf, Sink};
+use teg_report::{Answer, report};
 
 // Carries out an order. No command shows firings yet, so the monitors are dropped unseen.
 fn answer_order<S: Shelf>(
@@ -42,7 +42,7 @@ fn answer_order<S: Shelf>(
 fn refuse_words(alloc: Global) -> Ending
     ensures { EndsWith (Said Status.Words usage) (ended result) }
 {
-    match texts::usage(alloc) {
+    match report(alloc, None, &Answer::Usage) {
         Ok(text) => Ending::Whole {
             status: Status::Words,
             text,
@@ -111,6 +111,10 @@ pub fn workbench<S: Shelf, W: Sink>(
 
     // A live net: the first dates of its least dating are written.
     ensures list { SaysLeastDates (map string_bytes words.now)
+        (S.state shelf.old) (S.state shelf.new) (W.state out.old) (W.state out.new) result }
+
+    // A live net: its standard form is written.
+    ensures form { SaysStandardForm (map string_bytes words.now)
         (S.state shelf.old) (S.state shelf.new) (W.state out.old) (W.state out.new) result }
 
     // What was written: the whole text, a first part before a fault, nothing for want of memory.

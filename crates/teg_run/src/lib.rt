@@ -4,20 +4,17 @@
 //! after, the sink before and after, the monitors and the status in three parts: what the words ask
 //! for, what the reads gave and what answer they lead to, and how that answer was written. Its other
 //! clauses say what follows from it, one promise each.
-//! It stands on `teg_words`, `teg_net`, `teg_reader`, `teg_check`, `teg_dates`, what `teg_model` and
-//! `dioid` say of dates, and `teg_outside`.
+//! It stands on `teg_words`, `teg_net`, `teg_reader`, `teg_check`, `teg_dates`, `teg_form`, what
+//! `teg_model` and `dioid` say of dates, `teg_report` for the texts, and `teg_outside`.
 #![tactic(auto)]
 
 mod call;
 mod ending;
-mod listing;
 mod live_net;
 mod net_commands;
 mod order;
 mod reading;
-mod refusal_texts;
 mod status;
-mod texts;
 mod writing;
 
 pub use call::workbench;

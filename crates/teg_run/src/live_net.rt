@@ -2,11 +2,14 @@
 ghost use Rattle.std.specs.Prelude.{◌≡◌, ◌≤◌, length, IfOk};
 ghost use Rattle.teg_check.specs.Ranks.{IsRanking};
 ghost use Rattle.teg_dates.specs.Tables.{most_numbers, HasLeastDates};
+ghost use Rattle.teg_form.specs.Forms.{IsFormOf};
+ghost use Rattle.teg_report.specs.Forms.{IsFormWithin};
 
 use std::alloc::Global;
 use std::marker::Model;
 use teg_check::Live;
 use teg_dates::{Table, first_dates};
+use teg_form::{Form, standard_form};
 use teg_net::{Net, OutOfMemory};
 
 /// A live net with its ranks. Contracts see the net.
@@ -51,5 +54,13 @@ impl LiveNet {
         ensures least { IfOk result (λ table. HasLeastDates self.now table) }
     {
         first_dates(alloc, &self.net, &self.live, count)
+    }
+
+    /// The standard form.
+    pub fn standard_form(&self, alloc: Global) -> Result<Form, OutOfMemory>
+        ensures form { IfOk result (λ form. IsFormOf self.now form) }
+        ensures within { IfOk result (λ form. IsFormWithin self.now form) }
+    {
+        standard_form(alloc, &self.net, &self.live)
     }
 }

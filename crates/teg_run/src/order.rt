@@ -3,7 +3,7 @@ ghost use Rattle.std.specs.Prelude.{◌≡◌, ◌≤◌, IfOk, IfSome, map, str
 ghost use Rattle.std.specs.Option.{option_copied, option_map};
 ghost use Rattle.teg_words.specs.Meanings.{told, texts};
 ghost use Rattle.teg_words.specs.Numbers.{number_of};
-ghost use Rattle.teg_run.specs.Orders.{asked_for, check_asked, list_asked, order_of};
+ghost use Rattle.teg_run.specs.Orders.{asked_for, check_asked, form_asked, list_asked, order_of};
 ghost use Rattle.teg_run.specs.Meanings.{meant};
 ghost use Rattle.teg_run.specs.Ranges.{IsOrderInRange};
 
@@ -18,6 +18,8 @@ pub enum NetCommand {
     Check,
     /// The dates of the firings of the numbers from 1 to this one, which is at most 10,000.
     List { count: u32 },
+    /// The standard form.
+    Form,
 }
 
 /// What the words ask for.
@@ -67,6 +69,20 @@ fn list<'a>(rest: &[&'a str], limit: Option<&'a str>, rounds: bool) -> Option<Or
     }
 }
 
+// `form NET`
+fn form<'a>(rest: &[&'a str], limit: Option<&'a str>, rounds: bool) -> Option<Order<'a>>
+    ensures value { option_map meant result ≡ form_asked (texts rest.now) (option_copied limit.entry) rounds }
+    ensures in_range { IfSome (option_map meant result) IsOrderInRange }
+{
+    match (rest, limit, rounds) {
+        ([net], None, false) => Some(Order::OfNet {
+            command: NetCommand::Form,
+            net,
+        }),
+        _ => None,
+    }
+}
+
 // The order of a command with what is given to it. A command that is not built is none.
 fn asked_for<'a>(given: &GivenWords<'a>) -> Option<Order<'a>>
     ensures value { option_map meant result ≡ asked_for (told given.now) }
@@ -76,6 +92,7 @@ fn asked_for<'a>(given: &GivenWords<'a>) -> Option<Order<'a>>
     match given.command {
         "check" => check(rest, given.limit, given.rounds),
         "list" => list(rest, given.limit, given.rounds),
+        "form" => form(rest, given.limit, given.rounds),
         _ => None,
     }
 }

@@ -15,14 +15,13 @@ use crate::ending::{Ending, closed};
 use crate::live_net::LiveNet;
 use crate::net_commands::of_net;
 use crate::order::NetCommand;
-use crate::refusal_texts::read_text;
 use crate::status::Status;
-use crate::texts::{self, Which};
 use std::alloc::Global;
 use teg_check::{CheckRefusal, check};
 use teg_net::{Net, OutOfMemory};
 use teg_outside::{Shelf, ShelfFault};
 use teg_reader::{ReadRefusal, read_net};
+use teg_report::{Answer, Which, report};
 
 // The most bytes that a file may have.
 const LIMIT: usize = 4194304;
@@ -78,7 +77,8 @@ fn open_live(alloc: Global, net: Net) -> Opened<LiveNet>
     match check(alloc, &net) {
         Ok(live) => Opened::Accepted(LiveNet::new(net, live)),
         Err(CheckRefusal::TokenFree { circuit }) => {
-            refused(Status::Net, texts::token_free(alloc, &net, &circuit))
+            let answer = Answer::TokenFree { circuit: &circuit };
+            refused(Status::Net, report(alloc, Some(&net), &answer))
         }
         Err(CheckRefusal::OutOfMemory) => Opened::Lost,
     }
@@ -111,7 +111,8 @@ fn open_document(alloc: Global, bytes: &[u8]) -> Opened<LiveNet>
             if is_memory(&refusal) {
                 Opened::Lost
             } else {
-                refused(read_status(&refusal), read_text(alloc, &refusal))
+                let answer = Answer::Read { refusal: &refusal };
+                refused(read_status(&refusal), report(alloc, None, &answer))
             }
         }
     }
@@ -123,8 +124,14 @@ fn judge_net(alloc: Global, reply: Fetched) -> Opened<LiveNet>
 {
     match reply {
         Fetched::Got(bytes) => open_document(alloc, &bytes),
-        Fetched::Long => refused(Status::Text, texts::too_large(alloc, Which::Net)),
-        Fetched::Fault => refused(Status::ReadFault, texts::fault(alloc, Which::Net)),
+        Fetched::Long => {
+            let answer = Answer::TooLarge { file: Which::Net };
+            refused(Status::Text, report(alloc, None, &answer))
+        }
+        Fetched::Fault => {
+            let answer = Answer::Fault { file: Which::Net };
+            refused(Status::ReadFault, report(alloc, None, &answer))
+        }
         Fetched::Lost => Opened::Lost,
     }
 }

@@ -1,6 +1,6 @@
 use Rattle.std.proofs.Common.{map, string_bytes}
 use Rattle.teg_run.proofs.Causes.{fault_named, fault_rose, net_only_from, overlong_rose, text_only_from}
-use Rattle.teg_run.proofs.Promises.{check_follows, list_follows, net_follows, text_follows, words_only_refused, words_refused}
+use Rattle.teg_run.proofs.Promises.{check_follows, form_follows, list_follows, net_follows, text_follows, words_only_refused, words_refused}
 use Rattle.teg_run.proofs.Written.{ends_as_allowed, reads_in_order, write_fault_rose, writes_nothing, writes_prefix, writes_whole}
 use Rattle.teg_run.proofs.call.workbench.Goals as goal
 
@@ -39,6 +39,10 @@ returns-clause-check g c =
 pub returns-clause-list : goal.returns-clause-list
 returns-clause-list g c =
     list_follows (map string_bytes c.args.words.now) _ _ _ _ _ _ (_, c.answer_words-ending.ensures, c.finish.ensures)
+
+pub returns-clause-form : goal.returns-clause-form
+returns-clause-form g c =
+    form_follows (map string_bytes c.args.words.now) _ _ _ _ _ _ (_, c.answer_words-ending.ensures, c.finish.ensures)
 
 pub returns-clause-written : goal.returns-clause-written
 returns-clause-written g c =

@@ -1,6 +1,6 @@
 use Rattle.std.proofs.Common.{[]}
 use Rattle.teg_net.specs.Nets.{NetLists}
-use Rattle.teg_run.specs.declared.texts.Which.TheVariants.{Net as NetFile}
+use Rattle.teg_report.specs.declared.answer.Which.TheVariants.{Net as NetFile}
 use Rattle.teg_run.specs.Openings.{OpensNet}
 use Rattle.teg_run.proofs.Answering.{lost_at, after_net, refused_at, accepted_at, closed_with}
 use Rattle.teg_run.proofs.reading.answer_net.Goals as goal

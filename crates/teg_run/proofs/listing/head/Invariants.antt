@@ -1,9 +1,0 @@
-use Rattle.std.proofs.Common.{◌≡◌, ◌++◌, codes, take, string_bytes}
-use Rattle.std.specs.Fmt.{decimal}
-use Rattle.std.specs.List.{flat_map}
-use Rattle.teg_run.specs.Listing.{named_transition}
-use Rattle.teg_run.proofs.listing.head.Given as goal
-
-abbrev pub invariant-loop-transition : goal.invariant-loop-transition
-invariant-loop-transition l =
-    string_bytes l.text ≡ (codes "dates of " ++ (decimal l.fn.count ++ codes " firings\ntransition")) ++ flat_map named_transition (take l.transition-index l.net.transitions)
