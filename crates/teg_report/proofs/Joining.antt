@@ -1,5 +1,5 @@
 -- Lines of words that are written one after another.
-use Rattle.std.proofs.Common.{◌≡◌, ℕ, true, false, ◌==◌, ◌⊎◌, ⊎_elim, List, [], ◌∷◌, ◌++◌, map, refl, sym, ap, ◌∙◌, append_assoc, codes}
+use Rattle.std.proofs.Common.{◌≡◌, ℕ, true, false, ◌==◌, ◌⊎◌, ⊎_elim, List, [], ◌∷◌, ◌++◌, map, refl, sym, ap, ◌∙◌, append_assoc, append-nil, codes}
 use Rattle.std.specs.List.{flat_map}
 use Rattle.std.proofs.lemmas.Bool.{cases_Bool, eqb-true}
 use Rattle.teg_reader.specs.declared.refusals.Section.{Section}
@@ -79,3 +79,34 @@ pub fault_written : (spot : Spot) (fault : List ℕ) (about : List (List ℕ)) �
 fault_written spot fault about =
     table_line spot.section spot.position (phrase fault ++ about) []
     ∙ ap (λ (t : List ℕ). codes "refused: " ++ (spot_text spot ++ t)) (further_phrase fault about [])
+
+-- a line feed ends a line of such words
+pub line_ends : {A : Type 0} (f : A → List ℕ) (xs : List A) (before text whole : List ℕ) → text ≡ before ++ flat_map (λ x. 32 ∷ f x) xs → whole ≡ text ++ codes "\n" →
+    whole ≡ before ++ further_then (map f xs) []
+line_ends {A} f xs before text whole h e =
+    e ∙ (ap (λ (l : List ℕ). l ++ codes "\n") h
+    ∙ (append_assoc before (flat_map (λ (x : A). 32 ∷ f x) xs) (codes "\n") ∙ ap (λ (l : List ℕ). before ++ l) (sym (further_map f xs []))))
+
+-- lines behind others
+pub lines_end : {A : Type 0} (f : A → List (List ℕ)) (xs : List A) (before text : List ℕ) → text ≡ before ++ flat_map (λ x. line_then (f x) []) xs →
+    text ≡ before ++ written (map f xs)
+lines_end {A} f xs before text h =
+    let joined : written (map f xs ++ []) ≡ flat_map (λ (x : A). line_then (f x) []) xs ++ [] = written_map f xs [] in
+    let same : written (map f xs) ≡ flat_map (λ (x : A). line_then (f x) []) xs = simp append-nil at joined in
+    h ∙ ap (λ (l : List ℕ). before ++ l) (sym same)
+
+-- lines behind two others
+pub head_then : (first second : List (List ℕ)) (lines : List (List (List ℕ))) → line_then first (line_then second []) ++ written lines ≡ written (first ∷ second ∷ lines)
+head_then first second lines =
+    ap (λ (l : List ℕ). l ++ written lines) (line_append first (line_then second []))
+    ∙ (append_assoc (line_then first []) (line_then second []) (written lines)
+    ∙ (ap (λ (l : List ℕ). line_then first [] ++ l) (sym (line_append second (written lines)))
+    ∙ sym (line_append first (line_then second (written lines)))))
+
+-- lines behind others
+pub written_append : (lines more : List (List (List ℕ))) → written (lines ++ more) ≡ written lines ++ written more
+written_append [] more = refl
+written_append (line ∷ lines) more =
+    ap (line_then line) (written_append lines more)
+    ∙ (line_append line (written lines ++ written more)
+    ∙ (sym (append_assoc (line_then line []) (written lines) (written more)) ∙ ap (λ (l : List ℕ). l ++ written more) (sym (line_append line (written lines)))))

@@ -1,9 +1,15 @@
-use Rattle.std.proofs.Common.{rules, ◌≡◌, [], ◌∷◌, IfOk, ℕ, ◌+◌, ◌-◌, ◌*◌, ◌<◌, ◌≤◌, length, ◌/◌, ◌%◌, Bool, true, false, nat_eq, nat_lt, List, ◌++◌, slice_index_or, slice_set, bit_and, bit_or, Fits, w8, w32, w64, Bor, MutBor}
-use Rattle.teg_net.specs.Circuits.{AreInRange}
-use Rattle.teg_report.specs.Lines.{written}
-use Rattle.teg_report.specs.Texts.{usage_lines, live_lines, too_large_line, fault_line, token_free_line}
+use Rattle.std.proofs.Common.{rules, ◌≡◌, [], ◌++◌, List, ℕ, map, ap, ◌∙◌, string_bytes, arith}
+use Rattle.std.proofs.lemmas.List.{take_all}
+use Rattle.teg_report.specs.Lines.{further_then}
+use Rattle.teg_report.specs.Texts.{name_of_place}
+use Rattle.teg_report.proofs.Joining.{line_ends}
 use Rattle.teg_report.proofs.texts.token_free.Goals as goal
 
--- src/texts.rt:37:1
 pub returns : goal.returns
-returns c = ?
+unfolding lib.Utf8.encode
+returns c =
+    let all = take_all c.loop-id.id-index c.args.circuit.now.places.items (omega (arith, c.loop-id-test.false)) in
+    let bytes : c.into_bytes.result.items ≡ string_bytes c.push-2.new.self = search rules in
+    bytes ∙ (line_ends (name_of_place c.args.net.now) c.args.circuit.now.places.items (string_bytes c.in_ok-text.text) (string_bytes c.loop-id.text) _
+    (rw all at c.loop-id.invariant) c.in_ok-push-2.ensures.bytes
+    ∙ ap (λ (l : List ℕ). l ++ further_then (map (name_of_place c.args.net.now) c.args.circuit.now.places.items) []) c.in_ok-text.ensures.ok)
