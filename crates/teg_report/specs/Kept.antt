@@ -1,5 +1,5 @@
 -- What the values of an answer keep by their types, and where an answer is told in the one way that it has.
-use Rattle.std.specs.Prelude.{ℕ, ◌<◌, ◌≡◌, ◌^◌, List, Option, IfSome, All, IsTrue, ⊤, ⊥}
+use Rattle.std.specs.Prelude.{ℕ, ◌<◌, ◌≡◌, ◌^◌, List, Option, IfSome, All, IsTrue, ⊤}
 use Rattle.std.specs.Int.RustNames.{unsigned_abs}
 use Rattle.dioid.specs.declared.dates.Date.{Date}
 use Rattle.dioid.specs.declared.dates.Date.TheVariants.{Early, At, Never}
@@ -12,7 +12,7 @@ use Rattle.teg_reader.specs.declared.refusals.ReadRefusal.{ReadRefusal}
 use Rattle.teg_reader.specs.declared.refusals.ReadRefusal.TheVariants.{NotToml, UnknownKey, WrongKind, MissingKey, BadName, Repeated, OutOfRange, NoTransitions, UnknownTransition, NotEventGraph, InputHasUpstream, BadInput, OutOfMemory}
 use Rattle.teg_reader.specs.declared.refusals.Section.TheVariants.{Top}
 use Rattle.teg_reader.specs.declared.refusals.Spot.{Spot}
-use Rattle.teg_report.specs.Answers.{Answer, Usage, Live, List as ListAnswer, Form, Read, TooLarge, TokenFree, Fault}
+use Rattle.teg_report.specs.Answers.{Answer, Usage, Live, Listed, Form, Read, TooLarge, TokenFree, Fault}
 use Rattle.teg_report.specs.Reports.{IsAbout}
 
 -- a number of 32 and of 64 bits
@@ -64,7 +64,7 @@ IsEntryKept e = IsWord32 e.tokens × IsWord64 e.time
 abbrev pub IsKept : Answer → Type 0
 IsKept Usage = ⊤
 IsKept (Live transitions places) = IsWord32 transitions × IsWord32 places
-IsKept (ListAnswer table) = IsTable table × All IsDate table.dates
+IsKept (Listed table) = IsTable table × All IsDate table.dates
 IsKept (Form form) = All IsStarKept form.stars × All IsEntryKept form.entries
 IsKept (Read refusal) = IsRefusal refusal
 IsKept (TooLarge file) = ⊤
@@ -73,6 +73,6 @@ IsKept (Fault file) = ⊤
 
 -- an answer about a net, which keeps its rules where it is given
 pub record IsTold (net : Option NetLists) (answer : Answer) : Type 0 where
-  pub net : IfSome net IsNet
+  pub keeps_rules : IfSome net IsNet
   pub about : IsAbout net answer
   pub kept : IsKept answer

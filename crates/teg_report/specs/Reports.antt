@@ -4,7 +4,7 @@ use Rattle.teg_dates.specs.Tables.{date_at}
 use Rattle.teg_net.specs.Circuits.{AreInRange}
 use Rattle.teg_net.specs.Nets.{NetLists}
 use Rattle.teg_reader.specs.declared.refusals.ReadRefusal.TheVariants.{OutOfMemory}
-use Rattle.teg_report.specs.Answers.{Answer, Usage, Live, List as ListAnswer, Form, Read, TooLarge, TokenFree, Fault}
+use Rattle.teg_report.specs.Answers.{Answer, Usage, Live, Listed, Form, Read, TooLarge, TokenFree, Fault}
 use Rattle.teg_report.specs.Forms.{IsFormWithin, form_lines}
 use Rattle.teg_report.specs.Lines.{written}
 use Rattle.teg_report.specs.Lists.{list_lines}
@@ -20,7 +20,7 @@ names_of (Some net) = net
 abbrev pub lines_of : NetLists → Answer → List (List (List ℕ))
 lines_of net Usage = usage_lines
 lines_of net (Live transitions places) = live_lines transitions places
-lines_of net (ListAnswer table) = list_lines net (date_at table) table.count
+lines_of net (Listed table) = list_lines net (date_at table) table.count
 lines_of net (Form form) = form_lines net form
 lines_of net (Read refusal) = read_line refusal ∷ []
 lines_of net (TooLarge file) = too_large_line file ∷ []
@@ -35,7 +35,7 @@ text_of net answer = written (lines_of (names_of net) answer)
 abbrev pub IsAbout : Option NetLists → Answer → Type 0
 IsAbout net Usage = ⊤
 IsAbout net (Live transitions places) = ⊤
-IsAbout net (ListAnswer table) = IsSomeAnd net (λ n. table.width ≡ length n.transitions)
+IsAbout net (Listed table) = IsSomeAnd net (λ n. table.width ≡ length n.transitions)
 IsAbout net (Form form) = IsSomeAnd net (λ n. IsFormWithin n form)
 IsAbout net (Read refusal) = refusal ≢ OutOfMemory
 IsAbout net (TooLarge file) = ⊤

@@ -35,6 +35,7 @@ fn push_entry(text: &mut String, net: &Net, entry: &Entry) -> Result<(), AllocEr
 }
 
 /// The first line, and those of the star entries.
+#[tactic(auto, using(crate::proofs::Joining::written_map))]
 fn stars(alloc: Global, net: &Net, form: &Form) -> Result<String, AllocError>
     requires { IsFormWithin net.now form.now }
     ensures { IfOk result (λ text. string_bytes text ≡ written (sizes_line form.now ∷ map (star_line net.now) form.now.stars)) }
@@ -49,6 +50,7 @@ fn stars(alloc: Global, net: &Net, form: &Form) -> Result<String, AllocError>
 }
 
 /// The star entries and then the entries, one line for each.
+#[tactic(auto, using(crate::proofs::Joining::written_map))]
 pub(crate) fn form(alloc: Global, net: &Net, form: &Form) -> Result<Vec<u8>, OutOfMemory>
     requires { IsFormWithin net.now form.now }
     ensures { IfOk result (λ text. text.items ≡ written (form_lines net.now form.now)) }

@@ -22,6 +22,7 @@ fn push_date(text: &mut String, date: Date) -> Result<(), AllocError>
 }
 
 /// Appends the line of a number.
+#[tactic(auto, using(crate::proofs::Joining::further_map))]
 fn push_line(text: &mut String, table: &Table, width: usize, number: u64) -> Result<(), AllocError>
     requires width { width ≡ table.now.width }
     requires few { width ≤ most_transitions }
@@ -36,10 +37,12 @@ fn push_line(text: &mut String, table: &Table, width: usize, number: u64) -> Res
         };
         push_date(text, table.date(transition, number))?;
     }
-    text.push('\n')
+    text.push('\n')?;
+    Ok(())
 }
 
 /// The lines before the dates.
+#[tactic(auto, using(crate::proofs::Joining::further_map))]
 fn head(alloc: Global, net: &Net, count: u32) -> Result<String, AllocError>
     ensures { IfOk result (λ text. string_bytes text ≡ line_then (count_line count) (line_then (names_line net.now) [])) }
 {
@@ -53,6 +56,7 @@ fn head(alloc: Global, net: &Net, count: u32) -> Result<String, AllocError>
 }
 
 /// The dates of the table, one line for each of its numbers.
+#[tactic(auto, using(crate::proofs::Joining::written_map))]
 pub(crate) fn list(alloc: Global, net: &Net, table: &Table) -> Result<Vec<u8>, OutOfMemory>
     requires { table.now.width ≡ length net.now.transitions }
     ensures { IfOk result (λ text. text.items ≡ written (list_lines net.now (date_at table.now) table.now.count)) }

@@ -58,6 +58,7 @@ fn label_word(alloc: Global, label: &Label) -> Result<String, OutOfMemory>
 }
 
 /// What is wrong at a table.
+#[tactic(auto, using(crate::proofs::Joining::fault_written))]
 fn fault_at(alloc: Global, spot: &Spot, fault: &str) -> Result<Vec<u8>, OutOfMemory>
     ensures { IfOk result (λ text. text.items ≡ written (fault_line spot.now fault.now [] ∷ [])) }
 {
@@ -67,6 +68,7 @@ fn fault_at(alloc: Global, spot: &Spot, fault: &str) -> Result<Vec<u8>, OutOfMem
 }
 
 /// What is wrong at a table, and with which key or text.
+#[tactic(auto, using(crate::proofs::Joining::fault_written))]
 fn fault_with(alloc: Global, spot: &Spot, fault: &str, about: &str) -> Result<Vec<u8>, OutOfMemory>
     ensures { IfOk result (λ text. text.items ≡ written (fault_line spot.now fault.now (about.now ∷ []) ∷ [])) }
 {

@@ -12,7 +12,7 @@ use teg_net::{Net, OutOfMemory};
 /// The bytes of an answer. The net is given wherever the text has a name that the answer does not
 /// hold itself.
 pub fn report(alloc: Global, net: Option<&Net>, answer: &Answer<'_>) -> Result<Vec<u8>, OutOfMemory>
-    requires { IsAbout (option_copied net.entry) (meant answer.now) }
+    requires { IsAbout (option_copied net) (meant answer.now) }
     ensures text { IfOk result (λ text. text.items ≡ text_of (option_copied net.entry) (meant answer.now)) }
 {
     match (answer, net) {

@@ -34,6 +34,7 @@ pub(crate) fn live(alloc: Global, transitions: u32, places: u32) -> Result<Vec<u
 }
 
 /// The circuit for whose sake a net is not live.
+#[tactic(auto, using(crate::proofs::Joining::further_map))]
 pub(crate) fn token_free(
     alloc: Global,
     net: &Net,
