@@ -26,7 +26,7 @@ use Rattle.teg_run.specs.Reading.{ReadsAll}
 use Rattle.teg_run.specs.Replies.{Reply, limit}
 use Rattle.teg_run.specs.Says.{Asked}
 use Rattle.teg_run.specs.Statuses.{status_of}
-use Rattle.teg_run.specs.Texts.{read_text, live_text, token_free_text, too_large_text, fault_text}
+use Rattle.teg_run.specs.Texts.{read_text, live_text, list_text, form_text, token_free_text, too_large_text, fault_text}
 
 -- the call ended with this status and the whole of this text, unless writing or memory failed first
 abbrev pub Ends : SinkState → SinkState → Status → Status → List ℕ → Type 0

@@ -61,6 +61,8 @@ impl LiveNet {
         ensures form { IfOk result (λ form. IsFormOf self.now form) }
         ensures within { IfOk result (λ form. IsFormWithin self.now form) }
     {
+        // The rules of the net, by which both ends of an entry are among these.
+        let _transitions = self.net.transitions();
         standard_form(alloc, &self.net, &self.live)
     }
 }
