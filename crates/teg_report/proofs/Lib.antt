@@ -1,2 +1,4 @@
 pub mod Joining
 pub mod Listing
+pub mod Reading
+pub mod Words
