@@ -1,8 +1,15 @@
 -- Lines of words can be read back from their text.
-use Rattle.std.proofs.Common.{◌≡◌, ℕ, Bool, true, false, not, ◌&&◌, ◌==◌, if◌then◌else◌, List, [], ◌∷◌, ◌++◌, refl, ap, sym, ◌∙◌, append-nil}
+use Rattle.std.proofs.Common.{◌≡◌, ℕ, Bool, true, false, not, ◌==◌, if◌then◌else◌, List, [], ◌∷◌, ◌++◌, refl, ap, sym, ◌∙◌, append-nil, get_or}
 use Rattle.std.proofs.lemmas.Bool.{and_parts, not-true}
 use Rattle.std.specs.List.{list_all}
 use Rattle.teg_report.specs.Lines.{is_word_byte, further_then, line_then, written}
+
+-- the first line, and a word by the number of its line and its own
+abbrev pub first_line : List (List (List ℕ)) → List (List ℕ)
+first_line lines = get_or lines 0 []
+
+abbrev pub word_in : ℕ → ℕ → List (List (List ℕ)) → List ℕ
+word_in i j lines = get_or (get_or lines i []) j []
 
 -- what can be read back: a word has no blank and no line feed, and a line has a word
 abbrev pub is_word : List ℕ → Bool

@@ -1,6 +1,6 @@
 -- Numbers, names, labels and keys are words.
-use Rattle.std.proofs.Common.{◌≡◌, ◌≢◌, ℕ, zero, suc, ◌+◌, ◌/◌, ◌%◌, ◌<◌, ◌≤◌, Bool, true, false, not, cond, ◌&&◌, ◌==◌, nat_le, List, [], ◌∷◌, ◌++◌, map, flat_map, refl, ap, ℤ, pos, negsuc, All, IsTrue, ⊎_elim, arith, mod-lt, leb-true, ne_eqb, length, codes, decimal, get_or}
-use Rattle.std.proofs.lemmas.Bool.{and_parts, and_from, not_from_false, cond_both, agree_below, agree_below_at}
+use Rattle.std.proofs.Common.{◌≡◌, ℕ, zero, suc, ◌/◌, ◌%◌, ◌<◌, ◌≤◌, Bool, true, false, not, ◌&&◌, ◌==◌, nat_le, List, [], ◌∷◌, ◌++◌, map, refl, ℤ, pos, negsuc, All, IsTrue, arith, leb-true, ne_eqb, length, decimal}
+use Rattle.std.proofs.lemmas.Bool.{and_parts, and_from, cond_both, agree_below_at}
 use Rattle.std.proofs.lemmas.List.Elements.{All-head, All-tail}
 use Rattle.std.specs.Fmt.{signed_decimal, digits, digits_onto, digit_glyph}
 use Rattle.std.specs.List.{list_all}

@@ -1,5 +1,5 @@
 -- Different numbers, dates, labels, keys and named things have different words.
-use Rattle.std.proofs.Common.{◌≡◌, ◌≢◌, ℕ, zero, suc, ◌+◌, ◌-◌, ◌*◌, ◌<◌, ◌≤◌, ◌^◌, Bool, true, false, ◌&&◌, ◌==◌, nat_le, if◌then◌else◌, List, [], ◌∷◌, ◌++◌, refl, ap, ap₂, sym, ◌∙◌, ℤ, pos, negsuc, unsigned_abs, AllPairs, ⊎_elim, arith, leb-true, eqb-true, length, get_or, drop, drop_at, codes, decimal, bytes_eq}
+use Rattle.std.proofs.Common.{◌≡◌, ◌≢◌, ℕ, suc, ◌+◌, ◌-◌, ◌*◌, ◌<◌, ◌≤◌, ◌^◌, true, false, ◌==◌, nat_le, if◌then◌else◌, List, [], ◌∷◌, ◌++◌, refl, ap, ap₂, sym, ◌∙◌, ℤ, pos, negsuc, unsigned_abs, AllPairs, ⊎_elim, arith, leb-true, eqb-true, length, get_or, drop, drop_at, codes, decimal, bytes_eq}
 use Rattle.std.proofs.lemmas.Bool.{and_parts, agree_below_at, cases_order}
 use Rattle.std.proofs.lemmas.Fmt.{decimal_is_IsNumeral_wide}
 use Rattle.std.proofs.lemmas.List.Elements.{All-head, All-tail}
@@ -80,7 +80,7 @@ hex_value digit = if nat_le 97 digit then digit - 87 else digit - 48
 abbrev first_byte : List ℕ → ℕ
 first_byte word =
     if get_or word 0 0 == 0x5C then
-        (if get_or word 1 0 == 0x5C then 0x5C else hex_value (get_or word 2 0) * 16 + hex_value (get_or word 3 0))
+    (if get_or word 1 0 == 0x5C then 0x5C else hex_value (get_or word 2 0) * 16 + hex_value (get_or word 3 0))
     else get_or word 0 0
 
 abbrev first_length : List ℕ → ℕ
@@ -114,7 +114,7 @@ label_apart (b ∷ label) (c ∷ other) h k e =
     let low' = All-head (λ b. b < 256) c other k in
     let first : b ≡ c = sym (first_byte_back b (label_word label) low) ∙ (ap first_byte e ∙ first_byte_back c (label_word other) low') in
     let rest : label_word label ≡ label_word other =
-        sym (rest_back b (label_word label) low) ∙ (ap (λ (w : List ℕ). drop (first_length w) w) e ∙ rest_back c (label_word other) low') in
+    sym (rest_back b (label_word label) low) ∙ (ap (λ (w : List ℕ). drop (first_length w) w) e ∙ rest_back c (label_word other) low') in
     ap₂ (λ (x : ℕ) (xs : List ℕ). x ∷ xs) first (label_apart label other (All-tail (λ b. b < 256) b label h) (All-tail (λ b. b < 256) c other k) rest)
 
 -- keys
