@@ -1,2 +1,12 @@
+pub mod AnswerKinds
+pub mod Apart
+pub mod FormsApart
 pub mod Joining
 pub mod Listing
+pub mod ListsApart
+pub mod Reading
+pub mod SpotsApart
+pub mod TablesApart
+pub mod Told
+pub mod Words
+pub mod WordsApart
