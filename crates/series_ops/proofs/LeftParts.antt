@@ -26,7 +26,7 @@ use Rattle.series_ops.specs.Residual.{IsLeftAt, least_of, least_of_le, le_least_
 use Rattle.series_ops.specs.Needs.{offsets_of, left_over, left_at, OffsetsDecide}
 use Rattle.series_ops.specs.Lefts.{left_is, left_mono}
 use Rattle.series_ops.proofs.FirstValues.{listed_is}
-use Rattle.series_ops.proofs.LeftValues.{least_same, late_left, gentle_left, over_up_to}
+use Rattle.series_ops.proofs.LeftValues.{least_same, late_left, gentle_left, all_up_to, over_up_to}
 
 -- ---- residuals of dates
 
@@ -258,15 +258,7 @@ all_wide m l w h k = up_to_more m 500000000000000000000000000 (get_or l k Early)
 
 -- the values of the residual that a list may have
 pub overs_up_to : (f g : Form) → IsSeries f → IsSeries g → offsets_of f g ≤ 40000 → (n : ℕ) (l : List Date) → n ≤ 20001 → l ≡ table (left_over f g) n → AreUpTo 500000000000000000000000000 l
-overs_up_to f g sf sg few n l short e k = ⊎_elim
-    (λ w.
-    let u : k < n = w in
-    subst (λ (z : Date). IsUpTo 500000000000000000000000000 z) (sym (listed_is (left_over f g) n l e k u)) (over_up_to f g sf sg few k (omega arith)))
-    (λ w.
-    let a : length l ≡ n = ap length e ∙ table_length (left_over f g) n in
-    let u : length l ≤ k = omega arith in
-    subst (λ (z : Date). IsUpTo 500000000000000000000000000 z) (sym (get_or-eq_default l Early {n = k} u)) tt)
-    (cases_lt k n)
+overs_up_to f g sf sg few n l short e = all_up_to 500000000000000000000000000 (left_over f g) n l e (λ k w. over_up_to f g sf sg few k (omega arith))
 
 -- the negative of a step, as the code computes it
 pub negative_code : (b x : ℤ) → b ≡ x → unsigned_abs x ≤ 1000000000000000000 → to_z w128 (of_z w128 (pos 0 -ℤ to_z w128 (of_z w128 b))) ≡ pos 0 -ℤ x

@@ -28,16 +28,19 @@ use Rattle.series_ops.proofs.FirstValues.{listed_tabled}
 pub long_value_up_to : (f : Form) → IsSeries f → (k : ℕ) → k ≤ 60001 → IsUpTo 60002000000000000000000 (value_at f k)
 long_value_up_to f h k w = up_to_more (1000000000000000000 + 60001 * 1000000000000000000) 60002000000000000000000 (value_at f k) (omega arith) (value_up_to f h k 60001 w)
 
-pub long_table_up_to : (f : Form) (n : ℕ) (l : List Date) → IsSeries f → n ≤ 60001 → l ≡ table (value_at f) n → AreUpTo 60002000000000000000000 l
-long_table_up_to f n l h short e k = ⊎_elim
+pub all_up_to : (m : ℕ) (s : ℕ → Date) (n : ℕ) (l : List Date) → l ≡ table s n → ((k : ℕ) → k < n → IsUpTo m (s k)) → AreUpTo m l
+all_up_to m s n l e low k = ⊎_elim
     (λ w.
     let u : k < n = w in
-    subst (λ (z : Date). IsUpTo 60002000000000000000000 z) (sym (ap (λ (z : List Date). get_or z k Early) e ∙ table_at (value_at f) n k u)) (long_value_up_to f h k (omega arith)))
+    subst (λ (z : Date). IsUpTo m z) (sym (ap (λ (z : List Date). get_or z k Early) e ∙ table_at s n k u)) (low k u))
     (λ w.
-    let a : length l ≡ n = ap length e ∙ table_length (value_at f) n in
+    let a : length l ≡ n = ap length e ∙ table_length s n in
     let u : length l ≤ k = omega arith in
-    subst (λ (z : Date). IsUpTo 60002000000000000000000 z) (sym (get_or-eq_default l Early {n = k} u)) tt)
+    subst (λ (z : Date). IsUpTo m z) (sym (get_or-eq_default l Early {n = k} u)) tt)
     (cases_lt k n)
+
+pub long_table_up_to : (f : Form) (n : ℕ) (l : List Date) → IsSeries f → n ≤ 60001 → l ≡ table (value_at f) n → AreUpTo 60002000000000000000000 l
+long_table_up_to f n l h short e = all_up_to 60002000000000000000000 (value_at f) n l e (λ k w. long_value_up_to f h k (omega arith))
 
 least_half : (f g : ℕ → Date) (n : ℕ) → ((i : ℕ) → i ≤ n → f i ≡ g i) → Le (least_of f n) (least_of g n)
 least_half f g n h = le_least_of g n (least_of f n) (λ j w. le_trans (least_of_le f n j w) (le_is (h j w)))

@@ -214,8 +214,10 @@ fn left_list(
     Ok(values)
 }
 
-/// The first values of the residual where the offsets decide. The work grows with the product of
-/// the lengths of the two lists.
+/// The first values of the residual where the offsets decide. From its start on the first series is
+/// its last period times the star of the monomial of that period and its step, and the residual by a
+/// product is that by one factor of the residual by the other: so the places of its list are enough.
+/// The work grows with the product of the lengths of the two lists.
 fn values_by_offsets(
     alloc: Global,
     first: &Series,
