@@ -17,43 +17,36 @@ use Rattle.series_form.specs.Sums.{Serves}
 use Rattle.series_form.proofs.Numbers.{abs_difference}
 use Rattle.series_form.proofs.Finished.{IsTabled, up_to_more, value_up_to}
 use Rattle.series_form.proofs.PointwiseTables.{earlier_up_to}
-use Rattle.series_ops.specs.Listed.{AreUpTo, all_but_last, last_of, left_listed}
+use Rattle.series_ops.specs.Listed.{AreUpTo, all_but_last, last_of}
 use Rattle.series_ops.specs.Residual.{IsLeftAt, least_of, least_of_le, le_least_of, one_greatest}
 use Rattle.series_ops.specs.Needs.{offsets_of, left_over, left_by_slopes, left_by, left_at, left_plan, left_plan_by, left_plan_by_slopes, long_left}
 use Rattle.series_ops.specs.Lefts.{left_is, left_rises, left_serves}
-use Rattle.series_ops.proofs.FirstValues.{table_same, listed_tabled}
+use Rattle.series_ops.proofs.FirstValues.{listed_tabled}
 
 -- ---- lists of two series
 
 pub long_value_up_to : (f : Form) → IsSeries f → (k : ℕ) → k ≤ 60001 → IsUpTo 60002000000000000000000 (value_at f k)
 long_value_up_to f h k w = up_to_more (1000000000000000000 + 60001 * 1000000000000000000) 60002000000000000000000 (value_at f k) (omega arith) (value_up_to f h k 60001 w)
 
-pub long_table_up_to : (f : Form) (n : ℕ) (l : List Date) → IsSeries f → n ≤ 60001 → l ≡ table (value_at f) n → AreUpTo 60002000000000000000000 l
-long_table_up_to f n l h short e k = ⊎_elim
+pub all_up_to : (m : ℕ) (s : ℕ → Date) (n : ℕ) (l : List Date) → l ≡ table s n → ((k : ℕ) → k < n → IsUpTo m (s k)) → AreUpTo m l
+all_up_to m s n l e low k = ⊎_elim
     (λ w.
     let u : k < n = w in
-    subst (λ (z : Date). IsUpTo 60002000000000000000000 z) (sym (ap (λ (z : List Date). get_or z k Early) e ∙ table_at (value_at f) n k u)) (long_value_up_to f h k (omega arith)))
+    subst (λ (z : Date). IsUpTo m z) (sym (ap (λ (z : List Date). get_or z k Early) e ∙ table_at s n k u)) (low k u))
     (λ w.
-    let a : length l ≡ n = ap length e ∙ table_length (value_at f) n in
+    let a : length l ≡ n = ap length e ∙ table_length s n in
     let u : length l ≤ k = omega arith in
-    subst (λ (z : Date). IsUpTo 60002000000000000000000 z) (sym (get_or-eq_default l Early {n = k} u)) tt)
+    subst (λ (z : Date). IsUpTo m z) (sym (get_or-eq_default l Early {n = k} u)) tt)
     (cases_lt k n)
+
+pub long_table_up_to : (f : Form) (n : ℕ) (l : List Date) → IsSeries f → n ≤ 60001 → l ≡ table (value_at f) n → AreUpTo 60002000000000000000000 l
+long_table_up_to f n l h short e = all_up_to 60002000000000000000000 (value_at f) n l e (λ k w. long_value_up_to f h k (omega arith))
 
 least_half : (f g : ℕ → Date) (n : ℕ) → ((i : ℕ) → i ≤ n → f i ≡ g i) → Le (least_of f n) (least_of g n)
 least_half f g n h = le_least_of g n (least_of f n) (λ j w. le_trans (least_of_le f n j w) (le_is (h j w)))
 
-least_same : (f g : ℕ → Date) (n : ℕ) → ((i : ℕ) → i ≤ n → f i ≡ g i) → least_of f n ≡ least_of g n
+pub least_same : (f g : ℕ → Date) (n : ℕ) → ((i : ℕ) → i ≤ n → f i ≡ g i) → least_of f n ≡ least_of g n
 least_same f g n h = le_antisym (least_half f g n h) (least_half g f n (λ i w. sym (h i w)))
-
-pub left_table : (f g : Form) (n count : ℕ) (l m : List Date) → n ≡ offsets_of f g → 0 < n → l ≡ table (value_at f) n → m ≡ table (value_at g) (count + n)
-    → table (left_listed l m) count ≡ table (left_over f g) count
-left_table f g n count l m en pos_n el em = table_same (left_listed l m) (left_over f g) count (λ k w.
-    let size : length l - 1 ≡ offsets_of f g - 1 = (let e : length l ≡ n = ap length el ∙ table_length (value_at f) n in omega arith) in
-    ap (λ (z : ℕ). least_of (λ i. date_left (get_or l i Early) (get_or m (k + i) Early)) z) size
-    ∙ least_same (λ i. date_left (get_or l i Early) (get_or m (k + i) Early)) (λ i. date_left (value_at f i) (value_at g (k + i))) (offsets_of f g - 1) (λ i u.
-    let a : get_or l i Early ≡ value_at f i = ap (λ (z : List Date). get_or z i Early) el ∙ table_at (value_at f) n i (omega arith) in
-    let b : get_or m (k + i) Early ≡ value_at g (k + i) = ap (λ (z : List Date). get_or z (k + i) Early) em ∙ table_at (value_at g) (count + n) (k + i) (omega arith) in
-    ap (λ (z : Date). date_left z (get_or m (k + i) Early)) a ∙ ap (date_left (value_at f i)) b))
 
 -- ---- how great a residual is
 
@@ -70,7 +63,7 @@ least_up_to : (f : ℕ → Date) (n m : ℕ) → ((i : ℕ) → i ≤ n → IsUp
 least_up_to f zero m h = h 0 (omega arith)
 least_up_to f (suc n) m h = earlier_up_to m (least_of f n) (f (suc n)) (least_up_to f n m (λ i w. h i (omega arith))) (h (suc n) (omega arith))
 
-over_up_to : (f g : Form) → IsSeries f → IsSeries g → offsets_of f g ≤ 40000 → (k : ℕ) → k ≤ 20000 → IsUpTo 500000000000000000000000000 (left_over f g k)
+pub over_up_to : (f g : Form) → IsSeries f → IsSeries g → offsets_of f g ≤ 40000 → (k : ℕ) → k ≤ 20000 → IsUpTo 500000000000000000000000000 (left_over f g k)
 over_up_to f g sf sg few k w = least_up_to (λ i. date_left (value_at f i) (value_at g (k + i))) (offsets_of f g - 1) 500000000000000000000000000 (λ i u.
     up_to_more (60002000000000000000000 + 60002000000000000000000) 500000000000000000000000000 (date_left (value_at f i) (value_at g (k + i))) (omega arith)
     (left_up_to 60002000000000000000000 (value_at f i) (value_at g (k + i)) (long_value_up_to f sf i (omega arith)) (long_value_up_to g sg (k + i) (omega arith))))

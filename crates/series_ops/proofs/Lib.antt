@@ -3,6 +3,7 @@ pub mod Closed
 pub mod FirstValues
 pub mod ProductPlans
 pub mod LeftValues
+pub mod LeftParts
 pub mod Many
 pub mod StarValues
 pub mod Refusing

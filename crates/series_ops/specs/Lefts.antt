@@ -15,7 +15,7 @@ use Rattle.series_form.specs.Needs.{plan, period_with, rise_of, fall_of, tail_of
 use Rattle.series_ops.specs.Needs.{offsets_of, left_over, left_by_slopes, left_by, left_at, long_left, short_left, left_plan_by_slopes, left_plan_by, left_plan, form_left}
 use Rattle.series_form.specs.Sums.{Serves, served_is, served_values, form_repeats_own, common_positive, rise_repeats, fall_repeats, tail_never, tail_early, tail_number, sign_first, equal_repeats}
 
-left_mono : {b c : Date} (a : Date) → Le b c → Le (date_left a b) (date_left a c)
+pub left_mono : {b c : Date} (a : Date) → Le b c → Le (date_left a b) (date_left a c)
 left_mono {b} {c} Early h = le_refl Never
 left_mono {b = Early} {c} (At s) h = early_le (date_left (At s) c)
 left_mono {b = At t} {c = Early} (At s) h = absurd h.holds

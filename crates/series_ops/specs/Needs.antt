@@ -1,5 +1,5 @@
 -- From where the result of each operation repeats, and by how many shifts. Their sum is the need.
-use Rattle.std.specs.Prelude.{◌+◌, ◌-◌, ◌*◌, ◌/◌, ℕ, ℤ, pos, negsuc, zero, suc, max, Bool, true, false, cond, ltb, not, [], ◌∷◌, ◌-ℤ◌}
+use Rattle.std.specs.Prelude.{◌≡◌, ◌+◌, ◌-◌, ◌*◌, ◌/◌, ℕ, ℤ, pos, negsuc, zero, suc, max, Bool, true, false, cond, ltb, not, [], ◌∷◌, ◌-ℤ◌}
 use Rattle.std.specs.Prelude.{int_lt}
 use Rattle.dioid.specs.declared.dates.Date.{Date}
 use Rattle.dioid.specs.declared.dates.Date.TheVariants.{Early, At, Never}
@@ -71,6 +71,11 @@ offsets_of f g = later_start f g + period_with f g
 -- the least residual at the offsets that decide
 abbrev pub left_over : Form → Form → ℕ → Date
 left_over f g k = least_of (λ i. date_left (value_at f i) (value_at g (k + i))) (offsets_of f g - 1)
+
+-- the offsets decide: the first is not Early everywhere and has no greater slope
+pub record OffsetsDecide (f g : Form) : Type 0 where
+  pub late : tail_of f ≡ Early → ⊥
+  pub gentle : slopes_of f g ≡ First → ⊥
 
 -- the residual at k by the slopes: Early where the first is greater
 abbrev pub left_by_slopes : Slopes → Form → Form → ℕ → Date

@@ -1,14 +1,15 @@
 ghost use Rattle.std.specs.Prelude.{◌≡◌, ◌≤◌, ◌<◌, ◌+◌, ◌-◌, ℕ, IfOk, length};
+ghost use Rattle.std.specs.Int.RustNames.{unsigned_abs};
 ghost use Rattle.dioid.specs.declared.dates.Date.TheVariants.{Early};
 ghost use Rattle.dioid.specs.Dates.{date_left};
 ghost use Rattle.series_form.specs.declared.plans.Slopes.TheVariants.{First};
-ghost use Rattle.series_form.specs.Forms.{value_at, table};
+ghost use Rattle.series_form.specs.Forms.{size_of, value_at, table};
 ghost use Rattle.series_form.specs.Bounds.{IsUpTo, IsSeries};
 ghost use Rattle.series_form.specs.Answer.{AnswersOf, Answers};
 ghost use Rattle.series_form.specs.Needs.{need_of, tail_of, slopes_of};
 ghost use Rattle.series_ops.specs.Residual.{IsLeftAt, least_of};
-ghost use Rattle.series_ops.specs.Needs.{offsets_of, left_over, left_at, long_left, short_left, left_plan, form_left};
-ghost use Rattle.series_ops.specs.Listed.{listed, AreUpTo, left_listed};
+ghost use Rattle.series_ops.specs.Needs.{offsets_of, left_over, OffsetsDecide, left_at, long_left, short_left, left_plan, form_left};
+ghost use Rattle.series_ops.specs.Listed.{AreUpTo, part_listed, left_listed, star_left_listed, IsStarLeft};
 
 use crate::tables::{ended, first_values};
 use dioid::Date;
@@ -70,8 +71,8 @@ fn plan_of_left(first: &Series, second: &Series) -> Plan
 
 /// The greatest date whose sum with the first is at most the second.
 fn subtracted(first: Date, second: Date) -> Date
-    requires first { IsUpTo 60002000000000000000000 first }
-    requires second { IsUpTo 60002000000000000000000 second }
+    requires first { IsUpTo 500000000000000000000000000 first }
+    requires second { IsUpTo 500000000000000000000000000 second }
     ensures { result ≡ date_left first second }
 {
     match (first, second) {
@@ -82,56 +83,163 @@ fn subtracted(first: Date, second: Date) -> Date
     }
 }
 
-/// The least residual at a shift, over the places of the first list.
-fn left_value(first: &[Date], second: &[Date], shift: usize) -> Date
-    requires some { 0 < length first.now }
-    requires second { shift + length first.now ≤ length second.now }
-    requires first_bound { AreUpTo 60002000000000000000000 first.now }
-    requires second_bound { AreUpTo 60002000000000000000000 second.now }
-    ensures { result ≡ left_listed first.now second.now shift }
+/// One more value of the residual of a list by the star of the monomial of shift `turn` and date
+/// `step`, from the values there are, which begin at the end of the list.
+fn next_by_star(list: &[Date], values: &[Date], turn: usize, step: i128) -> Date
+    requires place { length values.now < length list.now }
+    requires turn { 0 < turn }
+    requires step { unsigned_abs step ≤ 1000000000000000000 }
+    requires values { AreUpTo 500000000000000000000000000 values.now }
+    ensures { result ≡ star_left_listed list.now values.now turn step (length values.now) }
 {
-    let mut best = subtracted(first[0], second[shift]);
-    for place in 0..first.len() - 1 {
-        best = best.earlier(subtracted(first[place + 1], second[shift + (place + 1)]));
+    let date = list[list.len() - 1 - values.len()];
+    if values.len() < turn {
+        return date;
     }
-    best
+    date.earlier(subtracted(Date::At(step), values[values.len() - turn]))
 }
 
-/// The first least residuals of two lists.
-fn left_list(
+/// The residual of a list by the star of the monomial of shift `turn` and date `step`, in reverse.
+fn left_by_star(
     alloc: Global,
-    first: &[Date],
-    second: &[Date],
-    count: usize,
+    list: &[Date],
+    turn: usize,
+    step: i128,
 ) -> Result<Vec<Date>, AllocError>
-    requires some { 0 < length first.now }
-    requires second { count + length first.now ≤ length second.now }
-    requires first_bound { AreUpTo 60002000000000000000000 first.now }
-    requires second_bound { AreUpTo 60002000000000000000000 second.now }
-    ensures { IfOk result (λ values. values.items ≡ table (left_listed first.now second.now) count) }
+    requires turn { 0 < turn }
+    requires step { unsigned_abs step ≤ 1000000000000000000 }
+    requires short { length list.now ≤ 60001 }
+    requires list { AreUpTo 60002000000000000000000 list.now }
+    ensures { IfOk result (λ values. IsStarLeft list.now values.items turn step) }
 {
     let mut values = Vec::new(alloc);
-    for shift in 0..count {
-        values.push(left_value(first, second, shift))?;
+    for _place in 0..list.len() {
+        let next = next_by_star(list, values.as_slice(), turn, step);
+        values.push(next)?;
     }
     Ok(values)
 }
 
-/// The first values of the residual where the offsets decide.
+/// The residual at one place of the first list, from `from` on of the residual by the star, which
+/// stands in reverse.
+fn left_part(
+    first: &[Date],
+    from: usize,
+    second: &[Date],
+    by_star: &[Date],
+    shift: usize,
+    place: usize,
+) -> Date
+    requires first { place < length first.now }
+    requires second { shift + place < length second.now }
+    requires by_star { shift + place < length by_star.now }
+    requires first_bound { AreUpTo 500000000000000000000000000 first.now }
+    requires second_bound { AreUpTo 500000000000000000000000000 second.now }
+    requires by_star_bound { AreUpTo 500000000000000000000000000 by_star.now }
+    ensures { result ≡ part_listed first.now second.now by_star.now from shift place }
+{
+    let date = if place < from {
+        second[shift + place]
+    } else {
+        by_star[by_star.len() - 1 - (shift + place)]
+    };
+    subtracted(first[place], date)
+}
+
+/// The least residual at a shift, over the places of the first list.
+fn left_value(first: &[Date], from: usize, second: &[Date], by_star: &[Date], shift: usize) -> Date
+    requires some { 0 < length first.now }
+    requires second { shift + length first.now ≤ length second.now }
+    requires by_star { shift + length first.now ≤ length by_star.now }
+    requires first_bound { AreUpTo 500000000000000000000000000 first.now }
+    requires second_bound { AreUpTo 500000000000000000000000000 second.now }
+    requires by_star_bound { AreUpTo 500000000000000000000000000 by_star.now }
+    ensures { result ≡ left_listed first.now second.now by_star.now from shift }
+{
+    let mut best = left_part(first, from, second, by_star, shift, 0);
+    for place in 0..first.len() - 1 {
+        best = best.earlier(left_part(first, from, second, by_star, shift, place + 1));
+    }
+    best
+}
+
+/// One more value of the residual where the offsets decide: over the list of the first series, and
+/// past the list of the second by its period.
+fn next_left(
+    first: &Series,
+    second: &Series,
+    list: &[Date],
+    by_star: &[Date],
+    values: &[Date],
+) -> Date
+    requires series { IsSeries first.now }
+    requires decide { OffsetsDecide first.now second.now }
+    requires few { offsets_of first.now second.now ≤ 40000 }
+    requires list { list.now ≡ table (value_at second.now) (size_of second.now + offsets_of first.now second.now) }
+    requires by_star { IsStarLeft list.now by_star.now first.now.period first.now.step }
+    requires values { values.now ≡ table (left_over first.now second.now) (length values.now) }
+    requires count { length values.now ≤ 20000 }
+    ensures { result ≡ left_over first.now second.now (length values.now) }
+{
+    let shift = values.len();
+    if shift < second.values().len() {
+        return left_value(first.values(), start(first), list, by_star, shift);
+    }
+    subtracted(Date::At(-second.step()), values[shift - second.period()])
+}
+
+/// The first values of the residual where the offsets decide, from the first values of the second
+/// series and their residual by the star of the first series' period.
+fn left_list(
+    alloc: Global,
+    first: &Series,
+    second: &Series,
+    list: &[Date],
+    by_star: &[Date],
+    count: usize,
+) -> Result<Vec<Date>, AllocError>
+    requires series { IsSeries first.now }
+    requires decide { OffsetsDecide first.now second.now }
+    requires few { offsets_of first.now second.now ≤ 40000 }
+    requires list { list.now ≡ table (value_at second.now) (size_of second.now + offsets_of first.now second.now) }
+    requires by_star { IsStarLeft list.now by_star.now first.now.period first.now.step }
+    requires count { count ≤ 20001 }
+    ensures { IfOk result (λ values. values.items ≡ table (left_over first.now second.now) count) }
+{
+    let mut values = Vec::new(alloc);
+    for _shift in 0..count {
+        let next = next_left(first, second, list, by_star, values.as_slice());
+        values.push(next)?;
+    }
+    Ok(values)
+}
+
+/// The first values of the residual where the offsets decide. From its start on the first series is
+/// its last period times the star of the monomial of that period and its step, and the residual by a
+/// product is that by one factor of the residual by the other: so the places of its list are enough.
+/// The work grows with the product of the lengths of the two lists.
 fn values_by_offsets(
     alloc: Global,
     first: &Series,
     second: &Series,
     count: usize,
 ) -> Result<Vec<Date>, AllocError>
+    requires decide { OffsetsDecide first.now second.now }
     requires few { offsets_of first.now second.now ≤ 40000 }
     requires count { count ≤ 20001 }
     ensures { IfOk result (λ values. values.items ≡ table (left_over first.now second.now) count) }
 {
-    let offsets = offsets(first, second);
-    let firsts = first_values(alloc, first, offsets)?;
-    let seconds = first_values(alloc, second, count + offsets)?;
-    left_list(alloc, firsts.as_slice(), seconds.as_slice(), count)
+    let size = second.values().len() + offsets(first, second);
+    let list = first_values(alloc, second, size)?;
+    let by_star = left_by_star(alloc, list.as_slice(), first.period(), first.step())?;
+    left_list(
+        alloc,
+        first,
+        second,
+        list.as_slice(),
+        by_star.as_slice(),
+        count,
+    )
 }
 
 /// The one date, `count` times.

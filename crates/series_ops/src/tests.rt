@@ -1,7 +1,7 @@
 use crate::{Gain, left, product, star};
 use dioid::{Date, Dioid, Kleene, Refused, Residuated};
 use series_form::{Series, SeriesRefused, least, sum};
-use std::alloc::Global;
+use std::alloc::{AllocError, Global};
 
 /// Whether this is the series with these values, period and step.
 fn is_form(series: &Series, values: &[Date], period: usize, step: i128) -> bool {
@@ -96,6 +96,66 @@ fn sums_with_stars(rt: HostRuntime) {
             )
         );
     }
+}
+
+/// The greater of a floor and a date for each time that the shift covers a turn.
+fn floored(alloc: Global, turn: u32, date: i64, floor: i64) -> Result<Series, SeriesRefused> {
+    let part = Series::monomial(alloc, turn as u64, date as i128)?;
+    let steps = star(alloc, &part)?;
+    let flat = Series::monomial(alloc, 0, floor as i128)?;
+    sum(alloc, &steps, &flat)
+}
+
+/// The dates of these numbers.
+fn dates(alloc: Global, times: &[i64]) -> Result<Vec<Date>, AllocError> {
+    let mut dates = Vec::new(alloc);
+    for time in times {
+        dates.push(Date::At(*time as i128))?;
+    }
+    Ok(dates)
+}
+
+/// Whether the residual of the second series by the first has these values, period and step.
+fn is_left(
+    alloc: Global,
+    first: Result<Series, SeriesRefused>,
+    second: Result<Series, SeriesRefused>,
+    times: &[i64],
+    period: usize,
+    step: i128,
+) -> bool {
+    match (first, second, dates(alloc, times)) {
+        (Ok(first), Ok(second), Ok(values)) => {
+            is_series(
+                &left(alloc, &first, &second),
+                values.as_slice(),
+                period,
+                step,
+            )
+        }
+        _ => false,
+    }
+}
+
+#[test]
+fn residuals_by_a_short_list(rt: HostRuntime) {
+    let alloc = rt.alloc();
+    let (first, second) = (floored(alloc, 2, 3, 1), floored(alloc, 3, 5, 20));
+    let times = [-1, 1, 2, 4, 5, 7, 8, 10, 11, 13, 14, 16, 17, 19, 19];
+    assert!(rt; is_left(alloc, first, second, &times, 3, 5));
+    let (first, second) = (floored(alloc, 2, 3, 4), floored(alloc, 4, 6, 15));
+    let times = [-3, -3, 0, 0, 3, 3, 6, 6, 9, 9, 11, 11, 14, 14, 14, 14];
+    assert!(rt; is_left(alloc, first, second, &times, 4, 6));
+}
+
+#[test]
+fn residuals_of_a_short_list(rt: HostRuntime) {
+    let alloc = rt.alloc();
+    let (first, second) = (floored(alloc, 2, 3, 20), floored(alloc, 3, 5, 6));
+    let times = [-14, -14, -14, -14, -14, -14, -10, -10, -10];
+    assert!(rt; is_left(alloc, first, second, &times, 3, 5));
+    let (first, second) = (floored(alloc, 2, 3, 9), floored(alloc, 2, 3, 4));
+    assert!(rt; is_left(alloc, first, second, &[-5, -5, -5, -5, -3, -3], 2, 3));
 }
 
 /// Whether the answer is the gain with these values, period and step.

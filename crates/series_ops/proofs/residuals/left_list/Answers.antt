@@ -1,7 +1,25 @@
-use Rattle.std.proofs.Common.{◌∙◌}
+use Rattle.std.proofs.Common.{◌≡◌, ◌∙◌, ap, sym, arith, length}
+use Rattle.series_form.specs.Forms.{table}
+use Rattle.series_form.specs.Canonical.{table_length}
 use Rattle.series_form.proofs.Finished.{table_push}
-use Rattle.series_ops.specs.Listed.{left_listed}
+use Rattle.series_ops.specs.Needs.{left_over}
 use Rattle.series_ops.proofs.residuals.left_list.Goals as goal
 
+pub next_left-next-requires-clause-values : goal.next_left-next-requires-clause-values
+next_left-next-requires-clause-values c =
+    let items : c.as_slice.result.now ≡ table (left_over c.args.first.now c.args.second.now) c.loop-shift._shift = c.as_slice.ensures.value ∙ c.loop-shift.invariant in
+    let size : length c.as_slice.result.now ≡ c.loop-shift._shift = ap length items ∙ table_length (left_over c.args.first.now c.args.second.now) c.loop-shift._shift in
+    items ∙ ap (table (left_over c.args.first.now c.args.second.now)) (sym size)
+
+pub next_left-next-requires-clause-count : goal.next_left-next-requires-clause-count
+next_left-next-requires-clause-count c =
+    let size : length c.as_slice.result.now ≡ c.loop-shift._shift = ap length (c.as_slice.ensures.value ∙ c.loop-shift.invariant) ∙ table_length (left_over c.args.first.now c.args.second.now) c.loop-shift._shift in
+    let more = c.loop-shift-test.true in
+    let count = c.requires.count in
+    omega arith
+
 pub loop-shift-preserved : goal.loop-shift-preserved
-loop-shift-preserved c = c.in_ok-push.ensures.items ∙ table_push (left_listed c.args.first.now c.args.second.now) c.loop-shift.shift c.loop-shift.values.items _ c.loop-shift.invariant c.left_value.ensures
+loop-shift-preserved c =
+    let size : length c.as_slice.result.now ≡ c.loop-shift._shift = ap length (c.as_slice.ensures.value ∙ c.loop-shift.invariant) ∙ table_length (left_over c.args.first.now c.args.second.now) c.loop-shift._shift in
+    c.in_ok-push.ensures.items ∙ table_push (left_over c.args.first.now c.args.second.now) c.loop-shift._shift c.loop-shift.values.items _ c.loop-shift.invariant
+    (c.next_left-next.ensures ∙ ap (left_over c.args.first.now c.args.second.now) size)
