@@ -68,9 +68,6 @@ table_up_to f n l h short e k = ⊎_elim
     subst (λ (z : Date). IsUpTo 20001000000000000000000 z) (sym (get_or-eq_default l Early {n = k} u)) tt)
     (cases_lt k n)
 
-pub wide : (l : List Date) → AreUpTo 20001000000000000000000 l → AreUpTo 500000000000000000000000000 l
-wide l h k = up_to_more 20001000000000000000000 500000000000000000000000000 (get_or l k Early) (omega arith) (h k)
-
 pub listed_is : (s : ℕ → Date) (n : ℕ) (l : List Date) → l ≡ table s n → (k : ℕ) → k < n → listed l k ≡ s k
 listed_is s n l e k w = ap (λ (z : List Date). get_or z k Early) e ∙ table_at s n k w
 
@@ -82,11 +79,6 @@ half s t u v k g h = product_at_le s t k (product_at u v k) (λ i j e.
 
 pub product_same : (s t u v : ℕ → Date) (k : ℕ) → ((i : ℕ) → i ≤ k → s i ≡ u i) → ((i : ℕ) → i ≤ k → t i ≡ v i) → product_at s t k ≡ product_at u v k
 product_same s t u v k g h = le_antisym (half s t u v k g h) (half u v s t k (λ i w. sym (g i w)) (λ i w. sym (h i w)))
-
--- the product of two lists of first values
-pub product_table : (s t : ℕ → Date) (n : ℕ) (l m : List Date) → l ≡ table s n → m ≡ table t n → table (product_at (listed l) (listed m)) n ≡ table (product_at s t) n
-product_table s t n l m e g = table_same (product_at (listed l) (listed m)) (product_at s t) n (λ k w.
-    product_same (listed l) (listed m) s t k (λ i u. listed_is s n l e i (omega arith)) (λ i u. listed_is t n m g i (omega arith)))
 
 pub added_up_to : (m n : ℕ) (a b : Date) → IsUpTo m a → IsUpTo n b → IsUpTo (m + n) (date_product a b)
 added_up_to m n Early b h k = tt

@@ -1,4 +1,5 @@
 pub mod Product
+pub mod Splits
 pub mod Listed
 pub mod Residual
 pub mod Pigeons

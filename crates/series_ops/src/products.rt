@@ -4,11 +4,12 @@ ghost use Rattle.dioid.specs.declared.dates.Date.TheVariants.{Early, Never};
 ghost use Rattle.dioid.specs.Dates.{date_product};
 ghost use Rattle.series_form.specs.declared.plans.Slopes.TheVariants.{First};
 ghost use Rattle.series_form.specs.Periodic.{times};
-ghost use Rattle.series_form.specs.Forms.{value_at, table, HasValues};
+ghost use Rattle.series_form.specs.Forms.{start_of, value_at, table, HasValues};
 ghost use Rattle.series_form.specs.Bounds.{IsUpTo, IsSeries};
 ghost use Rattle.series_form.specs.Answer.{AnswersOf, Answers};
 ghost use Rattle.series_form.specs.Needs.{need_of, period_with, rise_of, fall_of, tail_of, slopes_of};
-ghost use Rattle.series_ops.specs.Product.{product_at, greatest};
+ghost use Rattle.series_ops.specs.Product.{product_at};
+ghost use Rattle.series_ops.specs.Splits.{greatest_from, split_of, product_from, places_to};
 ghost use Rattle.series_ops.specs.Needs.{lifts_of, waits_of, product_first, product_by_slopes, product_plan, form_product};
 ghost use Rattle.series_ops.specs.Listed.{IsNumber, listed, AreUpTo};
 
@@ -139,6 +140,37 @@ fn added(first: Date, second: Date) -> Date
     }
 }
 
+/// How many of `most` places from `from` on are at most `shift`.
+fn places(from: usize, most: usize, shift: usize) -> usize
+    ensures { result ≡ places_to from most shift }
+{
+    if shift < from {
+        return 0;
+    }
+    if shift - from < most {
+        shift - from + 1
+    } else {
+        most
+    }
+}
+
+/// The greatest sum of a value of the first list at `count` places from `from` on and a value of the
+/// second, their places adding up to `shift`. Early for no place.
+fn greatest_split(first: &[Date], second: &[Date], shift: usize, from: usize, count: usize) -> Date
+    requires first { from + count ≤ length first.now }
+    requires splits { count ≤ shift + 1 - from }
+    requires second { shift < length second.now }
+    requires first_bound { AreUpTo 20001000000000000000000 first.now }
+    requires second_bound { AreUpTo 500000000000000000000000000 second.now }
+    ensures { result ≡ greatest_from (split_of (listed first.now) (listed second.now) shift) from count }
+{
+    let mut best = Date::Early;
+    for place in 0..count {
+        best = best.later(added(first[from + place], second[shift - (from + place)]));
+    }
+    best
+}
+
 /// The greatest sum of a value of the one list and a value of the other, their places adding up to
 /// `shift`.
 pub(crate) fn product_value(first: &[Date], second: &[Date], shift: usize) -> Date
@@ -148,34 +180,98 @@ pub(crate) fn product_value(first: &[Date], second: &[Date], shift: usize) -> Da
     requires second_bound { AreUpTo 500000000000000000000000000 second.now }
     ensures { result ≡ product_at (listed first.now) (listed second.now) shift }
 {
-    let mut best = added(first[0], second[shift]);
-    for place in 0..shift {
-        best = best.later(added(first[place + 1], second[shift - (place + 1)]));
-    }
-    best
+    greatest_split(first, second, shift, 0, shift + 1)
 }
 
-/// The first values of the product of two lists.
-fn product_list(
+/// The greatest sum at a shift whose first part is in the tail of the first series: of those in its
+/// list, and of those of a period before, a step later.
+fn tail_value(first: &Series, second: &[Date], tails: &[Date], shift: usize) -> Date
+    requires short { shift ≤ 20000 }
+    requires second { shift < length second.now }
+    requires second_bound { AreUpTo 20001000000000000000000 second.now }
+    requires tails { tails.now ≡ table (product_from (value_at first.now) (listed second.now) (start_of first.now)) shift }
+    ensures { result ≡ product_from (value_at first.now) (listed second.now) (start_of first.now) shift }
+{
+    let from = start(first);
+    let period = first.period();
+    let count = places(from, period, shift);
+    let here = greatest_split(first.values(), second, shift, from, count);
+    if shift < period {
+        return here;
+    }
+    here.later(added(Date::At(first.step()), tails[shift - period]))
+}
+
+/// The greatest sums whose first part is in the tail of the first series, at the first shifts.
+fn tail_list(
     alloc: Global,
-    first: &[Date],
+    first: &Series,
     second: &[Date],
     count: usize,
 ) -> Result<Vec<Date>, AllocError>
-    requires first { count ≤ length first.now }
+    requires short { count ≤ 20001 }
     requires second { count ≤ length second.now }
-    requires first_bound { AreUpTo 20001000000000000000000 first.now }
-    requires second_bound { AreUpTo 500000000000000000000000000 second.now }
-    ensures { IfOk result (λ values. values.items ≡ table (product_at (listed first.now) (listed second.now)) count) }
+    requires second_bound { AreUpTo 20001000000000000000000 second.now }
+    ensures { IfOk result (λ values. values.items ≡ table (product_from (value_at first.now) (listed second.now) (start_of first.now)) count) }
 {
     let mut values = Vec::new(alloc);
     for shift in 0..count {
-        values.push(product_value(first, second, shift))?;
+        let next = tail_value(first, second, values.as_slice(), shift);
+        values.push(next)?;
     }
     Ok(values)
 }
 
-/// The first values of the product.
+/// The product at a shift: the later of the splits whose first part is below the tail of the first
+/// series and of those where it is in the tail.
+fn value_with_tail(first: &Series, second: &[Date], tail: Date, shift: usize) -> Date
+    requires second { shift < length second.now }
+    requires second_bound { AreUpTo 20001000000000000000000 second.now }
+    requires tail { tail ≡ product_from (value_at first.now) (listed second.now) (start_of first.now) shift }
+    ensures { result ≡ product_at (value_at first.now) (listed second.now) shift }
+{
+    let count = places(0, start(first), shift);
+    greatest_split(first.values(), second, shift, 0, count).later(tail)
+}
+
+/// The first values of the product of a series and a list, by the sums in the tail.
+fn product_list(
+    alloc: Global,
+    first: &Series,
+    second: &[Date],
+    tails: &[Date],
+    count: usize,
+) -> Result<Vec<Date>, AllocError>
+    requires second { count ≤ length second.now }
+    requires second_bound { AreUpTo 20001000000000000000000 second.now }
+    requires tails { tails.now ≡ table (product_from (value_at first.now) (listed second.now) (start_of first.now)) count }
+    ensures { IfOk result (λ values. values.items ≡ table (product_at (value_at first.now) (listed second.now)) count) }
+{
+    let mut values = Vec::new(alloc);
+    for shift in 0..count {
+        values.push(value_with_tail(first, second, tails[shift], shift))?;
+    }
+    Ok(values)
+}
+
+/// The first values of the product, by the list of the first series. The work is their number times
+/// the length of that list.
+fn values_by_first(
+    alloc: Global,
+    first: &Series,
+    second: &Series,
+    count: usize,
+) -> Result<Vec<Date>, AllocError>
+    requires { count ≤ 20001 }
+    ensures { IfOk result (λ values. values.items ≡ table (product_at (value_at first.now) (value_at second.now)) count) }
+{
+    let values = first_values(alloc, second, count)?;
+    let seconds = values.as_slice();
+    let tails = tail_list(alloc, first, seconds, count)?;
+    product_list(alloc, first, seconds, tails.as_slice(), count)
+}
+
+/// The first values of the product, by the shorter list.
 pub(crate) fn product_values(
     alloc: Global,
     first: &Series,
@@ -185,9 +281,11 @@ pub(crate) fn product_values(
     requires { count ≤ 20001 }
     ensures { IfOk result (λ values. values.items ≡ table (product_at (value_at first.now) (value_at second.now)) count) }
 {
-    let firsts = first_values(alloc, first, count)?;
-    let seconds = first_values(alloc, second, count)?;
-    product_list(alloc, firsts.as_slice(), seconds.as_slice(), count)
+    if second.values().len() < first.values().len() {
+        values_by_first(alloc, second, first, count)
+    } else {
+        values_by_first(alloc, first, second, count)
+    }
 }
 
 /// The product of two series (chapter 5): at each shift k the greatest sum of a value of the first

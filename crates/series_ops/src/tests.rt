@@ -61,6 +61,30 @@ fn products_and_stars(rt: HostRuntime) {
     }
 }
 
+/// The greater of a number and the star of the monomial of these shifts.
+fn raised(alloc: Global, shifts: u64, date: i64, least: i64) -> Result<Series, SeriesRefused> {
+    let part = Series::monomial(alloc, shifts, date as i128)?;
+    let turning = star(alloc, &part)?;
+    let floor = Series::monomial(alloc, 0, least as i128)?;
+    sum(alloc, &turning, &floor)
+}
+
+#[test]
+fn products_in_both_orders(rt: HostRuntime) {
+    let alloc = rt.alloc();
+    let short = raised(alloc, 2, 3, 4);
+    let long = raised(alloc, 8, 9, 0);
+    if let (Ok(short), Ok(long)) = (short, long) {
+        let (a, b, c) = (Date::At(4), Date::At(6), Date::At(9));
+        let (d, e) = (Date::At(13), Date::At(15));
+        let values = [a, a, a, a, b, b, c, c, d, d, e, e];
+        assert!(rt; is_form(&short, &[a, a, a, a, b, b], 2, 3));
+        assert!(rt; long.values().len() == 8);
+        assert!(rt; is_series(&product(alloc, &short, &long), &values, 2, 3));
+        assert!(rt; is_series(&product(alloc, &long, &short), &values, 2, 3));
+    }
+}
+
 #[test]
 fn stars_of_monomials(rt: HostRuntime) {
     let alloc = rt.alloc();

@@ -1,8 +1,8 @@
 use Rattle.std.proofs.Common.{◌≡◌}
-use Rattle.series_form.specs.Forms.{table}
+use Rattle.series_form.specs.Forms.{table, value_at}
 use Rattle.series_ops.specs.Product.{product_at}
 use Rattle.series_ops.specs.Listed.{listed}
 use Rattle.series_ops.proofs.products.product_list.Given as goal
 
 abbrev pub invariant-loop-shift : goal.invariant-loop-shift
-invariant-loop-shift l = l.values.items ≡ table (product_at (listed l.first) (listed l.second)) l.shift
+invariant-loop-shift l = l.values.items ≡ table (product_at (value_at l.first) (listed l.second)) l.shift

@@ -1,0 +1,22 @@
+-- The splits of a shift, some places at a time.
+use Rattle.std.specs.Prelude.{◌+◌, ◌-◌, ℕ, zero, suc, min}
+use Rattle.dioid.specs.Dates.{later_of, date_product}
+use Rattle.dioid.specs.declared.dates.Date.{Date}
+use Rattle.dioid.specs.declared.dates.Date.TheVariants.{Early}
+
+-- the greatest of the m values of f from p on, Early for none
+abbrev pub greatest_from : (ℕ → Date) → ℕ → ℕ → Date
+greatest_from f p zero = Early
+greatest_from f p (suc m) = later_of (greatest_from f p m) (f (p + m))
+
+-- the sum of the split of k whose first part is i
+abbrev pub split_of : (ℕ → Date) → (ℕ → Date) → ℕ → ℕ → Date
+split_of s t k i = date_product (s i) (t (k - i))
+
+-- the greatest sum of the splits of k whose first part is at least p, Early for none
+abbrev pub product_from : (ℕ → Date) → (ℕ → Date) → ℕ → ℕ → Date
+product_from s t p k = greatest_from (split_of s t k) p (suc k - p)
+
+-- how many of the n places from p on are at most k
+abbrev pub places_to : ℕ → ℕ → ℕ → ℕ
+places_to p n k = min n (suc k - p)
