@@ -11,6 +11,8 @@ mod checks;
 #[cfg(test)]
 mod faults;
 #[cfg(test)]
+mod forms;
+#[cfg(test)]
 mod lists;
 #[cfg(test)]
 mod words;

@@ -1,10 +1,11 @@
 //! Dates that are listed.
 use crate::bench::{LOOP, answers};
+use crate::words::USAGE;
 use std::test::Fail;
 use teg_run::Status;
 
 /// Three machines in a line, each with a place of its own, and two cards between neighbours.
-const KANBAN: &str =
+pub const KANBAN: &str =
     "[[transition]]\nname = \"m1\"\n\n[[transition]]\nname = \"m2\"\n\n[[transition]]\nname = \"m3\"\n\n[[place]]\nname = \"s1\"\nfrom = \"m1\"\nto = \"m1\"\nhold = 4\ntokens = 1\n\n[[place]]\nname = \"s2\"\nfrom = \"m2\"\nto = \"m2\"\nhold = 6\ntokens = 1\n\n[[place]]\nname = \"s3\"\nfrom = \"m3\"\nto = \"m3\"\nhold = 5\ntokens = 1\n\n[[place]]\nname = \"f12\"\nfrom = \"m1\"\nto = \"m2\"\nhold = 4\n\n[[place]]\nname = \"f23\"\nfrom = \"m2\"\nto = \"m3\"\nhold = 6\n\n[[place]]\nname = \"c21\"\nfrom = \"m2\"\nto = \"m1\"\nhold = 0\ntokens = 2\n\n[[place]]\nname = \"c32\"\nfrom = \"m3\"\nto = \"m2\"\nhold = 0\ntokens = 2\n";
 
 const THREE_OF_LOOP: &str = "dates of 3 firings\ntransition a b\n1 0 3\n2 5 8\n3 10 13\n";
@@ -43,10 +44,9 @@ fn a_net_that_is_not_live_is_not_listed(rt: HostRuntime) -> Result<(), Fail> {
 
 #[test]
 fn a_count_out_of_range_is_refused(rt: HostRuntime) -> Result<(), Fail> {
-    let usage = "usage: teg check NET\n       teg list NET K\n";
     for count in ["0", "10001", "+3", "-3", "3.", "", "00000000000000000003"] {
         let words = ["list", "net", count];
-        let answered = answers(rt.alloc(), &words, LOOP.as_bytes(), Status::Words, usage)?;
+        let answered = answers(rt.alloc(), &words, LOOP.as_bytes(), Status::Words, USAGE)?;
         assert!(rt; answered, "at {count}");
     }
     Ok(())

@@ -3,11 +3,11 @@ use crate::bench::{LOOP, LOOP_IS_LIVE, answers};
 use std::test::Fail;
 use teg_run::Status;
 
-const USAGE: &str = "usage: teg check NET\n       teg list NET K\n";
+pub const USAGE: &str = "usage: teg check NET\n       teg list NET K\n       teg form NET\n";
 
 #[test]
 fn words_that_ask_for_nothing_get_the_usage(rt: HostRuntime) -> Result<(), Fail> {
-    let table: [&[&str]; 16] = [
+    let table: [&[&str]; 19] = [
         &[],
         &["chek", "net"],
         &["check"],
@@ -23,6 +23,9 @@ fn words_that_ask_for_nothing_get_the_usage(rt: HostRuntime) -> Result<(), Fail>
         &["list", "net", "0"],
         &["list", "net", "+1"],
         &["list", "net", "00000000000000000001"],
+        &["form"],
+        &["form", "net", "net"],
+        &["form", "net", "--rounds"],
         &["cycle", "net"],
     ];
     for words in table {
