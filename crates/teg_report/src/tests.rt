@@ -43,10 +43,7 @@ fn short_answers_are_told(rt: HostRuntime) -> Result<(), Fail> {
     for (answer, text) in [
         (Answer::Usage, usage),
         (live, "live\ntransitions 12\nplaces 0\n"),
-        (
-            too_large,
-            "refused: the net is longer than 4194304 bytes\n",
-        ),
+        (too_large, "refused: the net is longer than 4194304 bytes\n"),
         (fault, "fault: cannot read the net\n"),
     ] {
         assert!(rt; tells(rt.alloc(), None, &answer, text)?, "at {text}");

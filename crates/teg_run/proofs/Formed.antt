@@ -34,7 +34,8 @@ entry_within net ok e h = path_within net ok h.time.reached.first h.time.reached
 pub form_within : (net : NetLists) → IsNet net → (form : FormLists) → IsFormOf net form → IsFormWithin net form
 form_within net ok form h =
     record {
-        stars_to = λ k d lt. (star_within net ok _ (h.stars.known k d lt)).1;
-        stars_from = λ k d lt. (star_within net ok _ (h.stars.known k d lt)).0;
-        entries_to = λ k d lt. (entry_within net ok _ (h.entries.known k d lt)).1;
-        entries_from = λ k d lt. (entry_within net ok _ (h.entries.known k d lt)).0 }
+      stars_to = λ k d lt. (star_within net ok _ (h.stars.known k d lt)).1;
+      stars_from = λ k d lt. (star_within net ok _ (h.stars.known k d lt)).0;
+      entries_to = λ k d lt. (entry_within net ok _ (h.entries.known k d lt)).1;
+      entries_from = λ k d lt. (entry_within net ok _ (h.entries.known k d lt)).0;
+    }

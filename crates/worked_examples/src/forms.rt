@@ -31,7 +31,13 @@ fn a_net_that_is_not_live_has_no_form(rt: HostRuntime) -> Result<(), Fail> {
     let net =
         "[[transition]]\nname = \"a\"\n\n[[place]]\nname = \"aa\"\nfrom = \"a\"\nto = \"a\"\n";
     let text = "refused: token-free circuit aa\n";
-    let answered = answers(rt.alloc(), &["form", "net"], net.as_bytes(), Status::Net, text)?;
+    let answered = answers(
+        rt.alloc(),
+        &["form", "net"],
+        net.as_bytes(),
+        Status::Net,
+        text,
+    )?;
     assert!(rt; answered);
     Ok(())
 }
