@@ -1,13 +1,16 @@
 -- A table of the file and what follows it in a line can be told from the line.
-use Rattle.std.proofs.Common.{◌≡◌, ℕ, ◌<◌, ◌^◌, if◌then◌else◌, List, [], ◌++◌, refl, ap, sym, ◌∙◌, get_or, drop, arith, codes, bytes_eq}
+use Rattle.std.proofs.Common.{◌≡◌, ℕ, ◌<◌, ◌^◌, if◌then◌else◌, List, [], ◌∷◌, ◌++◌, refl, ap, sym, ◌∙◌, get_or, drop, arith, codes, bytes_eq}
 use Rattle.std.proofs.lemmas.List.{append_cancel_left}
+use Rattle.teg_reader.specs.Keys.{key_text}
+use Rattle.teg_reader.specs.declared.keys.Key.{Key}
 use Rattle.teg_reader.specs.declared.refusals.Section.{Section}
 use Rattle.teg_reader.specs.declared.refusals.Section.TheVariants.{Top, Transition, Place, Input}
 use Rattle.teg_reader.specs.declared.refusals.Spot.{Spot}
-use Rattle.teg_report.specs.Kept.{IsSpot, IsWord32}
+use Rattle.teg_report.specs.Kept.{AreBytes, IsSpot, IsWord32}
 use Rattle.teg_report.specs.Lines.{phrase}
-use Rattle.teg_report.specs.Refusals.{table_words, spot_words, fault_line}
-use Rattle.teg_report.proofs.WordsApart.{decimal_apart}
+use Rattle.teg_report.specs.Refusals.{label_word, table_words, spot_words, fault_line}
+use Rattle.teg_report.proofs.ListsApart.{same_heads}
+use Rattle.teg_report.proofs.WordsApart.{decimal_apart, key_apart, label_apart}
 
 pub word32 : (n : ℕ) → IsWord32 n → n < 10 ^ 64
 word32 n h = omega arith
@@ -64,3 +67,16 @@ pub fault_apart : (fault : List ℕ) (spot other : Spot) (about about' : List (L
 fault_apart fault spot other about about' h k e =
     let apart = spot_apart spot other (phrase fault ++ about) (phrase fault ++ about') h k (ap (drop 1) e) in
     (apart.0, append_cancel_left (phrase fault) about about' apart.1)
+
+-- and the key or the label
+pub keyed_apart : (fault : List ℕ) (spot other : Spot) (key key' : Key) → IsSpot spot → IsSpot other → fault_line spot fault (key_text key ∷ []) ≡ fault_line other fault (key_text key' ∷ [])
+    → (spot ≡ other) × (key ≡ key')
+keyed_apart fault spot other key key' h k e =
+    let same = fault_apart fault spot other (key_text key ∷ []) (key_text key' ∷ []) h k e in
+    (same.0, key_apart key key' (same_heads (key_text key) (key_text key') [] [] same.1))
+
+pub labelled_apart : (fault : List ℕ) (spot other : Spot) (label label' : List ℕ) → IsSpot spot × AreBytes label → IsSpot other × AreBytes label'
+    → fault_line spot fault (label_word label ∷ []) ≡ fault_line other fault (label_word label' ∷ []) → (spot ≡ other) × (label ≡ label')
+labelled_apart fault spot other label label' h k e =
+    let same = fault_apart fault spot other (label_word label ∷ []) (label_word label' ∷ []) h.0 k.0 e in
+    (same.0, label_apart label label' h.1 k.1 (same_heads (label_word label) (label_word label') [] [] same.1))
