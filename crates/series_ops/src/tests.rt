@@ -62,18 +62,18 @@ fn products_and_stars(rt: HostRuntime) {
 }
 
 /// The greater of a number and the star of the monomial of these shifts.
-fn raised(alloc: Global, shifts: u64, date: i64, least: i64) -> Result<Series, SeriesRefused> {
-    let part = Series::monomial(alloc, shifts, date as i128)?;
+fn floored(alloc: Global, shifts: u32, date: i64, floor: i64) -> Result<Series, SeriesRefused> {
+    let part = Series::monomial(alloc, shifts as u64, date as i128)?;
     let turning = star(alloc, &part)?;
-    let floor = Series::monomial(alloc, 0, least as i128)?;
-    sum(alloc, &turning, &floor)
+    let low = Series::monomial(alloc, 0, floor as i128)?;
+    sum(alloc, &turning, &low)
 }
 
 #[test]
 fn products_in_both_orders(rt: HostRuntime) {
     let alloc = rt.alloc();
-    let short = raised(alloc, 2, 3, 4);
-    let long = raised(alloc, 8, 9, 0);
+    let short = floored(alloc, 2, 3, 4);
+    let long = floored(alloc, 8, 9, 0);
     if let (Ok(short), Ok(long)) = (short, long) {
         let (a, b, c) = (Date::At(4), Date::At(6), Date::At(9));
         let (d, e) = (Date::At(13), Date::At(15));
