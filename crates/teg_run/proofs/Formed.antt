@@ -1,5 +1,5 @@
 -- The entries of a standard form lead between transitions of its net.
-use Rattle.std.proofs.Common.{◌≡◌, ◌≢◌, ℕ, ◌<◌, List, [], ◌∷◌, length, subst, sym, arith}
+use Rattle.std.proofs.Common.{◌≢◌, ℕ, ◌<◌, List, [], ◌∷◌, length, sym, arith}
 use Rattle.teg_form.specs.declared.form.StarEntry.{StarEntry}
 use Rattle.teg_form.specs.declared.form.Entry.{Entry}
 use Rattle.teg_form.specs.Forms.{FormLists, IsFormOf, IsStarEntry, IsEntry}

@@ -1,4 +1,4 @@
-use Rattle.std.proofs.Common.{rules, ◌≡◌, [], ◌∷◌, ◌++◌, List, ℕ, length, map, ap, sym, ◌∙◌, string_bytes, arith}
+use Rattle.std.proofs.Common.{◌≡◌, [], ◌++◌, List, ℕ, length, map, ap, sym, ◌∙◌, string_bytes, arith}
 use Rattle.std.proofs.lemmas.List.{take_all}
 use Rattle.teg_form.specs.declared.form.StarEntry.{StarEntry}
 use Rattle.teg_report.specs.Forms.{sizes_line, star_line}
