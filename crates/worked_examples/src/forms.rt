@@ -10,7 +10,7 @@ const FORM_OF_LOOP: &str = "form stars 1 entries 2\nstar b a 3\nentry a b 1 2\ne
 
 /// The machines lead on by 4 and 6, and each place with tokens leads on from there.
 const FORM_OF_KANBAN: &str =
-    "form stars 3 entries 13\nstar m2 m1 4\nstar m3 m1 10\nstar m3 m2 6\nentry m1 m1 1 4\nentry m1 m2 2 0\nentry m2 m1 1 8\nentry m2 m2 1 6\nentry m2 m2 2 4\nentry m2 m3 2 0\nentry m3 m1 1 14\nentry m3 m2 1 12\nentry m3 m2 2 10\nentry m3 m3 1 5\nentry m3 m3 2 6\n";
+    "form stars 3 entries 11\nstar m2 m1 4\nstar m3 m1 10\nstar m3 m2 6\nentry m1 m1 1 4\nentry m1 m2 2 0\nentry m2 m1 1 8\nentry m2 m2 1 6\nentry m2 m2 2 4\nentry m2 m3 2 0\nentry m3 m1 1 14\nentry m3 m2 1 12\nentry m3 m2 2 10\nentry m3 m3 1 5\nentry m3 m3 2 6\n";
 
 #[test]
 fn a_live_net_is_told_with_its_standard_form(rt: HostRuntime) -> Result<(), Fail> {
