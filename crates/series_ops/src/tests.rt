@@ -61,12 +61,12 @@ fn products_and_stars(rt: HostRuntime) {
     }
 }
 
-/// The greater of a number and the star of the monomial of these shifts.
-fn floored(alloc: Global, shifts: u32, date: i64, floor: i64) -> Result<Series, SeriesRefused> {
-    let part = Series::monomial(alloc, shifts as u64, date as i128)?;
-    let turning = star(alloc, &part)?;
-    let low = Series::monomial(alloc, 0, floor as i128)?;
-    sum(alloc, &turning, &low)
+/// The greater of a floor and a date for each time that the shift covers a turn.
+fn floored(alloc: Global, turn: u32, date: i64, floor: i64) -> Result<Series, SeriesRefused> {
+    let part = Series::monomial(alloc, turn as u64, date as i128)?;
+    let steps = star(alloc, &part)?;
+    let flat = Series::monomial(alloc, 0, floor as i128)?;
+    sum(alloc, &steps, &flat)
 }
 
 #[test]
@@ -120,14 +120,6 @@ fn sums_with_stars(rt: HostRuntime) {
             )
         );
     }
-}
-
-/// The greater of a floor and a date for each time that the shift covers a turn.
-fn floored(alloc: Global, turn: u32, date: i64, floor: i64) -> Result<Series, SeriesRefused> {
-    let part = Series::monomial(alloc, turn as u64, date as i128)?;
-    let steps = star(alloc, &part)?;
-    let flat = Series::monomial(alloc, 0, floor as i128)?;
-    sum(alloc, &steps, &flat)
 }
 
 /// The dates of these numbers.
