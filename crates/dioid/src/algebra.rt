@@ -1,3 +1,4 @@
+//! The traits of dioids, with the laws that each instance proves.
 ghost use Rattle.std.specs.Prelude.{◌≡◌, ◌↔◌, Bool, true, IsTrue, IfOk, ⊤};
 
 use std::alloc::Global;

@@ -1,3 +1,6 @@
+//! Dates, and the calls on them that take no memory.
+ghost use Rattle.dioid.specs.Order.{IsOrderOfDates};
+
 /// A date in the user's unit of time: before every number, a whole number, or never.
 ///
 /// Dates are the complete max-plus dioid (chapters 3 and 4): the sum of two is the later one, their
@@ -92,8 +95,6 @@ impl Date {
         }
     }
 }
-
-ghost use Rattle.dioid.specs.Order.{IsOrderOfDates};
 
 /// The law that dates are in one total order, the one that their sum gives. It does nothing when it runs.
 pub fn dates_are_ordered()

@@ -1,3 +1,4 @@
+//! Truth values as a dioid.
 use crate::algebra::{Dioid, Kleene, Refused, Residuated};
 use std::alloc::Global;
 

@@ -1,3 +1,4 @@
+//! Each instance through the bounds, and dates that do not fit.
 use crate::{Date, Dioid, Flag, Kleene, Misfit, Refused, Residuated};
 use std::alloc::Global;
 

@@ -1,3 +1,4 @@
+//! Matrices and their calls.
 use crate::lists::{known, products, sums};
 use crate::passes::star_entries;
 use crate::refusals::MatrixRefused;

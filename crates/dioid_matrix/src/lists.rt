@@ -1,3 +1,4 @@
+//! Sums and products of lists of entries.
 // Lists of entries: which are elements, and the sums and products of two.
 
 ghost use Rattle.std.specs.Prelude.{◌≡◌, ◌≤◌, ◌<◌, ◌+◌, ◌*◌, ◌^◌, ℕ, length, get_or};

@@ -1,3 +1,4 @@
+//! Kleene's recursion on the entries of a square matrix, one pivot after another.
 // The steps of Kleene's recursion on the entries of a square matrix. Each step makes the star of its
 // pivot and the pivot's row of loops once, so that the whole takes n^3 sums and products.
 

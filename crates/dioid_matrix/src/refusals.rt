@@ -1,3 +1,4 @@
+//! Why a call on matrices gives none.
 use thiserror::Error;
 
 /// Why a call on matrices gives none. Rows, columns and middle indices are counted from 0.

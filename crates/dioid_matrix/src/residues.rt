@@ -1,3 +1,4 @@
+//! Residuals of lists of entries.
 // The entries of a residual: meets over the rows.
 
 ghost use Rattle.std.specs.Prelude.{◌≡◌, ◌≤◌, ◌<◌, ◌+◌, ◌*◌, ◌^◌, ℕ, length, get_or};

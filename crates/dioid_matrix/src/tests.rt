@@ -1,3 +1,4 @@
+//! Matrices of flags and of dates through the bounds, and what is refused.
 use crate::{Matrix, MatrixRefused};
 use dioid::{Date, Dioid, Flag, Kleene, Residuated};
 use std::alloc::Global;

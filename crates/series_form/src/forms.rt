@@ -1,3 +1,7 @@
+//! Series, and the calls that make and read them.
+ghost use Rattle.std.specs.Prelude.{◌≡◌, ◌≤◌, ◌<◌, ◌+◌, ℕ, [], ◌∷◌, IfOk};
+ghost use Rattle.series_form.specs.Forms.{table, monomial_at};
+
 use crate::shorten::shortest;
 use crate::values::{same_parts, value_of};
 use dioid::Date;
@@ -139,9 +143,6 @@ impl Series {
         )
     }
 }
-
-ghost use Rattle.std.specs.Prelude.{◌≡◌, ◌≤◌, ◌<◌, ◌+◌, ℕ, [], ◌∷◌, IfOk};
-ghost use Rattle.series_form.specs.Forms.{table, monomial_at};
 
 /// The first values of a monomial, its own shift the last one.
 fn monomial_values(alloc: Global, shift: usize, date: i128) -> Result<Vec<Date>, AllocError>

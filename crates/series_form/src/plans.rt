@@ -1,3 +1,4 @@
+//! Periods, starts and slopes of two series, and what they gain.
 ghost use Rattle.std.specs.Prelude.{◌≡◌, ◌≤◌, ◌<◌, ◌+◌, ◌-◌, ◌*◌, ◌/◌, ℕ, pos, ◌<ℤ◌, ◌-ℤ◌, max};
 ghost use Rattle.std.specs.Int.RustNames.{unsigned_abs};
 ghost use Rattle.series_form.specs.Periodic.{times};

@@ -1,11 +1,13 @@
-ghost use Rattle.std.specs.Prelude.{◌≡◌, ◌≤◌, ◌<◌, ◌+◌, ◌-◌, ℕ, IfOk};
+//! The sum and the minimum of two series, shift by shift.
+ghost use Rattle.std.specs.Prelude.{◌≡◌, ◌≤◌, ◌<◌, ◌+◌, ◌-◌, ◌*◌, ◌-ℤ◌, ◌<ℤ◌, ℕ, IfOk, pos};
+ghost use Rattle.std.specs.Int.{int_max};
 ghost use Rattle.std.specs.Int.RustNames.{unsigned_abs};
 ghost use Rattle.series_form.specs.declared.plans.Slopes.TheVariants.{First};
 ghost use Rattle.series_form.specs.Forms.{value_at, gap, table, HasValues};
 ghost use Rattle.series_form.specs.Bounds.{IsSeries};
 ghost use Rattle.series_form.specs.Answer.{AnswersOf, Answers};
 ghost use Rattle.series_form.specs.Pointwise.{sum_at, least_at};
-ghost use Rattle.series_form.specs.Needs.{need_of, greatest_int, later_start, crossing, slopes_of, sum_plan, least_plan, form_sum, form_least};
+ghost use Rattle.series_form.specs.Needs.{need_of, greatest_int, later_start, crossing, slopes_of, periods_behind, period_with, rise_of, fall_of, sum_plan, least_plan, form_sum, form_least};
 
 use crate::forms::{Series, SeriesRefused};
 use crate::plans::{
@@ -46,8 +48,6 @@ fn greater(first: i128, second: i128) -> i128
     if first < second { second } else { first }
 }
 
-ghost use Rattle.std.specs.Int.{int_max};
-
 /// The greatest lead of the second series over the first on `count` shifts.
 fn greatest_lead(first: &Series, second: &Series, from: usize, count: usize) -> i128
     requires positive { 0 < count }
@@ -76,9 +76,6 @@ fn crossing_of(first: &Series, second: &Series) -> u128
         _ => from as u128,
     }
 }
-
-ghost use Rattle.std.specs.Prelude.{◌*◌, ◌-ℤ◌, ◌<ℤ◌, pos};
-ghost use Rattle.series_form.specs.Needs.{periods_behind, period_with, rise_of, fall_of};
 
 /// The shifts in which the first series makes up the greatest lead of the second.
 fn shifts_behind(first: &Series, second: &Series, from: usize) -> u128

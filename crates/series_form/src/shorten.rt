@@ -1,3 +1,4 @@
+//! The canonical form of a list of values: the least period, and with it the least length.
 ghost use Rattle.std.specs.Prelude.{◌≡◌, ◌≤◌, ◌<◌, ◌+◌, ◌-◌, ℕ, length, MatchBool, MatchResult};
 ghost use Rattle.std.specs.Int.RustNames.{unsigned_abs};
 ghost use Rattle.series_form.specs.Forms.{value_at, form_with, moves, repeats_test, gap, least_period_of, least_start_of};

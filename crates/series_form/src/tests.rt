@@ -1,3 +1,4 @@
+//! Series whose values are plain to see, and what is refused.
 use crate::{Series, SeriesRefused, least, sum};
 use dioid::Date;
 

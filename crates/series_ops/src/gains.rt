@@ -1,3 +1,4 @@
+//! Series as a dioid with stars and residuals.
 use crate::products::product;
 use crate::residuals::left;
 use crate::stars::star;

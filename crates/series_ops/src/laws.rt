@@ -1,3 +1,4 @@
+//! The law that series are closed under the operations.
 ghost use Rattle.series_ops.specs.Closure.{AreClosed};
 
 /// The operations lead from forms of any length and any numbers to canonical forms of the functions

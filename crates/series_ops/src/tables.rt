@@ -1,3 +1,4 @@
+//! First values of a series, and the series of a list.
 ghost use Rattle.std.specs.Prelude.{◌≡◌, ◌≤◌, ◌<◌, ◌+◌, ◌-◌, ℕ, IfOk, length, take, get_or};
 ghost use Rattle.dioid.specs.declared.dates.Date.TheVariants.{Early};
 ghost use Rattle.series_form.specs.Forms.{value_at, table};

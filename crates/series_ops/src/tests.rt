@@ -1,3 +1,4 @@
+//! Operations on small series whose values are plain to see.
 use crate::{Gain, left, product, star};
 use dioid::{Date, Dioid, Kleene, Refused, Residuated};
 use series_form::{Series, SeriesRefused, least, sum};

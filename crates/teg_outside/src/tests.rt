@@ -1,4 +1,4 @@
-// A monitor of the tests' own, and any shelf at a file beyond the limit.
+//! A monitor of the tests' own, any shelf at a file beyond the limit, files and output.
 ghost use Rattle.std.specs.Prelude.{◌||◌, nat_lt, length, codes, if◌then◌else◌};
 ghost use Rattle.teg_outside.specs.Shelves.{ShelfState, LongIsTooLarge};
 
