@@ -1,5 +1,5 @@
 -- The product by its splits, some places at a time.
-use Rattle.std.proofs.Common.{◌≡◌, refl, ap, arith, ℕ, ℤ, zero, suc, ◌+◌, ◌-◌, ◌≤◌, ◌<◌, sym, ◌∙◌, subst, List, get_or, to_z, of_z}
+use Rattle.std.proofs.Common.{◌≡◌, refl, ap, arith, ℕ, ℤ, zero, suc, ◌+◌, ◌-◌, ◌≤◌, ◌<◌, sym, ◌∙◌, subst, List, to_z, of_z}
 use Rattle.std.specs.Prelude.{min}
 use Rattle.std.specs.Int.{w128}
 use Rattle.std.specs.Int.RustNames.{unsigned_abs}
@@ -21,7 +21,7 @@ use Rattle.series_ops.specs.Listed.{listed, AreUpTo}
 use Rattle.series_ops.specs.Product.{product_at, greatest}
 use Rattle.series_ops.specs.Products.{product_commutes}
 use Rattle.series_ops.specs.Splits.{greatest_from, split_of, product_from, places_to, tail_product, with_tail}
-use Rattle.series_ops.proofs.FirstValues.{table_same, product_same, listed_is, added_up_to, tabled_up_to}
+use Rattle.series_ops.proofs.FirstValues.{table_same, product_same, listed_is, added_up_to, all_up_to, all_more}
 
 -- ---- the greatest of some places
 
@@ -143,10 +143,10 @@ passed_step f x h e =
 -- ---- bounds
 
 pub values_up_to : (f : Form) (l : List Date) → IsSeries f → l ≡ f.values → AreUpTo 20001000000000000000000 l
-values_up_to f l h e k = up_to_more 1000000000000000000 20001000000000000000000 (get_or l k Early) (omega arith) (subst (λ (z : List Date). IsUpTo 1000000000000000000 (get_or z k Early)) (sym e) (h.small.values k))
+values_up_to f l h e = subst (λ (z : List Date). AreUpTo 20001000000000000000000 z) (sym e) (all_more 1000000000000000000 20001000000000000000000 f.values (omega arith) h.small.values)
 
 pub splits_up_to : (s t : ℕ → Date) (p k n m : ℕ) (l : List Date) → l ≡ table (product_from s t p) k → ((i j : ℕ) → i + j < k → IsUpTo n (date_product (s i) (t j))) → n ≤ m → AreUpTo m l
-splits_up_to s t p k n m l e low w = tabled_up_to m (product_from s t p) k l e (λ i u.
+splits_up_to s t p k n m l e low w = all_up_to m (product_from s t p) k l e (λ i u.
     up_to_more n m (product_from s t p i) w (greatest_from_up_to (split_of s t i) p (suc i - p) n (λ j v. low (p + j) (i - (p + j)) (omega arith))))
 
 -- the sums in the tail of a series

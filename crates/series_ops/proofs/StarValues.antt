@@ -34,7 +34,7 @@ use Rattle.series_ops.specs.StarOf.{parts_star, parts_star_is, first_parts, firs
 use Rattle.series_ops.specs.Stars.{one_star}
 use Rattle.series_ops.specs.Needs.{one_shift, at_least, own_plan, star_plan, star_plan_by, carried_of, star_carried_by, star_need, star_carried}
 use Rattle.series_ops.specs.StarForms.{one_shift_is, one_shift_values, parts_serves}
-use Rattle.series_ops.proofs.FirstValues.{listed_is, listed_tabled, product_same, added_up_to, greatest_up_to, table_same, tabled_up_to}
+use Rattle.series_ops.proofs.FirstValues.{listed_is, listed_tabled, product_same, added_up_to, greatest_up_to, table_same, all_up_to, all_more}
 use Rattle.series_ops.specs.Splits.{tail_product, with_tail}
 use Rattle.series_ops.proofs.SplitLaws.{product_from_same, parted_listed, splits_up_to}
 
@@ -55,7 +55,7 @@ star_moderate : (f : Form) → IsSeries f → (k : ℕ) → k ≤ 20000 → IsUp
 star_moderate f h k w = up_to_more (k * 20001000000000000000000) 500000000000000000000000000 (parts_star (value_at f) k) (omega arith) (star_up_to f h k k (omega arith) w)
 
 pub stars_up_to : (f : Form) → IsSeries f → (n : ℕ) (l : List Date) → n ≤ 20001 → l ≡ table (parts_star (value_at f)) n → AreUpTo 500000000000000000000000000 l
-stars_up_to f h n l short e = tabled_up_to 500000000000000000000000000 (parts_star (value_at f)) n l e (λ k w. star_moderate f h k (omega arith))
+stars_up_to f h n l short e = all_up_to 500000000000000000000000000 (parts_star (value_at f)) n l e (λ k w. star_moderate f h k (omega arith))
 
 -- ---- the values from shift 1 on, as a form
 
@@ -79,7 +79,7 @@ module _ (f : Form) (h : IsSeries f) (l : List Date) (e : l ≡ table (later_par
   later_fits = let w : f.period ≤ size_of f = h.canonical.form.period_fits in let u : length l ≡ size_of f = later_size in omega arith
 
   pub later_up : AreUpTo 20001000000000000000000 l
-  later_up = let w : size_of f ≤ 20000 = h.short in tabled_up_to 20001000000000000000000 (later_part (value_at f)) (size_of f) l e (λ k u. listed_up_to f h (suc k) (omega arith))
+  later_up = let w : size_of f ≤ 20000 = h.short in all_up_to 20001000000000000000000 (later_part (value_at f)) (size_of f) l e (λ k u. listed_up_to f h (suc k) (omega arith))
 
   -- the sums whose first part is in the tail, by the star so far
   pub later_tails : (k : ℕ) (m : List Date) → m ≡ table (parts_star (value_at f)) (k + 1) → (i : ℕ) → i ≤ k → tail_product later (listed m) i ≡ tail_product later (parts_star (value_at f)) i
@@ -184,7 +184,7 @@ part_ready l m n next s b h low last e =
       omega arith,
       omega arith,
       subst (λ (z : ℤ). unsigned_abs z ≤ 200000000000000000000000) (sym (to_z-of_z w128 s.step h.step_fits)) small,
-      λ k. up_to_more 20001000000000000000000 200000000000000000000000 (get_or m k Early) (omega arith) (subst (λ (z : List Date). IsUpTo 20001000000000000000000 (get_or z k Early)) (sym e) (taken_up_to 20001000000000000000000 s.size l fits low k)),
+      all_more 20001000000000000000000 200000000000000000000000 m (omega arith) (subst (λ (z : List Date). AreUpTo 20001000000000000000000 z) (sym e) (taken_up_to 20001000000000000000000 s.size l fits low)),
     )
 
 pub part_form : (l m : List Date) (n : ℕ) (next : Date) (s : Shape) → IsCanonicalPart l n next s → m ≡ take s.size l → (g : Form) → IsCanonical g → HasValues g (value_at (form_before l n next))
@@ -195,7 +195,7 @@ part_form l m n next s h e g cg has =
 
 -- the values of a sum
 pub sums_up_to : (f g : Form) → IsSeries f → IsSeries g → (n : ℕ) (l : List Date) → n ≤ 20000 → l ≡ table (sum_at (value_at f) (value_at g)) n → AreUpTo 20001000000000000000000 l
-sums_up_to f g sf sg n l short e = tabled_up_to 20001000000000000000000 (sum_at (value_at f) (value_at g)) n l e (λ k w. sum_up_to f g sf sg k (omega arith))
+sums_up_to f g sf sg n l short e = all_up_to 20001000000000000000000 (sum_at (value_at f) (value_at g)) n l e (λ k w. sum_up_to f g sf sg k (omega arith))
 
 -- ---- the monomial of shift 1 and date 0
 

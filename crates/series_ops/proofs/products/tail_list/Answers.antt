@@ -2,9 +2,10 @@ use Rattle.std.proofs.Common.{◌≡◌, ◌≤◌, ◌∙◌, ap, sym, arith, L
 use Rattle.std.specs.Int.{w128}
 use Rattle.dioid.specs.declared.dates.Date.{Date}
 use Rattle.series_form.specs.Forms.{Form, form_with, size_of, table}
-use Rattle.series_form.proofs.Finished.{table_push, up_to_more}
+use Rattle.series_form.proofs.Finished.{table_push}
 use Rattle.series_ops.specs.Listed.{listed}
 use Rattle.series_ops.specs.Splits.{tail_product}
+use Rattle.series_ops.proofs.FirstValues.{all_more}
 use Rattle.series_ops.proofs.SplitLaws.{passed_form, passed_step, values_up_to, tails_up_to}
 use Rattle.series_ops.proofs.products.tail_list.Goals as goal
 
@@ -27,7 +28,7 @@ tail_value-next-requires c =
       step = passed_step c.args.first.now c.step-step.result c.step-step.ensures.series c.step-step.ensures.value;
       second = omega arith;
       values_bound = values_up_to c.args.first.now c.values-values.result.now c.values-values.ensures.series c.values-values.ensures.value;
-      second_bound = λ k. up_to_more 20001000000000000000000 500000000000000000000000000 (listed c.args.second.now k) (omega arith) (c.requires.second_bound k);
+      second_bound = all_more 20001000000000000000000 500000000000000000000000000 c.args.second.now (omega arith) c.requires.second_bound;
       tails_bound = tails_up_to c.args.first.now c.args.second.now c.as_slice.result.now c.loop-shift.shift c.step-step.ensures.series c.requires.second_bound (omega arith) items;
       tails = items ∙ ap (λ (z : Form). table (tail_product z (listed c.args.second.now)) c.loop-shift.shift) (sym form);
     }
