@@ -57,19 +57,24 @@ listed_tabled s r l up serves e low = record { rising = up; serves = serves; val
 
 -- ---- lists of two series
 
-pub table_up_to : (f : Form) (n : ℕ) (l : List Date) → IsSeries f → n ≤ 20001 → l ≡ table (value_at f) n → AreUpTo 20001000000000000000000 l
-table_up_to f n l h short e k = ⊎_elim
-    (λ w.
-    let u : k < n = w in
-    subst (λ (z : Date). IsUpTo 20001000000000000000000 z) (sym (ap (λ (z : List Date). get_or z k Early) e ∙ table_at (value_at f) n k u)) (listed_up_to f h k (omega arith)))
-    (λ w.
-    let a : length l ≡ n = ap length e ∙ table_length (value_at f) n in
-    let u : length l ≤ k = omega arith in
-    subst (λ (z : Date). IsUpTo 20001000000000000000000 z) (sym (get_or-eq_default l Early {n = k} u)) tt)
-    (cases_lt k n)
-
 pub listed_is : (s : ℕ → Date) (n : ℕ) (l : List Date) → l ≡ table s n → (k : ℕ) → k < n → listed l k ≡ s k
 listed_is s n l e k w = ap (λ (z : List Date). get_or z k Early) e ∙ table_at s n k w
+
+-- lists whose numbers are all up to one
+pub all_up_to : (m : ℕ) (s : ℕ → Date) (n : ℕ) (l : List Date) → l ≡ table s n → ((k : ℕ) → k < n → IsUpTo m (s k)) → AreUpTo m l
+all_up_to m s n l e low k = ⊎_elim
+    (λ w. let u : k < n = w in subst (λ (z : Date). IsUpTo m z) (sym (listed_is s n l e k u)) (low k u))
+    (λ w.
+    let a : length l ≡ n = ap length e ∙ table_length s n in
+    let u : length l ≤ k = omega arith in
+    subst (λ (z : Date). IsUpTo m z) (sym (get_or-eq_default l Early {n = k} u)) tt)
+    (cases_lt k n)
+
+pub all_more : (m n : ℕ) (l : List Date) → m ≤ n → AreUpTo m l → AreUpTo n l
+all_more m n l w h k = up_to_more m n (get_or l k Early) w (h k)
+
+pub table_up_to : (f : Form) (n : ℕ) (l : List Date) → IsSeries f → n ≤ 20001 → l ≡ table (value_at f) n → AreUpTo 20001000000000000000000 l
+table_up_to f n l h short e = all_up_to 20001000000000000000000 (value_at f) n l e (λ k w. listed_up_to f h k (omega arith))
 
 half : (s t u v : ℕ → Date) (k : ℕ) → ((i : ℕ) → i ≤ k → s i ≡ u i) → ((i : ℕ) → i ≤ k → t i ≡ v i) → Le (product_at s t k) (product_at u v k)
 half s t u v k g h = product_at_le s t k (product_at u v k) (λ i j e.

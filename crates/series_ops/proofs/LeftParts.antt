@@ -25,8 +25,8 @@ use Rattle.series_ops.specs.Listed.{AreUpTo, part_listed, left_listed, star_left
 use Rattle.series_ops.specs.Residual.{IsLeftAt, least_of, least_of_le, le_least_of, left_repeats}
 use Rattle.series_ops.specs.Needs.{offsets_of, left_over, left_at, OffsetsDecide}
 use Rattle.series_ops.specs.Lefts.{left_is, left_mono}
-use Rattle.series_ops.proofs.FirstValues.{listed_is}
-use Rattle.series_ops.proofs.LeftValues.{least_same, late_left, gentle_left, all_up_to, over_up_to}
+use Rattle.series_ops.proofs.FirstValues.{listed_is, all_up_to}
+use Rattle.series_ops.proofs.LeftValues.{least_same, late_left, gentle_left, over_up_to}
 
 -- ---- residuals of dates
 
@@ -252,9 +252,6 @@ module _ (l r : List Date) (n : ℕ) (x : ℤ) (pos_n : 0 < n) (step : unsigned_
       (λ w. up_to_more (60002000000000000000000 + k * 1000000000000000000) 500000000000000000000000000 (get_or r k Early) (omega arith) (climbs k k (omega arith) w))
       (λ w. subst (λ (z : Date). IsUpTo 500000000000000000000000000 z) (sym (get_or-eq_default r Early {n = k} w)) tt)
       (cases_lt k (length r))
-
-pub all_wide : (m : ℕ) (l : List Date) → m ≤ 500000000000000000000000000 → AreUpTo m l → AreUpTo 500000000000000000000000000 l
-all_wide m l w h k = up_to_more m 500000000000000000000000000 (get_or l k Early) w (h k)
 
 -- the values of the residual that a list may have
 pub overs_up_to : (f g : Form) → IsSeries f → IsSeries g → offsets_of f g ≤ 40000 → (n : ℕ) (l : List Date) → n ≤ 20001 → l ≡ table (left_over f g) n → AreUpTo 500000000000000000000000000 l

@@ -1,7 +1,5 @@
 -- The residual by its first values.
-use Rattle.std.proofs.Common.{◌≡◌, refl, ap, arith, ℕ, zero, suc, ◌+◌, ◌*◌, ◌-◌, ◌≤◌, ◌<◌, sym, ◌∙◌, subst, ◌-ℤ◌, inl, ⊎_elim, List, length, get_or}
-use Rattle.std.proofs.lemmas.Bool.{cases_lt}
-use Rattle.std.proofs.Math.ListN.{get_or-eq_default}
+use Rattle.std.proofs.Common.{◌≡◌, refl, ap, arith, ℕ, zero, suc, ◌+◌, ◌*◌, ◌-◌, ◌≤◌, sym, ◌∙◌, subst, ◌-ℤ◌, inl, List}
 use Rattle.dioid.specs.Dates.{date_left}
 use Rattle.dioid.specs.declared.dates.Date.{Date}
 use Rattle.dioid.specs.declared.dates.Date.TheVariants.{Early, At, Never}
@@ -10,7 +8,6 @@ use Rattle.series_form.specs.declared.plans.Slopes.{Slopes}
 use Rattle.series_form.specs.declared.plans.Slopes.TheVariants.{Equal, First, Second}
 use Rattle.series_form.specs.Order.{Le, le_is, le_trans, le_antisym}
 use Rattle.series_form.specs.Forms.{Form, size_of, value_at, table, IsForm, HasValues}
-use Rattle.series_form.specs.Canonical.{table_at, table_length}
 use Rattle.series_form.specs.Bounds.{IsUpTo, IsSeries}
 use Rattle.series_form.specs.Needs.{need_of, tail_of, slopes_of, slopes_by, common, period_with, rise_of, fall_of}
 use Rattle.series_form.specs.Sums.{Serves}
@@ -21,23 +18,12 @@ use Rattle.series_ops.specs.Listed.{AreUpTo, all_but_last, last_of}
 use Rattle.series_ops.specs.Residual.{IsLeftAt, least_of, least_of_le, le_least_of, one_greatest}
 use Rattle.series_ops.specs.Needs.{offsets_of, left_over, left_by_slopes, left_by, left_at, left_plan, left_plan_by, left_plan_by_slopes, long_left}
 use Rattle.series_ops.specs.Lefts.{left_is, left_rises, left_serves}
-use Rattle.series_ops.proofs.FirstValues.{listed_tabled}
+use Rattle.series_ops.proofs.FirstValues.{listed_tabled, all_up_to}
 
 -- ---- lists of two series
 
 pub long_value_up_to : (f : Form) → IsSeries f → (k : ℕ) → k ≤ 60001 → IsUpTo 60002000000000000000000 (value_at f k)
 long_value_up_to f h k w = up_to_more (1000000000000000000 + 60001 * 1000000000000000000) 60002000000000000000000 (value_at f k) (omega arith) (value_up_to f h k 60001 w)
-
-pub all_up_to : (m : ℕ) (s : ℕ → Date) (n : ℕ) (l : List Date) → l ≡ table s n → ((k : ℕ) → k < n → IsUpTo m (s k)) → AreUpTo m l
-all_up_to m s n l e low k = ⊎_elim
-    (λ w.
-    let u : k < n = w in
-    subst (λ (z : Date). IsUpTo m z) (sym (ap (λ (z : List Date). get_or z k Early) e ∙ table_at s n k u)) (low k u))
-    (λ w.
-    let a : length l ≡ n = ap length e ∙ table_length s n in
-    let u : length l ≤ k = omega arith in
-    subst (λ (z : Date). IsUpTo m z) (sym (get_or-eq_default l Early {n = k} u)) tt)
-    (cases_lt k n)
 
 pub long_table_up_to : (f : Form) (n : ℕ) (l : List Date) → IsSeries f → n ≤ 60001 → l ≡ table (value_at f) n → AreUpTo 60002000000000000000000 l
 long_table_up_to f n l h short e = all_up_to 60002000000000000000000 (value_at f) n l e (λ k w. long_value_up_to f h k (omega arith))

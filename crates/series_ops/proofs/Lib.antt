@@ -1,7 +1,7 @@
 pub mod AnchorLaws
 pub mod Closed
 pub mod FirstValues
-pub mod Splits
+pub mod SplitLaws
 pub mod ProductPlans
 pub mod LeftValues
 pub mod LeftParts

@@ -18,34 +18,28 @@ use Rattle.series_form.specs.Order.{Le, move, le_is, early_le}
 use Rattle.series_form.specs.Periodic.{Rising, Repeats}
 use Rattle.series_form.specs.Pointwise.{sum_at}
 use Rattle.series_form.specs.Forms.{Form, form_with, size_of, start_of, value_at, gap, table, IsForm, HasValues, IsCanonical, monomial_at}
-use Rattle.series_form.specs.Canonical.{table_length, value_in, value_repeats, one_canonical, constant_is}
+use Rattle.series_form.specs.Canonical.{table_length, value_in, value_repeats, one_canonical, constant_is, form_values}
 use Rattle.series_form.specs.Bounds.{IsUpTo, IsSeries}
 use Rattle.series_form.specs.Answer.{AnswersOf, IsConstant, IsBeginning, form_before}
 use Rattle.series_form.specs.Shapes.{IsCanonicalPart}
 use Rattle.series_form.specs.declared.shorten.Shape.{Shape}
 use Rattle.series_form.specs.Needs.{need_of, sum_plan, form_sum}
-use Rattle.series_form.specs.Sums.{Serves}
+use Rattle.series_form.specs.Sums.{Serves, form_repeats_own}
 use Rattle.series_form.proofs.Numbers.{abs_difference}
 use Rattle.series_form.proofs.Finished.{IsTabled, up_to_more, monomial_below, monomial_from}
 use Rattle.series_form.proofs.PointwiseTables.{later_up_to, listed_up_to}
-use Rattle.series_ops.specs.Listed.{listed, AreUpTo, all_but_last, last_of, later_part, star_listed}
+use Rattle.series_ops.specs.Listed.{listed, AreUpTo, all_but_last, last_of, later_part}
 use Rattle.series_ops.specs.Product.{product_at}
 use Rattle.series_ops.specs.StarOf.{parts_star, parts_star_is, first_parts, first_parts_is, star_rises, from_one, above_zero, IsStarBy, IsStarOf, IsGreatestSum, parts_star_greatest}
 use Rattle.series_ops.specs.Stars.{one_star}
 use Rattle.series_ops.specs.Needs.{one_shift, at_least, own_plan, star_plan, star_plan_by, carried_of, star_carried_by, star_need, star_carried}
 use Rattle.series_ops.specs.StarForms.{one_shift_is, one_shift_values, parts_serves}
-use Rattle.series_ops.proofs.FirstValues.{listed_is, listed_tabled, product_same, added_up_to, greatest_up_to}
+use Rattle.series_ops.proofs.FirstValues.{listed_is, listed_tabled, product_same, added_up_to, greatest_up_to, table_same, all_up_to, all_more}
+use Rattle.series_ops.specs.Splits.{tail_product, with_tail}
+use Rattle.series_ops.proofs.SplitLaws.{product_from_same, parted_listed, splits_up_to}
 
 star_first : (s : ℕ → Date) → Rising s → (k : ℕ) → first_parts s (parts_star s) k ≡ parts_star s k
 star_first s up k = one_star s k (first_parts s (parts_star s) k) (parts_star s k) (first_parts_is s (parts_star s) up k (λ j _. parts_star_is s j)) (parts_star_is s k)
-
--- the star at k from the values and the star below
-pub star_same : (s : ℕ → Date) → Rising s → (n k : ℕ) (l m : List Date) → l ≡ table (later_part s) n → m ≡ table (parts_star s) k → k ≤ n → star_listed l m k ≡ parts_star s k
-star_same s up n zero l m el em w = star_first s up 0
-star_same s up n (suc j) l m el em w =
-    ap (later_of (At (pos 0))) (product_same (listed l) (listed m) (later_part s) (parts_star s) j
-    (λ i u. listed_is (later_part s) n l el i (omega arith)) (λ i u. listed_is (parts_star s) (suc j) m em i (omega arith)))
-    ∙ star_first s up (suc j)
 
 star_up_to : (f : Form) → IsSeries f → (n k : ℕ) → k ≤ n → k ≤ 20000 → IsUpTo (k * 20001000000000000000000) (parts_star (value_at f) k)
 star_up_to f h n zero w u = subst (λ (z : Date). IsUpTo (0 * 20001000000000000000000) z) (star_first (value_at f) h.canonical.form.rising 0) (omega arith)
@@ -61,26 +55,55 @@ star_moderate : (f : Form) → IsSeries f → (k : ℕ) → k ≤ 20000 → IsUp
 star_moderate f h k w = up_to_more (k * 20001000000000000000000) 500000000000000000000000000 (parts_star (value_at f) k) (omega arith) (star_up_to f h k k (omega arith) w)
 
 pub stars_up_to : (f : Form) → IsSeries f → (n : ℕ) (l : List Date) → n ≤ 20001 → l ≡ table (parts_star (value_at f)) n → AreUpTo 500000000000000000000000000 l
-stars_up_to f h n l short e k = ⊎_elim
-    (λ w.
-    let u : k < n = w in
-    subst (λ (z : Date). IsUpTo 500000000000000000000000000 z) (sym (listed_is (parts_star (value_at f)) n l e k u)) (star_moderate f h k (omega arith)))
-    (λ w.
-    let a : length l ≡ n = ap length e ∙ table_length (parts_star (value_at f)) n in
-    let u : length l ≤ k = omega arith in
-    subst (λ (z : Date). IsUpTo 500000000000000000000000000 z) (sym (get_or-eq_default l Early {n = k} u)) tt)
-    (cases_lt k n)
+stars_up_to f h n l short e = all_up_to 500000000000000000000000000 (parts_star (value_at f)) n l e (λ k w. star_moderate f h k (omega arith))
 
-pub later_up : (f : Form) → IsSeries f → (n : ℕ) (l : List Date) → n ≤ 20000 → l ≡ table (later_part (value_at f)) n → AreUpTo 20001000000000000000000 l
-later_up f h n l short e k = ⊎_elim
-    (λ w.
-    let u : k < n = w in
-    subst (λ (z : Date). IsUpTo 20001000000000000000000 z) (sym (listed_is (later_part (value_at f)) n l e k u)) (listed_up_to f h (suc k) (omega arith)))
-    (λ w.
-    let a : length l ≡ n = ap length e ∙ table_length (later_part (value_at f)) n in
-    let u : length l ≤ k = omega arith in
-    subst (λ (z : Date). IsUpTo 20001000000000000000000 z) (sym (get_or-eq_default l Early {n = k} u)) tt)
-    (cases_lt k n)
+-- ---- the values from shift 1 on, as a form
+
+module _ (f : Form) (h : IsSeries f) (l : List Date) (e : l ≡ table (later_part (value_at f)) (size_of f)) where
+  abbrev later : Form
+  later = form_with l f.period f.step
+
+  later_size : length l ≡ size_of f
+  later_size = ap length e ∙ table_length (later_part (value_at f)) (size_of f)
+
+  later_repeats : Repeats (later_part (value_at f)) (start_of f) f.period f.step
+  later_repeats = record { at = λ k w. let here : suc (k + f.period) ≡ suc k + f.period = omega arith in ap (value_at f) here ∙ (form_repeats_own f h.canonical.form).at (suc k) (omega arith) }
+
+  later_is : value_at later ≡ later_part (value_at f)
+  later_is =
+      let whole : size_of f ≡ start_of f + f.period = (let w : f.period ≤ size_of f = h.canonical.form.period_fits in omega arith) in
+      ap (λ (z : List Date). value_at (form_with z f.period f.step)) (e ∙ ap (table (later_part (value_at f))) whole)
+      ∙ (λ i k. form_values (later_part (value_at f)) (start_of f) f.period f.step h.canonical.form.period_positive later_repeats k i)
+
+  pub later_fits : f.period ≤ length l
+  later_fits = let w : f.period ≤ size_of f = h.canonical.form.period_fits in let u : length l ≡ size_of f = later_size in omega arith
+
+  pub later_up : AreUpTo 20001000000000000000000 l
+  later_up = let w : size_of f ≤ 20000 = h.short in all_up_to 20001000000000000000000 (later_part (value_at f)) (size_of f) l e (λ k u. listed_up_to f h (suc k) (omega arith))
+
+  -- the sums whose first part is in the tail, by the star so far
+  pub later_tails : (k : ℕ) (m : List Date) → m ≡ table (parts_star (value_at f)) (k + 1) → (i : ℕ) → i ≤ k → tail_product later (listed m) i ≡ tail_product later (parts_star (value_at f)) i
+  later_tails k m em i w = product_from_same (value_at later) (listed m) (parts_star (value_at f)) (start_of later) i (λ j u. listed_is (parts_star (value_at f)) (k + 1) m em j (omega arith))
+
+  pub later_carried : (k : ℕ) (m d : List Date) → m ≡ table (parts_star (value_at f)) (k + 1) → d ≡ table (tail_product later (parts_star (value_at f))) k → d ≡ table (tail_product later (listed m)) k
+  later_carried k m d em ed = ed ∙ table_same (tail_product later (parts_star (value_at f))) (tail_product later (listed m)) k (λ i w. sym (later_tails k m em i (omega arith)))
+
+  pub later_tails_up : (k : ℕ) (d : List Date) → k ≤ 20000 → d ≡ table (tail_product later (parts_star (value_at f))) k → AreUpTo 500000000000000000000000000 d
+  later_tails_up k d short ed = splits_up_to (value_at later) (parts_star (value_at f)) (start_of later) k (20001000000000000000000 + 20000 * 20001000000000000000000) 500000000000000000000000000 d ed
+      (λ i j u. added_up_to 20001000000000000000000 (20000 * 20001000000000000000000) (value_at later i) (parts_star (value_at f) j)
+      (subst (λ (z : ℕ → Date). IsUpTo 20001000000000000000000 (z i)) (sym later_is) (listed_up_to f h (suc i) (omega arith)))
+      (up_to_more (j * 20001000000000000000000) (20000 * 20001000000000000000000) (parts_star (value_at f) j) (omega arith) (star_up_to f h j j (omega arith) (omega arith))))
+      (omega arith)
+
+  -- the star after k by the splits below the tail and those in the tail
+  pub star_next : (k p : ℕ) (m : List Date) (d : Date) → m ≡ table (parts_star (value_at f)) (k + 1) → p ≡ start_of f → d ≡ tail_product later (listed m) k
+      → later_of (At (pos 0)) (with_tail (listed l) (listed m) p d k) ≡ parts_star (value_at f) (suc k)
+  star_next k p m d em ep ed =
+      let from : p ≡ start_of later = ep ∙ (let u : length l ≡ size_of f = later_size in omega arith) in
+      ap (later_of (At (pos 0))) (parted_listed later (listed m) k p d from ed
+      ∙ ap (λ (z : ℕ → Date). product_at z (listed m) k) later_is
+      ∙ product_same (later_part (value_at f)) (listed m) (later_part (value_at f)) (parts_star (value_at f)) k (λ i u. refl) (λ i u. listed_is (parts_star (value_at f)) (k + 1) m em i (omega arith)))
+      ∙ star_first (value_at f) h.canonical.form.rising (suc k)
 
 pub star_tabled : (f : Form) (r : Plan) (l : List Date) → IsSeries f → Le (value_at f 0) (At (pos 0)) → r ≡ star_plan f → need_of r ≤ 20000 → l ≡ table (parts_star (value_at f)) (need_of r + 1)
     → IsTabled (parts_star (value_at f)) r (all_but_last l) (last_of l)
@@ -161,7 +184,7 @@ part_ready l m n next s b h low last e =
       omega arith,
       omega arith,
       subst (λ (z : ℤ). unsigned_abs z ≤ 200000000000000000000000) (sym (to_z-of_z w128 s.step h.step_fits)) small,
-      λ k. up_to_more 20001000000000000000000 200000000000000000000000 (get_or m k Early) (omega arith) (subst (λ (z : List Date). IsUpTo 20001000000000000000000 (get_or z k Early)) (sym e) (taken_up_to 20001000000000000000000 s.size l fits low k)),
+      all_more 20001000000000000000000 200000000000000000000000 m (omega arith) (subst (λ (z : List Date). AreUpTo 20001000000000000000000 z) (sym e) (taken_up_to 20001000000000000000000 s.size l fits low)),
     )
 
 pub part_form : (l m : List Date) (n : ℕ) (next : Date) (s : Shape) → IsCanonicalPart l n next s → m ≡ take s.size l → (g : Form) → IsCanonical g → HasValues g (value_at (form_before l n next))
@@ -172,15 +195,7 @@ part_form l m n next s h e g cg has =
 
 -- the values of a sum
 pub sums_up_to : (f g : Form) → IsSeries f → IsSeries g → (n : ℕ) (l : List Date) → n ≤ 20000 → l ≡ table (sum_at (value_at f) (value_at g)) n → AreUpTo 20001000000000000000000 l
-sums_up_to f g sf sg n l short e k = ⊎_elim
-    (λ w.
-    let u : k < n = w in
-    subst (λ (z : Date). IsUpTo 20001000000000000000000 z) (sym (listed_is (sum_at (value_at f) (value_at g)) n l e k u)) (sum_up_to f g sf sg k (omega arith)))
-    (λ w.
-    let a : length l ≡ n = ap length e ∙ table_length (sum_at (value_at f) (value_at g)) n in
-    let u : length l ≤ k = omega arith in
-    subst (λ (z : Date). IsUpTo 20001000000000000000000 z) (sym (get_or-eq_default l Early {n = k} u)) tt)
-    (cases_lt k n)
+sums_up_to f g sf sg n l short e = all_up_to 20001000000000000000000 (sum_at (value_at f) (value_at g)) n l e (λ k w. sum_up_to f g sf sg k (omega arith))
 
 -- ---- the monomial of shift 1 and date 0
 

@@ -1,10 +1,9 @@
 -- Lists as functions, and a list without its last value.
-use Rattle.std.specs.Prelude.{◌≡◌, ◌≤◌, ◌<◌, ◌+◌, ◌-◌, ℕ, ℤ, zero, suc, pos, cond, ltb, List, length, get_or, take}
+use Rattle.std.specs.Prelude.{◌≡◌, ◌≤◌, ◌<◌, ◌+◌, ◌-◌, ℕ, ℤ, suc, cond, ltb, List, length, get_or, take}
 use Rattle.std.specs.Int.RustNames.{unsigned_abs}
 use Rattle.dioid.specs.declared.dates.Date.{Date}
 use Rattle.dioid.specs.declared.dates.Date.TheVariants.{Early, At, Never}
-use Rattle.dioid.specs.Dates.{later_of, earlier_of, date_left}
-use Rattle.series_ops.specs.Product.{product_at}
+use Rattle.dioid.specs.Dates.{earlier_of, date_left}
 use Rattle.series_ops.specs.declared.stars.Anchor.{Anchor}
 use Rattle.series_ops.specs.Residual.{least_of}
 use Rattle.series_form.specs.Bounds.{IsUpTo}
@@ -56,11 +55,6 @@ left_listed l m r p k = least_of (part_listed l m r p k) (length l - 1)
 -- the values from shift 1 on
 abbrev pub later_part : (ℕ → Date) → ℕ → Date
 later_part s k = s (suc k)
-
--- the star at k by its first part, from the values at shift 1 and on and the star below
-abbrev pub star_listed : List Date → List Date → ℕ → Date
-star_listed l m zero = At (pos 0)
-star_listed l m (suc k) = later_of (At (pos 0)) (product_at (listed l) (listed m) k)
 
 -- the bounds of an anchor
 pub record IsModest (a : Anchor) : Type 0 where

@@ -3,6 +3,7 @@ use Rattle.std.specs.Prelude.{◌+◌, ◌-◌, ℕ, zero, suc, min}
 use Rattle.dioid.specs.Dates.{later_of, date_product}
 use Rattle.dioid.specs.declared.dates.Date.{Date}
 use Rattle.dioid.specs.declared.dates.Date.TheVariants.{Early}
+use Rattle.series_form.specs.Forms.{Form, start_of, value_at}
 
 -- the greatest of the m values of f from p on, Early for none
 abbrev pub greatest_from : (ℕ → Date) → ℕ → ℕ → Date
@@ -20,3 +21,11 @@ product_from s t p k = greatest_from (split_of s t k) p (suc k - p)
 -- how many of the n places from p on are at most k
 abbrev pub places_to : ℕ → ℕ → ℕ → ℕ
 places_to p n k = min n (suc k - p)
+
+-- the greatest sum of the splits of k whose first part is in the tail of f
+abbrev pub tail_product : Form → (ℕ → Date) → ℕ → Date
+tail_product f t = product_from (value_at f) t (start_of f)
+
+-- the later of d and of the splits of k whose first part is below p
+abbrev pub with_tail : (ℕ → Date) → (ℕ → Date) → ℕ → Date → ℕ → Date
+with_tail s t p d k = later_of (greatest_from (split_of s t k) 0 (places_to 0 p k)) d

@@ -8,6 +8,7 @@ mod gains;
 mod laws;
 mod products;
 mod residuals;
+mod splits;
 mod stars;
 mod tables;
 #[cfg(test)]

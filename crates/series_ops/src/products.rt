@@ -10,10 +10,11 @@ ghost use Rattle.series_form.specs.Bounds.{IsUpTo, IsSeries};
 ghost use Rattle.series_form.specs.Answer.{AnswersOf, Answers};
 ghost use Rattle.series_form.specs.Needs.{need_of, period_with, rise_of, fall_of, tail_of, slopes_of};
 ghost use Rattle.series_ops.specs.Product.{product_at};
-ghost use Rattle.series_ops.specs.Splits.{greatest_from, split_of, product_from, places_to};
+ghost use Rattle.series_ops.specs.Splits.{tail_product};
 ghost use Rattle.series_ops.specs.Needs.{lifts_of, waits_of, product_first, product_by_slopes, product_plan, form_product};
 ghost use Rattle.series_ops.specs.Listed.{IsNumber, listed, AreUpTo};
 
+use crate::splits::{tail_value, value_with_tail};
 use crate::tables::{ended, first_values};
 use dioid::Date;
 use series_form::{
@@ -128,81 +129,6 @@ fn plan_of_product(first: &Series, second: &Series) -> Plan
     }
 }
 
-/// The two dates added.
-fn added(first: Date, second: Date) -> Date
-    requires first { IsUpTo 20001000000000000000000 first }
-    requires second { IsUpTo 500000000000000000000000000 second }
-    ensures { result ≡ date_product first second }
-{
-    match (first, second) {
-        (Date::Early, _) | (_, Date::Early) => Date::Early,
-        (Date::At(first), Date::At(second)) => Date::At(first + second),
-        _ => Date::Never,
-    }
-}
-
-/// How many of `most` places from `from` on are at most `shift`.
-fn places(from: usize, most: usize, shift: usize) -> usize
-    ensures { result ≡ places_to from most shift }
-{
-    if shift < from {
-        return 0;
-    }
-    if shift - from < most {
-        shift - from + 1
-    } else {
-        most
-    }
-}
-
-/// The greatest sum of a value of the first list at `count` places from `from` on and a value of the
-/// second, their places adding up to `shift`. Early for no place.
-fn greatest_split(first: &[Date], second: &[Date], shift: usize, from: usize, count: usize) -> Date
-    requires first { from + count ≤ length first.now }
-    requires splits { count ≤ shift + 1 - from }
-    requires second { shift < length second.now }
-    requires first_bound { AreUpTo 20001000000000000000000 first.now }
-    requires second_bound { AreUpTo 500000000000000000000000000 second.now }
-    ensures { result ≡ greatest_from (split_of (listed first.now) (listed second.now) shift) from count }
-{
-    let mut best = Date::Early;
-    for place in 0..count {
-        best = best.later(added(first[from + place], second[shift - (from + place)]));
-    }
-    best
-}
-
-/// The greatest sum of a value of the one list and a value of the other, their places adding up to
-/// `shift`.
-pub(crate) fn product_value(first: &[Date], second: &[Date], shift: usize) -> Date
-    requires first { shift < length first.now }
-    requires second { shift < length second.now }
-    requires first_bound { AreUpTo 20001000000000000000000 first.now }
-    requires second_bound { AreUpTo 500000000000000000000000000 second.now }
-    ensures { result ≡ product_at (listed first.now) (listed second.now) shift }
-{
-    greatest_split(first, second, shift, 0, shift + 1)
-}
-
-/// The greatest sum at a shift whose first part is in the tail of the first series: of those in its
-/// list, and of those of a period before, a step later.
-fn tail_value(first: &Series, second: &[Date], tails: &[Date], shift: usize) -> Date
-    requires short { shift ≤ 20000 }
-    requires second { shift < length second.now }
-    requires second_bound { AreUpTo 20001000000000000000000 second.now }
-    requires tails { tails.now ≡ table (product_from (value_at first.now) (listed second.now) (start_of first.now)) shift }
-    ensures { result ≡ product_from (value_at first.now) (listed second.now) (start_of first.now) shift }
-{
-    let from = start(first);
-    let period = first.period();
-    let count = places(from, period, shift);
-    let here = greatest_split(first.values(), second, shift, from, count);
-    if shift < period {
-        return here;
-    }
-    here.later(added(Date::At(first.step()), tails[shift - period]))
-}
-
 /// The greatest sums whose first part is in the tail of the first series, at the first shifts.
 fn tail_list(
     alloc: Global,
@@ -213,26 +139,16 @@ fn tail_list(
     requires short { count ≤ 20001 }
     requires second { count ≤ length second.now }
     requires second_bound { AreUpTo 20001000000000000000000 second.now }
-    ensures { IfOk result (λ values. values.items ≡ table (product_from (value_at first.now) (listed second.now) (start_of first.now)) count) }
+    ensures { IfOk result (λ values. values.items ≡ table (tail_product first.now (listed second.now)) count) }
 {
-    let mut values = Vec::new(alloc);
+    let values = first.values();
+    let (period, step) = (first.period(), first.step());
+    let mut tails = Vec::new(alloc);
     for shift in 0..count {
-        let next = tail_value(first, second, values.as_slice(), shift);
-        values.push(next)?;
+        let next = tail_value(values, period, step, second, tails.as_slice(), shift);
+        tails.push(next)?;
     }
-    Ok(values)
-}
-
-/// The product at a shift: the later of the splits whose first part is below the tail of the first
-/// series and of those where it is in the tail.
-fn value_with_tail(first: &Series, second: &[Date], tail: Date, shift: usize) -> Date
-    requires second { shift < length second.now }
-    requires second_bound { AreUpTo 20001000000000000000000 second.now }
-    requires tail { tail ≡ product_from (value_at first.now) (listed second.now) (start_of first.now) shift }
-    ensures { result ≡ product_at (value_at first.now) (listed second.now) shift }
-{
-    let count = places(0, start(first), shift);
-    greatest_split(first.values(), second, shift, 0, count).later(tail)
+    Ok(tails)
 }
 
 /// The first values of the product of a series and a list, by the sums in the tail.
@@ -245,12 +161,13 @@ fn product_list(
 ) -> Result<Vec<Date>, AllocError>
     requires second { count ≤ length second.now }
     requires second_bound { AreUpTo 20001000000000000000000 second.now }
-    requires tails { tails.now ≡ table (product_from (value_at first.now) (listed second.now) (start_of first.now)) count }
+    requires tails { tails.now ≡ table (tail_product first.now (listed second.now)) count }
     ensures { IfOk result (λ values. values.items ≡ table (product_at (value_at first.now) (listed second.now)) count) }
 {
+    let (parts, from) = (first.values(), start(first));
     let mut values = Vec::new(alloc);
     for shift in 0..count {
-        values.push(value_with_tail(first, second, tails[shift], shift))?;
+        values.push(value_with_tail(parts, from, second, tails[shift], shift))?;
     }
     Ok(values)
 }

@@ -8,10 +8,12 @@ ghost use Rattle.series_form.specs.Needs.{greatest_int};
 ghost use Rattle.series_ops.specs.Needs.{beats, anchor_step, anchor_of, loss_of, worst_loss, natural_of, own_plan};
 ghost use Rattle.series_ops.specs.Listed.{IsNumber, AreUpTo, IsModest};
 
-use crate::products::product_value;
+use crate::splits::{tail_value, value_with_tail};
 use crate::tables::ended;
 use dioid::Date;
-use series_form::{Plan, Series, SeriesRefused, canonical_part, later_at, plan_of_sum, sum_values};
+use series_form::{
+    Plan, Series, SeriesRefused, canonical_part, later_at, plan_of_sum, start, sum_values,
+};
 use std::alloc::{AllocError, Global};
 
 /// A part and its value, which has the greatest ratio among parts; the period and the step where
@@ -209,7 +211,7 @@ ghost use Rattle.series_form.specs.Answer.{AnswersOf, Answers, IsBeginning, form
 ghost use Rattle.series_form.specs.Needs.{need_of, sum_plan};
 ghost use Rattle.series_ops.specs.StarOf.{parts_star, above_zero, IsStarOf, IsGreatestSum};
 ghost use Rattle.series_ops.specs.Needs.{at_least, star_plan, carried_of, star_need, star_carried, form_star};
-ghost use Rattle.series_ops.specs.Listed.{star_listed, later_part};
+ghost use Rattle.series_ops.specs.Listed.{later_part};
 ghost use Rattle.std.specs.Prelude.{pos};
 
 /// A plan that has at least this need.
@@ -254,47 +256,45 @@ fn later_values(alloc: Global, series: &Series, count: usize) -> Result<Vec<Date
     Ok(values)
 }
 
-/// The star at a shift by its first part, from the values at shift 1 and on and the star below.
-fn star_value(rest: &[Date], stars: &[Date], shift: usize) -> Date
-    requires rest { shift ≤ length rest.now }
-    requires stars { shift ≤ length stars.now }
-    requires rest_bound { AreUpTo 20001000000000000000000 rest.now }
-    requires stars_bound { AreUpTo 500000000000000000000000000 stars.now }
-    ensures { result ≡ star_listed rest.now stars.now shift }
-{
-    if shift == 0 {
-        return Date::At(0);
-    }
-    Date::At(0).later(product_value(rest, stars, shift - 1))
-}
-
-/// The star over lists of parts at the shifts up to `need`.
+/// The star over lists of parts at the shifts up to `need`, by the values from shift 1 on and the
+/// sums whose first part is in their tail. The work is the need times the number of those values.
 fn star_list(
     alloc: Global,
     first: &Series,
     rest: &[Date],
     need: usize,
 ) -> Result<Vec<Date>, AllocError>
-    requires series { IsSeries first.now }
-    requires rest { rest.now ≡ table (later_part (value_at first.now)) need }
+    requires rest { rest.now ≡ table (later_part (value_at first.now)) (size_of first.now) }
     requires need { need ≤ 20000 }
     ensures { IfOk result (λ values. values.items ≡ table (parts_star (value_at first.now)) (need + 1)) }
 {
-    let mut values = Vec::new(alloc);
-    for shift in 0..need + 1 {
-        let next = star_value(rest, values.as_slice(), shift);
-        values.push(next)?;
+    let (period, step) = (first.period(), first.step());
+    let from = start(first);
+    let mut stars = Vec::new(alloc);
+    let mut tails = Vec::new(alloc);
+    stars.push(Date::At(0))?;
+    for shift in 0..need {
+        let tail = tail_value(
+            rest,
+            period,
+            step,
+            stars.as_slice(),
+            tails.as_slice(),
+            shift,
+        );
+        tails.push(tail)?;
+        let next = value_with_tail(rest, from, stars.as_slice(), tail, shift);
+        stars.push(Date::At(0).later(next))?;
     }
-    Ok(values)
+    Ok(stars)
 }
 
 /// The same, of the series alone.
 fn star_values(alloc: Global, first: &Series, need: usize) -> Result<Vec<Date>, AllocError>
-    requires series { IsSeries first.now }
     requires need { need ≤ 20000 }
     ensures { IfOk result (λ values. values.items ≡ table (parts_star (value_at first.now)) (need + 1)) }
 {
-    let rest = later_values(alloc, first, need)?;
+    let rest = later_values(alloc, first, first.values().len())?;
     star_list(alloc, first, rest.as_slice(), need)
 }
 

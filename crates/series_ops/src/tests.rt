@@ -175,6 +175,54 @@ fn residuals_of_a_short_list(rt: HostRuntime) {
     assert!(rt; is_left(alloc, first, second, &[-5, -5, -5, -5, -3, -3], 2, 3));
 }
 
+/// The greater of a part, given by its shift and date, and of steps that begin at a low date and
+/// gain a date for each time that the shift covers a turn.
+fn with_part(
+    alloc: Global,
+    part: (u32, i64),
+    turn: u32,
+    date: i64,
+    low: i64,
+) -> Result<Series, SeriesRefused> {
+    let turns = Series::monomial(alloc, turn as u64, date as i128)?;
+    let steps = star(alloc, &turns)?;
+    let low = Series::monomial(alloc, 0, low as i128)?;
+    let steps = product(alloc, &low, &steps)?;
+    let part = Series::monomial(alloc, part.0 as u64, part.1 as i128)?;
+    sum(alloc, &part, &steps)
+}
+
+/// Whether the star of the series has these values, period and step.
+fn is_star(
+    alloc: Global,
+    first: Result<Series, SeriesRefused>,
+    times: &[i64],
+    period: usize,
+    step: i128,
+) -> bool {
+    match (first, dates(alloc, times)) {
+        (Ok(first), Ok(values)) => is_series(&star(alloc, &first), values.as_slice(), period, step),
+        _ => false,
+    }
+}
+
+#[test]
+fn stars_past_a_transient(rt: HostRuntime) {
+    let alloc = rt.alloc();
+    let first = with_part(alloc, (3, 4), 2, 3, -3);
+    let times = [
+        0, 0, 0, 4, 4, 4, 8, 8, 9, 12, 12, 13, 16, 16, 18, 20, 21, 22,
+    ];
+    assert!(rt; is_star(alloc, first, &times, 2, 3));
+    let first = with_part(alloc, (3, 4), 3, 5, -5);
+    let times = [
+        0, 0, 0, 4, 4, 4, 8, 8, 8, 12, 12, 12, 16, 16, 16, 20, 20, 20,
+    ];
+    assert!(rt; is_star(alloc, first, &times, 3, 5));
+    let first = with_part(alloc, (2, 2), 2, 3, -1);
+    assert!(rt; is_star(alloc, first, &[0, 0, 2, 2], 2, 3));
+}
+
 /// Whether the answer is the gain with these values, period and step.
 fn is_gain(answer: &Result<Gain, Refused>, values: &[Date], period: usize, step: i128) -> bool {
     match answer {

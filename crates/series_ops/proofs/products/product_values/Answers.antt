@@ -2,7 +2,7 @@ use Rattle.std.proofs.Common.{◌≡◌, List, subst}
 use Rattle.std.specs.Prelude.{IfOk}
 use Rattle.dioid.specs.declared.dates.Date.{Date}
 use Rattle.series_form.specs.Forms.{value_at}
-use Rattle.series_ops.proofs.Splits.{product_turned}
+use Rattle.series_ops.proofs.SplitLaws.{product_turned}
 use Rattle.series_ops.proofs.products.product_values.Goals as goal
 
 pub returns-then-values : goal.returns-then-values

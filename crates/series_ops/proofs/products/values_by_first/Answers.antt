@@ -4,7 +4,7 @@ use Rattle.dioid.specs.declared.dates.Date.{Date}
 use Rattle.series_form.specs.Forms.{value_at, table}
 use Rattle.series_form.specs.Canonical.{table_length}
 use Rattle.series_ops.proofs.FirstValues.{table_up_to}
-use Rattle.series_ops.proofs.Splits.{product_listed}
+use Rattle.series_ops.proofs.SplitLaws.{product_listed}
 use Rattle.series_ops.proofs.products.values_by_first.Goals as goal
 
 long : (s : ℕ → Date) (n : ℕ) (l : List Date) → l ≡ table s n → n ≤ length l

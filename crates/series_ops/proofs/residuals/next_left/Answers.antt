@@ -5,8 +5,9 @@ use Rattle.series_form.specs.Forms.{size_of, value_at}
 use Rattle.series_form.specs.Canonical.{table_length}
 use Rattle.series_ops.specs.Listed.{left_listed}
 use Rattle.series_ops.specs.Needs.{offsets_of}
+use Rattle.series_ops.proofs.FirstValues.{all_more}
 use Rattle.series_ops.proofs.LeftValues.{long_table_up_to}
-use Rattle.series_ops.proofs.LeftParts.{list_reaches, left_listed_is, left_later_is, star_left_up_to, all_wide, overs_up_to, negative_code}
+use Rattle.series_ops.proofs.LeftParts.{list_reaches, left_listed_is, left_later_is, star_left_up_to, overs_up_to, negative_code}
 use Rattle.series_ops.proofs.residuals.next_left.Goals as goal
 
 pub left_value-requires-clause-second : goal.left_value-requires-clause-second
@@ -30,7 +31,7 @@ pub left_value-requires-clause-second_bound : goal.left_value-requires-clause-se
 left_value-requires-clause-second_bound c =
     let few = c.requires.few in
     let short = c.values.ensures.series.short in
-    all_wide 60002000000000000000000 c.args.list.now (omega arith)
+    all_more 60002000000000000000000 500000000000000000000000000 c.args.list.now (omega arith)
     (long_table_up_to c.args.second.now (size_of c.args.second.now + offsets_of c.args.first.now c.args.second.now) c.args.list.now c.values.ensures.series (omega arith) c.requires.list)
 
 pub left_value-requires-clause-by_star_bound : goal.left_value-requires-clause-by_star_bound

@@ -1,0 +1,101 @@
+ghost use Rattle.std.specs.Prelude.{◌≡◌, ◌≤◌, ◌<◌, ◌+◌, ◌-◌, ℕ, length};
+ghost use Rattle.std.specs.Int.RustNames.{unsigned_abs};
+ghost use Rattle.dioid.specs.Dates.{date_product};
+ghost use Rattle.series_form.specs.Forms.{form_with, start_of, table};
+ghost use Rattle.series_form.specs.Bounds.{IsUpTo};
+ghost use Rattle.series_ops.specs.Splits.{greatest_from, split_of, places_to, tail_product, with_tail};
+ghost use Rattle.series_ops.specs.Listed.{listed, AreUpTo};
+
+use dioid::Date;
+
+/// The two dates added.
+fn added(first: Date, second: Date) -> Date
+    requires first { IsUpTo 20001000000000000000000 first }
+    requires second { IsUpTo 500000000000000000000000000 second }
+    ensures { result ≡ date_product first second }
+{
+    match (first, second) {
+        (Date::Early, _) | (_, Date::Early) => Date::Early,
+        (Date::At(first), Date::At(second)) => Date::At(first + second),
+        _ => Date::Never,
+    }
+}
+
+/// How many of `most` places from `from` on are at most `shift`.
+fn places(from: usize, most: usize, shift: usize) -> usize
+    ensures { result ≡ places_to from most shift }
+{
+    if shift < from {
+        return 0;
+    }
+    if shift - from < most {
+        shift - from + 1
+    } else {
+        most
+    }
+}
+
+/// The greatest sum of a value of the first list at `count` places from `from` on and a value of the
+/// second, their places adding up to `shift`. Early for no place.
+fn greatest_split(first: &[Date], second: &[Date], shift: usize, from: usize, count: usize) -> Date
+    requires first { from + count ≤ length first.now }
+    requires splits { count ≤ shift + 1 - from }
+    requires second { shift < length second.now }
+    requires first_bound { AreUpTo 20001000000000000000000 first.now }
+    requires second_bound { AreUpTo 500000000000000000000000000 second.now }
+    ensures { result ≡ greatest_from (split_of (listed first.now) (listed second.now) shift) from count }
+{
+    let mut best = Date::Early;
+    for place in 0..count {
+        best = best.later(added(first[from + place], second[shift - (from + place)]));
+    }
+    best
+}
+
+/// The greatest sum at a shift whose first part is in the tail of a list, of which the last `period`
+/// values go on by `step`: of those in the list, and of those of a period before, a step later.
+pub(crate) fn tail_value(
+    values: &[Date],
+    period: usize,
+    step: i128,
+    second: &[Date],
+    tails: &[Date],
+    shift: usize,
+) -> Date
+    requires positive { 0 < period }
+    requires period { period ≤ length values.now }
+    requires step { unsigned_abs step ≤ 20001000000000000000000 }
+    requires second { shift < length second.now }
+    requires values_bound { AreUpTo 20001000000000000000000 values.now }
+    requires second_bound { AreUpTo 500000000000000000000000000 second.now }
+    requires tails_bound { AreUpTo 500000000000000000000000000 tails.now }
+    requires tails { tails.now ≡ table (tail_product (form_with values.now period step) (listed second.now)) shift }
+    ensures { result ≡ tail_product (form_with values.now period step) (listed second.now) shift }
+{
+    let from = values.len() - period;
+    let count = places(from, period, shift);
+    let here = greatest_split(values, second, shift, from, count);
+    if shift < period {
+        return here;
+    }
+    here.later(added(Date::At(step), tails[shift - period]))
+}
+
+/// The later of the sums at a shift whose first part is at a place below `from`, and of those whose
+/// first part is in the tail.
+pub(crate) fn value_with_tail(
+    values: &[Date],
+    from: usize,
+    second: &[Date],
+    tail: Date,
+    shift: usize,
+) -> Date
+    requires from { from ≤ length values.now }
+    requires second { shift < length second.now }
+    requires values_bound { AreUpTo 20001000000000000000000 values.now }
+    requires second_bound { AreUpTo 500000000000000000000000000 second.now }
+    ensures { result ≡ with_tail (listed values.now) (listed second.now) from tail shift }
+{
+    let count = places(0, from, shift);
+    greatest_split(values, second, shift, 0, count).later(tail)
+}
