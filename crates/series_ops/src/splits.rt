@@ -1,3 +1,4 @@
+//! Sums of a value of one list and a value of another, over the splits of a shift.
 ghost use Rattle.std.specs.Prelude.{◌≡◌, ◌≤◌, ◌<◌, ◌+◌, ◌-◌, ℕ, length};
 ghost use Rattle.std.specs.Int.RustNames.{unsigned_abs};
 ghost use Rattle.dioid.specs.Dates.{date_product};

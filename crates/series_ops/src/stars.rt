@@ -1,12 +1,18 @@
-ghost use Rattle.std.specs.Prelude.{◌≡◌, ◌≤◌, ◌<◌, ◌+◌, ◌-◌, ℕ, suc, int_lt, IfOk, length};
+//! The star of a series: the anchor of its need, and its values by their first parts.
+ghost use Rattle.std.specs.Prelude.{◌≡◌, ◌≤◌, ◌<◌, ◌+◌, ◌-◌, ℕ, suc, int_lt, IfOk, length, ◌↔◌, pos};
 ghost use Rattle.std.specs.Int.{int_max};
 ghost use Rattle.std.specs.Int.RustNames.{unsigned_abs};
+ghost use Rattle.dioid.specs.declared.dates.Date.TheVariants.{At, Never};
 ghost use Rattle.series_form.specs.Periodic.{times};
-ghost use Rattle.series_form.specs.Forms.{form_with, size_of, start_of, value_at, table};
+ghost use Rattle.series_form.specs.Forms.{form_with, size_of, start_of, value_at, table, Form, HasValues, IsCanonical, monomial_at};
 ghost use Rattle.series_form.specs.Bounds.{IsUpTo, IsSeries};
-ghost use Rattle.series_form.specs.Needs.{greatest_int};
-ghost use Rattle.series_ops.specs.Needs.{beats, anchor_step, anchor_of, loss_of, worst_loss, natural_of, own_plan};
-ghost use Rattle.series_ops.specs.Listed.{IsNumber, AreUpTo, IsModest};
+ghost use Rattle.series_form.specs.Needs.{greatest_int, need_of, sum_plan};
+ghost use Rattle.series_form.specs.declared.forms.SeriesRefused.{SeriesRefused};
+ghost use Rattle.series_form.specs.Order.{Le};
+ghost use Rattle.series_form.specs.Answer.{AnswersOf, Answers, IsBeginning, form_before};
+ghost use Rattle.series_ops.specs.Needs.{beats, anchor_step, anchor_of, loss_of, worst_loss, natural_of, own_plan, anchored_plan, at_least, star_plan, carried_of, star_need, star_carried, form_star};
+ghost use Rattle.series_ops.specs.Listed.{IsNumber, AreUpTo, IsModest, later_part};
+ghost use Rattle.series_ops.specs.StarOf.{parts_star, above_zero, IsStarOf, IsGreatestSum};
 
 use crate::splits::{tail_value, value_with_tail};
 use crate::tables::ended;
@@ -180,8 +186,6 @@ fn plan_of_number(values: &[Date], period: usize, step: i128) -> Plan
     }
 }
 
-ghost use Rattle.series_ops.specs.Needs.{anchored_plan};
-
 /// From where the star of a form repeats, the form at least 0 from shift 1 on.
 fn plan_of_parts(values: &[Date], period: usize, step: i128) -> Plan
     requires positive { 0 < period }
@@ -201,18 +205,6 @@ fn plan_of_parts(values: &[Date], period: usize, step: i128) -> Plan
         },
     }
 }
-
-ghost use Rattle.std.specs.Prelude.{◌↔◌};
-ghost use Rattle.dioid.specs.declared.dates.Date.TheVariants.{At, Never};
-ghost use Rattle.series_form.specs.declared.forms.SeriesRefused.{SeriesRefused};
-ghost use Rattle.series_form.specs.Order.{Le};
-ghost use Rattle.series_form.specs.Forms.{Form, HasValues, IsCanonical, monomial_at};
-ghost use Rattle.series_form.specs.Answer.{AnswersOf, Answers, IsBeginning, form_before};
-ghost use Rattle.series_form.specs.Needs.{need_of, sum_plan};
-ghost use Rattle.series_ops.specs.StarOf.{parts_star, above_zero, IsStarOf, IsGreatestSum};
-ghost use Rattle.series_ops.specs.Needs.{at_least, star_plan, carried_of, star_need, star_carried, form_star};
-ghost use Rattle.series_ops.specs.Listed.{later_part};
-ghost use Rattle.std.specs.Prelude.{pos};
 
 /// A plan that has at least this need.
 fn raised(need: usize, own: Plan) -> Plan
