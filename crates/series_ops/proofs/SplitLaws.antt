@@ -1,4 +1,4 @@
--- The product by its splits, some places at a time.
+-- Sums over the splits of a shift, some places at a time.
 use Rattle.std.proofs.Common.{◌≡◌, refl, ap, arith, ℕ, ℤ, zero, suc, ◌+◌, ◌-◌, ◌≤◌, ◌<◌, sym, ◌∙◌, subst, List, to_z, of_z}
 use Rattle.std.specs.Prelude.{min}
 use Rattle.std.specs.Int.{w128}
