@@ -15,10 +15,11 @@ use Rattle.teg_reader.specs.declared.refusals.Spot.{Spot}
 use Rattle.teg_report.specs.Answers.{Answer, Usage, Live, Listed, Form, Read, TooLarge, TokenFree, Fault}
 use Rattle.teg_report.specs.Reports.{IsAbout}
 
--- a number of 32 and of 64 bits
+-- a number of 32 bits
 abbrev pub IsWord32 : ℕ → Type 0
 IsWord32 n = n < 2 ^ 32
 
+-- a number of 64 bits
 abbrev pub IsWord64 : ℕ → Type 0
 IsWord64 n = n < 2 ^ 64
 
@@ -53,10 +54,11 @@ IsRefusal (InputHasUpstream place) = IsTrue (is_name place)
 IsRefusal (BadInput transition position) = IsTrue (is_name transition) × IsWord32 position
 IsRefusal OutOfMemory = ⊥
 
--- the numbers of an entry
+-- the numbers of a star entry
 abbrev pub IsStarKept : StarEntry → Type 0
 IsStarKept e = IsWord64 e.time
 
+-- the numbers of an entry
 abbrev pub IsEntryKept : Entry → Type 0
 IsEntryKept e = IsWord32 e.tokens × IsWord64 e.time
 
