@@ -7,3 +7,5 @@ mod StarEntries
 mod Sorting
 mod StarIs
 mod Merging
+mod SortedSame
+pub mod OneForm

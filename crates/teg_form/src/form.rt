@@ -1,7 +1,7 @@
 //! The form and its two lists.
 ghost use Rattle.std.specs.Prelude.{◌≡◌, IfOk};
 ghost use Rattle.teg_check.specs.Ranks.{IsRanking};
-ghost use Rattle.teg_form.specs.Forms.{IsFormOf};
+ghost use Rattle.teg_form.specs.Forms.{FormLists, IsFormOf};
 
 use crate::entries::entries_of;
 use crate::matrix::free_times;
@@ -73,6 +73,8 @@ impl Form {
 pub fn standard_form(alloc: Global, net: &Net, live: &Live) -> Result<Form, OutOfMemory>
     requires stands { IsRanking net.now live.now }
     ensures form { IfOk result (λ form. IsFormOf net.now form) }
+    // A net has no other standard form.
+    ensures one { IfOk result (λ form. (other : FormLists) → IsFormOf net.now other → other ≡ form) }
 {
     let times = free_times(alloc, net, live)?;
     let stars = stars_of(alloc, net, &times)?;
