@@ -1,5 +1,6 @@
 -- Different lists of dates have different lines.
-use Rattle.std.proofs.Common.{◌≡◌, ℕ, ◌+◌, ◌-◌, ◌*◌, ◌/◌, ◌%◌, ◌<◌, ◌≤◌, List, [], All, ap, sym, ◌∙◌, length, get_or, drop, arith, decimal, zero, suc, div-add-mod', div-lt_iff_lt-mul, mod-lt, ext_get_or}
+use Rattle.std.proofs.Common.{◌≡◌, ℕ, ◌+◌, ◌-◌, ◌*◌, ◌/◌, ◌%◌, ◌<◌, ◌≤◌, List, [], All, ap, sym, subst, ◌∙◌, length, get_or, drop, arith, decimal, zero, suc, div-add-mod', div-lt_iff_lt-mul, mod-lt, ext_get_or}
+use Rattle.std.proofs.lemmas.List.{get_or_default}
 use Rattle.std.proofs.lemmas.List.FromFn.{get_or-map-range_with_len}
 use Rattle.dioid.specs.declared.dates.Date.{Date}
 use Rattle.dioid.specs.declared.dates.Date.TheVariants.{Early}
@@ -29,6 +30,17 @@ index_is_cell width i =
 positive_width : (i count width : ℕ) → i < count * width → 0 < width
 positive_width i count zero h = absurd (omega arith)
 positive_width i count (suc width) h = omega arith
+
+-- what holds of the date of each firing of a table holds of all its dates
+pub cells_all : (P : Date → Type 0) (table : TableDates) → IsTable table → ((t k : ℕ) → t < table.width → 1 ≤ k → k ≤ table.count → P (date_at table t k)) → All P table.dates
+cells_all P table h cells i d lt =
+    let below : i < table.count * table.width = omega (arith, lt, h.full) in
+    let positive = positive_width i table.count table.width below in
+    let row : i / table.width < table.count = (div-lt_iff_lt-mul positive).1 below in
+    let column : i % table.width < table.width = mod-lt i positive in
+    let here : P (get_or table.dates (cell_of table.width (i % table.width) (i / table.width + 1)) Early) =
+    cells (i % table.width) (i / table.width + 1) column (omega arith) (omega (arith, row)) in
+    subst P (ap (λ (c : ℕ). get_or table.dates c Early) (index_is_cell table.width i) ∙ get_or_default table.dates i Early d lt) here
 
 -- the word of each cell
 abbrev cell_word : ℕ → ℕ → List (List (List ℕ)) → List ℕ

@@ -29,10 +29,14 @@ IsDate Early = ⊤
 IsDate (At date) = unsigned_abs date < 2 ^ 128
 IsDate Never = ⊤
 
+-- at the top of the file there is no position, which is told as 0
+abbrev pub IsPlainSpot : Spot → Type 0
+IsPlainSpot spot = spot.section ≡ Top → spot.position ≡ 0
+
 -- a position is one of 32 bits, and 0 at the top
 pub record IsSpot (spot : Spot) : Type 0 where
   pub position : IsWord32 spot.position
-  pub top : spot.section ≡ Top → spot.position ≡ 0
+  pub top : IsPlainSpot spot
 
 -- a text: a list of bytes
 abbrev pub AreBytes : List ℕ → Type 0
@@ -54,6 +58,17 @@ IsRefusal (InputHasUpstream place) = IsTrue (is_name place)
 IsRefusal (BadInput transition position) = IsTrue (is_name transition) × IsWord32 position
 IsRefusal OutOfMemory = ⊥
 
+-- the spot that a refusal tells, if it tells one, is plain
+abbrev pub HasPlainSpot : ReadRefusal → Type 0
+HasPlainSpot (UnknownKey spot key) = IsPlainSpot spot
+HasPlainSpot (WrongKind spot key) = IsPlainSpot spot
+HasPlainSpot (MissingKey spot key) = IsPlainSpot spot
+HasPlainSpot (BadName spot) = IsPlainSpot spot
+HasPlainSpot (Repeated spot) = IsPlainSpot spot
+HasPlainSpot (OutOfRange spot key) = IsPlainSpot spot
+HasPlainSpot (UnknownTransition spot name) = IsPlainSpot spot
+HasPlainSpot _ = ⊤
+
 -- the numbers of a star entry
 abbrev pub IsStarKept : StarEntry → Type 0
 IsStarKept e = IsWord64 e.time
@@ -72,6 +87,11 @@ IsKept (Read refusal) = IsRefusal refusal
 IsKept (TooLarge file) = ⊤
 IsKept (TokenFree circuit) = ⊤
 IsKept (Fault file) = ⊤
+
+-- the spot that an answer tells, if it tells one, is plain
+abbrev pub IsPlain : Answer → Type 0
+IsPlain (Read refusal) = HasPlainSpot refusal
+IsPlain _ = ⊤
 
 -- an answer about a net, which keeps its rules where it is given
 pub record IsTold (net : Option NetLists) (answer : Answer) : Type 0 where

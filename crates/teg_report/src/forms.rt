@@ -1,6 +1,7 @@
 //! The text of a standard form: its size, and one line for each entry.
-ghost use Rattle.std.specs.Prelude.{◌≡◌, ◌++◌, ◌<◌, [], ◌∷◌, IfOk, length, map, string_bytes};
+ghost use Rattle.std.specs.Prelude.{◌≡◌, ◌++◌, ◌<◌, [], ◌∷◌, All, IfOk, length, map, string_bytes};
 ghost use Rattle.teg_report.specs.Forms.{IsFormWithin, entry_line, form_lines, sizes_line, star_line};
+ghost use Rattle.teg_report.specs.Kept.{IsEntryKept, IsStarKept};
 ghost use Rattle.teg_report.specs.Lines.{line_then, written};
 
 use std::alloc::{AllocError, Global};
@@ -11,7 +12,8 @@ use teg_net::{Net, OutOfMemory};
 fn push_star(text: &mut String, net: &Net, entry: &StarEntry) -> Result<(), AllocError>
     requires to { entry.now.to.index < length net.now.transitions }
     requires from { entry.now.from.index < length net.now.transitions }
-    ensures { IfOk result (λ _. string_bytes text.new ≡ string_bytes text.old ++ line_then (star_line net.now entry.now) []) }
+    ensures text { IfOk result (λ _. string_bytes text.new ≡ string_bytes text.old ++ line_then (star_line net.now entry.now) []) }
+    ensures kept { IfOk result (λ _. IsStarKept entry.now) }
 {
     let transitions = net.transitions();
     let to = transitions[entry.to.index as usize].name.as_str();
@@ -24,7 +26,8 @@ fn push_star(text: &mut String, net: &Net, entry: &StarEntry) -> Result<(), Allo
 fn push_entry(text: &mut String, net: &Net, entry: &Entry) -> Result<(), AllocError>
     requires to { entry.now.to.index < length net.now.transitions }
     requires from { entry.now.from.index < length net.now.transitions }
-    ensures { IfOk result (λ _. string_bytes text.new ≡ string_bytes text.old ++ line_then (entry_line net.now entry.now) []) }
+    ensures text { IfOk result (λ _. string_bytes text.new ≡ string_bytes text.old ++ line_then (entry_line net.now entry.now) []) }
+    ensures kept { IfOk result (λ _. IsEntryKept entry.now) }
 {
     let transitions = net.transitions();
     let to = transitions[entry.to.index as usize].name.as_str();
@@ -38,7 +41,8 @@ fn push_entry(text: &mut String, net: &Net, entry: &Entry) -> Result<(), AllocEr
 #[tactic(auto, using(crate::proofs::Joining::written_map))]
 fn stars(alloc: Global, net: &Net, form: &Form) -> Result<String, AllocError>
     requires { IsFormWithin net.now form.now }
-    ensures { IfOk result (λ text. string_bytes text ≡ written (sizes_line form.now ∷ map (star_line net.now) form.now.stars)) }
+    ensures text { IfOk result (λ text. string_bytes text ≡ written (sizes_line form.now ∷ map (star_line net.now) form.now.stars)) }
+    ensures kept { IfOk result (λ _. All IsStarKept form.now.stars) }
 {
     let stars = form.stars().len();
     let entries = form.entries().len();
@@ -53,7 +57,9 @@ fn stars(alloc: Global, net: &Net, form: &Form) -> Result<String, AllocError>
 #[tactic(auto, using(crate::proofs::Joining::written_map))]
 pub(crate) fn form(alloc: Global, net: &Net, form: &Form) -> Result<Vec<u8>, OutOfMemory>
     requires { IsFormWithin net.now form.now }
-    ensures { IfOk result (λ text. text.items ≡ written (form_lines net.now form.now)) }
+    ensures text { IfOk result (λ text. text.items ≡ written (form_lines net.now form.now)) }
+    ensures stars { IfOk result (λ _. All IsStarKept form.now.stars) }
+    ensures entries { IfOk result (λ _. All IsEntryKept form.now.entries) }
 {
     let mut text = stars(alloc, net, form)?;
     for entry in form.entries() {

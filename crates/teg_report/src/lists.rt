@@ -1,7 +1,8 @@
 //! The text of a list of dates: two lines before the dates, and one line for each number.
-ghost use Rattle.std.specs.Prelude.{◌≡◌, ◌++◌, ◌≤◌, [], IfOk, length, codes, string_bytes};
+ghost use Rattle.std.specs.Prelude.{ℕ, ◌≡◌, ◌++◌, ◌<◌, ◌≤◌, [], All, IfOk, length, codes, string_bytes};
 ghost use Rattle.teg_net.specs.Limits.{most_transitions};
-ghost use Rattle.teg_dates.specs.Tables.{date_at};
+ghost use Rattle.teg_dates.specs.Tables.{IsTable, date_at};
+ghost use Rattle.teg_report.specs.Kept.{IsDate};
 ghost use Rattle.teg_report.specs.Lines.{line_then, written};
 ghost use Rattle.teg_report.specs.Lists.{count_line, date_word, list_lines, names_line, number_line};
 
@@ -12,7 +13,8 @@ use teg_net::{Net, OutOfMemory, TransitionId};
 
 /// Appends a blank and a date.
 fn push_date(text: &mut String, date: Date) -> Result<(), AllocError>
-    ensures { IfOk result (λ _. string_bytes text.new ≡ string_bytes text.old ++ (codes " " ++ date_word date)) }
+    ensures text { IfOk result (λ _. string_bytes text.new ≡ string_bytes text.old ++ (codes " " ++ date_word date)) }
+    ensures kept { IfOk result (λ _. IsDate date) }
 {
     match date {
         Date::Early => text.push_str(" epsilon"),
@@ -28,7 +30,8 @@ fn push_line(text: &mut String, table: &Table, width: usize, number: u64) -> Res
     requires few { width ≤ most_transitions }
     requires number { 1 ≤ number }
     requires last { number ≤ table.now.count }
-    ensures { IfOk result (λ _. string_bytes text.new ≡ string_bytes text.old ++ line_then (number_line width (date_at table.now) number) []) }
+    ensures text { IfOk result (λ _. string_bytes text.new ≡ string_bytes text.old ++ line_then (number_line width (date_at table.now) number) []) }
+    ensures kept { IfOk result (λ _. (t : ℕ) → t < width → IsDate (date_at table.now t number)) }
 {
     write!(text, "{number}")?;
     for index in 0..width {
@@ -59,7 +62,9 @@ fn head(alloc: Global, net: &Net, count: u32) -> Result<String, AllocError>
 #[tactic(auto, using(crate::proofs::Joining::written_map))]
 pub(crate) fn list(alloc: Global, net: &Net, table: &Table) -> Result<Vec<u8>, OutOfMemory>
     requires { table.now.width ≡ length net.now.transitions }
-    ensures { IfOk result (λ text. text.items ≡ written (list_lines net.now (date_at table.now) table.now.count)) }
+    ensures text { IfOk result (λ text. text.items ≡ written (list_lines net.now (date_at table.now) table.now.count)) }
+    ensures limits { IfOk result (λ _. IsTable table.now) }
+    ensures kept { IfOk result (λ _. All IsDate table.now.dates) }
 {
     let width = net.transitions().len();
     let count = table.count();

@@ -1,5 +1,7 @@
 //! The texts of refused net files.
-ghost use Rattle.std.specs.Prelude.{◌≡◌, ◌++◌, ◌<◌, [], ◌∷◌, IfOk, string_bytes};
+ghost use Rattle.std.specs.Prelude.{◌≡◌, ◌++◌, ◌<◌, [], ◌∷◌, IfOk, IsTrue, string_bytes};
+ghost use Rattle.teg_net.specs.Names.{is_name};
+ghost use Rattle.teg_report.specs.Kept.{AreBytes, HasPlainSpot, IsRefusal, IsWord32};
 ghost use Rattle.teg_report.specs.Lines.{written};
 ghost use Rattle.teg_report.specs.Refusals.{ends_line, entered_line, fault_line, hex_digit, input_line, label_byte, label_word, read_line};
 ghost use Rattle.teg_report.specs.Spots.{spot_text};
@@ -11,7 +13,8 @@ use teg_reader::{ReadRefusal, Section, Spot};
 
 /// A table of the file.
 fn spot_text(alloc: Global, spot: &Spot) -> Result<String, OutOfMemory>
-    ensures { IfOk result (λ text. string_bytes text ≡ spot_text spot.now) }
+    ensures text { IfOk result (λ text. string_bytes text ≡ spot_text spot.now) }
+    ensures kept { IsWord32 spot.now.position }
 {
     let position = spot.position;
     match spot.section {
@@ -48,7 +51,8 @@ fn push_label_byte(text: &mut String, byte: u8) -> Result<(), AllocError>
 
 /// A label, byte by byte.
 fn label_word(alloc: Global, label: &Label) -> Result<String, OutOfMemory>
-    ensures { IfOk result (λ text. string_bytes text ≡ label_word label.now) }
+    ensures text { IfOk result (λ text. string_bytes text ≡ label_word label.now) }
+    ensures kept { AreBytes label.now }
 {
     let mut text = String::new(alloc);
     for byte in label.as_str().as_bytes() {
@@ -60,7 +64,8 @@ fn label_word(alloc: Global, label: &Label) -> Result<String, OutOfMemory>
 /// What is wrong at a table.
 #[tactic(auto, using(crate::proofs::Joining::fault_written))]
 fn fault_at(alloc: Global, spot: &Spot, fault: &str) -> Result<Vec<u8>, OutOfMemory>
-    ensures { IfOk result (λ text. text.items ≡ written (fault_line spot.now fault.now [] ∷ [])) }
+    ensures text { IfOk result (λ text. text.items ≡ written (fault_line spot.now fault.now [] ∷ [])) }
+    ensures kept { IsWord32 spot.now.position }
 {
     let spot = spot_text(alloc, spot)?;
     let text = format!(in alloc; "refused: {spot} {fault}\n")?;
@@ -70,7 +75,8 @@ fn fault_at(alloc: Global, spot: &Spot, fault: &str) -> Result<Vec<u8>, OutOfMem
 /// What is wrong at a table, and with which key or text.
 #[tactic(auto, using(crate::proofs::Joining::fault_written))]
 fn fault_with(alloc: Global, spot: &Spot, fault: &str, about: &str) -> Result<Vec<u8>, OutOfMemory>
-    ensures { IfOk result (λ text. text.items ≡ written (fault_line spot.now fault.now (about.now ∷ []) ∷ [])) }
+    ensures text { IfOk result (λ text. text.items ≡ written (fault_line spot.now fault.now (about.now ∷ []) ∷ [])) }
+    ensures kept { IsWord32 spot.now.position }
 {
     let spot = spot_text(alloc, spot)?;
     let text = format!(in alloc; "refused: {spot} {fault} {about}\n")?;
@@ -84,7 +90,8 @@ fn fault_with_label(
     fault: &str,
     label: &Label,
 ) -> Result<Vec<u8>, OutOfMemory>
-    ensures { IfOk result (λ text. text.items ≡ written (fault_line spot.now fault.now (label_word label.now ∷ []) ∷ [])) }
+    ensures text { IfOk result (λ text. text.items ≡ written (fault_line spot.now fault.now (label_word label.now ∷ []) ∷ [])) }
+    ensures kept { IfOk result (λ _. IsWord32 spot.now.position × AreBytes label.now) }
 {
     let label = label_word(alloc, label)?;
     fault_with(alloc, spot, fault, label.as_str())
@@ -92,7 +99,8 @@ fn fault_with_label(
 
 /// How many producers and consumers a place has.
 fn ends(alloc: Global, place: &Name, producers: u32, consumers: u32) -> Result<Vec<u8>, OutOfMemory>
-    ensures { IfOk result (λ text. text.items ≡ written (ends_line place.now producers consumers ∷ [])) }
+    ensures text { IfOk result (λ text. text.items ≡ written (ends_line place.now producers consumers ∷ [])) }
+    ensures kept { IsTrue (is_name place.now) × IsWord32 producers × IsWord32 consumers }
 {
     let place = place.as_str();
     let text = format!(in alloc;
@@ -103,7 +111,8 @@ fn ends(alloc: Global, place: &Name, producers: u32, consumers: u32) -> Result<V
 
 /// That a place leads to an input.
 fn entered(alloc: Global, place: &Name) -> Result<Vec<u8>, OutOfMemory>
-    ensures { IfOk result (λ text. text.items ≡ written (entered_line place.now ∷ [])) }
+    ensures text { IfOk result (λ text. text.items ≡ written (entered_line place.now ∷ [])) }
+    ensures kept { IsTrue (is_name place.now) }
 {
     let place = place.as_str();
     let text = format!(in alloc; "refused: place {place} enters an input\n")?;
@@ -112,7 +121,8 @@ fn entered(alloc: Global, place: &Name) -> Result<Vec<u8>, OutOfMemory>
 
 /// Where the list of an input is faulty.
 fn input(alloc: Global, transition: &Name, position: u32) -> Result<Vec<u8>, OutOfMemory>
-    ensures { IfOk result (λ text. text.items ≡ written (input_line transition.now position ∷ [])) }
+    ensures text { IfOk result (λ text. text.items ≡ written (input_line transition.now position ∷ [])) }
+    ensures kept { IsTrue (is_name transition.now) × IsWord32 position }
 {
     let transition = transition.as_str();
     let text = format!(in alloc; "refused: input of {transition} bad at {position}\n")?;
@@ -121,7 +131,8 @@ fn input(alloc: Global, transition: &Name, position: u32) -> Result<Vec<u8>, Out
 
 /// Why the bytes of a file say no net.
 pub(crate) fn read(alloc: Global, refusal: &ReadRefusal) -> Result<Vec<u8>, OutOfMemory>
-    ensures { IfOk result (λ text. text.items ≡ written (read_line refusal.now ∷ [])) }
+    ensures text { IfOk result (λ text. text.items ≡ written (read_line refusal.now ∷ [])) }
+    ensures kept { IfOk result (λ _. HasPlainSpot refusal.now → IsRefusal refusal.now) }
 {
     match refusal {
         ReadRefusal::NotToml => bytes_of(alloc, "refused: not TOML\n"),

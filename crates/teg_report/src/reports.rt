@@ -2,7 +2,7 @@
 ghost use Rattle.std.specs.Prelude.{◌≡◌, IfOk};
 ghost use Rattle.std.specs.Option.{option_copied};
 ghost use Rattle.teg_report.specs.Answers.{Answer as SomeAnswer};
-ghost use Rattle.teg_report.specs.Kept.{IsTold};
+ghost use Rattle.teg_report.specs.Kept.{IsKept, IsPlain, IsTold};
 ghost use Rattle.teg_report.specs.Meanings.{meant};
 ghost use Rattle.teg_report.specs.Reports.{IsAbout, text_of};
 
@@ -14,7 +14,8 @@ use teg_net::{Net, OutOfMemory};
 /// The text of an answer.
 fn text(alloc: Global, net: Option<&Net>, answer: &Answer<'_>) -> Result<Vec<u8>, OutOfMemory>
     requires { IsAbout (option_copied net) (meant answer.now) }
-    ensures { IfOk result (λ text. text.items ≡ text_of (option_copied net.entry) (meant answer.now)) }
+    ensures text { IfOk result (λ text. text.items ≡ text_of (option_copied net.entry) (meant answer.now)) }
+    ensures kept { IfOk result (λ _. IsPlain (meant answer.now) → IsKept (meant answer.now)) }
 {
     match (answer, net) {
         (Answer::Usage, _) => texts::usage(alloc),
@@ -50,7 +51,7 @@ pub fn report(alloc: Global, net: Option<&Net>, answer: &Answer<'_>) -> Result<V
     // The bytes are the text of the answer.
     ensures text { IfOk result (λ text. text.items ≡ text_of (option_copied net.entry) (meant answer.now)) }
     // And no other answer about the same net has these bytes.
-    ensures different { IfOk result (λ text. (other : SomeAnswer) → IsTold (option_copied net.entry) (meant answer.now) → IsTold (option_copied net.entry) other →
+    ensures different { IfOk result (λ text. (other : SomeAnswer) → IsPlain (meant answer.now) → IsTold (option_copied net.entry) other →
         text.items ≡ text_of (option_copied net.entry) other → other ≡ meant answer.now) }
 {
     text(alloc, net, answer)

@@ -1,6 +1,7 @@
 //! The texts of the short answers. Each line ends with a line feed.
 ghost use Rattle.std.specs.Prelude.{◌≡◌, [], ◌∷◌, IfOk};
 ghost use Rattle.teg_net.specs.Circuits.{AreInRange};
+ghost use Rattle.teg_report.specs.Kept.{IsWord32};
 ghost use Rattle.teg_report.specs.Lines.{written};
 ghost use Rattle.teg_report.specs.Texts.{usage_lines, live_lines, too_large_line, fault_line, token_free_line};
 
@@ -27,7 +28,8 @@ pub(crate) fn usage(alloc: Global) -> Result<Vec<u8>, OutOfMemory>
 
 /// That a net of this size is live.
 pub(crate) fn live(alloc: Global, transitions: u32, places: u32) -> Result<Vec<u8>, OutOfMemory>
-    ensures { IfOk result (λ text. text.items ≡ written (live_lines transitions places)) }
+    ensures text { IfOk result (λ text. text.items ≡ written (live_lines transitions places)) }
+    ensures kept { IsWord32 transitions × IsWord32 places }
 {
     let text = format!(in alloc; "live\ntransitions {transitions}\nplaces {places}\n")?;
     Ok(text.into_bytes())

@@ -1,19 +1,27 @@
-use Rattle.std.proofs.Common.{◌≡◌, ℕ, sym, ◌∙◌}
-use Rattle.std.proofs.lemmas.Result.{IfOk-weaker}
+use Rattle.std.proofs.Common.{◌≡◌, ℕ, Result, Ok, Err, IfOk, sym, ◌∙◌}
 use Rattle.std.specs.Global.{Vec}
 use Rattle.std.specs.Option.{option_copied}
 use Rattle.teg_report.specs.Answers.{Answer}
-use Rattle.teg_report.specs.Kept.{IsTold}
+use Rattle.teg_report.specs.Kept.{IsKept, IsPlain, IsTold}
 use Rattle.teg_report.specs.Meanings.{meant}
 use Rattle.teg_report.specs.Reports.{text_of}
 use Rattle.teg_report.proofs.Apart.{told_apart}
 use Rattle.teg_report.proofs.reports.report.Goals as goal
 
+-- what holds of a value by two facts on it
+by_both : {X E : Type 0} (P Q R : X → Type 0) (r : Result X E) → ((x : X) → P x → Q x → R x) → IfOk r P → IfOk r Q → IfOk r R
+by_both P Q R (Ok x) f p q = f x p q
+by_both P Q R (Err e) f p q = tt
+
 pub returns-clause-different : goal.returns-clause-different
 returns-clause-different c =
-    IfOk-weaker c.text.result
-    (λ (text : Vec ℕ). text.items ≡ text_of (option_copied c.args.net) (meant c.args.answer.now))
-    (λ (text : Vec ℕ). (other : Answer) → IsTold (option_copied c.args.net) (meant c.args.answer.now) → IsTold (option_copied c.args.net) other →
-    text.items ≡ text_of (option_copied c.args.net) other → other ≡ meant c.args.answer.now)
-    (λ text is other mine theirs same. told_apart (option_copied c.args.net) other (meant c.args.answer.now) theirs mine (sym same ∙ is))
-    c.text.ensures
+    let net = option_copied c.args.net in
+    let mine = meant c.args.answer.now in
+    by_both
+    (λ (text : Vec ℕ). text.items ≡ text_of net mine)
+    (λ (text : Vec ℕ). IsPlain mine → IsKept mine)
+    (λ (text : Vec ℕ). (other : Answer) → IsPlain mine → IsTold net other → text.items ≡ text_of net other → other ≡ mine)
+    c.text.result
+    (λ text is kept other plain theirs same.
+    told_apart net other mine theirs (record { keeps_rules = theirs.keeps_rules; about = c.requires; kept = kept plain }) (sym same ∙ is))
+    c.text.ensures.text c.text.ensures.kept
