@@ -11,7 +11,7 @@ use crate::{forms, lists, refusals, texts};
 use std::alloc::Global;
 use teg_net::{Net, OutOfMemory};
 
-/// The text of an answer.
+/// The text of an answer, whose values keep what their types keep.
 fn text(alloc: Global, net: Option<&Net>, answer: &Answer<'_>) -> Result<Vec<u8>, OutOfMemory>
     requires { IsAbout (option_copied net) (meant answer.now) }
     ensures text { IfOk result (λ text. text.items ≡ text_of (option_copied net.entry) (meant answer.now)) }
