@@ -32,10 +32,6 @@ available_at x p k = available_in initial_date x p k
 abbrev pub Releases : Type 0
 Releases = ℕ → ℕ → Date
 
--- the releases start at 0 or later
-abbrev pub AreFromZero : (ℕ → ℕ → Date) → Type 0
-AreFromZero u = (t k : ℕ) → 1 ≤ k → IsAtMostDate (At (pos 0)) (u t k)
-
 -- the date of an input's firing, where none is never
 abbrev pub as_date : Option ℕ → Date
 as_date None = Never
