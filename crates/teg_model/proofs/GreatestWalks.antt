@@ -1,11 +1,17 @@
 -- The least date of a firing of a net is the greatest start plus time of the walks that end there.
-use Rattle.std.proofs.Common.{ℕ, ◌<◌, ◌≤◌, ◌≡◌, length, refl, sym, ◌∙◌}
-use Rattle.std.specs.Prelude.{pos}
+use Rattle.std.proofs.Common.{ℕ, ◌<◌, ◌≤◌, ◌≡◌, length, get_or, refl, sym, ap, subst, ◌∙◌, arith, ⊎_elim}
+use Rattle.std.specs.Prelude.{pos, Any}
+use Rattle.std.proofs.lemmas.Int.{ints}
+use Rattle.std.proofs.lemmas.List.{get_or_default}
 use Rattle.dioid.specs.declared.dates.Date.{Date}
 use Rattle.dioid.specs.declared.dates.Date.TheVariants.{Early, At}
 use Rattle.dioid.specs.Dates.{IsAtMostDate, delayed}
 use Rattle.dioid.proofs.DateOrder.{at_most_trans, at_most_is, same_by_at_most, delayed_rises, later_left, later_right, later_least}
+use Rattle.teg_net.specs.declared.entries.Place.{Place}
 use Rattle.teg_net.specs.Nets.{NetLists}
+use Rattle.teg_net.specs.Circuits.{no_place}
+use Rattle.teg_net.specs.ReadyDates.{ready_date, start_date}
+use Rattle.teg_net.proofs.StartDates.{IsStartDate-start_date}
 use Rattle.teg_net.specs.Walks.{walk_time}
 use Rattle.teg_model.specs.Systems.{Dating, System}
 use Rattle.teg_model.specs.Ranks.{AreRanks, HasEndsInRange}
@@ -14,26 +20,45 @@ use Rattle.teg_model.specs.Starts.{IsNotBeforeStart, start_of}
 use Rattle.teg_model.specs.WalkDates.{IsStartOf, IsGreatestOfWalks}
 use Rattle.teg_model.proofs.LeastOver.{least_over}
 use Rattle.teg_model.proofs.OfNet.{all_extended, release_below, feasible_in, least_of, least_is_over}
-use Rattle.teg_model.proofs.Tokens.{not_before_zero}
+use Rattle.teg_model.proofs.Tokens.{available_first, place_keeps, not_before_zero}
 use Rattle.teg_model.proofs.WalkSteps.{walk_below, feasible_keeps_in}
 use Rattle.teg_model.proofs.SystemWalks.{reached_in, walks_below}
 
 -- the start of a firing is not before its start in the system
 pub start_not_before : (net : NetLists) (u : Dating) (t k : ℕ) → IsNotBeforeStart (system_of net u) t k (start_of net u t k)
 start_not_before net u t k =
-    let zero_below : IsAtMostDate (At (pos 0)) (start_of net u t k) = later_left (At (pos 0)) (at_input net t (u t k) Early) in
+    let first : ℕ = start_date net t k in
+    let after : IsAtMostDate (At (pos first)) (start_of net u t k) = later_left (At (pos first)) (at_input net t (u t k) Early) in
+    let is = IsStartDate-start_date net t k in
     record {
-      released = later_right (At (pos 0)) (at_input net t (u t k) Early);
+      released = later_right (At (pos first)) (at_input net t (u t k) Early);
       tokens = all_extended net (λ p. p.to.index ≡ t → k ≤ p.tokens → IsAtMostDate (initial_date p k) (start_of net u t k))
-          (λ i d l q m. zero_below)
-          (λ v q m. zero_below);
+          (λ i d l q m. let low = is.late_enough i d l q m in at_most_trans (initial_date (get_or net.places i d) k) (At (pos first)) (start_of net u t k) (omega (arith, ints, low)) after)
+          (λ v q m. at_most_trans (At (pos 0)) (At (pos first)) (start_of net u t k) (omega (arith, ints)) after);
     }
 
--- nor after the date of a feasible dating
+-- no firing of a feasible dating comes before the ready dates of the tokens that it takes
+pub not_before_ready : (net : NetLists) (u x : Dating) → IsFeasibleUnder net u x → (t k : ℕ) → t < length net.transitions → 1 ≤ k → IsAtMostDate (At (pos (start_date net t k))) (x t k)
+not_before_ready net u x f t k l o =
+    ⊎_elim
+    (λ (none : start_date net t k ≡ 0). rw none (not_before_zero net u x f t k l o))
+    (λ (one : Any (λ p. (p.to.index ≡ t) × (k ≤ p.tokens) × (ready_date p k ≡ start_date net t k)) net.places).
+    let p : Place = get_or net.places one.0 no_place in
+    let is : p ≡ one.1 = get_or_default net.places one.0 no_place one.1 one.2 ∙ one.3 in
+    let into : p.to.index ≡ t = ap (λ q. q.to.index) is ∙ one.4.0 in
+    let few : k ≤ p.tokens = rw is one.4.1 in
+    let date : ready_date p k ≡ start_date net t k = ap (λ q. ready_date q k) is ∙ one.4.2 in
+    let keeps = place_keeps net u x f k o one.0 one.2 in
+    let first = available_first initial_date x p k few in
+    let there : IsAtMostDate (At (pos (ready_date p k))) (x t k) = rw into at (rw first at keeps) in
+    subst (λ n. IsAtMostDate (At (pos n)) (x t k)) date there)
+    (IsStartDate-start_date net t k).reached
+
+-- nor is the start after the date of a feasible dating
 pub start_below : (net : NetLists) (u x : Dating) → IsFeasibleUnder net u x → (t k : ℕ) → t < length net.transitions → 1 ≤ k → IsAtMostDate (start_of net u t k) (x t k)
 start_below net u x f t k l o =
-    later_least (At (pos 0)) (at_input net t (u t k) Early) (x t k)
-    (not_before_zero net u x f t k l o)
+    later_least (At (pos (start_date net t k))) (at_input net t (u t k) Early) (x t k)
+    (not_before_ready net u x f t k l o)
     (release_below net t (u t k) (x t k) (f.inputs t k o))
 
 start_is_below : (net : NetLists) (u x : Dating) → IsFeasibleUnder net u x → (t k : ℕ) (d : Date) → t < length net.transitions → 1 ≤ k → IsStartOf net u t k d → IsAtMostDate d (x t k)

@@ -11,4 +11,3 @@ pub mod Within
 pub mod ListDates
 pub mod NetBound
 pub mod LiveRanks
-pub mod RankedLive

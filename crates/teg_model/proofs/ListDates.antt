@@ -29,5 +29,6 @@ first_bound k = greatest_date * (k + 1)
 pub listed_within : (net : NetLists) → IsNet net → AreWithin net (listed net) first_bound
 listed_within net ok = record {
   grows = λ j k l. omega arith;
+  ready = omega arith;
   inputs = λ t k o i. as_date_within (input_date net t k) (greatest_date * (k + 1)) (date_by_most net t k (find (λ l. l.transition.index == t) net.inputs) ok refl);
 }

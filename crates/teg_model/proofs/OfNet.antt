@@ -5,7 +5,7 @@ use Rattle.std.specs.List.{range_with_len}
 use Rattle.std.proofs.lemmas.Bool.{cases_lt}
 use Rattle.std.proofs.lemmas.List.{get_or-append-add, get_or-append_right, length-append, get_or_append_left}
 use Rattle.std.proofs.lemmas.List.Elements.{All-append, All-map}
-use Rattle.std.proofs.lemmas.List.FromFn.{get_or-map-range_with_len, length-map-range_with_len}
+use Rattle.std.proofs.lemmas.List.FromFn.{get_or-range_with_len, length-range_with_len, get_or-map-range_with_len, length-map-range_with_len}
 use Rattle.dioid.specs.declared.dates.Date.{Date}
 use Rattle.dioid.specs.declared.dates.Date.TheVariants.{Early}
 use Rattle.dioid.specs.Dates.{IsAtMostDate}
@@ -31,6 +31,14 @@ pub all_extended : (net : NetLists) (P : Place → Type 0) → All P net.places 
 all_extended net P a b =
     All-append P net.places (map implicit_place (range_with_len 0 (length net.transitions))) a
     (All-map P implicit_place (range_with_len 0 (length net.transitions)) (λ i d l. b (get_or (range_with_len 0 (length net.transitions)) i d)))
+
+pub all_extended_in : (net : NetLists) (P : Place → Type 0) → All P net.places → ((t : ℕ) → t < length net.transitions → P (implicit_place t)) → All P (extended_places net)
+all_extended_in net P a b =
+    let n : ℕ = length net.transitions in
+    All-append P net.places (map implicit_place (range_with_len 0 n)) a
+    (All-map P implicit_place (range_with_len 0 n) (λ i d l.
+    let low : i < n = omega (arith, l, length-range_with_len 0 n) in
+    rw (get_or-range_with_len 0 n i d low) (b (0 + i) (omega arith))))
 
 -- each place of the net, and the implicit place of each transition, is among them
 pub extended_has : (net : NetLists) (P : Place → Type 0) → ((i : ℕ) → i < length (extended_places net) → P (get_or (extended_places net) i no_place))

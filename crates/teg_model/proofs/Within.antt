@@ -3,17 +3,20 @@ use Rattle.std.proofs.Common.{ℕ, zero, suc, ◌+◌, ◌-◌, ◌*◌, ◌<◌
 use Rattle.std.proofs.lemmas.Bool.{cases_Bool}
 use Rattle.std.proofs.lemmas.Bool.Decides.{nat_tests}
 use Rattle.std.proofs.lemmas.Int.{ints}
+use Rattle.std.specs.Prelude.{All}
 use Rattle.dioid.specs.declared.dates.Date.{Date}
 use Rattle.dioid.specs.declared.dates.Date.TheVariants.{Early, At, Never}
 use Rattle.dioid.specs.Dates.{delayed}
 use Rattle.teg_net.specs.declared.entries.Place.{Place}
 use Rattle.teg_net.specs.Nets.{NetLists, IsNet, IsInput}
-use Rattle.teg_net.specs.Limits.{greatest_hold}
+use Rattle.teg_net.specs.Limits.{greatest_hold, greatest_date}
+use Rattle.teg_net.specs.ReadyDates.{ready_date}
+use Rattle.teg_net.proofs.InputDates.{date_le}
 use Rattle.teg_net.specs.Circuits.{no_place}
 use Rattle.teg_model.specs.Systems.{Dating, System, available, IsLeastIn}
 use Rattle.teg_model.specs.Ranks.{AreRanks}
 use Rattle.teg_model.specs.Bounds.{IsWithin, IsBoundedBy}
-use Rattle.teg_model.specs.Datings.{IsLeastUnder, at_input, system_of}
+use Rattle.teg_model.specs.Datings.{IsLeastUnder, extended_places, at_input, system_of}
 use Rattle.teg_model.proofs.LeastOver.{least_over, least_is_attained, least_over_is_least, only_least_in, falls}
 use Rattle.teg_model.proofs.OfNet.{all_extended, input_or_not, ranks_extended, least_is_over}
 
@@ -72,16 +75,24 @@ least_in_within s bound hold r first x rr b h t k o =
     subst (IsWithin (first k + hold * (k * bound + r t))) (only_least_in s (least_over s bound r) x (least_over_is_least s bound r rr) h t k o)
     (within_on s bound hold r first rr b (suc (k * bound + r t)) t k o (omega arith))
 
+-- a ready date keeps the limit of dates
+ready_most : (net : NetLists) → IsNet net → (k : ℕ) → All (λ p. ready_date p k ≤ greatest_date) (extended_places net)
+ready_most net ok k = all_extended net (λ p. ready_date p k ≤ greatest_date) (λ i d l. date_le (get_or net.places i d).ready (k - 1) (ok.each_place i d l).ready_in) (λ t. omega arith)
+
 -- the dates that the inputs are given stay within a bound that grows with the number
 pub record AreWithin (net : NetLists) (u : Dating) (first : ℕ → ℕ) : Type 0 where
   pub grows : (j k : ℕ) → j ≤ k → first j ≤ first k
+  pub ready : greatest_date ≤ first 0
   pub inputs : (t k : ℕ) → 1 ≤ k → IsInput net t → IsWithin (first k) (u t k)
 
 pub net_is_bounded : (net : NetLists) (u : Dating) (first : ℕ → ℕ) → IsNet net → AreWithin net u first → IsBoundedBy (system_of net u) greatest_hold first
 net_is_bounded net u first ok w = record {
   holds = all_extended net (λ p. p.hold ≤ greatest_hold) (λ i d m. (ok.each_place i d m).hold_in) (λ j. omega arith);
   grows = w.grows;
-  initial = λ i d l k o m. (omega (arith, ints), omega (arith, ints));
+  initial = λ i d l k o m.
+      let ready = ready_most net ok k i d l in
+      let more = w.grows 0 k (omega arith) in
+      (omega (arith, ints), omega (arith, ints, ready, more, w.ready));
   release = λ a j one.
       ⊎_elim
       (λ (e : IsInput net a × (at_input net a (u a j) Early ≡ u a j)). rw e.1 (w.inputs a j one e.0))

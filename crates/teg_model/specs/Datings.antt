@@ -11,6 +11,7 @@ use Rattle.teg_net.specs.declared.entries.Place.{Place}
 use Rattle.teg_net.specs.Nets.{NetLists, IsInput}
 use Rattle.teg_model.specs.Systems.{System, available_in}
 use Rattle.teg_net.specs.Inputs.{input_date}
+use Rattle.teg_net.specs.ReadyDates.{ready_date}
 
 -- the implicit place of a transition leads to the transition itself, with no hold and one token
 abbrev pub implicit_place : ℕ → Place
@@ -20,9 +21,9 @@ implicit_place t = record { name = []; from = record { index = t }; to = record 
 abbrev pub extended_places : NetLists → List Place
 extended_places net = net.places ++ map implicit_place (range_with_len 0 (length net.transitions))
 
--- initial tokens are available from date 0 on
+-- an initial token is available from its ready date on, which is 0 where the place has none
 abbrev pub initial_date : Place → ℕ → Date
-initial_date p k = At (pos 0)
+initial_date p k = At (pos (ready_date p k))
 
 -- the date from which the token is available that the place has for firing k of its downstream transition
 abbrev pub available_at : (ℕ → ℕ → Date) → Place → ℕ → Date

@@ -16,10 +16,6 @@ use Rattle.teg_model.specs.WalkDates.{IsGreatestOfWalks}
 abbrev pub LiveNetsAreRanked : Type 0
 LiveNetsAreRanked = (net : NetLists) → HasEndsInRange net → IsLive net → IsRanked net
 
--- and a net whose transitions have ranks is live
-abbrev pub RankedNetsAreLive : Type 0
-RankedNetsAreLive = (net : NetLists) → IsRanked net → IsLive net
-
 -- a live net has a least dating under any releases, and that is the least of its system too
 abbrev pub LeastDatingsExist : Type 0
 LeastDatingsExist = (net : NetLists) → HasEndsInRange net → IsLive net → (u : ℕ → ℕ → Date)

@@ -1,14 +1,6 @@
 //! The laws of the least datings of systems, with any dates of initial tokens and any releases; those
 //! of nets are instances. Each is a function that does nothing when it runs: its contract is the law.
-ghost use Rattle.teg_model.specs.SystemLaws.{
-  LeastInAreOne,
-  LeastInAreTight,
-  LeastInAreWalks,
-  LeastInAreWithin,
-  SystemsHaveLeast,
-  SystemsHaveStarts,
-  TightInAreLeast,
-};
+ghost use Rattle.teg_model.specs.SystemLaws.{LeastInAreOne, LeastInAreTight, LeastInAreWalks, LeastInAreWithin, SystemsHaveLeast, SystemsHaveStarts, TightInAreLeast};
 
 /// A system has a least dating where ranks rise along its places without tokens, and never two (chapter 2).
 pub fn systems_have_least()
