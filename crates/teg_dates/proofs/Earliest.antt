@@ -29,7 +29,7 @@ unfolding earliest
 earliest_is_least net init rel ranks ok r = least_over_is_least (system_with net init rel) 400 (rank_of ranks) (extended net ranks ok r)
 
 -- its dates fit
-pub earliest_within : (net : NetLists) (init : InitialDates) (rel : Dating) (ranks : List ℕ) → IsNet net → IsRanking net ranks → KeepsBounds net init rel
+pub earliest_within : (net : NetLists) (init : InitialDates) (rel : Dating) (ranks : List ℕ) → IsNet net → IsRanking net ranks → KeepsBounds (system_with net init rel)
     → (t k : ℕ) → 1 ≤ k → k ≤ most_rows → IsWithin (2 ^ 126) (earliest (system_with net init rel) ranks t k)
 earliest_within net init rel ranks ok r b t k o few =
     let s : System = system_with net init rel in
@@ -40,7 +40,7 @@ earliest_within net init rel ranks ok r b t k o few =
     (least_in_within s 400 greatest_hold (rank_of ranks) b.0 (earliest s ranks) re b.1 (earliest_is_least net init rel ranks ok r) t k o)
 
 -- the net's own ready dates and lists keep the bounds
-pub net_keeps_bounds : (net : NetLists) → IsNet net → KeepsBounds net (system_of net (listed net)).initial (system_of net (listed net)).release
+pub net_keeps_bounds : (net : NetLists) → IsNet net → KeepsBounds (system_of net (listed net))
 net_keeps_bounds net ok = (first_bound, net_is_bounded net (listed net) first_bound ok (listed_within net ok), omega arith)
 
 pub earliest_of_net : (net : NetLists) (ranks : List ℕ) → IsNet net → IsRanking net ranks → IsLeastDating net (earliest (system_of net (listed net)) ranks)

@@ -145,7 +145,7 @@ filled_more net init rel x k order dates i o to cell date before h one s in' at 
 -- how the pass begins
 pub filled_begins :
     (net : NetLists) (init : InitialDates) (rel : Dating) (x : Dating) (k : ℕ) (order : List Ranked) (before dates : List Date)
-    → IsLeastIn (system_with net init rel) x → 1 ≤ k → AreFirst net x (k - 1) before → HasBegun net init rel before k dates
+    → IsLeastIn (system_with net init rel) x → 1 ≤ k → AreFirst net x (k - 1) before → HasBegun net (system_with net init rel) before k dates
     → FilledTo net init rel x k order dates 0
 filled_begins net init rel x k order before dates h o first s =
     let w : ℕ = length net.transitions in

@@ -7,9 +7,10 @@ ghost use Rattle.teg_net.specs.Limits.{most_transitions};
 ghost use Rattle.teg_model.specs.Bounds.{IsWithin};
 ghost use Rattle.teg_model.specs.Systems.{available_in};
 ghost use Rattle.teg_model.specs.Datings.{implicit_place};
-ghost use Rattle.teg_dates.specs.Tables.{cell_of, date_in};
+ghost use Rattle.teg_dates.specs.Tables.{cell_of};
 ghost use Rattle.teg_dates.specs.Order.{OrdersPlaces};
-ghost use Rattle.teg_dates.specs.Rows.{most_rows, KeepsBounds, AreFirst, AreFirstLeast, HasBegun, HasLeastDating};
+ghost use Rattle.teg_dates.specs.Sources.{system_by};
+ghost use Rattle.teg_dates.specs.Rows.{most_rows, dating_of, KeepsBounds, AreFirstLeast, HasBegun, HasBegunLeast, HasLeastDating, IsSourceWithin};
 
 use crate::order::Ranked;
 use crate::sources::Source;
@@ -46,8 +47,8 @@ fn available<S: Source>(net: &Net, source: &S, id: PlaceId, dates: &[Date], numb
     requires number { 1 ≤ number }
     requires few { number ≤ most_rows }
     requires full { length dates.now ≡ number * length net.now.transitions }
-    requires within { (place_at net.now id).tokens < number → IsWithin (2 ^ 126) (date_in (length net.now.transitions) dates.now (place_at net.now id).from.index (number - (place_at net.now id).tokens)) }
-    ensures { result ≡ available_in (S.initial source.now) (date_in (length net.now.transitions) dates.now) (place_at net.now id) number }
+    requires within { IsSourceWithin net.now dates.now (place_at net.now id) number }
+    ensures { result ≡ available_in (S.initial source.now) (dating_of net.now dates.now) (place_at net.now id) number }
 {
     let place = &net.places()[id.index as usize];
     let tokens = place.tokens as u64;
@@ -74,7 +75,7 @@ fn date_before<S: Source>(
     requires number { 1 ≤ number }
     requires few { number ≤ most_rows }
     requires full { (number - 1) * length net.now.transitions ≤ length dates.now }
-    ensures { result ≡ available_in (S.initial source.now) (date_in (length net.now.transitions) dates.now) (implicit_place transition.index) number }
+    ensures { result ≡ available_in (S.initial source.now) (dating_of net.now dates.now) (implicit_place transition.index) number }
 {
     if number == 1 {
         source.first(net, transition)
@@ -93,7 +94,7 @@ pub(crate) fn begin_row<S: Source>(
     requires number { 1 ≤ number }
     requires few { number ≤ most_rows }
     requires full { length dates.old.items ≡ (number - 1) * length net.now.transitions }
-    ensures { IfOk result (λ _. HasBegun net.now (S.initial source.now) (S.release source.now net.now) dates.old.items number dates.new.items) }
+    ensures { IfOk result (λ _. HasBegun net.now (system_by S.Source source.now net.now) dates.old.items number dates.new.items) }
 {
     let width = net.transitions().len();
     for index in 0..width {
@@ -115,13 +116,13 @@ pub(crate) fn raise_row<S: Source>(
     number: u64,
 )
     requires order { OrdersPlaces net.now order.now }
-    requires bounded { KeepsBounds net.now (S.initial source.now) (S.release source.now net.now) }
+    requires bounded { KeepsBounds (system_by S.Source source.now net.now) }
     requires number { 1 ≤ number }
     requires few { number ≤ most_rows }
-    requires begun { (before : List Date) × AreFirstLeast net.now (S.initial source.now) (S.release source.now net.now) (number - 1) before × HasBegun net.now (S.initial source.now) (S.release source.now net.now) before number dates.old }
+    requires begun { HasBegunLeast net.now (system_by S.Source source.now net.now) number dates.old }
     ensures full { length dates.new ≡ number * length net.now.transitions }
-    ensures least { AreFirstLeast net.now (S.initial source.now) (S.release source.now net.now) number dates.new }
-    ensures exists { HasLeastDating net.now (S.initial source.now) (S.release source.now net.now) }
+    ensures least { AreFirstLeast net.now (system_by S.Source source.now net.now) number dates.new }
+    ensures exists { HasLeastDating (system_by S.Source source.now net.now) }
 {
     let places = net.places();
     let width = net.transitions().len();

@@ -4,6 +4,7 @@ ghost use Rattle.dioid.specs.declared.dates.Date.{Date};
 ghost use Rattle.teg_net.specs.Nets.{IsNet};
 ghost use Rattle.teg_dates.specs.Tables.{date_at};
 ghost use Rattle.teg_dates.specs.Order.{OrdersPlaces};
+ghost use Rattle.teg_dates.specs.Sources.{system_by};
 ghost use Rattle.teg_dates.specs.Rows.{most_rows, KeepsBounds, AreLeastRows, HasLeastDating};
 
 use crate::order::PlaceOrder;
@@ -61,13 +62,13 @@ impl Rows {
         source: &S,
     ) -> Result<Rows, OutOfMemory>
         requires order { OrdersPlaces net.now order.now }
-        requires bounded { KeepsBounds net.now (S.initial source.now) (S.release source.now net.now) }
+        requires bounded { KeepsBounds (system_by S.Source source.now net.now) }
         requires few { self.count < most_rows }
-        requires rows { AreLeastRows net.now (S.initial source.now) (S.release source.now net.now) self }
+        requires rows { AreLeastRows net.now (system_by S.Source source.now net.now) self }
         ensures count { IfOk result (λ rows. rows.count ≡ self.count + 1) }
         ensures limits { IfOk result IsRows }
-        ensures rows { IfOk result (AreLeastRows net.now (S.initial source.now) (S.release source.now net.now)) }
-        ensures exists { IfOk result (λ _. HasLeastDating net.now (S.initial source.now) (S.release source.now net.now)) }
+        ensures rows { IfOk result (AreLeastRows net.now (system_by S.Source source.now net.now)) }
+        ensures exists { IfOk result (λ _. HasLeastDating (system_by S.Source source.now net.now)) }
     {
         let mut rows = self;
         let number = rows.count + 1;

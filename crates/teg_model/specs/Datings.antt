@@ -29,10 +29,6 @@ initial_date p k = At (pos (ready_date p k))
 abbrev pub available_at : (ℕ → ℕ → Date) → Place → ℕ → Date
 available_at x p k = available_in initial_date x p k
 
--- for each input and number the date before which it cannot fire
-abbrev pub Releases : Type 0
-Releases = ℕ → ℕ → Date
-
 -- the date of an input's firing, where none is never
 abbrev pub as_date : Option ℕ → Date
 as_date None = Never
@@ -51,10 +47,6 @@ pub record IsFeasibleUnder (net : NetLists) (u : ℕ → ℕ → Date) (x : ℕ 
 pub record IsLeastUnder (net : NetLists) (u : ℕ → ℕ → Date) (x : ℕ → ℕ → Date) : Type 0 where
   pub feasible : IsFeasibleUnder net u x
   pub least : (y : ℕ → ℕ → Date) → IsFeasibleUnder net u y → (t k : ℕ) → t < length net.transitions → 1 ≤ k → IsAtMostDate (x t k) (y t k)
-
--- feasible under the net's own input lists
-abbrev pub IsFeasible : NetLists → (ℕ → ℕ → Date) → Type 0
-IsFeasible net x = IsFeasibleUnder net (listed net) x
 
 -- the least dating of the net
 abbrev pub IsLeastDating : NetLists → (ℕ → ℕ → Date) → Type 0

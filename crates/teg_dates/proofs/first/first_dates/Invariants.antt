@@ -7,5 +7,5 @@ abbrev pub invariant-loop-number : goal.invariant-loop-number
 invariant-loop-number l = record {
   count : l.rows.count ≡ l._number;
   limits : IsRows l.rows;
-  least : AreLeastRows l.net (system_of l.net (listed l.net)).initial (system_of l.net (listed l.net)).release l.rows;
+  least : AreLeastRows l.net (system_of l.net (listed l.net)) l.rows;
 }
