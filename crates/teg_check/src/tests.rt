@@ -4,7 +4,7 @@ ghost use Rattle.std.specs.Prelude.{◌≡◌, ◌≤◌, length, IfOk};
 use crate::{CheckRefusal, check};
 use std::alloc::Global;
 use std::test::Fail;
-use teg_net::{InputList, Name, Net, Place, PlaceId, Role, Transition, TransitionId};
+use teg_net::{DateList, InputList, Name, Net, Place, PlaceId, Role, Transition, TransitionId};
 
 /// Transitions a and b, place ba from b to a, and place ab from a to b with these tokens.
 fn ring(alloc: Global, tokens: u32) -> Result<Net, Fail>
@@ -27,14 +27,16 @@ fn ring(alloc: Global, tokens: u32) -> Result<Net, Fail>
             from: TransitionId { index: 1 },
             to: TransitionId { index: 0 },
             hold: 2,
-            tokens: 0
+            tokens: 0,
+            ready: DateList::new(Vec::new(alloc))
         },
         Place {
             name: Name::new(alloc, "ab")?,
             from: TransitionId { index: 0 },
             to: TransitionId { index: 1 },
             hold: 3,
-            tokens
+            tokens,
+            ready: DateList::new(Vec::new(alloc))
         },
     ]?;
     let inputs: Vec<InputList> = Vec::new(alloc);
@@ -65,6 +67,7 @@ fn lone_place(alloc: Global) -> Result<Net, Fail> {
         to: TransitionId { index: 0 },
         hold: 4,
         tokens: 0,
+        ready: DateList::new(Vec::new(alloc)),
     };
     let transitions = vec![in alloc; a]?;
     let places = vec![in alloc; aa]?;

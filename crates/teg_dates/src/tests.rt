@@ -39,6 +39,7 @@ fn driven(alloc: Global) -> Result<Net, Fail>
         to: TransitionId { index: 1 },
         hold: 2,
         tokens: 0,
+        ready: DateList::new(Vec::new(alloc)),
     };
     let list = InputList {
         transition: TransitionId { index: 0 },
@@ -70,14 +71,16 @@ fn ring(alloc: Global) -> Result<Net, Fail>
             from: TransitionId { index: 0 },
             to: TransitionId { index: 1 },
             hold: 3,
-            tokens: 0
+            tokens: 0,
+            ready: DateList::new(Vec::new(alloc))
         },
         Place {
             name: Name::new(alloc, "ba")?,
             from: TransitionId { index: 1 },
             to: TransitionId { index: 0 },
             hold: 2,
-            tokens: 1
+            tokens: 1,
+            ready: DateList::new(Vec::new(alloc))
         },
     ]?;
     Ok(Net::new(transitions, places, Vec::new(alloc)))

@@ -3,7 +3,7 @@ use crate::{Entry, StarEntry, standard_form};
 use std::alloc::Global;
 use std::test::Fail;
 use teg_check::check;
-use teg_net::{Name, Net, Place, Role, Transition, TransitionId};
+use teg_net::{DateList, Name, Net, Place, Role, Transition, TransitionId};
 
 /// Transitions a and b, place ab from a to b with hold 3, and place ba from b to a with hold 2 and one token.
 fn ring(alloc: Global) -> Result<Net, Fail> {
@@ -23,14 +23,16 @@ fn ring(alloc: Global) -> Result<Net, Fail> {
             from: TransitionId { index: 0 },
             to: TransitionId { index: 1 },
             hold: 3,
-            tokens: 0
+            tokens: 0,
+            ready: DateList::new(Vec::new(alloc))
         },
         Place {
             name: Name::new(alloc, "ba")?,
             from: TransitionId { index: 1 },
             to: TransitionId { index: 0 },
             hold: 2,
-            tokens: 1
+            tokens: 1,
+            ready: DateList::new(Vec::new(alloc))
         },
     ]?;
     Ok(Net::new(transitions, places, Vec::new(alloc)))

@@ -14,7 +14,7 @@ use Rattle.teg_net.specs.Inputs.{input_date}
 
 -- the implicit place of a transition leads to the transition itself, with no hold and one token
 abbrev pub implicit_place : ℕ → Place
-implicit_place t = record { name = []; from = record { index = t }; to = record { index = t }; hold = 0; tokens = 1 }
+implicit_place t = record { name = []; from = record { index = t }; to = record { index = t }; hold = 0; tokens = 1; ready = [] }
 
 -- the places of the net, and the implicit place of each transition
 abbrev pub extended_places : NetLists → List Place

@@ -106,7 +106,7 @@ AreInputDates-input_date net t h = record {
   no_list = λ none k. ap (λ o. date_by o k) (not_found net.inputs t none);
 }
 
-date_le : (dates : List ℕ) (i : ℕ) → All (λ d. d ≤ greatest_date) dates → get_or dates i 0 ≤ greatest_date
+pub date_le : (dates : List ℕ) (i : ℕ) → All (λ d. d ≤ greatest_date) dates → get_or dates i 0 ≤ greatest_date
 date_le dates i h =
     ⊎_elim
     (λ (l : i < length dates). h i 0 l)

@@ -3,6 +3,7 @@ pub mod Names
 pub mod Nets
 pub mod Circuits
 pub mod Paths
+pub mod ReadyDates
 pub mod Inputs
 pub mod Walks
 pub mod Ratios

@@ -21,7 +21,7 @@ most_tokens = 1000
 abbrev pub most_dates : ℕ
 most_dates = 100000
 
--- an input date, and the gap by which a list goes on
+-- an input date, the gap by which a list goes on, and the ready date of a token
 abbrev pub greatest_date : ℕ
 greatest_date = 1000000000000
 

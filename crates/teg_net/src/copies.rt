@@ -22,12 +22,14 @@ fn place_copy(alloc: Global, place: &Place) -> Result<Place, AllocError>
     ensures { IfOk result (λ copy. copy ≡ place.now) }
 {
     let name = place.name.copy(alloc)?;
+    let ready = place.ready.copy(alloc)?;
     Ok(Place {
         name,
         from: place.from,
         to: place.to,
         hold: place.hold,
         tokens: place.tokens,
+        ready,
     })
 }
 
@@ -55,7 +57,8 @@ fn places_copy(alloc: Global, places: &[Place]) -> Result<Vec<Place>, AllocError
 }
 
 impl Net {
-    /// The net with the same transitions and the same places, in order, and no input list.
+    /// The net with the same transitions and the same places, in order, ready dates with them, and
+    /// no input list.
     pub fn without_inputs(&self, alloc: Global) -> Result<Net, OutOfMemory>
         ensures { IfOk result (λ net. net ≡ without_inputs self.now) }
     {

@@ -15,6 +15,7 @@ mod names;
 mod net;
 mod paths;
 mod ratios;
+mod ready;
 #[cfg(test)]
 mod tests;
 mod walks;

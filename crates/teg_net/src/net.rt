@@ -7,6 +7,7 @@ use std::marker::Model;
 /// A timed event graph (chapter 2) whose lists keep the rules of `IsNet`: 1 to 400 transitions and
 /// at most 4,000 places with names that are distinct among transitions and among places, places
 /// within their limits whose ends are transitions of the net and of which none enters an input,
+/// with a ready date for each of their tokens or none,
 /// and at most one list for each input transition, whose dates never fall.
 #[derive(Debug, Drop)]
 pub struct Net {

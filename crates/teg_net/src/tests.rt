@@ -1,7 +1,8 @@
 //! A small net, and each call that takes memory.
-ghost use Rattle.std.specs.Prelude.{◌≡◌, IfSome, length};
+ghost use Rattle.std.specs.Prelude.{◌≡◌, IfSome, IfOk, length};
+ghost use Rattle.teg_net.specs.Circuits.{place_at};
 
-use crate::entries::{Place, PlaceId, Role, Transition, TransitionId};
+use crate::entries::{DateList, Place, PlaceId, Role, Transition, TransitionId};
 use crate::labels::Label;
 use crate::names::Name;
 use crate::net::Net;
@@ -31,6 +32,7 @@ fn one_loop(alloc: Global) -> Option<Net>
         to: TransitionId { index: 0 },
         hold: 4,
         tokens: 2,
+        ready: DateList::new(Vec::new(alloc)),
     };
     let places = vec![in alloc; place].ok()?;
     Some(Net::new(transitions, places, Vec::new(alloc)))
@@ -81,6 +83,55 @@ fn a_net_without_inputs(rt: HostRuntime) -> Result<(), Fail> {
     let copy = net.without_inputs(rt.alloc())?;
     assert!(rt; copy.find("a") == Some(TransitionId { index: 0 }) && copy.find("aa").is_none());
     assert!(rt; copy.find_place("aa") == Some(PlaceId { index: 0 }));
+    Ok(())
+}
+
+/// Transitions a and b with a place ab of 2 tokens and a place fast of 1 token from a to b, ready
+/// at 7 and 5, and at 6.
+fn two_ways(alloc: Global) -> Result<Net, Fail>
+    ensures { IfOk result (λ net. (length net.places ≡ 2) × ((place_at net (record { index = 0 })).tokens ≡ 2)) }
+{
+    let transitions = vec![in alloc;
+        Transition {
+            name: Name::new(alloc, "a")?,
+            role: Role::Internal
+        },
+        Transition {
+            name: Name::new(alloc, "b")?,
+            role: Role::Output
+        },
+    ]?;
+    let places = vec![in alloc;
+        Place {
+            name: Name::new(alloc, "ab")?,
+            from: TransitionId { index: 0 },
+            to: TransitionId { index: 1 },
+            hold: 3,
+            tokens: 2,
+            ready: DateList::new(vec![in alloc; 7, 5]?)
+        },
+        Place {
+            name: Name::new(alloc, "fast")?,
+            from: TransitionId { index: 0 },
+            to: TransitionId { index: 1 },
+            hold: 1,
+            tokens: 1,
+            ready: DateList::new(vec![in alloc; 6]?)
+        },
+    ]?;
+    Ok(Net::new(transitions, places, Vec::new(alloc)))
+}
+
+#[test]
+fn tokens_have_ready_dates(rt: HostRuntime) -> Result<(), Fail> {
+    let net = two_ways(rt.alloc())?;
+    let copy = net.without_inputs(rt.alloc())?;
+    let ab = PlaceId { index: 0 };
+    let (a, b) = (TransitionId { index: 0 }, TransitionId { index: 1 });
+    assert!(rt; net.ready(ab, 1) == 7 && net.ready(ab, 2) == 5);
+    assert!(rt; net.start_date(a, 1) == 0 && net.start_date(b, 1) == 7);
+    assert!(rt; net.start_date(b, 2) == 5 && net.start_date(b, 3) == 0);
+    assert_eq!(rt; copy.start_date(b, 2), 5);
     Ok(())
 }
 

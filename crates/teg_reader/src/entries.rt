@@ -66,6 +66,7 @@ fn make_place(alloc: Global, names: &IndexSet<&str>, entry: &Value) -> Result<Pl
         to: number_of(names, end_at(entry, Key::To)),
         hold: number_at(entry, Key::Hold),
         tokens: number_at(entry, Key::Tokens) as u32,
+        ready: DateList::new(Vec::new(alloc)),
     })
 }
 
