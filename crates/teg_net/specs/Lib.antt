@@ -6,4 +6,5 @@ pub mod Paths
 pub mod ReadyDates
 pub mod Inputs
 pub mod Walks
+pub mod NameOrders
 pub mod Ratios
