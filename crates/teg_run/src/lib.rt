@@ -8,12 +8,15 @@
 //! `teg_model` and `dioid` say of dates, `teg_report` for the texts, and `teg_outside`.
 #![tactic(auto)]
 
+mod answering;
 mod call;
 mod ending;
+mod fetching;
 mod live_net;
 mod net_commands;
-mod order;
-mod reading;
+mod net_file;
+mod opening;
+mod request;
 mod status;
 mod writing;
 
