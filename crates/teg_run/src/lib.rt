@@ -8,8 +8,8 @@
 //! `teg_model` and `dioid` say of dates, `teg_report` for the texts, and `teg_outside`.
 #![tactic(auto)]
 
-mod answering;
 mod call;
+mod carry_out;
 mod ending;
 mod fetching;
 mod live_net;

@@ -34,10 +34,16 @@ pub fn unread<T: Drop>(alloc: Global, file: Which, fault: ShelfFault) -> Opened<
 {
     match fault {
         ShelfFault::TooLarge => {
-            refused(Status::Text, report(alloc, None, &Answer::TooLarge { file }))
+            refused(
+                Status::Text,
+                report(alloc, None, &Answer::TooLarge { file }),
+            )
         }
         ShelfFault::Failed => {
-            refused(Status::ReadFault, report(alloc, None, &Answer::Fault { file }))
+            refused(
+                Status::ReadFault,
+                report(alloc, None, &Answer::Fault { file }),
+            )
         }
         ShelfFault::OutOfMemory => Opened::Lost,
     }

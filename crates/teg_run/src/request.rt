@@ -102,7 +102,10 @@ fn asked_for<'a>(given: &GivenWords<'a>) -> Option<Request<'a>>
 }
 
 /// The request that the words give, if they give one.
-pub fn read_request<'a>(alloc: Global, words: &'a [String]) -> Result<Option<Request<'a>>, OutOfMemory>
+pub fn read_request<'a>(
+    alloc: Global,
+    words: &'a [String],
+) -> Result<Option<Request<'a>>, OutOfMemory>
     ensures value { IfOk result (λ request. option_map asked request ≡ request_of (map string_bytes words.now)) }
     ensures in_range { IfOk result (λ request. IfSome (option_map asked request) IsRequestInRange) }
 {

@@ -3,7 +3,7 @@ use Rattle.teg_dates.specs.Tables.{date_at}
 use Rattle.teg_net.specs.Nets.{NetLists}
 use Rattle.teg_run.specs.Texts.{list_text}
 use Rattle.teg_run.proofs.Listed.{says_list}
-use Rattle.teg_run.proofs.net_commands.list.Goals as goal
+use Rattle.teg_run.proofs.net_commands.tell_dates.Goals as goal
 
 pub returns : goal.returns
 returns c =

@@ -3,7 +3,7 @@ use Rattle.teg_net.specs.Nets.{NetLists}
 use Rattle.teg_report.specs.declared.answer.Which.TheVariants.{Net as NetFile}
 use Rattle.teg_run.specs.Openings.{OpensNet}
 use Rattle.teg_run.proofs.Answering.{lost_at, after_net, refused_at, accepted_at, closed_with}
-use Rattle.teg_run.proofs.reading.answer_net.Goals as goal
+use Rattle.teg_run.proofs.carry_out.answer_net.Goals as goal
 
 pub returns-in-Refused : goal.returns-in-Refused
 returns-in-Refused g c = refused_at OpensNet _ NetFile _ [] _ _ _ _ c.in-Refused.ensures
