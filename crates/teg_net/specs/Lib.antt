@@ -6,3 +6,8 @@ pub mod Paths
 pub mod Inputs
 pub mod Walks
 pub mod Ratios
+pub mod Parts
+pub mod ReducedTimes
+pub mod GreatestRatios
+pub mod PartAnswers
+pub mod Certificates
