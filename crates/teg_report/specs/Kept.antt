@@ -10,7 +10,7 @@ use Rattle.teg_reader.specs.declared.refusals.ReadRefusal.{ReadRefusal}
 use Rattle.teg_reader.specs.declared.refusals.ReadRefusal.TheVariants.{NotToml, UnknownKey, WrongKind, MissingKey, BadName, Repeated, OutOfRange, NoTransitions, UnknownTransition, NotEventGraph, InputHasUpstream, BadInput, OutOfMemory}
 use Rattle.teg_reader.specs.declared.refusals.Section.TheVariants.{Top}
 use Rattle.teg_reader.specs.declared.refusals.Spot.{Spot}
-use Rattle.teg_report.specs.Answers.{Answer, Usage, Live, Listed, Form, Read, TooLarge, TokenFree, Fault}
+use Rattle.teg_report.specs.Answers.{Answer, Usage, Live, Listed, Form, NoCircuit, Cycle, Read, TooLarge, TokenFree, Fault}
 use Rattle.teg_report.specs.Reports.{IsAbout}
 use Rattle.teg_text.specs.Words.{AreBytes, IsDate}
 
@@ -57,6 +57,8 @@ IsKept Usage = ⊤
 IsKept (Live transitions places) = IsWord32 transitions × IsWord32 places
 IsKept (Listed table) = IsTable table × All IsDate table.dates
 IsKept (Form form) = All IsStarKept form.stars × All IsEntryKept form.entries
+IsKept NoCircuit = ⊤
+IsKept (Cycle answer) = ⊤
 IsKept (Read refusal) = IsRefusal refusal
 IsKept (TooLarge file) = ⊤
 IsKept (TokenFree circuit) = ⊤

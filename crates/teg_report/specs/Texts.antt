@@ -33,6 +33,10 @@ counted word count = word ∷ decimal count ∷ []
 abbrev pub live_lines : ℕ → ℕ → List (List (List ℕ))
 live_lines transitions places = phrase (codes "live") ∷ counted (codes "transitions") transitions ∷ counted (codes "places") places ∷ []
 
+-- that a net has no circuit
+abbrev pub no_circuit_line : List (List ℕ)
+no_circuit_line = phrase (codes "no circuit")
+
 -- how texts speak of a file
 abbrev pub file_words : Which → List (List ℕ)
 file_words NetFile = phrase (codes "the net")
