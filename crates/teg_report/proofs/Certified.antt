@@ -111,7 +111,7 @@ members_rise k (p ∷ ps) part =
 member_at : (part_of : List ℕ) (part : ℕ) (ts : List ℕ) (t : ℕ) → All (IsMember part_of part) ts → Contains ts t → IsMember part_of part t
 member_at part_of part ts t h (k, l, e) = subst (IsMember part_of part) e (h k t l)
 
-listed_members : (part_of : List ℕ) (part : ℕ) (ts : List ℕ) → ListsMembers part_of part ts → ts ≡ numbers_of (members_from 0 part_of part)
+pub listed_members : (part_of : List ℕ) (part : ℕ) (ts : List ℕ) → ListsMembers part_of part ts → ts ≡ numbers_of (members_from 0 part_of part)
 listed_members part_of part ts h =
     one_rising ts (numbers_of (members_from 0 part_of part)) h.ordered (members_rise 0 part_of part)
     (λ t m. let here = member_at part_of part ts t h.only m in all_members 0 part_of part t t here.in_range (omega arith) here.here)

@@ -31,7 +31,7 @@ lines_read net names e (Live transitions places) h = record {
 lines_read net names e (Listed table) h = with_net _ (λ names n. IsRead names (lines_of n (Listed table)) (Listed table)) net names e h.keeps_rules h.about (list_read table h.kept.0 h.kept.1)
 lines_read net names e (Form form) h = with_net _ (λ names n. IsRead names (lines_of n (Form form)) (Form form)) net names e h.keeps_rules h.about (form_read form h.kept)
 lines_read net names e NoCircuit h = record { words = refl; back = refl }
-lines_read net names e (Cycle answer) h = with_net _ (λ names n. IsRead names (lines_of n (Cycle answer)) (Cycle answer)) net names e h.keeps_rules h.about (cycle_read answer)
+lines_read net names e (Cycle answer rounds) h = with_net _ (λ names n. IsRead names (lines_of n (Cycle answer rounds)) (Cycle answer rounds)) net names e h.keeps_rules h.about (cycle_read answer rounds h.kept)
 lines_read net names e (Read refusal) h = refusal_read names refusal h.kept
 lines_read net names e (TooLarge file) h = too_large_read names (names_of net) file
 lines_read net names e (TokenFree circuit) h = with_net _ (λ names n. IsRead names (lines_of n (TokenFree circuit)) (TokenFree circuit)) net names e h.keeps_rules h.about (circuit_read circuit)

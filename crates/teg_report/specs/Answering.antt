@@ -8,6 +8,7 @@ use Rattle.teg_form.specs.Forms.{FormLists}
 use Rattle.teg_net.specs.declared.answers.Potential.{Potential}
 use Rattle.teg_net.specs.declared.entries.PlaceId.{PlaceId}
 use Rattle.teg_net.specs.declared.entries.TransitionId.{TransitionId}
+use Rattle.teg_net.specs.declared.rounds.Choice.{Choice}
 use Rattle.teg_net.specs.Nets.{NetLists}
 use Rattle.teg_net.specs.Ratios.{Fraction}
 use Rattle.teg_reader.specs.declared.keys.Key.{Key}
@@ -20,6 +21,7 @@ use Rattle.teg_reader.specs.declared.refusals.Spot.{Spot}
 use Rattle.teg_report.specs.declared.answer.Which.TheVariants.{Net as NetFile}
 use Rattle.teg_report.specs.Answers.{Answer, Usage, Live, Listed, Form, NoCircuit, Cycle, Read, TooLarge, TokenFree, Fault}
 use Rattle.teg_report.specs.Cycles.{PartLists, NoCircuitIn, BestOf, CycleLists, has_ratio}
+use Rattle.teg_report.specs.Rounds.{RoundLists}
 use Rattle.teg_text.specs.Reading.{lines_in, line_at, word, stands_at, number_in, is_numeral, signed_in, before_slash, behind_slash, date_in, label_in, index_in}
 use Rattle.teg_text.specs.Rows.{those, first_where, blocks_in, cell_in}
 
@@ -79,13 +81,50 @@ abbrev pub is_member : ℕ → List TransitionId → Bool
 is_member t [] = false
 is_member t (m ∷ ms) = (m.index == t) || is_member t ms
 
--- the first line of a part
+-- the first line of a part or of a round
 abbrev pub is_part_line : List (List ℕ) → Bool
 is_part_line line = stands_at 0 line (codes "part")
 
+-- the blocks of parts and rounds
+abbrev pub told_in : List (List (List ℕ)) → List (List (List (List ℕ)))
+told_in lines = (blocks_in is_part_line (drop 2 lines)).blocks
+
+-- whether the block is that of a part
+abbrev pub is_part : List (List (List ℕ)) → Bool
+is_part block = not (stands_at 2 (line_at 0 block) (codes "round"))
+
+-- whether the block is that of a first round
+abbrev pub is_first_round : List (List (List ℕ)) → Bool
+is_first_round block = number_in (word 3 (line_at 0 block)) == 1
+
 -- the blocks of the parts
 abbrev pub parts_in : List (List (List ℕ)) → List (List (List (List ℕ)))
-parts_in lines = (blocks_in is_part_line (drop 2 lines)).blocks
+parts_in lines = those is_part (told_in lines)
+
+-- the blocks of the rounds, in a list for each part
+abbrev pub runs_in : List (List (List ℕ)) → List (List (List (List (List ℕ))))
+runs_in lines = (blocks_in is_first_round (those (λ block. not (is_part block)) (told_in lines))).blocks
+
+-- a choice
+abbrev pub choice_in : NetLists → List (List ℕ) → Choice
+choice_in net line = record { transition = transition_in net (word 1 line); place = place_in net (word 2 line); value = signed_in (word 3 line) }
+
+-- a round, from its block of lines
+abbrev pub round_in : NetLists → List (List (List ℕ)) → RoundLists
+round_in net block = record {
+  ratio = ratio_in (word 5 (line_at 0 block));
+  circuit = map (place_in net) (drop 1 (line_at 1 block));
+  choices = map (choice_in net) (drop 2 block);
+}
+
+-- the lists of rounds, if there are any
+abbrev pub some_runs : List (List RoundLists) → Option (List (List RoundLists))
+some_runs [] = None
+some_runs (rounds ∷ runs) = Some (rounds ∷ runs)
+
+-- the rounds of policy iteration
+abbrev pub rounds_in : NetLists → List (List (List ℕ)) → Option (List (List RoundLists))
+rounds_in net lines = some_runs (map (map (round_in net)) (runs_in lines))
 
 -- cycle times
 abbrev pub cycle_in : NetLists → List (List (List ℕ)) → CycleLists
@@ -146,7 +185,7 @@ answer_of net lines =
     else if stands_at 0 (line_at 0 lines) (codes "dates") then Listed (table_in net lines)
     else if stands_at 0 (line_at 0 lines) (codes "form") then Form (form_in net lines)
     else if stands_at 0 (line_at 0 lines) (codes "no") then NoCircuit
-    else if stands_at 0 (line_at 0 lines) (codes "cycle") then Cycle (cycle_in net lines)
+    else if stands_at 0 (line_at 0 lines) (codes "cycle") then Cycle (cycle_in net lines) (rounds_in net lines)
     else if stands_at 0 (line_at 0 lines) (codes "fault:") then Fault NetFile
     else if stands_at 1 (line_at 0 lines) (codes "the") then TooLarge NetFile
     else if stands_at 1 (line_at 0 lines) (codes "token-free") then TokenFree (map (place_in net) (drop 3 (line_at 0 lines)))

@@ -1,17 +1,25 @@
-//! The text of cycle times: the greatest ratio and a circuit that has it, and then the lines of each
-//! part.
-ghost use Rattle.std.specs.Prelude.{◌≡◌, ◌++◌, ◌<◌, ◌^◌, ◌∷◌, [], All, IfOk, length, map, string_bytes};
+//! The text of cycle times: the greatest ratio and a circuit that has it, then the lines of each
+//! part, and then the rounds that led to them, where they are given.
+ghost use Rattle.std.specs.Prelude.{◌≡◌, ◌++◌, ◌<◌, ◌^◌, ◌∷◌, [], All, IfOk, IfSome, length, map, string_bytes};
+ghost use Rattle.std.specs.Option.{option_copied, option_map};
 ghost use Rattle.teg_net.specs.Circuits.{AreInRange};
 ghost use Rattle.teg_report.specs.Cycles.{HasCircuitIn, IsCycleTold, IsPartTold, IsPotentialIn, best_lines, best_of, circuit_line, cycle_lines, member_line, members_from, part_lines, potential_line, ratio_line};
-ghost use Rattle.teg_report.specs.Meanings.{cycle_lists, part_lists};
+ghost use Rattle.teg_report.specs.Kept.{IsRunKept};
+ghost use Rattle.teg_report.specs.Meanings.{cycle_lists, part_lists, runs_lists};
+ghost use Rattle.teg_report.specs.Rounds.{AreRoundsTold, runs_lines as runs_text, told_runs};
 ghost use Rattle.teg_text.specs.Lines.{line_then, written};
 
 use crate::circuits::push_circuit;
+use crate::rounds::push_runs;
 use std::alloc::{AllocError, Global};
-use teg_net::{Circuit, CycleAnswer, Net, OutOfMemory, PartAnswer, Potential, Ratio};
+use teg_net::{Circuit, CycleAnswer, Net, OutOfMemory, PartAnswer, Potential, Ratio, Round};
 
 /// Appends the line of a circuit.
-fn push_circuit_line(text: &mut String, net: &Net, circuit: &Circuit) -> Result<(), AllocError>
+pub(crate) fn push_circuit_line(
+    text: &mut String,
+    net: &Net,
+    circuit: &Circuit,
+) -> Result<(), AllocError>
     requires { AreInRange net.now circuit.now.places.items }
     ensures { IfOk result (λ _. string_bytes text.new ≡
         string_bytes text.old ++ line_then (circuit_line net.now circuit.now.places.items) []) }
@@ -150,9 +158,9 @@ fn head(alloc: Global, net: &Net, answer: &CycleAnswer) -> Result<String, AllocE
 }
 
 /// The cycle time and a circuit that has it, and then the lines of each part.
-pub(crate) fn cycle(alloc: Global, net: &Net, answer: &CycleAnswer) -> Result<Vec<u8>, OutOfMemory>
+fn cycle_times(alloc: Global, net: &Net, answer: &CycleAnswer) -> Result<String, AllocError>
     requires { IsCycleTold net.now (cycle_lists answer.now) }
-    ensures { IfOk result (λ text. text.items ≡ written (cycle_lines net.now (cycle_lists answer.now))) }
+    ensures { IfOk result (λ text. string_bytes text ≡ written (cycle_lines net.now (cycle_lists answer.now))) }
 {
     let mut text = head(alloc, net, answer)?;
     for number in 0..answer.parts.len() {
@@ -163,6 +171,27 @@ pub(crate) fn cycle(alloc: Global, net: &Net, answer: &CycleAnswer) -> Result<Ve
             number,
             &answer.parts[number],
         )?;
+    }
+    Ok(text)
+}
+
+/// The cycle times, and then the rounds, part by part, where they are given.
+pub(crate) fn cycle(
+    alloc: Global,
+    net: &Net,
+    answer: &CycleAnswer,
+    rounds: Option<&[Vec<Round>]>,
+) -> Result<Vec<u8>, OutOfMemory>
+    requires answer { IsCycleTold net.now (cycle_lists answer.now) }
+    requires rounds { AreRoundsTold net.now (cycle_lists answer.now).parts (option_map runs_lists (option_copied rounds)) }
+    ensures text { IfOk result (λ text. text.items ≡ written (cycle_lines net.now (cycle_lists answer.now)
+        ++ runs_text net.now (told_runs (cycle_lists answer.now).parts (option_map runs_lists (option_copied rounds.entry))))) }
+    ensures kept { IfOk result (λ _. IfSome (option_map runs_lists (option_copied rounds.entry)) (λ runs. All IsRunKept runs)) }
+{
+    let mut text = cycle_times(alloc, net, answer)?;
+    match rounds {
+        Some(runs) => push_runs(&mut text, net, &answer.parts, runs)?,
+        None => {}
     }
     Ok(text.into_bytes())
 }

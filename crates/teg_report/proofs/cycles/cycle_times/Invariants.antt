@@ -3,7 +3,7 @@ use Rattle.std.specs.List.{flat_map, range_with_len}
 use Rattle.teg_report.specs.Cycles.{part_lines, part_at}
 use Rattle.teg_report.specs.Meanings.{cycle_lists}
 use Rattle.teg_text.specs.Lines.{written}
-use Rattle.teg_report.proofs.cycles.cycle.Given as goal
+use Rattle.teg_report.proofs.cycles.cycle_times.Given as goal
 
 abbrev pub invariant-loop-number : goal.invariant-loop-number
 invariant-loop-number l =
