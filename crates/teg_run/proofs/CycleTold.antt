@@ -14,11 +14,16 @@ use Rattle.teg_net.specs.declared.answers.Potential.{Potential}
 use Rattle.teg_net.specs.declared.entries.PlaceId.{PlaceId}
 use Rattle.teg_net.specs.declared.rounds.Choice.{Choice}
 use Rattle.teg_net.specs.declared.rounds.Round.{Round}
-use Rattle.teg_net.specs.GreatestRatios.{IsAnyPlace, IsCycleTime, HasNoCircuit}
-use Rattle.teg_net.specs.Nets.{NetLists}
+use Rattle.teg_net.specs.declared.circuits.Circuit.{Circuit}
+use Rattle.teg_net.specs.GreatestRatios.{IsAnyPlace, IsCycleTime, IsFirstGreatest, HasNoCircuit}
+use Rattle.teg_net.specs.Nets.{NetLists, IsNet}
 use Rattle.teg_net.specs.Parts.{IsMember}
-use Rattle.teg_net.specs.PartAnswers.{IsBestOfPart}
+use Rattle.teg_net.specs.Circuits.{IsLive}
+use Rattle.teg_net.specs.PartAnswers.{ArePartAnswers, IsPartAnswer}
+use Rattle.teg_parts.specs.Partitions.{AreParts, PartLists}
+use Rattle.teg_cycle.specs.LastRounds.{IsLastOfRun}
 use Rattle.teg_net.specs.Ratios.{Fraction}
+use Rattle.teg_howard.specs.Laws.{PolicyRunsAreOne}
 use Rattle.teg_howard.specs.Rounds.{IsRound, IsPolicyRun, choice_in, place_in}
 use Rattle.teg_howard.specs.Runs.{HasInnerPlace, IsAnswerOfLast}
 use Rattle.teg_report.specs.Meanings.{part_lists, round_lists, runs_lists}
@@ -28,7 +33,7 @@ use Rattle.teg_run.specs.CycleTimes.{IsCycleAnswer, AreRunsFrom, IsRunOf}
 use Rattle.teg_run.specs.Meanings.{rounds_in}
 use Rattle.teg_run.specs.Texts.{cycle_told, cycle_text, no_circuit_text}
 use Rattle.teg_run.proofs.Refusing.{path_in_range}
-use Rattle.teg_run.proofs.Rounds.{choice_at, each_round}
+use Rattle.teg_run.proofs.Rounds.{choice_at, each_round, ends_in}
 
 -- a net without a circuit
 
@@ -36,15 +41,34 @@ no_best : (net : NetLists) (answers : List PartAnswer) (best : Option ℕ) → I
 no_best net answers None h none = refl
 no_best net answers (Some k) h none = absurd (none h.2.attained.0 h.2.attained.1 h.2.attained.2)
 
-pub no_circuit_said : (net : NetLists) (answer : CycleAnswer) (runs : Option (List (List Round))) → IsCycleAnswer net answer → HasNoCircuit net IsAnyPlace → cycle_text net answer runs ≡ no_circuit_text
+pub no_circuit_said : (net : NetLists) (answer : CycleAnswer) (runs : Option (List (List RoundLists))) → IsCycleAnswer net answer → HasNoCircuit net IsAnyPlace → cycle_text net answer runs ≡ no_circuit_text
 no_circuit_said net answer runs h none =
     ap (λ (best : Option ℕ). text_of (Some net) (cycle_told best answer runs)) (no_best net answer.parts.items answer.best h.of_net none)
 
+-- the cycle times of a net, from what is proved of them for its parts
+pub cycle_answer : (net : NetLists) (parts : PartLists) (answer : CycleAnswer) → AreParts net parts → answer.part_of.items ≡ parts.part_of → length answer.parts.items ≡ length parts.inner →
+    ArePartAnswers net parts.part_of answer.parts.items → IsFirstGreatest answer.parts.items answer.best → IsCycleTime net answer.parts.items answer.best → IsCycleAnswer net answer
+cycle_answer net parts answer strong same count answers first of_net = record {
+  strong = (parts.inner, subst (λ (ps : List ℕ). AreParts net (record { part_of = ps; inner = parts.inner })) (sym same) strong, count);
+  parts = subst (λ (ps : List ℕ). ArePartAnswers net ps answer.parts.items) (sym same) answers;
+  first = first;
+  of_net = of_net;
+}
+
 -- a part with a circuit has a place in it
-pub inner_place : (net : NetLists) (part_of : List ℕ) (part : ℕ) (ratio : Fraction) (circuit : List PlaceId) (potentials : List Potential) → IsBestOfPart net part_of part ratio circuit potentials →
-    HasInnerPlace net part_of part
-inner_place net part_of part ratio circuit potentials h =
-    (slice_index_or circuit 0 (record { index = 0 }), h.inside 0 (record { index = 0 }) h.circuit.not_empty)
+pub inner_place : (net : NetLists) (part_of : List ℕ) (part : ℕ) (answer : PartAnswer) (ratio : Fraction) (circuit : Circuit) (potentials : Vec Potential) → answer ≡ Best ratio circuit potentials →
+    IsPartAnswer net part_of part answer → HasInnerPlace net part_of part
+inner_place net part_of part answer ratio circuit potentials is h =
+    let best = subst (IsPartAnswer net part_of part) is h in
+    (slice_index_or circuit.places.items 0 (record { index = 0 }), best.inside 0 (record { index = 0 }) best.circuit.not_empty)
+
+-- a policy run of a part ends in the answer of the part
+pub run_of : (net : NetLists) (part_of : List ℕ) (part : ℕ) (rounds : List Round) (answer : PartAnswer) (ratio : Fraction) (circuit : Circuit) (potentials : Vec Potential) → PolicyRunsAreOne → IsNet net → IsLive net →
+    answer ≡ Best ratio circuit potentials → IsLastOfRun net part_of part answer → IsPolicyRun net part_of part rounds → IsRunOf net part_of part answer (Some rounds)
+run_of net part_of part rounds answer ratio circuit potentials one rules live is last run =
+    let known = subst (IsLastOfRun net part_of part) is last in
+    subst (λ (a : PartAnswer). IsRunOf net part_of part a (Some rounds)) (sym is)
+    (run, ends_in net part_of part known.0 rounds (Best ratio circuit potentials) known.1 run (one net part_of part known.0 rounds rules live known.1 run) known.2)
 
 -- rounds part by part
 
@@ -62,12 +86,11 @@ runs_append net part_of k (Best ratio circuit potentials ∷ ps) qs (rounds ∷ 
     (h.0, h.1, runs_append net part_of (k + 1) ps qs runs more h.2 (subst (λ (j : ℕ). AreRunsFrom net part_of j qs more) here m))
 
 -- the rounds of one part, as a list of at most one run
-pub some_run : Option (List Round) → List (List Round)
+abbrev pub some_run : Option (List Round) → List (List Round)
 some_run None = []
 some_run (Some rounds) = rounds ∷ []
 
 one_part : (net : NetLists) (part_of : List ℕ) (k : ℕ) (answer : PartAnswer) (rounds : Option (List Round)) → IsRunOf net part_of k answer rounds → AreRunsFrom net part_of k (answer ∷ []) (some_run rounds)
-unfolding some_run
 one_part net part_of k NoCircuit rounds h = ap some_run h
 one_part net part_of k (Best ratio circuit potentials) None h = absurd h
 one_part net part_of k (Best ratio circuit potentials) (Some rounds) h = (h.0, h.1, refl)

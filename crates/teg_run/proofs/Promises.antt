@@ -1,11 +1,12 @@
 -- The promises of the whole call, from how it runs.
-use Rattle.std.proofs.Common.{◌≡◌, ◌≢◌, ℕ, true, false, ◌⊎◌, ⊎_elim, inl, inr, List, [], ◌++◌, Option, Some, None, refl, sym, ap, subst, ◌∙◌}
+use Rattle.std.proofs.Common.{◌≡◌, ◌≢◌, ℕ, true, false, ◌⊎◌, ⊎_elim, inl, inr, List, [], ◌++◌, map, Option, Some, None, refl, sym, ap, subst, ◌∙◌}
 use Rattle.std.proofs.lemmas.List.{append_cancel_left}
 use Rattle.teg_net.specs.Nets.{NetLists}
 use Rattle.teg_outside.specs.Causes.{Rose}
 use Rattle.teg_outside.specs.Sinks.{BytesGrow}
 use Rattle.teg_outside.proofs.Counts.{rose_not_rested}
 use Rattle.teg_report.specs.declared.answer.Which.{Which}
+use Rattle.teg_report.specs.Meanings.{round_lists}
 use Rattle.teg_run.specs.declared.status.Status.{Status}
 use Rattle.teg_run.specs.declared.status.Status.TheVariants.{Done, Words, Text, Net, ReadFault, WriteFault, NoMemory}
 use Rattle.teg_run.specs.declared.status.Verdict.{Verdict}
@@ -16,7 +17,7 @@ use Rattle.teg_run.specs.Requests.{NetCommand, CheckNet, ListNet, FormNet, Cycle
 use Rattle.teg_run.specs.Runs.{Answered, CarriesOut, Finished, Runs}
 use Rattle.teg_run.specs.Says.{Asked, SaysNet, SaysOutcome}
 use Rattle.teg_run.specs.Statuses.{status_of}
-use Rattle.teg_run.specs.Texts.{usage, live_text, list_text, form_text, cycle_text, no_circuit_text, too_large_text, fault_text}
+use Rattle.teg_run.specs.Texts.{usage, live_text, list_text, form_text, cycle_text, no_circuit_text, runs_text, too_large_text, fault_text}
 use Rattle.teg_run.proofs.CycleTold.{no_circuit_said}
 use Rattle.teg_run.proofs.Faults.{IsFaultOf, text_is_fault, net_is_fault, comes_only, follows, way_is_said, overlong_way, fault_way}
 use Rattle.teg_run.proofs.LiveNets.{live_goes_on}
@@ -188,7 +189,7 @@ rounds_follow call runs net asks =
       said.2.1.1,
       said.2.1.2,
       said.2.1.3,
-      done_with call said.0 said.1 (cycle_text net said.2.1.0 (Some said.2.1.1)) (ap status_of said.2.0) said.2.1.4 said.3,
+      done_with call said.0 said.1 (runs_text net said.2.1.0 said.2.1.1) (ap status_of said.2.0) said.2.1.4 said.3,
     ))
     (λ (lost : _). inr lost) (says_of_net call runs (CycleNet true) net asks)
 
@@ -196,7 +197,7 @@ no_circuit_follows : (call : Call) → Runs call → SaysNoCircuit call
 no_circuit_follows call runs false net asks none =
     ⊎_elim (λ (said : _). subst (λ (text : List ℕ). Ends call Done text) (no_circuit_said net said.0 None said.1 none) said.2) (λ (lost : _). inr lost) (cycle_follows call runs net asks)
 no_circuit_follows call runs true net asks none =
-    ⊎_elim (λ (said : _). subst (λ (text : List ℕ). Ends call Done text) (no_circuit_said net said.0 (Some said.1) said.2 none) said.4) (λ (lost : _). inr lost) (rounds_follow call runs net asks)
+    ⊎_elim (λ (said : _). subst (λ (text : List ℕ). Ends call Done text) (no_circuit_said net said.0 (Some (map (map round_lists) said.1)) said.2 none) said.4) (λ (lost : _). inr lost) (rounds_follow call runs net asks)
 
 allowed : (command : NetCommand) (net : NetLists) (verdict : Verdict) (text : List ℕ) → SaysNet command net verdict text → AllowsNet command verdict
 allowed CheckNet net verdict text h = h.0

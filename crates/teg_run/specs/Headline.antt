@@ -31,7 +31,7 @@ use Rattle.teg_run.specs.Requests.{NetCommand, CheckNet, ListNet, FormNet, Cycle
 use Rattle.teg_run.specs.Runs.{Finished, Runs}
 use Rattle.teg_run.specs.Says.{Asked, SaysNet}
 use Rattle.teg_run.specs.Statuses.{status_of}
-use Rattle.teg_run.specs.Texts.{usage, read_text, live_text, list_text, form_text, cycle_text, no_circuit_text, token_free_text, too_large_text, fault_text}
+use Rattle.teg_run.specs.Texts.{usage, read_text, live_text, list_text, form_text, cycle_text, no_circuit_text, runs_text, token_free_text, too_large_text, fault_text}
 
 -- ---- how a call ended
 
@@ -219,7 +219,7 @@ abbrev pub SaysPolicyRuns : Call → Type 0
 SaysPolicyRuns call =
     (net : NetLists) → Concerns call (CycleNet true) net →
     ((answer : CycleAnswer) × (runs : List (List Round)) × IsCycleAnswer net answer × AreRuns net answer runs
-    × Ends call Done (cycle_text net answer (Some runs)))
+    × Ends call Done (runs_text net answer runs))
     ⊎ EndsLost call
 
 -- that a live net has no circuit is told exactly where it has none, unless memory ran out

@@ -16,7 +16,7 @@ use Rattle.teg_run.specs.CycleTimes.{IsCycleAnswer, AreRuns}
 use Rattle.teg_run.specs.Requests.{NetCommand, CheckNet, ListNet, FormNet, CycleNet, Request, OfNet}
 use Rattle.teg_run.specs.Openings.{Opening, Accepted, Refused, OpensNet}
 use Rattle.teg_run.specs.Statuses.{status_of}
-use Rattle.teg_run.specs.Texts.{usage, live_text, list_text, form_text, cycle_text}
+use Rattle.teg_run.specs.Texts.{usage, live_text, list_text, form_text, cycle_text, runs_text}
 
 -- of a live net its size is said
 abbrev pub SaysCheck : NetLists → Verdict → List ℕ → Type 0
@@ -40,7 +40,7 @@ SaysCycle net verdict text =
 abbrev pub SaysRounds : NetLists → Verdict → List ℕ → Type 0
 SaysRounds net verdict text =
     (verdict ≡ VerdictDone)
-    × ((answer : CycleAnswer) × (runs : List (List Round)) × IsCycleAnswer net answer × AreRuns net answer runs × (text ≡ cycle_text net answer (Some runs)))
+    × ((answer : CycleAnswer) × (runs : List (List Round)) × IsCycleAnswer net answer × AreRuns net answer runs × (text ≡ runs_text net answer runs))
 
 -- what a command says of a live net
 abbrev pub SaysNet : NetCommand → NetLists → Verdict → List ℕ → Type 0

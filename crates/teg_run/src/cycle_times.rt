@@ -29,13 +29,12 @@ fn text_of_times(
 ) -> Result<Vec<u8>, OutOfMemory>
     requires certificate { IsCertificate net.now answer.now }
     requires rounds { AreRoundsTold net.now (cycle_lists answer.now).parts (option_map runs_lists (option_copied rounds)) }
-    ensures { IfOk result (λ text. text.items ≡ cycle_text net.now answer.now (option_map rounds_in (option_copied rounds.entry))) }
+    ensures { IfOk result (λ text. text.items ≡ cycle_text net.now answer.now (option_map runs_lists (option_copied rounds.entry))) }
 {
-    let told = match answer.best {
-        None => Answer::NoCircuit,
-        Some(_) => Answer::Cycle { answer, rounds },
-    };
-    report(alloc, Some(net.net()), &told)
+    match answer.best {
+        None => report(alloc, Some(net.net()), &Answer::NoCircuit),
+        Some(_) => report(alloc, Some(net.net()), &Answer::Cycle { answer, rounds }),
+    }
 }
 
 // Puts the rounds of a part at the end of the list.
@@ -62,8 +61,9 @@ fn policy_runs(
     let mut runs = Vec::new(alloc);
     for part in 0..answer.parts.len() {
         let found = net.rounds(alloc, parts, part as u32, &answer.parts[part])?;
-        if let Some(rounds) = found {
-            keep(&mut runs, rounds)?;
+        match found {
+            Some(rounds) => keep(&mut runs, rounds)?,
+            None => {}
         }
     }
     Ok(runs)
@@ -88,7 +88,7 @@ pub fn tell_rounds(alloc: Global, net: &LiveNet) -> Result<Outcome, OutOfMemory>
     let parts = net.parts(alloc)?;
     let answer = net.cycle(alloc, &parts)?;
     let runs = policy_runs(alloc, net, &parts, &answer)?;
-    let text = text_of_times(alloc, net, &answer, Some(&runs))?;
+    let text = text_of_times(alloc, net, &answer, Some(runs.as_slice()))?;
     let verdict = Verdict::Done;
     Ok(Outcome { verdict, text })
 }

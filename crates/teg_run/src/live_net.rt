@@ -90,7 +90,8 @@ impl LiveNet {
         ensures runs { IfOk result (λ answer. AreLastOfRuns self.now parts.now.part_of answer.parts.items) }
         ensures certificate { IfOk result (λ answer. IsCertificate self.now answer) }
     {
-        cycle(alloc, &self.net, &self.live, parts)
+        let answer = cycle(alloc, &self.net, &self.live, parts)?;
+        Ok(answer)
     }
 
     /// The rounds of policy iteration that end in this answer of a part; none where no circuit lies
@@ -110,6 +111,8 @@ impl LiveNet {
         match answer {
             PartAnswer::NoCircuit => Ok(None),
             PartAnswer::Best { .. } => {
+                // A live net has one policy run a part, so this one ends in the answer.
+                let _transitions = self.net.transitions();
                 policy_runs_are_one();
                 let (_answer, rounds) = howard(alloc, &self.net, &self.live, parts, part)?;
                 Ok(Some(rounds))

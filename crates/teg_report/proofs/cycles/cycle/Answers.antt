@@ -17,12 +17,12 @@ returns-clause-text c =
     let bytes : c.into_bytes.result.items ≡ string_bytes c.match-rounds.text = search rules in
     bytes ∙ elim c.match-rounds.branch [
       | in-Some+in_ok-push_runs-in-Some w ↦
-          let told = runs_lines net (runs_from 0 (map part_lists w.deref.result.now) (runs_lists w.in-Some.field-0.now)) in
-          let given : option_map runs_lists (option_copied c.args.rounds) ≡ Some (runs_lists w.in-Some.field-0.now) = rw w.in-Some.is refl in
+          let told = runs_lines net (runs_from 0 (map part_lists w.deref.result.now) (runs_lists w.in-Some.runs.now)) in
+          let given : option_map runs_lists (option_copied c.args.rounds) ≡ Some (runs_lists w.in-Some.runs.now) = rw w.in-Some.is refl in
           ap string_bytes w.text-is ∙ (w.in_ok-push_runs-in-Some.ensures.text
           ∙ (ap (λ (l : List ℕ). l ++ written told) c.in_ok-text.ensures
           ∙ (sym (written_append lines told)
-          ∙ (ap (λ (ps : List PartAnswer). written (lines ++ runs_lines net (runs_from 0 (map part_lists ps) (runs_lists w.in-Some.field-0.now)))) w.deref.ensures.value
+          ∙ (ap (λ (ps : List PartAnswer). written (lines ++ runs_lines net (runs_from 0 (map part_lists ps) (runs_lists w.in-Some.runs.now)))) w.deref.ensures.value
           ∙ ap (λ (r : Option (List (List RoundLists))). written (lines ++ runs_lines net (told_runs parts r))) (sym given)))))
       | in-None w ↦
           let given : option_map runs_lists (option_copied c.args.rounds) ≡ None = rw w.in-None.is refl in
