@@ -3,16 +3,16 @@ ghost use Rattle.std.specs.Prelude.{◌≡◌, ◌≤◌, ◌<◌, ◌+◌, ◌-
 ghost use Rattle.std.specs.Int.{int_max};
 ghost use Rattle.std.specs.Int.RustNames.{unsigned_abs};
 ghost use Rattle.dioid.specs.declared.dates.Date.TheVariants.{At, Never};
-ghost use Rattle.series_form.specs.Periodic.{times};
-ghost use Rattle.series_form.specs.Forms.{form_with, size_of, start_of, value_at, table, Form, HasValues, IsCanonical, monomial_at};
+ghost use Rattle.series_laws.specs.Periodic.{times};
+ghost use Rattle.series_laws.specs.Forms.{form_with, size_of, start_of, value_at, table, Form, HasValues, IsCanonical, monomial_at};
 ghost use Rattle.series_form.specs.Bounds.{IsUpTo, IsSeries};
-ghost use Rattle.series_form.specs.Needs.{greatest_int, need_of, sum_plan};
+ghost use Rattle.series_laws.specs.Needs.{greatest_int, need_of, sum_plan};
 ghost use Rattle.series_form.specs.declared.forms.SeriesRefused.{SeriesRefused};
 ghost use Rattle.dioid.specs.Order.{Le};
 ghost use Rattle.series_form.specs.Answer.{AnswersOf, Answers, IsBeginning, form_before};
-ghost use Rattle.series_ops.specs.Needs.{beats, anchor_step, anchor_of, loss_of, worst_loss, natural_of, own_plan, anchored_plan, at_least, star_plan, carried_of, star_need, star_carried, form_star};
+ghost use Rattle.series_laws.specs.ProductNeeds.{beats, anchor_step, anchor_of, loss_of, worst_loss, natural_of, own_plan, anchored_plan, at_least, star_plan, carried_of, star_need, star_carried, form_star};
 ghost use Rattle.series_ops.specs.Listed.{IsNumber, AreUpTo, IsModest, later_part};
-ghost use Rattle.series_ops.specs.StarOf.{parts_star, above_zero, IsStarOf, IsGreatestSum};
+ghost use Rattle.series_laws.specs.StarOf.{parts_star, above_zero, IsStarOf, IsGreatestSum};
 
 use crate::splits::{tail_value, value_with_tail};
 use crate::tables::ended;
@@ -20,16 +20,8 @@ use dioid::Date;
 use series_form::{
     Plan, Series, SeriesRefused, canonical_part, later_at, plan_of_sum, start, sum_values,
 };
+use series_laws::Anchor;
 use std::alloc::{AllocError, Global};
-
-/// A part and its value, which has the greatest ratio among parts; the period and the step where
-/// none has at least theirs.
-#[derive(Clone, Copy)]
-pub(crate) struct Anchor {
-    found: bool,
-    shift: usize,
-    value: i128,
-}
 
 /// A number many times over.
 fn many(count: usize, number: i128) -> i128

@@ -1,6 +1,6 @@
 use Rattle.std.proofs.Common.{◌≡◌}
-use Rattle.series_form.specs.Forms.{form_with}
-use Rattle.series_ops.specs.Needs.{anchor_upto}
+use Rattle.series_laws.specs.Forms.{form_with}
+use Rattle.series_laws.specs.ProductNeeds.{anchor_upto}
 use Rattle.series_ops.specs.Listed.{IsModest}
 use Rattle.series_ops.proofs.stars.best_anchor.Given as goal
 

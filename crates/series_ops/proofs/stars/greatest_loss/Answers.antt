@@ -2,11 +2,11 @@ use Rattle.std.proofs.Common.{◌≡◌, ◌≤◌, ◌+◌, ◌-◌, ℕ, ℤ, 
 use Rattle.std.specs.Int.{w128, int_max}
 use Rattle.std.specs.Int.RustNames.{unsigned_abs}
 use Rattle.std.proofs.lemmas.Int.{to_z-of_z}
-use Rattle.series_form.specs.Forms.{form_with}
-use Rattle.series_form.specs.Needs.{greatest_int}
+use Rattle.series_laws.specs.Forms.{form_with}
+use Rattle.series_laws.specs.Needs.{greatest_int}
 use Rattle.series_form.proofs.Numbers.{within_fits}
 use Rattle.series_form.proofs.PointwiseTables.{max_up_to}
-use Rattle.series_ops.specs.Needs.{loss_of}
+use Rattle.series_laws.specs.ProductNeeds.{loss_of}
 use Rattle.series_ops.proofs.stars.greatest_loss.Goals as goal
 
 begun : (b v : ℤ) → b ≡ v → unsigned_abs b ≤ 8000000000000000000000000000 → (to_z w128 (of_z w128 b) ≡ v) × (unsigned_abs (to_z w128 (of_z w128 b)) ≤ 8000000000000000000000000000)

@@ -1,8 +1,8 @@
 use Rattle.std.proofs.Common.{◌≡◌, ◌≤◌, ◌+◌}
 use Rattle.std.specs.Int.RustNames.{unsigned_abs}
-use Rattle.series_form.specs.Forms.{form_with, start_of}
-use Rattle.series_form.specs.Needs.{greatest_int}
-use Rattle.series_ops.specs.Needs.{loss_of}
+use Rattle.series_laws.specs.Forms.{form_with, start_of}
+use Rattle.series_laws.specs.Needs.{greatest_int}
+use Rattle.series_laws.specs.ProductNeeds.{loss_of}
 use Rattle.series_ops.proofs.stars.greatest_loss.Given as goal
 
 abbrev pub invariant-loop-place : goal.invariant-loop-place

@@ -4,13 +4,13 @@ use Rattle.std.specs.Int.RustNames.{unsigned_abs}
 use Rattle.std.proofs.lemmas.Int.{to_z-of_z}
 use Rattle.dioid.specs.declared.dates.Date.{Date}
 use Rattle.dioid.specs.declared.dates.Date.TheVariants.{Early, At}
-use Rattle.series_form.specs.Periodic.{times}
-use Rattle.series_form.specs.Forms.{Form, form_with, size_of, gap}
-use Rattle.series_form.specs.Canonical.{value_in}
+use Rattle.series_laws.specs.Periodic.{times}
+use Rattle.series_laws.specs.Forms.{Form, form_with, size_of, gap}
+use Rattle.series_laws.proofs.FormValues.{value_in}
 use Rattle.series_form.specs.Bounds.{IsUpTo}
 use Rattle.series_form.proofs.Numbers.{abs_difference, moderate_fits, within_fits}
-use Rattle.series_ops.specs.Stars.{scaled}
-use Rattle.series_ops.specs.Needs.{loss_of}
+use Rattle.series_laws.specs.Stars.{scaled}
+use Rattle.series_laws.specs.ProductNeeds.{loss_of}
 use Rattle.series_ops.proofs.stars.loss.Goals as goal
 
 code : (a b : ℤ) → unsigned_abs a ≤ 4000000000000000000000000000 → unsigned_abs b ≤ 4000000000000000000000000000 → to_z w128 (of_z w128 (to_z w128 (of_z w128 a) -ℤ to_z w128 (of_z w128 b))) ≡ a -ℤ b
