@@ -3,7 +3,7 @@ use Rattle.std.proofs.Common.{◌≡◌, refl, ap, arith, ℕ, pos, ◌+◌, sym
 use Rattle.std.proofs.lemmas.Int.{ints}
 use Rattle.dioid.specs.Laws.{IsAtMost, IsClosed, DioidLaws, StarLaws, ResidualLaws}
 use Rattle.dioid.specs.Dates.{later_of, earlier_of, date_left}
-use Rattle.dioid.specs.DateLaws.{later_assoc, later_commutes, later_idempotent}
+use Rattle.dioid.specs.Proved.DateLaws.{later_assoc, later_commutes, later_idempotent}
 use Rattle.dioid.specs.declared.dates.Date.{Date}
 use Rattle.dioid.specs.declared.dates.Date.TheVariants.{Early, At}
 use Rattle.dioid.specs.Order.{Le}

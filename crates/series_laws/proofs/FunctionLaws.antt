@@ -3,7 +3,7 @@ use Rattle.std.proofs.Common.{◌≡◌, refl, ap, arith, ℕ, pos, negsuc, zero
 use Rattle.std.specs.Prelude.{◌≤ℤ◌}
 use Rattle.std.proofs.lemmas.Int.{ints}
 use Rattle.dioid.specs.Dates.{later_of, date_product, date_left}
-use Rattle.dioid.specs.DateLaws.{times_assoc, times_later, one_times, times_one}
+use Rattle.dioid.specs.Proved.DateLaws.{times_assoc, times_later, one_times, times_one}
 use Rattle.dioid.specs.declared.dates.Date.{Date}
 use Rattle.dioid.specs.declared.dates.Date.TheVariants.{Early, At, Never}
 use Rattle.dioid.specs.Order.{Le}

@@ -6,7 +6,7 @@ use Rattle.std.proofs.lemmas.List.{take-append-drop, length-take-le}
 use Rattle.std.proofs.lemmas.Nat.{div-add-mod', mod_below}
 use Rattle.std.proofs.Math.Seq.{take-add}
 use Rattle.dioid.specs.Dates.{date_product, move}
-use Rattle.dioid.specs.DateLaws.{times_assoc, one_times, times_one}
+use Rattle.dioid.specs.Proved.DateLaws.{times_assoc, one_times, times_one}
 use Rattle.dioid.specs.declared.dates.Date.{Date}
 use Rattle.dioid.specs.declared.dates.Date.TheVariants.{Early, At, Never}
 use Rattle.dioid.specs.Order.{Le}

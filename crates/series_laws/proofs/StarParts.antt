@@ -3,7 +3,7 @@ use Rattle.std.proofs.Common.{◌≡◌, refl, ap, arith, ℕ, ℤ, pos, negsuc,
 use Rattle.std.specs.Int.{int_max}
 use Rattle.std.proofs.lemmas.Int.{ints, clamps, by_lt_z}
 use Rattle.dioid.specs.Dates.{later_of, date_product, date_left}
-use Rattle.dioid.specs.DateLaws.{times_early, one_times, times_one, date_galois, later_times}
+use Rattle.dioid.specs.Proved.DateLaws.{times_early, one_times, times_one, date_galois, later_times}
 use Rattle.dioid.specs.declared.dates.Date.{Date}
 use Rattle.dioid.specs.declared.dates.Date.TheVariants.{Early, At, Never}
 use Rattle.dioid.specs.Order.{Le}

@@ -5,7 +5,7 @@ use Rattle.std.specs.Int.{w128}
 use Rattle.std.specs.Int.RustNames.{unsigned_abs}
 use Rattle.std.proofs.lemmas.Int.{to_z-of_z}
 use Rattle.dioid.specs.Dates.{later_of, date_product, move}
-use Rattle.dioid.specs.DateLaws.{later_assoc}
+use Rattle.dioid.specs.Proved.DateLaws.{later_assoc}
 use Rattle.dioid.specs.declared.dates.Date.{Date}
 use Rattle.dioid.specs.declared.dates.Date.TheVariants.{Early, At, Never}
 use Rattle.dioid.proofs.Moves.{later_move, product_move_left}

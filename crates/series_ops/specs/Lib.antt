@@ -1,5 +1,5 @@
-pub mod GainLaws
 pub mod Gains
 pub mod Listed
+pub mod Proved
 pub mod Refusals
 pub mod Splits
