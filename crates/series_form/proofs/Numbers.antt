@@ -94,18 +94,6 @@ small_date_moderate Early h = tt
 small_date_moderate (At t) h = let k : unsigned_abs t ≤ 1000000000000000000 = h in omega arith
 small_date_moderate Never h = tt
 
-pub small_moderate : (f : Form) → HasSmallNumbers f → IsModerate f
-small_moderate f h = record { values = λ k. small_date_moderate (get_or f.values k Early) (h.values k); step = let k : unsigned_abs f.step ≤ 1000000000000000000 = h.step in omega arith }
-
-pub small_reach : (m : ℕ) (x : ℤ) → m ≤ 1000000000000000000 → unsigned_abs x ≤ 1000000000000000000 → m * unsigned_abs x ≤ 10000000000000000000000000000000000000
-small_reach m x h k = let e : m * unsigned_abs x ≤ 1000000000000000000 * 1000000000000000000 = mul-le m (unsigned_abs x) 1000000000000000000 1000000000000000000 h k in omega arith
-
-pub moderate_reach : (m : ℕ) (x : ℤ) → m ≤ 1000000 → unsigned_abs x ≤ 1000000000000000000000000000 → m * unsigned_abs x ≤ 10000000000000000000000000000000000000
-moderate_reach m x h k = let e : m * unsigned_abs x ≤ 1000000 * 1000000000000000000000000000 = mul-le m (unsigned_abs x) 1000000 1000000000000000000000000000 h k in omega arith
-
-pub fewer_reach : (m n : ℕ) (x : ℤ) → m ≤ n → n * unsigned_abs x ≤ 10000000000000000000000000000000000000 → m * unsigned_abs x ≤ 10000000000000000000000000000000000000
-fewer_reach m n x h k = let e : m * unsigned_abs x ≤ n * unsigned_abs x = mul-le m (unsigned_abs x) n (unsigned_abs x) h (omega arith) in omega arith
-
 pub div_below : (k n : ℕ) → 0 < n → k / n ≤ k
 div_below k n h =
     let e : k / n * n + k % n ≡ k = div-add-mod' k n in

@@ -17,7 +17,7 @@ use Rattle.series_form.proofs.Finished.{IsTabled, up_to_more, value_up_to}
 use Rattle.series_form.proofs.PointwiseTables.{earlier_up_to}
 use Rattle.series_ops.specs.Listed.{AreUpTo, all_but_last, last_of}
 use Rattle.series_laws.specs.Residual.{IsLeftAt, least_of}
-use Rattle.series_laws.proofs.ResidualsRepeat.{least_of_le, le_least_of, one_greatest}
+use Rattle.series_laws.proofs.ResidualsRepeat.{least_of_le, le_least_of}
 use Rattle.series_laws.specs.ProductNeeds.{offsets_of, left_over, left_by_slopes, left_by, left_at, left_plan, left_plan_by, left_plan_by_slopes, long_left}
 use Rattle.series_laws.proofs.Lefts.{left_is, left_rises, left_serves}
 use Rattle.series_ops.proofs.FirstValues.{listed_tabled, all_up_to}
@@ -131,6 +131,3 @@ left_tabled f g r l sf sg e short items = listed_tabled (left_at f g) r l
 -- the values of the code's residual are the residuals of the definition, and no others are
 pub has_residuals : (f g r : Form) → IsForm f → IsForm g → HasValues r (left_at f g) → (k : ℕ) → IsLeftAt (value_at f) (value_at g) k (value_at r k)
 has_residuals f g r isf isg h k = subst (λ (z : Date). IsLeftAt (value_at f) (value_at g) k z) (sym (h k)) (left_is f g isf isg k)
-
-pub residuals_only : (f g r : Form) → IsForm f → IsForm g → ((k : ℕ) → IsLeftAt (value_at f) (value_at g) k (value_at r k)) → HasValues r (left_at f g)
-residuals_only f g r isf isg h k = one_greatest (λ i. date_left (value_at f i) (value_at g (k + i))) (value_at r k) (left_at f g k) (h k) (left_is f g isf isg k)

@@ -4,6 +4,7 @@
 //! `series_laws` for the definitions and their laws, on `series_form` and on `dioid`.
 #![tactic(auto)]
 
+mod anchors;
 mod gains;
 mod products;
 mod residuals;

@@ -11,7 +11,7 @@ use Rattle.series_form.specs.Bounds.{IsUpTo}
 use Rattle.series_form.proofs.Numbers.{abs_difference, moderate_fits, within_fits}
 use Rattle.series_laws.specs.Stars.{scaled}
 use Rattle.series_laws.specs.ProductNeeds.{loss_of}
-use Rattle.series_ops.proofs.stars.loss.Goals as goal
+use Rattle.series_ops.proofs.anchors.loss.Goals as goal
 
 code : (a b : ℤ) → unsigned_abs a ≤ 4000000000000000000000000000 → unsigned_abs b ≤ 4000000000000000000000000000 → to_z w128 (of_z w128 (to_z w128 (of_z w128 a) -ℤ to_z w128 (of_z w128 b))) ≡ a -ℤ b
 code a b h k =

@@ -1,7 +1,7 @@
 use Rattle.std.proofs.Common.{◌≤◌, ℤ, sym, subst}
 use Rattle.std.specs.Int.RustNames.{unsigned_abs}
 use Rattle.series_ops.proofs.Many.{many_fits, many_code, many_bound}
-use Rattle.series_ops.proofs.stars.many.Goals as goal
+use Rattle.series_ops.proofs.anchors.many.Goals as goal
 
 pub overflow_mul-result : goal.overflow_mul-result
 overflow_mul-result c = many_fits c.args.count c.args.number c.requires.count c.requires.number

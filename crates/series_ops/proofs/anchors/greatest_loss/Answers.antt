@@ -7,7 +7,7 @@ use Rattle.series_laws.specs.Needs.{greatest_int}
 use Rattle.series_form.proofs.Numbers.{within_fits}
 use Rattle.series_form.proofs.PointwiseTables.{max_up_to}
 use Rattle.series_laws.specs.ProductNeeds.{loss_of}
-use Rattle.series_ops.proofs.stars.greatest_loss.Goals as goal
+use Rattle.series_ops.proofs.anchors.greatest_loss.Goals as goal
 
 begun : (b v : ℤ) → b ≡ v → unsigned_abs b ≤ 8000000000000000000000000000 → (to_z w128 (of_z w128 b) ≡ v) × (unsigned_abs (to_z w128 (of_z w128 b)) ≤ 8000000000000000000000000000)
 begun b v e h =
