@@ -8,23 +8,20 @@ use Rattle.std.proofs.lemmas.Bool.{cases_lt}
 use Rattle.std.proofs.Math.Nat.{le-mul_of_pos_right, mul-le-mul_right}
 use Rattle.dioid.specs.declared.dates.Date.{Date}
 use Rattle.dioid.specs.declared.dates.Date.TheVariants.{Early, At, Never}
-use Rattle.series_form.specs.declared.plans.Plan.{Plan}
-use Rattle.series_form.specs.declared.plans.Slopes.TheVariants.{First}
-use Rattle.series_form.specs.Periodic.{times}
-use Rattle.series_form.specs.Forms.{Form, size_of, start_of, value_at}
+use Rattle.series_laws.specs.declared.plans.Plan.{Plan}
+use Rattle.series_laws.specs.declared.plans.Slopes.TheVariants.{First}
+use Rattle.series_laws.specs.Periodic.{times}
+use Rattle.series_laws.specs.Forms.{Form, size_of, start_of, value_at, table}
 use Rattle.series_form.specs.Bounds.{IsSeries}
-use Rattle.series_form.specs.Needs.{plan, period_with, rise_of, fall_of, tail_of, slopes_by, slopes_of}
-use Rattle.series_form.specs.Sums.{sign_first}
+use Rattle.series_laws.specs.Needs.{plan, period_with, rise_of, fall_of, tail_of, slopes_by, slopes_of, need_of}
+use Rattle.series_laws.proofs.Sums.{sign_first, Serves}
 use Rattle.series_form.proofs.Numbers.{times_product}
-use Rattle.series_form.specs.Forms.{table}
-use Rattle.series_form.specs.Needs.{need_of}
-use Rattle.series_form.specs.Sums.{Serves}
 use Rattle.series_form.proofs.Finished.{IsTabled}
 use Rattle.series_ops.specs.Listed.{IsNumber, all_but_last, last_of}
-use Rattle.series_ops.specs.Product.{product_at}
-use Rattle.series_ops.specs.Products.{product_rises, product_serves}
+use Rattle.series_laws.specs.Product.{product_at}
+use Rattle.series_laws.proofs.Products.{product_rises, product_serves}
 use Rattle.series_ops.proofs.FirstValues.{listed_tabled, product_up_to}
-use Rattle.series_ops.specs.Needs.{lifts_of, waits_of, product_first, product_first_by, product_by_slopes, product_plan, product_plan_by}
+use Rattle.series_laws.specs.ProductNeeds.{lifts_of, waits_of, product_first, product_first_by, product_by_slopes, product_plan, product_plan_by}
 
 pub plan_is : (p q n m : ℕ) → p ≡ q → n ≡ m → plan p n ≡ plan q m
 plan_is p q n m e g = λ i. record { from = e i; turn = g i }
