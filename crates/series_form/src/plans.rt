@@ -1,10 +1,10 @@
 //! Periods, starts and slopes of two series, and what they gain.
-ghost use Rattle.std.specs.Prelude.{◌≡◌, ◌≤◌, ◌<◌, ◌+◌, ◌-◌, ◌*◌, ◌/◌, ℕ, pos, ◌<ℤ◌, ◌-ℤ◌, max};
+ghost use Rattle.std.specs.Prelude.{◌≡◌, ◌≤◌, ◌<◌, ◌+◌, ◌-◌, ◌*◌, ◌/◌, pos, ◌<ℤ◌, ◌-ℤ◌};
 ghost use Rattle.std.specs.Int.RustNames.{unsigned_abs};
 ghost use Rattle.series_laws.specs.Periodic.{times};
-ghost use Rattle.series_laws.specs.Forms.{size_of, start_of, value_at, gap};
-ghost use Rattle.series_form.specs.Bounds.{IsSeries, IsUpTo};
-ghost use Rattle.series_laws.specs.Needs.{common, ceiling, period_with, rise_of, fall_of, tail_of, slopes_of, by_sign, greatest_int, later_start, lead_of, crossing};
+ghost use Rattle.series_laws.specs.Forms.{start_of};
+ghost use Rattle.series_form.specs.Bounds.{IsSeries};
+ghost use Rattle.series_laws.specs.Needs.{common, ceiling, period_with, rise_of, fall_of, tail_of, slopes_of, by_sign};
 
 use crate::forms::Series;
 use dioid::Date;

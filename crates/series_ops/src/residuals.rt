@@ -7,8 +7,8 @@ ghost use Rattle.series_laws.specs.declared.plans.Slopes.TheVariants.{First};
 ghost use Rattle.series_laws.specs.Forms.{size_of, value_at, table};
 ghost use Rattle.series_form.specs.Bounds.{IsUpTo, IsSeries};
 ghost use Rattle.series_form.specs.Answer.{AnswersOf, Answers};
-ghost use Rattle.series_laws.specs.Needs.{need_of, tail_of, slopes_of};
-ghost use Rattle.series_laws.specs.Residual.{IsLeftAt, least_of};
+ghost use Rattle.series_laws.specs.Needs.{need_of, tail_of};
+ghost use Rattle.series_laws.specs.Residual.{IsLeftAt};
 ghost use Rattle.series_laws.specs.ProductNeeds.{offsets_of, left_over, OffsetsDecide, left_at, long_left, short_left, left_plan, form_left};
 ghost use Rattle.series_ops.specs.Listed.{AreUpTo, part_listed, left_listed, star_left_listed, IsStarLeft};
 
