@@ -7,7 +7,7 @@ use Rattle.std.proofs.lemmas.List.Elements.{All-append, All-take, All-drop}
 use Rattle.teg_net.specs.declared.entries.PlaceId.{PlaceId}
 use Rattle.teg_net.specs.Nets.{NetLists}
 use Rattle.teg_net.specs.Circuits.{place_at, time_of, tokens_of, from_of}
-use Rattle.teg_net.proofs.Turning.{turned, length-turned, turned_circuit, turned_sum}
+use Rattle.teg_net.proofs.Turning.{turned, length-turned, turned_circuit, turned_sum, turned_all}
 use Rattle.teg_net.specs.Parts.{IsPlaceOfPart, to_of}
 use Rattle.teg_howard.specs.Policies.{Policy, IsPolicyCircuit, IsBestCircuit, first_id}
 use Rattle.teg_net.specs.PartAnswers.{first_transition_of}
@@ -48,3 +48,69 @@ best_lowest net parts part π Kind c b i d l =
     let is : i + 0 ≡ i = omega arith in
     let first : get_or e 0 first_id ≡ get_or c i d = get_or_append_left (drop i c) (take i c) first_id 0 near ∙ (get_or-drop i c 0 first_id ∙ (ap (λ n. get_or c n first_id) is ∙ get_or_default c i first_id d l)) in
     subst (λ x. first_transition_of net c ≤ x) (ap (from_of net) first) low
+
+-- a number at which a function is least, of those below n
+least_at : (f : ℕ → ℕ) (n : ℕ) → 0 < n → (k : ℕ) × (k < n) × ((j : ℕ) → j < n → f k ≤ f j)
+least_at f zero l = absurd (omega arith)
+least_at f (suc zero) l = (0, omega arith, λ j m. let e : 0 ≡ j = omega arith in let s : f 0 ≡ f j = ap f e in omega arith)
+least_at f (suc (suc n)) l =
+    let w = least_at f (suc n) (omega arith) in
+    let k : ℕ = w.0 in
+    let k_in : k < suc n = w.1 in
+    ⊎_elim
+    (λ (q : f (suc n) < f k). (
+      suc n,
+      omega arith,
+      λ j m.
+          ⊎_elim
+          (λ (r : j < suc n). let s = w.2 j r in omega arith)
+          (λ (r : suc n ≤ j). let e : suc n ≡ j = omega arith in let s : f (suc n) ≡ f j = ap f e in omega arith)
+          (cases_lt j (suc n)),
+    ))
+    (λ (q : f k ≤ f (suc n)). (
+      k,
+      omega arith,
+      λ j m.
+          ⊎_elim
+          (λ (r : j < suc n). w.2 j r)
+          (λ (r : suc n ≤ j). let e : suc n ≡ j = omega arith in let s : f (suc n) ≡ f j = ap f e in omega arith)
+          (cases_lt j (suc n)),
+    ))
+    (cases_lt (f (suc n)) (f k))
+
+-- the same circuit, told from its lowest transition on
+pub record Turned (net : NetLists) (parts : List ℕ) (part : ℕ) (π : Policy) (P : PlaceId → Type 0) (d : List PlaceId) : Type 0 where
+  pub places : List PlaceId
+  pub is : IsPolicyCircuit net parts part π places
+  pub low : All (λ p. first_transition_of net places ≤ from_of net p) places
+  pub any : Any P d → Any P places
+  pub time : time_of net places ≡ time_of net d
+  pub tokens : tokens_of net places ≡ tokens_of net d
+  pub lower : first_transition_of net places ≤ first_transition_of net d
+
+pub low_turn : (net : NetLists) (parts : List ℕ) (part : ℕ) (π : Policy) (P : PlaceId → Type 0) (d : List PlaceId) → IsPolicyCircuit net parts part π d → Turned net parts part π P d
+low_turn net parts part π P d h =
+    let w = least_at (λ k. from_of net (get_or d k first_id)) (length d) h.circuit.not_empty in
+    let k : ℕ = w.0 in
+    let k_in : k < length d = w.1 in
+    let e : List PlaceId = turned d k in
+    let near : 0 < length (drop k d) = omega (arith, length-drop k d) in
+    let is : k + 0 ≡ k = omega arith in
+    let first : first_transition_of net e ≡ from_of net (get_or d k first_id) = ap (from_of net) (get_or_append_left (drop k d) (take k d) first_id 0 near ∙ (get_or-drop k d 0 first_id ∙ ap (λ n. get_or d n first_id) is)) in
+    let least : All (λ p. first_transition_of net e ≤ from_of net p) d = λ i x l.
+    let same : from_of net (get_or d i x) ≡ from_of net (get_or d i first_id) = ap (from_of net) (get_or_default d i x first_id l) in
+    let s = w.2 i l in
+    omega arith in
+    record {
+      places = e;
+      is = record {
+        circuit = turned_circuit net d k (omega arith) h.circuit;
+        inside = All-append (IsPlaceOfPart net parts part) (drop k d) (take k d) (All-drop (IsPlaceOfPart net parts part) k d h.inside) (All-take (IsPlaceOfPart net parts part) k d h.inside);
+        own = All-append (λ p. π (to_of net p) ≡ p) (drop k d) (take k d) (All-drop (λ p. π (to_of net p) ≡ p) k d h.own) (All-take (λ p. π (to_of net p) ≡ p) k d h.own);
+      };
+      low = turned_all (λ p. first_transition_of net e ≤ from_of net p) d k (omega arith) least;
+      any = any_turned P d k (omega arith);
+      time = turned_sum (λ p. (place_at net p).hold) d k;
+      tokens = turned_sum (λ p. (place_at net p).tokens) d k;
+      lower = let s = w.2 0 h.circuit.not_empty in omega arith;
+    }

@@ -8,11 +8,11 @@ pub mod Measure
 pub mod Ratios
 pub mod Lowest
 pub mod Walks
+pub mod First
 pub mod Best
 pub mod Values
 pub mod Choices
 pub mod Improving
-pub mod First
 pub mod Listing
 pub mod Standing
 pub mod Ending

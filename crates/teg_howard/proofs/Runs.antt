@@ -15,7 +15,7 @@ use Rattle.teg_net.specs.PartAnswers.{first_transition_of}
 use Rattle.teg_howard.specs.Rounds.{IsFirstRound, Follows, IsRunTo, IsPolicyRun, last_of, potential}
 use Rattle.teg_howard.specs.Found.{given, potentials, AreLowest}
 use Rattle.teg_howard.specs.Standing.{Standing, HasCircuit, IsLast, Rises}
-use Rattle.teg_howard.specs.Runs.{AllRise, HasCircuitIn, IsAnswerOf, KeepsLimits, potential_of}
+use Rattle.teg_howard.specs.Runs.{AllRise, IsAnswerOf, KeepsLimits, potential_of}
 use Rattle.std.specs.Prelude.{map, ℤ, pos, ◌+ℤ◌, ◌≤ℤ◌}
 use Rattle.std.proofs.lemmas.Int.{ints}
 use Rattle.teg_net.specs.Ratios.{Fraction}
@@ -162,10 +162,6 @@ last_keeps net parts part policy st (Best ratio circuit told) h is =
           (told_potentials (λ t z. IsWithin greatest_potential z) st.round parts part h.members
           (λ t m. rw (h.potential_is t) (let w = h.within t in let low = w.low in let high = w.high in record { low = omega (arith, ints); high = omega (arith, ints) }))),
     )
-
--- a circuit in a part passes a place of it
-pub some_inner : (net : NetLists) (parts : List ℕ) (part : ℕ) → HasCircuitIn net parts part → (p : PlaceId) × IsPlaceOfPart net parts part p
-some_inner net parts part h = (get_or h.0 0 first_id, h.2 0 first_id h.1.not_empty)
 
 pub last_pushed : (net : NetLists) (parts : List ℕ) (part : ℕ) (P : Round → Type 0) (rs : List Round) (r d : Round) → P r → P (last_of (rs ++ r ∷ []) d)
 last_pushed net parts part P rs r d h =

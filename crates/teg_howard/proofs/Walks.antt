@@ -11,7 +11,7 @@ use Rattle.teg_howard.specs.declared.policy_circuits.Found.{Found}
 use Rattle.teg_net.specs.Parts.{IsMember, IsPlaceOfPart, to_of}
 use Rattle.teg_howard.specs.Policies.{Policy, IsPolicy, Enters, IsPolicyCircuit, step_back, first_id}
 use Rattle.teg_net.specs.PartAnswers.{first_transition_of}
-use Rattle.teg_howard.specs.Found.{IsOnPolicy, IsFoundAt}
+use Rattle.teg_howard.specs.Found.{IsOnPolicy, IsFoundAt, GoesBelow}
 use Rattle.teg_howard.proofs.Search.{pigeons}
 use Rattle.teg_howard.proofs.Back.{trail, length-trail, back_add, get_or-trail, back_member, trail_circuit}
 use Rattle.teg_howard.proofs.Turns.{circuit_trail, root_member, no_early}
@@ -65,6 +65,19 @@ module _ (net : NetLists) (π : Policy) (start m at : ℕ) (backs : List PlaceId
             (λ (q : suc m ≤ j). let is : j ≡ suc m = omega arith in rw is (λ z. ne (step_here ∙ z)))
             (cases_lt j (suc m));
       })
+
+-- the walk has come below its start
+pub walked_below : (net : NetLists) (π : Policy) (start m at : ℕ) (backs : List PlaceId) (time tokens n : ℕ) → Walked net π start m at backs time tokens → from_of net (π at) < start → GoesBelow net π start n
+walked_below net π start m at backs time tokens n h low k some few e =
+    let here = step_here net π start m at backs time tokens h in
+    ⊎_elim
+    (λ (q : m < k).
+    ⊎_elim
+    (λ (r : k ≡ suc m). let back_ : step_back net π (suc m) start ≡ start = subst (λ x. step_back net π x start ≡ start) r e in absurd (omega arith))
+    (λ (r : k ≢ suc m). (suc m, omega arith, subst (λ x. x < start) here low))
+    (cases_eq k (suc m)))
+    (λ (q : k ≤ m). absurd (h.not_yet k some q e))
+    (cases_lt m k)
 
 module _ (net : NetLists) (parts : List ℕ) (part : ℕ) (π : Policy) (ok : IsPolicy net parts part π) (kept : IsNet net) where
   pub trail_sums : (m t : ℕ) → IsMember parts part t → (time_of net (trail net π m t) ≤ m * 1000000000) × (tokens_of net (trail net π m t) ≤ m * 1000)

@@ -42,6 +42,11 @@ pub record IsFoundAt (net : NetLists) (policy : Policy) (start : ℕ) (f : Found
   pub time_in : f.time ≤ 400000000000
   pub tokens_in : f.tokens ≤ 400000
 
+-- following the policy backwards from start for up to n places comes below start before it comes back
+abbrev pub GoesBelow : NetLists → Policy → ℕ → ℕ → Type 0
+GoesBelow net policy start n =
+    (k : ℕ) → 0 < k → k ≤ n → step_back net policy k start ≡ start → (j : ℕ) × (j < k) × (step_back net policy j start < start)
+
 abbrev pub IsMarked : List Bool → ℕ → Type 0
 IsMarked marked t = slice_index_or marked t false ≡ true
 

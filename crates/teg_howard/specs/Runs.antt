@@ -7,15 +7,14 @@ use Rattle.teg_net.specs.declared.answers.PartAnswer.{PartAnswer}
 use Rattle.teg_net.specs.declared.answers.PartAnswer.TheVariants.{NoCircuit, Best}
 use Rattle.teg_net.specs.declared.entries.PlaceId.{PlaceId}
 use Rattle.teg_net.specs.Nets.{NetLists}
-use Rattle.teg_net.specs.Circuits.{IsCircuit}
 use Rattle.teg_net.specs.Parts.{IsPlaceOfPart}
 use Rattle.teg_net.specs.ReducedTimes.{IsWithin}
 use Rattle.teg_net.specs.Limits.{most_transitions, greatest_ratio, greatest_potential}
 use Rattle.teg_howard.specs.Rounds.{potential, last_of}
 
--- some circuit lies in the part
-abbrev pub HasCircuitIn : NetLists → List ℕ → ℕ → Type 0
-HasCircuitIn net part_of part = (ps : List PlaceId) × IsCircuit net ps × All (IsPlaceOfPart net part_of part) ps
+-- some place has both ends in the part; a strong part has a circuit exactly then
+abbrev pub HasInnerPlace : NetLists → List ℕ → ℕ → Type 0
+HasInnerPlace net part_of part = (p : PlaceId) × IsPlaceOfPart net part_of part p
 
 -- the sum of the values below n
 abbrev pub sum_below : ℕ → (ℕ → ℤ) → ℤ

@@ -8,9 +8,11 @@
 
 mod inside;
 mod iteration;
+mod laws;
 mod part_answers;
 mod policies;
 mod policy_circuits;
 mod settling;
 
+pub use laws::policy_runs_are_one;
 pub use part_answers::howard;

@@ -4,7 +4,7 @@ ghost use Rattle.teg_net.specs.PartAnswers.{IsPartAnswer};
 ghost use Rattle.teg_check.specs.Ranks.{IsRanking};
 ghost use Rattle.teg_parts.specs.Partitions.{AreParts};
 ghost use Rattle.teg_howard.specs.Rounds.{IsPolicyRun};
-ghost use Rattle.teg_howard.specs.Runs.{HasCircuitIn, IsAnswerOfLast, KeepsLimits, AllRise};
+ghost use Rattle.teg_howard.specs.Runs.{HasInnerPlace, IsAnswerOfLast, KeepsLimits, AllRise};
 
 use crate::inside::part_numbers;
 use crate::iteration::policy_run;
@@ -29,7 +29,7 @@ pub fn howard(
 ) -> Result<(PartAnswer, Vec<Round>), OutOfMemory>
     requires live { IsRanking net.now live.now }
     requires parts { AreParts net.now parts.now }
-    requires circuit { HasCircuitIn net.now parts.now.part_of part }
+    requires circuit { HasInnerPlace net.now parts.now.part_of part }
     ensures run { IfOk result (λ w. IsPolicyRun net.now parts.now.part_of part w.1.items) }
     ensures best { IfOk result (λ w. IsPartAnswer net.now parts.now.part_of part w.0) }
     ensures answer { IfOk result (λ w. IsAnswerOfLast w.1.items w.0) }

@@ -5,7 +5,7 @@ ghost use Rattle.teg_net.specs.Circuits.{IsLive, IsCircuit, AreInRange};
 ghost use Rattle.teg_net.specs.Parts.{IsMember, IsPlaceOfPart, to_of};
 ghost use Rattle.teg_howard.specs.Policies.{IsPolicy, IsPolicyCircuit, step_back};
 ghost use Rattle.teg_net.specs.declared.entries.PlaceId.{PlaceId};
-ghost use Rattle.teg_howard.specs.Found.{given, IsOnPolicy, IsFoundAt, IsMarked, IsAbove, AreSmall, IsBestFound};
+ghost use Rattle.teg_howard.specs.Found.{given, IsOnPolicy, IsFoundAt, IsMarked, IsAbove, AreSmall, IsBestFound, GoesBelow};
 
 use std::alloc::{AllocError, Global};
 use teg_net::{Net, PlaceId};
@@ -18,7 +18,8 @@ pub(crate) struct Found {
     pub(crate) tokens: u64,
 }
 
-/// The policy's circuit that passes `start`, beginning there, if there is one.
+/// The policy's circuit that passes `start`, beginning there. None where there is no such circuit, or
+/// it passes a lower numbered transition, from which it is found.
 fn circuit_through(
     alloc: Global,
     net: &Net,
@@ -30,7 +31,7 @@ fn circuit_through(
     requires on_policy { IsOnPolicy net.now (given policy.now) start }
     requires in_range { All (λ p. p.index < length net.now.places) policy.now }
     ensures some { IfOk result (λ found. IfSome found (λ f. IsFoundAt net.now (given policy.now) start f)) }
-    ensures none { IfOk result (λ found. IfNone found ((k : ℕ) → 0 < k → k ≤ length policy.now → step_back net.now (given policy.now) k start ≢ start)) }
+    ensures none { IfOk result (λ found. IfNone found (GoesBelow net.now (given policy.now) start (length policy.now))) }
 {
     let places = net.places();
     let mut back = Vec::new(alloc);
@@ -51,6 +52,9 @@ fn circuit_through(
                 time,
                 tokens,
             }));
+        }
+        if at < start {
+            return Ok(None);
         }
     }
     Ok(None)

@@ -1,13 +1,14 @@
 use Rattle.std.proofs.Common.{ℕ, List, Option, Some, None, ◌≡◌, ◌<◌, ◌≤◌, ◌+◌, Bool, length, get_or, true, sym, ap, subst, ◌∙◌, arith, refl}
-use Rattle.std.specs.Prelude.{IfSome, All}
+use Rattle.std.specs.Prelude.{IfSome, IfNone, All}
+use Rattle.teg_net.specs.declared.entries.PlaceId.{PlaceId}
 use Rattle.std.proofs.lemmas.Bool.{iff_false}
 use Rattle.teg_howard.specs.declared.policy_circuits.Found.{Found}
 use Rattle.teg_net.specs.Parts.{IsMember}
-use Rattle.teg_howard.specs.Policies.{IsPolicy, Policy}
+use Rattle.teg_howard.specs.Policies.{IsPolicy, IsPolicyCircuit, Policy}
 use Rattle.teg_howard.specs.Found.{given, IsFoundAt, IsAbove, IsBestFound}
 use Rattle.teg_net.specs.Nets.{NetLists, IsNet}
 use Rattle.teg_net.specs.Circuits.{IsLive, AreInRange}
-use Rattle.teg_howard.proofs.Best.{Passes, BestTo, best_skip, skip_outside, skip_none, skip_other, best_stay, best_take, best_all, found_circuit}
+use Rattle.teg_howard.proofs.Best.{Passes, BestTo, best_skip, skip_outside, skip_none, skip_other, best_stay, best_take, best_all, none_all, found_circuit}
 use Rattle.teg_howard.proofs.policy_circuits.best_circuit.Goals.{then-parts-start+in_ok-circuit+in-Some+then-passes+then-is_greater, in-Some-2, in-None-2, then-parts-start+in_ok-circuit+in-Some+else-passes, else-passes-via-then-passes+else-is_greater, else-passes-via-else-passes, then-parts-start+in_ok-circuit+in_default, else-parts-start}
 use Rattle.teg_howard.proofs.policy_circuits.best_circuit.Goals as goal
 
@@ -69,3 +70,13 @@ pub returns-clause-some : goal.returns-clause-some
 returns-clause-some c =
     let r = c.requires in
     best_some c.args.net.now c.args.parts.now c.args.part (given c.args.policy.now) c.args.marked.now r.policy r.kept r.live r.parts c.loop-start.start c.loop-start.best (omega arith) c.loop-start.invariant
+
+best_none : (net : NetLists) (parts : List ℕ) (part : ℕ) (π : Policy) (marked : List Bool) (ok : IsPolicy net parts part π) (kept : IsNet net) (live : IsLive net) (count : length parts ≡ length net.transitions) (n : ℕ) (best : Option Found)
+    → length parts ≤ n → BestTo net parts part π marked n best → IfNone best ((d : List PlaceId) → IsPolicyCircuit net parts part π d → Passes net marked d → ⊥)
+best_none net parts part π marked ok kept live count n None l b = none_all net parts part π marked ok kept live count n l b
+best_none net parts part π marked ok kept live count n (Some f) l b = tt
+
+pub returns-clause-none : goal.returns-clause-none
+returns-clause-none c =
+    let r = c.requires in
+    best_none c.args.net.now c.args.parts.now c.args.part (given c.args.policy.now) c.args.marked.now r.policy r.kept r.live r.parts c.loop-start.start c.loop-start.best (omega arith) c.loop-start.invariant

@@ -7,7 +7,7 @@ use Rattle.teg_net.specs.Parts.{IsMember}
 use Rattle.teg_howard.specs.Policies.{step_back, first_id, IsPolicyCircuit}
 use Rattle.teg_howard.specs.Found.{given, IsOnPolicy}
 use Rattle.teg_howard.proofs.Back.{back_member}
-use Rattle.teg_howard.proofs.Walks.{Walked, walked_none, walked_more, walked_round, trail_sums}
+use Rattle.teg_howard.proofs.Walks.{Walked, walked_none, walked_more, walked_round, walked_below, trail_sums}
 use Rattle.teg_howard.proofs.policy_circuits.circuit_through.Goals as goal
 
 pub bounds-policy-at : goal.bounds-policy-at
@@ -87,3 +87,16 @@ walk-preserved c =
     let item : c.index-places-id.result ≡ place_at net (given c.args.policy.now c.walk.at) = rw c.places-places.ensures.value at (get_or_read c.places-places.result.now (given c.args.policy.now c.walk.at).index c.index-places-id.result (rw c.places-places.ensures.value in_net) c.index-places-id.is no_place) in
     rw (item, c.in_ok-push.ensures.items)
     (walked_more net (given c.args.policy.now) c.args.start c.walk._step c.walk.at c.walk.back.items c.walk.time c.walk.tokens c.walk.invariant (rw item at c.if-at-start.false))
+
+pub returns-then-at-start-2-clause-none : goal.returns-then-at-start-2-clause-none
+returns-then-at-start-2-clause-none c =
+    let net = c.args.net.now in
+    let on = c.requires.on_policy in
+    let h = c.walk.invariant in
+    let at_in : IsMember on.parts on.part c.walk.at = subst (IsMember on.parts on.part) (sym h.here) (back_member net on.parts on.part (given c.args.policy.now) on.kept c.walk._step c.args.start on.member) in
+    let in_net : (given c.args.policy.now c.walk.at).index < length net.places = (on.kept c.walk.at at_in).inside.in_range in
+    let item : c.index-places-id.result ≡ place_at net (given c.args.policy.now c.walk.at) = rw c.places-places.ensures.value at (get_or_read c.places-places.result.now (given c.args.policy.now c.walk.at).index c.index-places-id.result (rw c.places-places.ensures.value in_net) c.index-places-id.is no_place) in
+    walked_below net (given c.args.policy.now) c.args.start c.walk._step c.walk.at c.walk.back.items c.walk.time c.walk.tokens (length c.args.policy.now) c.walk.invariant (rw item at c.if-at-start-2.true)
+
+pub returns-clause-none : goal.returns-clause-none
+returns-clause-none c = λ k some few e. absurd (c.walk.invariant.not_yet k some (omega (arith, c.walk-test.false, few)) e)
