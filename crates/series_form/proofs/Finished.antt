@@ -11,7 +11,8 @@ use Rattle.dioid.specs.declared.dates.Date.TheVariants.{Early, At, Never}
 use Rattle.series_form.specs.declared.plans.Plan.{Plan}
 use Rattle.series_form.specs.declared.forms.SeriesRefused.{SeriesRefused}
 use Rattle.series_form.specs.declared.forms.SeriesRefused.TheVariants.{TooLong, TooGreat, OutOfMemory}
-use Rattle.series_form.specs.Order.{move, le_is, le_trans, early_le}
+use Rattle.dioid.specs.Dates.{move}
+use Rattle.dioid.proofs.AtMost.{le_is, le_trans, early_le}
 use Rattle.series_form.specs.Periodic.{Rising, times}
 use Rattle.series_form.specs.Forms.{Form, form_with, size_of, start_of, value_at, gap, table, HasValues, IsCanonical, monomial_at}
 use Rattle.series_form.specs.Canonical.{table_at, table_length, value_in, form_values, step_is_gap, one_canonical, constant_is}
@@ -114,7 +115,7 @@ module _ (s : ℕ → Date) (r : Plan) (l : List Date) (next : Date) (h : IsTabl
   pub tabled_begins : need_of r ≤ 20000 → IsBeginning l r.turn next
   tabled_begins short =
       let e : length l ≡ r.from + r.turn = tabled_length in
-      record { positive = h.serves.turns; fits = omega arith; short = omega arith; moderate = tabled_moderate; moderate_next = tabled_next; rising = tabled_rises }
+      record { positive = h.serves.turns; fits = omega arith; short = omega arith; moderate = tabled_moderate; moderate_next = tabled_next; rising = tabled_rises; goes_on = tabled_values (length l) ∙ ap s tabled_length ∙ sym h.next_is }
 
   -- the answer of a call that ends by the table
   pub tabled_answer : (is : Form → Type 0) (x : Result Form SeriesRefused) → ((f : Form) → HasValues f s → is f) → need_of r ≤ 20000 → IsShortest (value_at (form_before l r.turn next)) x → AnswersOf is (need_of r) (need_of r) x

@@ -4,7 +4,9 @@ use Rattle.std.proofs.lemmas.Bool.Decides.{nat_tests}
 use Rattle.std.proofs.lemmas.Nat.{mod-mul-add, div-add-mod'}
 use Rattle.std.proofs.Math.Nat.{mul-le-mul_right}
 use Rattle.series_form.specs.Periodic.{repeats_from}
-use Rattle.series_form.specs.Canonical.{value_in, value_repeats, first_le, one_canonical}
+use Rattle.series_form.specs.Canonical.{value_in, value_repeats, first_le, canonical_values, canonical_is, canonical_short, one_canonical}
+use Rattle.series_form.specs.Forms.{canonical_of}
+use Rattle.series_form.proofs.LeastForms.{period_divides, start_least}
 use Rattle.series_form.specs.Needs.{turns_of, common}
 use Rattle.series_form.specs.Sums.{common_positive, common_second}
 use Rattle.series_form.specs.Laws.{IsLeastCommon, AreFormLaws}
@@ -36,6 +38,9 @@ pub form_laws : AreFormLaws
 form_laws = record {
   listed = value_in;
   recurs = λ f pos_n fits k w. repeats_from (value_repeats f pos_n fits) k (omega arith);
+  exists = λ s p n x up o a. (canonical_of s p n, record { canonical = canonical_is s p n x up o a; values = canonical_values s p n x up o a; short = canonical_short s p n x up o a });
   unique = λ f g cf cg same. one_canonical f g cf cg same;
+  period_divides = period_divides;
+  start_least = start_least;
   common_is = least_common;
 }

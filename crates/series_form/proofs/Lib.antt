@@ -4,4 +4,5 @@ pub mod Steps
 pub mod FirstPart
 pub mod Finished
 pub mod PointwiseTables
+pub mod LeastForms
 pub mod FormLaws

@@ -3,7 +3,7 @@ use Rattle.std.proofs.Common.{◌≡◌, ap, sym, ◌∙◌, ℤ, ℕ, arith, �
 use Rattle.std.proofs.lemmas.Bool.{cases_lt}
 use Rattle.dioid.specs.declared.dates.Date.{Date}
 use Rattle.series_form.specs.Forms.{moves, repeats_test, least_start_of, first_of, gap}
-use Rattle.series_form.specs.Order.{move}
+use Rattle.dioid.specs.Dates.{move}
 use Rattle.series_form.specs.Canonical.{first_next, first_found, first_le, first_holds, test_sound, test_complete, eqb_sound, eqb_complete}
 
 abbrev pub starts : (ℕ → Date) → ℕ → ℤ → ℕ → ℕ → Bool

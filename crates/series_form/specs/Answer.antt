@@ -55,7 +55,8 @@ IsConstant date (Err OutOfMemory) = Unit {0}
 abbrev pub form_before : List Date → ℕ → Date → Form
 form_before l n next = form_with l n (gap (get_or l (length l - n) Early) next)
 
--- a list whose last n values are a period, and the value after it, as `shortest` takes them
+-- a list whose last n values are a period, and the value after it, as `shortest` takes them: with the step that the two
+-- give, the function never falls and has the value after the list
 pub record IsBeginning (l : List Date) (n : ℕ) (next : Date) : Type 0 where
   pub positive : 0 < n
   pub fits : n ≤ length l
@@ -63,6 +64,7 @@ pub record IsBeginning (l : List Date) (n : ℕ) (next : Date) : Type 0 where
   pub moderate : IsModerate (form_before l n next)
   pub moderate_next : IsModerateDate next
   pub rising : Rising (value_at (form_before l n next))
+  pub goes_on : value_at (form_before l n next) (length l) ≡ next
 
 -- ---- the model
 

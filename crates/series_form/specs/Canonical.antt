@@ -7,7 +7,10 @@ use Rattle.std.proofs.lemmas.Nat.{div-mul-add, mod-mul-add, mod_below, div-add-m
 use Rattle.std.proofs.Math.Nat.{eq-or-lt_of_le, le-mul_of_pos_right}
 use Rattle.dioid.specs.declared.dates.Date.{Date}
 use Rattle.dioid.specs.declared.dates.Date.TheVariants.{Early, At, Never}
-use Rattle.series_form.specs.Order.{at_inj, Le, move, le_is, le_trans, le_antisym, early_le, le_never, move_zero, move_move, move_forth}
+use Rattle.dioid.specs.Dates.{move}
+use Rattle.dioid.specs.Order.{Le}
+use Rattle.dioid.proofs.AtMost.{le_is, le_trans, le_antisym, early_le, le_never}
+use Rattle.dioid.proofs.Moves.{at_inj, move_zero, move_move, move_forth}
 use Rattle.series_form.specs.Periodic.{Rising, Repeats, repeats_times, repeats_is, times, by_steps}
 use Rattle.series_form.specs.Forms.{Form, size_of, start_of, value_at, IsForm, HasValues, IsCanonical, date_eqb, gap, table, repeats_test, first_of, least_period_of, least_start_of, canonical_of}
 

@@ -3,7 +3,7 @@ use Rattle.std.specs.Prelude.{◌≡◌, ◌≤◌, ◌<◌, ◌+◌, ◌-◌, �
 use Rattle.std.specs.Ordering.{int_eq}
 use Rattle.dioid.specs.declared.dates.Date.{Date}
 use Rattle.dioid.specs.declared.dates.Date.TheVariants.{Early, At, Never}
-use Rattle.series_form.specs.Order.{move}
+use Rattle.dioid.specs.Dates.{move}
 use Rattle.series_form.specs.Periodic.{Rising, times}
 
 -- a list of values of any length, a period in shifts and a step of any size

@@ -1,4 +1,3 @@
-pub mod Order
 pub mod Periodic
 pub mod Pointwise
 pub mod Forms

@@ -3,7 +3,10 @@ use Rattle.std.proofs.Common.{◌≡◌, ap, arith, ℕ, ℤ, pos, zero, suc, �
 use Rattle.std.proofs.lemmas.Int.{ints}
 use Rattle.std.proofs.lemmas.Bool.{cases_lt}
 use Rattle.dioid.specs.declared.dates.Date.{Date}
-use Rattle.series_form.specs.Order.{Le, move, move_zero, move_move}
+use Rattle.dioid.specs.Dates.{move}
+use Rattle.dioid.specs.Order.{Le}
+use Rattle.dioid.proofs.AtMost.{le_is, le_trans}
+use Rattle.dioid.proofs.Moves.{move_zero, move_move}
 
 -- f never falls
 pub record Rising (f : ℕ → Date) : Type 0 where
@@ -17,6 +20,15 @@ pub record Repeats (f : ℕ → Date) (p n : ℕ) (x : ℤ) : Type 0 where
 abbrev pub times : ℕ → ℤ → ℤ
 times zero x = pos 0
 times (suc m) x = times m x +ℤ x
+
+-- a function that does not fall from one shift to the next never falls
+pub rising_by_one : (f : ℕ → Date) → ((k : ℕ) → Le (f k) (f (k + 1))) → Rising f
+rising_by_one f h = record {
+  rises = λ j k w. let e : j + (k - j) ≡ k = omega arith in le_trans (on j (k - j)) (le_is (ap f e));
+} where
+  on : (j m : ℕ) → Le (f j) (f (j + m))
+  on j zero = le_is (ap f (omega arith))
+  on j (suc m) = le_trans (on j m) (le_trans (h (j + m)) (le_is (ap f (omega arith))))
 
 pub repeats_later : {f : ℕ → Date} {p n : ℕ} {x : ℤ} (q : ℕ) → p ≤ q → Repeats f p n x → Repeats f q n x
 repeats_later q h r = record { at = λ k w. r.at k (omega arith) }

@@ -2,9 +2,11 @@
 use Rattle.std.proofs.Common.{◌≡◌, ap, arith, ℕ, ℤ, pos, zero, suc, ◌+◌, ◌*◌, ◌-◌, ◌≤◌, ◌<◌, ◌+ℤ◌, sym, ◌∙◌}
 use Rattle.std.specs.Prelude.{◌≤ℤ◌}
 use Rattle.std.proofs.lemmas.Int.{ints}
-use Rattle.dioid.specs.Dates.{later_of, earlier_of}
+use Rattle.dioid.specs.Dates.{later_of, earlier_of, move}
 use Rattle.dioid.specs.declared.dates.Date.{Date}
-use Rattle.series_form.specs.Order.{Le, move, le_refl, le_is, le_trans, le_antisym, le_later_left, later_le, earlier_le_right, le_earlier, move_le, move_zero, move_move, move_further, later_move, earlier_move}
+use Rattle.dioid.specs.Order.{Le}
+use Rattle.dioid.proofs.AtMost.{le_refl, le_is, le_trans, le_antisym, le_later_left, later_le, earlier_le_right, le_earlier, move_le, move_further}
+use Rattle.dioid.proofs.Moves.{move_zero, move_move, later_move, earlier_move}
 use Rattle.series_form.specs.Periodic.{Repeats, repeats_from, times, by_steps}
 
 -- the sum of two functions: at each shift the greater value

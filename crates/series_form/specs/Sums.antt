@@ -7,7 +7,9 @@ use Rattle.std.proofs.lemmas.Nat.{div-mul-add, mod-mul-add, mod_below, div-add-m
 use Rattle.std.proofs.Math.Nat.{eq-or-lt_of_le, le-mul_of_pos_right, mul-le-mul_right}
 use Rattle.dioid.specs.declared.dates.Date.{Date}
 use Rattle.dioid.specs.declared.dates.Date.TheVariants.{Early, At, Never}
-use Rattle.series_form.specs.Order.{later_commutes, earlier_commutes, Le, move, le_is, le_trans, early_le, le_never, later_le, le_later_left, le_later_right, le_earlier, earlier_le_left, earlier_le_right}
+use Rattle.dioid.specs.Dates.{move}
+use Rattle.dioid.specs.Order.{Le}
+use Rattle.dioid.proofs.AtMost.{later_commutes, earlier_commutes, le_is, le_trans, early_le, le_never, later_le, le_later_left, le_later_right, le_earlier, earlier_le_left, earlier_le_right}
 use Rattle.series_form.specs.Periodic.{Rising, Repeats, repeats_later, repeats_times, repeats_is, times}
 use Rattle.series_form.specs.Pointwise.{sum_at, least_at, sum_repeats_equal, least_repeats_equal, crossed, sum_repeats_left, least_repeats_right}
 use Rattle.series_form.specs.Forms.{Form, start_of, value_at, IsForm, HasValues, IsCanonical, gap}

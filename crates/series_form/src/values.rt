@@ -4,7 +4,7 @@ ghost use Rattle.std.specs.Int.RustNames.{unsigned_abs};
 ghost use Rattle.dioid.specs.declared.dates.Date.{Date};
 ghost use Rattle.series_form.specs.Forms.{Form, value_at, form_with, date_eqb, gap};
 ghost use Rattle.series_form.specs.Bounds.{IsModerate, IsModerateDate, IsWithin};
-ghost use Rattle.series_form.specs.Order.{move};
+ghost use Rattle.dioid.specs.Dates.{move};
 ghost use Rattle.series_form.specs.Periodic.{times};
 
 use dioid::Date;

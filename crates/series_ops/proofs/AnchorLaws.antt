@@ -5,7 +5,8 @@ use Rattle.std.proofs.lemmas.Int.{ints, by_lt_z}
 use Rattle.std.proofs.lemmas.Bool.{not-true}
 use Rattle.dioid.specs.declared.dates.Date.{Date}
 use Rattle.dioid.specs.declared.dates.Date.TheVariants.{Early, At, Never}
-use Rattle.series_form.specs.Order.{Le, le_is, le_trans}
+use Rattle.dioid.specs.Order.{Le}
+use Rattle.dioid.proofs.AtMost.{le_is, le_trans}
 use Rattle.series_form.specs.Periodic.{times}
 use Rattle.series_form.specs.Forms.{Form, size_of, start_of, value_at, IsForm}
 use Rattle.series_form.specs.Canonical.{never_le}

@@ -1,17 +1,19 @@
 -- Closure.
-use Rattle.std.proofs.Common.{ℕ, sym, subst}
+use Rattle.std.proofs.Common.{ℕ, ◌∙◌, sym, subst}
 use Rattle.dioid.specs.declared.dates.Date.{Date}
-use Rattle.series_form.specs.Forms.{value_at}
+use Rattle.series_form.specs.Forms.{value_at, monomial_at}
 use Rattle.series_form.specs.Periodic.{Rising}
 use Rattle.series_ops.specs.Residual.{IsLeftAt}
 use Rattle.series_ops.specs.StarOf.{star_at, IsStarOf, star_words}
 use Rattle.series_form.specs.Canonical.{canonical_short, one_canonical}
-use Rattle.series_ops.specs.Closure.{IsFormOf, AreClosed}
+use Rattle.series_ops.specs.Closure.{AreClosed}
+use Rattle.series_form.specs.Laws.{IsFormOf}
+use Rattle.series_ops.proofs.Shifts.{monomial_product}
 use Rattle.series_form.specs.declared.plans.Plan.{Plan}
 use Rattle.series_form.specs.Needs.{need_of, form_by}
 use Rattle.series_ops.specs.Needs.{left_at, left_plan, star_need, form_star}
 use Rattle.series_form.specs.Sums.{Serves, served_is, served_values, sum_rises, least_rises, sum_serves, least_serves}
-use Rattle.series_ops.specs.Products.{product_rises, product_serves}
+use Rattle.series_ops.specs.Products.{product_commutes, product_rises, product_serves}
 use Rattle.series_ops.specs.Lefts.{left_is, left_rises, left_serves, form_left_values}
 use Rattle.series_ops.proofs.AnchorLaws.{anchor_law}
 use Rattle.series_ops.specs.StarForms.{star_at_rises, star_serves}
@@ -26,6 +28,7 @@ closed = record {
   product = λ f g a b. served _ _ (product_rises (value_at f) (value_at g) a.rising b.rising) (product_serves f g a b);
   star = λ f a. let h : IsFormOf (star_at (value_at f)) (star_need f) (form_star f) = served _ _ (star_at_rises (value_at f) a.rising) (star_serves f a) in
       (h.canonical, λ k. subst (λ (z : Date). IsStarOf (value_at f) k z) (sym (h.values k)) (star_words (value_at f) k), h.short);
+  by_monomial = λ s n t up k. (monomial_product n t s up k, product_commutes s (monomial_at n t) k ∙ monomial_product n t s up k);
   unique = one_canonical;
   left = λ f g a b k. subst (λ (z : Date). IsLeftAt (value_at f) (value_at g) k z) (sym (form_left_values f g a b k)) (left_is f g a b k);
   left_canonical = λ f g a b. (served (left_at f g) (left_plan f g) (left_rises f g a b) (left_serves f g a b)).canonical;

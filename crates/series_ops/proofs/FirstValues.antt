@@ -7,7 +7,8 @@ use Rattle.dioid.specs.Dates.{date_product}
 use Rattle.dioid.specs.declared.dates.Date.{Date}
 use Rattle.dioid.specs.declared.dates.Date.TheVariants.{Early, At, Never}
 use Rattle.series_form.specs.declared.plans.Plan.{Plan}
-use Rattle.series_form.specs.Order.{Le, le_is, le_trans, le_antisym}
+use Rattle.dioid.specs.Order.{Le}
+use Rattle.dioid.proofs.AtMost.{le_is, le_trans, le_antisym}
 use Rattle.series_form.specs.Periodic.{Rising}
 use Rattle.series_form.specs.Forms.{Form, value_at, table}
 use Rattle.series_form.specs.Canonical.{table_at, table_length, same_lists}

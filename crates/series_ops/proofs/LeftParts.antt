@@ -8,10 +8,11 @@ use Rattle.std.proofs.lemmas.Bool.{cases_lt}
 use Rattle.std.proofs.lemmas.Bool.Decides.{nat_tests}
 use Rattle.std.proofs.lemmas.List.{get_or_push, get_or_append_left, length-append}
 use Rattle.std.proofs.Math.ListN.{get_or-eq_default}
-use Rattle.dioid.specs.Dates.{earlier_of, date_left}
+use Rattle.dioid.specs.Dates.{earlier_of, date_left, move}
 use Rattle.dioid.specs.declared.dates.Date.{Date}
 use Rattle.dioid.specs.declared.dates.Date.TheVariants.{Early, At, Never}
-use Rattle.series_form.specs.Order.{Le, move, le_is, le_trans, le_antisym, le_earlier, earlier_le_left, earlier_le_right}
+use Rattle.dioid.specs.Order.{Le}
+use Rattle.dioid.proofs.AtMost.{le_is, le_trans, le_antisym, le_earlier, earlier_le_left, earlier_le_right}
 use Rattle.series_form.specs.Periodic.{Repeats, by_steps, repeats_from}
 use Rattle.series_form.specs.Forms.{Form, size_of, start_of, value_at, table, IsForm}
 use Rattle.series_form.specs.Canonical.{value_in, table_length}

@@ -6,7 +6,8 @@ use Rattle.dioid.specs.declared.dates.Date.TheVariants.{Early, At, Never}
 use Rattle.series_form.specs.declared.plans.Plan.{Plan}
 use Rattle.series_form.specs.declared.plans.Slopes.{Slopes}
 use Rattle.series_form.specs.declared.plans.Slopes.TheVariants.{Equal, First, Second}
-use Rattle.series_form.specs.Order.{Le, le_is, le_trans, le_antisym}
+use Rattle.dioid.specs.Order.{Le}
+use Rattle.dioid.proofs.AtMost.{le_is, le_trans, le_antisym}
 use Rattle.series_form.specs.Forms.{Form, size_of, value_at, table, IsForm, HasValues}
 use Rattle.series_form.specs.Bounds.{IsUpTo, IsSeries}
 use Rattle.series_form.specs.Needs.{need_of, tail_of, slopes_of, slopes_by, common, period_with, rise_of, fall_of}

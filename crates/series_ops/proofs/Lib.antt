@@ -1,4 +1,5 @@
 pub mod AnchorLaws
+pub mod Shifts
 pub mod Closed
 pub mod FirstValues
 pub mod SplitLaws

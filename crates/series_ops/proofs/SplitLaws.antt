@@ -4,11 +4,11 @@ use Rattle.std.specs.Prelude.{min}
 use Rattle.std.specs.Int.{w128}
 use Rattle.std.specs.Int.RustNames.{unsigned_abs}
 use Rattle.std.proofs.lemmas.Int.{to_z-of_z}
-use Rattle.dioid.specs.Dates.{later_of, date_product}
+use Rattle.dioid.specs.Dates.{later_of, date_product, move}
 use Rattle.dioid.specs.DateLaws.{later_assoc}
 use Rattle.dioid.specs.declared.dates.Date.{Date}
 use Rattle.dioid.specs.declared.dates.Date.TheVariants.{Early, At, Never}
-use Rattle.series_form.specs.Order.{move, later_move, product_move_left}
+use Rattle.dioid.proofs.Moves.{later_move, product_move_left}
 use Rattle.series_form.specs.Periodic.{Repeats}
 use Rattle.series_form.specs.Forms.{Form, form_with, size_of, start_of, value_at, table}
 use Rattle.series_form.specs.Canonical.{value_in, value_repeats}

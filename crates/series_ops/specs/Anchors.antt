@@ -3,11 +3,13 @@ use Rattle.std.proofs.Common.{◌≡◌, ap, arith, ℕ, ℤ, pos, zero, suc, �
 use Rattle.std.specs.Prelude.{◌≤ℤ◌}
 use Rattle.std.proofs.lemmas.Int.{ints}
 use Rattle.std.proofs.lemmas.Bool.{cases_lt}
-use Rattle.dioid.specs.Dates.{date_product}
+use Rattle.dioid.specs.Dates.{date_product, move}
 use Rattle.dioid.specs.DateLaws.{one_times, times_one}
 use Rattle.dioid.specs.declared.dates.Date.{Date}
 use Rattle.dioid.specs.declared.dates.Date.TheVariants.{At}
-use Rattle.series_form.specs.Order.{Le, move, le_refl, le_is, le_trans, product_le, product_move_left, product_move_right, move_le, move_zero, move_move}
+use Rattle.dioid.specs.Order.{Le}
+use Rattle.dioid.proofs.AtMost.{le_refl, le_is, le_trans, product_le, move_le}
+use Rattle.dioid.proofs.Moves.{product_move_left, product_move_right, move_zero, move_move}
 use Rattle.series_form.specs.Periodic.{Repeats, times, times_add, by_steps}
 use Rattle.series_ops.specs.Stars.{total, date_of, ArePositive, IsStarAt, star_repeats, scaled, scaled_product, scaled_zero, scaled_le_back, scaled_move, times_over, times_swap}
 use Rattle.series_ops.specs.Items.{Item, at_product, lengths, worths, StepFree, Fit, lengths_append, worths_append, fit_first, fit_second, fit_join, free_first, free_second, free_join, lengths_most, Run, run_of, realised, Cores, cores_of}

@@ -2,21 +2,16 @@
 use Rattle.std.specs.Prelude.{◌≡◌, ◌≤◌, ◌<◌, ◌≤ℤ◌, ◌<ℤ◌, ℕ, ℤ, true, false}
 use Rattle.dioid.specs.declared.dates.Date.{Date}
 use Rattle.dioid.specs.declared.dates.Date.TheVariants.{At}
-use Rattle.series_form.specs.Periodic.{times}
-use Rattle.series_form.specs.Forms.{Form, size_of, value_at, IsForm, HasValues, IsCanonical}
+use Rattle.series_form.specs.Periodic.{Rising, times}
+use Rattle.series_form.specs.Forms.{Form, size_of, value_at, IsForm, IsCanonical, monomial_at}
+use Rattle.series_form.specs.Laws.{IsFormOf}
 use Rattle.series_form.specs.Pointwise.{sum_at, least_at}
-use Rattle.series_ops.specs.Product.{product_at}
+use Rattle.series_ops.specs.Product.{product_at, shifted}
 use Rattle.series_ops.specs.Residual.{IsLeftAt}
 use Rattle.series_ops.specs.StarOf.{IsStarOf}
 use Rattle.series_ops.specs.declared.stars.Anchor.{Anchor}
 use Rattle.series_form.specs.Needs.{need_of, tail_of, sum_plan, least_plan, form_sum, form_least}
 use Rattle.series_ops.specs.Needs.{anchor_of, product_plan, left_plan, star_need, form_product, form_left, form_star}
-
--- the canonical form r of the function s, with a list of at most `need` values
-pub record IsFormOf (s : ℕ → Date) (need : ℕ) (r : Form) : Type 0 where
-  pub canonical : IsCanonical r
-  pub values : HasValues r s
-  pub short : size_of r ≤ need
 
 -- the value v at c has the greatest ratio v / c among the values of the list from shift 1 on, at least that of the step
 -- and the period, and c is the least shift with it
@@ -33,12 +28,14 @@ pub record IsAnchorOf (f : Form) (a : Anchor) : Type 0 where
   pub found : a.found ≡ true → IsAnchor f a.shift a.value
   pub none : a.found ≡ false → (d : ℕ) (u : ℤ) → 0 < d → d < size_of f → value_at f d ≡ At u → times f.period u <ℤ times d f.step
 
--- each operation of two forms, of any length and any numbers, has a canonical form of its need with the values of the definition, a function has one canonical form,
--- and the anchor in the need of a star is the part of the greatest ratio
+-- each operation of two forms, of any length and any numbers, has a canonical form of its need with the values of the
+-- definition, a function has one canonical form, the product with a monomial is a shift and a delay, and the anchor in the
+-- need of a star is the part of the greatest ratio
 pub record AreClosed : Type 0 where
   pub sum : (f g : Form) → IsForm f → IsForm g → IsFormOf (sum_at (value_at f) (value_at g)) (need_of (sum_plan f g)) (form_sum f g)
   pub least : (f g : Form) → IsForm f → IsForm g → IsFormOf (least_at (value_at f) (value_at g)) (need_of (least_plan f g)) (form_least f g)
   pub product : (f g : Form) → IsForm f → IsForm g → IsFormOf (product_at (value_at f) (value_at g)) (need_of (product_plan f g)) (form_product f g)
+  pub by_monomial : (s : ℕ → Date) (n : ℕ) (t : ℤ) → Rising s → (k : ℕ) → (product_at (monomial_at n t) s k ≡ shifted n t s k) × (product_at s (monomial_at n t) k ≡ shifted n t s k)
   pub star : (f : Form) → IsForm f → IsCanonical (form_star f) × ((k : ℕ) → IsStarOf (value_at f) k (value_at (form_star f) k)) × (size_of (form_star f) ≤ star_need f)
   pub unique : (f g : Form) → IsCanonical f → IsCanonical g → ((k : ℕ) → value_at f k ≡ value_at g k) → f ≡ g
   pub left : (f g : Form) → IsForm f → IsForm g → (k : ℕ) → IsLeftAt (value_at f) (value_at g) k (value_at (form_left f g) k)

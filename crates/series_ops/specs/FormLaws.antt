@@ -3,11 +3,12 @@ use Rattle.std.proofs.Common.{◌≡◌, refl, ap, arith, ℕ, pos, negsuc, zero
 use Rattle.std.specs.Prelude.{◌≤ℤ◌}
 use Rattle.std.proofs.lemmas.Int.{ints}
 use Rattle.dioid.specs.Laws.{IsAtMost, IsClosed, DioidLaws, StarLaws, ResidualLaws}
-use Rattle.dioid.specs.Dates.{later_of, earlier_of, date_product, date_left}
+use Rattle.dioid.specs.Dates.{later_of, earlier_of, date_product, date_left, move}
 use Rattle.dioid.specs.DateLaws.{later_assoc, later_commutes, later_idempotent, times_assoc, times_later, one_times, times_one}
 use Rattle.dioid.specs.declared.dates.Date.{Date}
 use Rattle.dioid.specs.declared.dates.Date.TheVariants.{Early, At, Never}
-use Rattle.series_form.specs.Order.{Le, move, le_refl, le_is, le_trans, le_antisym, early_le, le_never, product_le, later_le, le_later_left, le_later_right, le_earlier, earlier_le_left, earlier_le_right}
+use Rattle.dioid.specs.Order.{Le}
+use Rattle.dioid.proofs.AtMost.{le_refl, le_is, le_trans, le_antisym, early_le, le_never, product_le, later_le, le_later_left, le_later_right, le_earlier, earlier_le_left, earlier_le_right}
 use Rattle.series_form.specs.Periodic.{Rising}
 use Rattle.series_form.specs.Pointwise.{sum_at, later_is_left}
 use Rattle.series_ops.specs.Product.{product_at, le_product, product_at_le}
@@ -151,10 +152,10 @@ early_is = (constant_is Early refl).0
 zero_is : IsCanonical zero_form
 zero_is = (constant_is (At (pos 0)) (ap At (omega (arith, ints)))).0
 
-early_values : HasValues early_form (λ _. Early)
+pub early_values : HasValues early_form (λ _. Early)
 early_values = (constant_is Early refl).1
 
-zero_values : HasValues zero_form (λ _. At (pos 0))
+pub zero_values : HasValues zero_form (λ _. At (pos 0))
 zero_values = (constant_is (At (pos 0)) (ap At (omega (arith, ints)))).1
 
 -- the functions of the results

@@ -5,11 +5,13 @@ use Rattle.std.proofs.lemmas.Bool.{cases_lt}
 use Rattle.std.proofs.lemmas.List.{take-append-drop, length-take-le}
 use Rattle.std.proofs.lemmas.Nat.{div-add-mod', mod_below}
 use Rattle.std.proofs.Math.Seq.{take-add}
-use Rattle.dioid.specs.Dates.{date_product}
+use Rattle.dioid.specs.Dates.{date_product, move}
 use Rattle.dioid.specs.DateLaws.{times_assoc, one_times, times_one}
 use Rattle.dioid.specs.declared.dates.Date.{Date}
 use Rattle.dioid.specs.declared.dates.Date.TheVariants.{Early, At, Never}
-use Rattle.series_form.specs.Order.{Le, move, le_is, le_trans, product_move_left, product_move_right, move_zero, move_move}
+use Rattle.dioid.specs.Order.{Le}
+use Rattle.dioid.proofs.AtMost.{le_is, le_trans}
+use Rattle.dioid.proofs.Moves.{product_move_left, product_move_right, move_zero, move_move}
 use Rattle.series_form.specs.Periodic.{Repeats, repeats_times, times}
 use Rattle.series_ops.specs.Pigeons.{pigeons, difference}
 use Rattle.series_ops.specs.Stars.{total, date_of, ArePositive, IsStarAt}

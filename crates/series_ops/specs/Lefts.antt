@@ -2,10 +2,11 @@
 use Rattle.std.proofs.Common.{◌≡◌, refl, ap, arith, ℕ, ℤ, pos, negsuc, zero, suc, max, ◌+◌, ◌*◌, ◌-◌, ◌≤◌, ◌<◌, ◌+ℤ◌, ◌-ℤ◌, sym, ◌∙◌, subst}
 use Rattle.std.specs.Prelude.{◌≤ℤ◌}
 use Rattle.std.proofs.lemmas.Int.{ints}
-use Rattle.dioid.specs.Dates.{date_left}
+use Rattle.dioid.specs.Dates.{date_left, move}
 use Rattle.dioid.specs.declared.dates.Date.{Date}
 use Rattle.dioid.specs.declared.dates.Date.TheVariants.{Early, At, Never}
-use Rattle.series_form.specs.Order.{Le, move, le_refl, le_is, le_trans, early_le, le_never}
+use Rattle.dioid.specs.Order.{Le}
+use Rattle.dioid.proofs.AtMost.{le_refl, le_is, le_trans, early_le, le_never}
 use Rattle.series_form.specs.Periodic.{Rising, Repeats, repeats_later, repeats_times, repeats_is, times}
 use Rattle.series_ops.specs.Residual.{IsLeftAt, left_repeats, left_decided, least_of}
 use Rattle.series_form.specs.Forms.{Form, size_of, start_of, value_at, IsForm, HasValues, IsCanonical}

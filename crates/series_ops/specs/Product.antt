@@ -1,11 +1,14 @@
 -- The product of series, and where it repeats.
 use Rattle.std.proofs.Common.{◌≡◌, ap, arith, ℕ, ℤ, zero, suc, ◌+◌, ◌-◌, ◌≤◌, ◌<◌, sym, ◌∙◌, subst, ⊎_elim}
-use Rattle.std.specs.Prelude.{◌≤ℤ◌}
+use Rattle.std.specs.Prelude.{◌≤ℤ◌, cond, ltb}
 use Rattle.std.proofs.Math.Nat.{eq-or-lt_of_le}
 use Rattle.std.proofs.lemmas.Bool.{cases_lt}
-use Rattle.dioid.specs.Dates.{later_of, date_product}
+use Rattle.dioid.specs.Dates.{later_of, date_product, move}
 use Rattle.dioid.specs.declared.dates.Date.{Date}
-use Rattle.series_form.specs.Order.{Le, move, le_refl, le_is, le_trans, le_antisym, le_later_left, le_later_right, later_le, move_le, move_further, le_move_over, le_move_back, product_move_left, product_move_right, product_le}
+use Rattle.dioid.specs.declared.dates.Date.TheVariants.{Early}
+use Rattle.dioid.specs.Order.{Le}
+use Rattle.dioid.proofs.AtMost.{le_refl, le_is, le_trans, le_antisym, le_later_left, le_later_right, later_le, move_le, move_further, le_move_over, le_move_back, product_le}
+use Rattle.dioid.proofs.Moves.{product_move_left, product_move_right}
 use Rattle.series_form.specs.Periodic.{Rising, Repeats, repeats_from}
 
 -- the greatest of f 0, .., f n
@@ -27,6 +30,10 @@ greatest_le f (suc n) c h = later_le (greatest_le f n c (λ j w. h j (omega arit
 -- the greatest s i and t j added, i and j adding up to k
 abbrev pub product_at : (ℕ → Date) → (ℕ → Date) → ℕ → Date
 product_at s t k = greatest (λ i. date_product (s i) (t (k - i))) k
+
+-- the function n shifts later with its dates moved by t, Early below the shift n
+abbrev pub shifted : ℕ → ℤ → (ℕ → Date) → ℕ → Date
+shifted n t s k = cond (ltb k n) Early (move t (s (k - n)))
 
 pub le_product : (s t : ℕ → Date) (i j k : ℕ) → i + j ≡ k → Le (date_product (s i) (t j)) (product_at s t k)
 le_product s t i j k e = let g : k - i ≡ j = omega arith in

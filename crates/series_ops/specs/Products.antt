@@ -3,10 +3,11 @@ use Rattle.std.proofs.Common.{◌≡◌, refl, ap, arith, ℕ, ℤ, pos, zero, s
 use Rattle.std.specs.Prelude.{◌≤ℤ◌}
 use Rattle.std.proofs.lemmas.Int.{ints}
 use Rattle.std.proofs.lemmas.Nat.{mod_below, div-add-mod'}
-use Rattle.dioid.specs.Dates.{date_product}
+use Rattle.dioid.specs.Dates.{date_product, move}
 use Rattle.dioid.specs.declared.dates.Date.{Date}
 use Rattle.dioid.specs.declared.dates.Date.TheVariants.{Early, At, Never}
-use Rattle.series_form.specs.Order.{Le, move, le_refl, le_is, le_trans, le_antisym, early_le, product_le}
+use Rattle.dioid.specs.Order.{Le}
+use Rattle.dioid.proofs.AtMost.{le_refl, le_is, le_trans, le_antisym, early_le, product_le}
 use Rattle.series_form.specs.Periodic.{Rising, Repeats, repeats_times, repeats_is, times, times_add}
 use Rattle.series_ops.specs.Product.{product_at, le_product, product_at_le, product_repeats_equal, product_repeats_unequal}
 use Rattle.series_ops.specs.Items.{times_commutes}

@@ -4,9 +4,11 @@ use Rattle.std.specs.Prelude.{◌≤ℤ◌}
 use Rattle.std.proofs.Math.Nat.{eq-or-lt_of_le}
 use Rattle.std.proofs.lemmas.Int.{ints}
 use Rattle.std.proofs.lemmas.Bool.{cases_lt}
-use Rattle.dioid.specs.Dates.{earlier_of, date_left}
+use Rattle.dioid.specs.Dates.{earlier_of, date_left, move}
 use Rattle.dioid.specs.declared.dates.Date.{Date}
-use Rattle.series_form.specs.Order.{Le, move, le_is, le_trans, le_antisym, earlier_le_left, earlier_le_right, le_earlier, move_le, move_le_back, move_zero, move_further, move_back, left_move, left_of_move}
+use Rattle.dioid.specs.Order.{Le}
+use Rattle.dioid.proofs.AtMost.{le_is, le_trans, le_antisym, earlier_le_left, earlier_le_right, le_earlier, move_le, move_le_back, move_further}
+use Rattle.dioid.proofs.Moves.{move_zero, move_back, left_move, left_of_move}
 use Rattle.series_form.specs.Periodic.{Repeats, by_steps}
 
 -- x is the greatest date that is at most f i for each i

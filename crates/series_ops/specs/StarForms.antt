@@ -4,10 +4,11 @@ use Rattle.std.specs.Prelude.{◌≤ℤ◌}
 use Rattle.std.specs.Prelude.{int_lt}
 use Rattle.std.proofs.lemmas.Int.{ints}
 use Rattle.std.proofs.Math.Nat.{eq-or-lt_of_le, mul-le-mul_left}
-use Rattle.dioid.specs.Dates.{later_of}
+use Rattle.dioid.specs.Dates.{later_of, move}
 use Rattle.dioid.specs.declared.dates.Date.{Date}
 use Rattle.dioid.specs.declared.dates.Date.TheVariants.{Early, At, Never}
-use Rattle.series_form.specs.Order.{Le, move, le_refl, le_is, le_trans, early_le, move_le, later_le, le_later_right}
+use Rattle.dioid.specs.Order.{Le}
+use Rattle.dioid.proofs.AtMost.{le_refl, le_is, le_trans, early_le, move_le, later_le, le_later_right}
 use Rattle.series_form.specs.Periodic.{Rising, Repeats, repeats_later, times, times_add}
 use Rattle.series_ops.specs.Stars.{IsStarAt, star_never, scaled, scaled_zero, scaled_le, scaled_move, times_up, times_back, times_swap}
 use Rattle.series_ops.specs.StarOf.{parts_star, star_by, star_at, star_rises, from_one, with_one, with_one_is}

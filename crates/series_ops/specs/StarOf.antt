@@ -6,7 +6,8 @@ use Rattle.dioid.specs.Dates.{later_of, date_product, date_left}
 use Rattle.dioid.specs.DateLaws.{times_early, one_times, times_one, date_galois, later_times}
 use Rattle.dioid.specs.declared.dates.Date.{Date}
 use Rattle.dioid.specs.declared.dates.Date.TheVariants.{Early, At, Never}
-use Rattle.series_form.specs.Order.{Le, le_refl, le_is, le_trans, le_antisym, early_le, product_le, later_le, le_later_left, le_later_right}
+use Rattle.dioid.specs.Order.{Le}
+use Rattle.dioid.proofs.AtMost.{le_refl, le_is, le_trans, le_antisym, early_le, product_le, later_le, le_later_left, le_later_right}
 use Rattle.series_form.specs.Periodic.{Rising}
 use Rattle.series_ops.specs.Product.{greatest, le_greatest, greatest_le, product_at, le_product, product_at_le}
 use Rattle.series_ops.specs.Stars.{total, date_of, ArePositive, IsStarAt}

@@ -8,7 +8,7 @@ ghost use Rattle.series_form.specs.Forms.{form_with, size_of, start_of, value_at
 ghost use Rattle.series_form.specs.Bounds.{IsUpTo, IsSeries};
 ghost use Rattle.series_form.specs.Needs.{greatest_int, need_of, sum_plan};
 ghost use Rattle.series_form.specs.declared.forms.SeriesRefused.{SeriesRefused};
-ghost use Rattle.series_form.specs.Order.{Le};
+ghost use Rattle.dioid.specs.Order.{Le};
 ghost use Rattle.series_form.specs.Answer.{AnswersOf, Answers, IsBeginning, form_before};
 ghost use Rattle.series_ops.specs.Needs.{beats, anchor_step, anchor_of, loss_of, worst_loss, natural_of, own_plan, anchored_plan, at_least, star_plan, carried_of, star_need, star_carried, form_star};
 ghost use Rattle.series_ops.specs.Listed.{IsNumber, AreUpTo, IsModest, later_part};

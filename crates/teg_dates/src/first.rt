@@ -3,8 +3,9 @@ ghost use Rattle.std.specs.Prelude.{◌≡◌, ◌≤◌, length, IfOk};
 ghost use Rattle.teg_check.specs.Ranks.{IsRanking};
 ghost use Rattle.teg_dates.specs.Tables.{most_numbers, HasLeastDates, HasDatesOfWalks};
 
-use crate::order::by_rank;
-use crate::rows::{begin_row, raise_row};
+use crate::order::PlaceOrder;
+use crate::rows::Rows;
+use crate::sources::NetInputs;
 use crate::table::Table;
 use std::alloc::Global;
 use teg_check::Live;
@@ -23,11 +24,10 @@ pub fn first_dates(alloc: Global, net: &Net, live: &Live, count: u32) -> Result<
     ensures least { IfOk result (λ table. HasLeastDates net.now table) }
     ensures walks { IfOk result (λ table. HasDatesOfWalks net.now table) }
 {
-    let order = by_rank(alloc, net, live)?;
-    let mut dates = Vec::new(alloc);
-    for number in 0..count {
-        begin_row(net, &mut dates, number as u64 + 1)?;
-        raise_row(net, &order, &mut dates, number as u64 + 1);
+    let order = PlaceOrder::new(alloc, net, live)?;
+    let mut rows = Rows::new(alloc, net);
+    for _number in 0..count {
+        rows = rows.with_next(net, &order, &NetInputs)?;
     }
-    Ok(Table::new(net.transitions().len(), count, dates))
+    Ok(Table::new(rows))
 }

@@ -1,5 +1,6 @@
 //! Small nets whose dates are plain to see.
-ghost use Rattle.std.specs.Prelude.{◌≡◌, ◌<◌, length, IfOk};
+ghost use Rattle.std.specs.Prelude.{◌≡◌, ◌<◌, ◌≤◌, All, length, IfOk};
+ghost use Rattle.teg_net.specs.Limits.{greatest_date};
 
 use crate::{Table, first_dates};
 use dioid::Date;
@@ -51,8 +52,11 @@ fn driven(alloc: Global) -> Result<Net, Fail>
     Ok(Net::new(transitions, places, inputs))
 }
 
-/// Transitions a and b, place ab from a to b with hold 3, and place ba from b to a with hold 2 and one token.
-fn ring(alloc: Global) -> Result<Net, Fail>
+/// Transitions a and b, place ab from a to b with hold 3, and place ba from b to a with hold 2 and one
+/// token of these ready dates.
+fn ring(alloc: Global, ready: DateList) -> Result<Net, Fail>
+    requires count { length ready ≤ 1 }
+    requires limit { All (λ d. d ≤ greatest_date) ready }
     ensures { IfOk result (λ net. length net.transitions ≡ 2) }
 {
     let transitions = vec![in alloc;
@@ -80,7 +84,42 @@ fn ring(alloc: Global) -> Result<Net, Fail>
             to: TransitionId { index: 0 },
             hold: 2,
             tokens: 1,
-            ready: DateList::new(Vec::new(alloc))
+            ready
+        },
+    ]?;
+    Ok(Net::new(transitions, places, Vec::new(alloc)))
+}
+
+/// Two places from a to b with one token each: one with hold 5, ready at 0, and one with hold 3, ready at 100.
+fn two_ways(alloc: Global) -> Result<Net, Fail>
+    ensures { IfOk result (λ net. length net.transitions ≡ 2) }
+{
+    let transitions = vec![in alloc;
+        Transition {
+            name: Name::new(alloc, "a")?,
+            role: Role::Internal
+        },
+        Transition {
+            name: Name::new(alloc, "b")?,
+            role: Role::Internal
+        },
+    ]?;
+    let places = vec![in alloc;
+        Place {
+            name: Name::new(alloc, "slow")?,
+            from: TransitionId { index: 0 },
+            to: TransitionId { index: 1 },
+            hold: 5,
+            tokens: 1,
+            ready: DateList::new(vec![in alloc; 0]?)
+        },
+        Place {
+            name: Name::new(alloc, "late")?,
+            from: TransitionId { index: 0 },
+            to: TransitionId { index: 1 },
+            hold: 3,
+            tokens: 1,
+            ready: DateList::new(vec![in alloc; 100]?)
         },
     ]?;
     Ok(Net::new(transitions, places, Vec::new(alloc)))
@@ -108,7 +147,7 @@ fn an_ended_list_gives_never(rt: HostRuntime) -> Result<(), Fail> {
 #[test]
 fn a_ring_fires_once_a_round(rt: HostRuntime) -> Result<(), Fail> {
     let alloc = rt.alloc();
-    let net = ring(alloc)?;
+    let net = ring(alloc, DateList::new(Vec::new(alloc)))?;
     let live = check(alloc, &net)?;
     let table = first_dates(alloc, &net, &live, 3)?;
     let a = dates_of(alloc, &table, 0)?;
@@ -120,6 +159,39 @@ fn a_ring_fires_once_a_round(rt: HostRuntime) -> Result<(), Fail> {
     assert_eq!(rt;
         b.as_slice(),
         [Date::At(3), Date::At(8), Date::At(13)].as_slice()
+    );
+    Ok(())
+}
+
+#[test]
+fn a_token_waits_for_its_ready_date(rt: HostRuntime) -> Result<(), Fail> {
+    let alloc = rt.alloc();
+    let net = ring(alloc, DateList::new(vec![in alloc; 4]?))?;
+    let live = check(alloc, &net)?;
+    let table = first_dates(alloc, &net, &live, 3)?;
+    let a = dates_of(alloc, &table, 0)?;
+    let b = dates_of(alloc, &table, 1)?;
+    assert_eq!(rt;
+        a.as_slice(),
+        [Date::At(4), Date::At(9), Date::At(14)].as_slice()
+    );
+    assert_eq!(rt;
+        b.as_slice(),
+        [Date::At(7), Date::At(12), Date::At(17)].as_slice()
+    );
+    Ok(())
+}
+
+#[test]
+fn the_later_token_of_two_ways_counts(rt: HostRuntime) -> Result<(), Fail> {
+    let alloc = rt.alloc();
+    let net = two_ways(alloc)?;
+    let live = check(alloc, &net)?;
+    let table = first_dates(alloc, &net, &live, 3)?;
+    let b = dates_of(alloc, &table, 1)?;
+    assert_eq!(rt;
+        b.as_slice(),
+        [Date::At(100), Date::At(100), Date::At(100)].as_slice()
     );
     Ok(())
 }

@@ -9,6 +9,7 @@
 
 mod entries;
 mod form;
+mod laws;
 mod matrix;
 mod order;
 mod stars;
@@ -16,3 +17,4 @@ mod stars;
 mod tests;
 
 pub use form::{Entry, Form, StarEntry, standard_form};
+pub use laws::least_dates_are_by_form;

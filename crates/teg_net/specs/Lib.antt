@@ -8,3 +8,8 @@ pub mod Inputs
 pub mod Walks
 pub mod NameOrders
 pub mod Ratios
+pub mod Parts
+pub mod ReducedTimes
+pub mod GreatestRatios
+pub mod PartAnswers
+pub mod Certificates

@@ -15,6 +15,10 @@ pub record NetLists : Type 0 where
   pub places : List Place
   pub inputs : List InputList
 
+-- the lists of these entries
+abbrev pub lists_of : List Transition → List Place → List InputList → NetLists
+lists_of transitions places inputs = record { transitions = transitions; places = places; inputs = inputs }
+
 -- the transition of this number is an input
 abbrev pub IsInput : NetLists → ℕ → Type 0
 IsInput net t = IsSomeAnd (slice_get net.transitions t) (λ x. x.role ≡ Input)
@@ -66,4 +70,4 @@ pub record IsNet (net : NetLists) : Type 0 where
 
 -- the same transitions and places in order, and no input list
 abbrev pub without_inputs : NetLists → NetLists
-without_inputs net = record { transitions = net.transitions; places = net.places; inputs = [] }
+without_inputs net = lists_of net.transitions net.places []

@@ -13,6 +13,7 @@ use toml::Value;
 pub(crate) trait Pass {
     ghost looks: { Self → Look };
 
+    /// What the look at this table, which stands at this spot, finds.
     fn look(&self, alloc: Global, spot: Spot, entry: &Value) -> Result<(), ReadRefusal>
         ensures { Finds (looks self.now spot (view entry.now)) result };
 }

@@ -3,7 +3,7 @@ use Rattle.std.specs.Int.{w128}
 use Rattle.std.proofs.lemmas.Int.{to_z-of_z}
 use Rattle.dioid.specs.declared.dates.Date.{Date}
 use Rattle.series_form.specs.Forms.{form_with, value_at, date_eqb}
-use Rattle.series_form.specs.Order.{move}
+use Rattle.dioid.specs.Dates.{move}
 use Rattle.series_form.specs.Canonical.{test_fails}
 use Rattle.series_form.proofs.shorten.repeats.Goals as goal
 
