@@ -1,7 +1,6 @@
 //! The real output.
 ghost use Rattle.std.specs.Prelude.{◌≡◌, ◌≤◌, ◌<◌, None, length, take, IfSome};
 ghost use Rattle.std.specs.Io.KnownBytes.{Appends};
-ghost use Rattle.teg_outside.specs.Sinks.{SinkState};
 
 use crate::{Sink, SinkFault};
 use std::io::Write;
