@@ -1,5 +1,5 @@
 #!/usr/bin/env python3
-"""Whether docs/DEFINITIONS.md lists each definition that a public contract rests on, and no other.
+"""Tells whether docs/DEFINITIONS*.md list each definition that a public contract rests on, and no other.
 
     tools/check_definitions.py [--draft]
 
@@ -118,9 +118,9 @@ def public_text(crate, text):
 
 
 def listed():
-    """The rows of the document: for each crate and name the files that its rows give."""
+    """The rows of the documents: for each crate and name the files that its rows give."""
     found, crates = {}, []
-    for line in (TOP / "docs/DEFINITIONS.md").read_text().splitlines():
+    for line in "".join(path.read_text() for path in sorted(TOP.glob("docs/DEFINITIONS*.md"))).splitlines():
         if line.startswith("#"):
             crates = re.findall(r"`(\w+)`", line)
         elif line.startswith("| `"):

@@ -14,6 +14,10 @@ Record = List (List ℕ)
 abbrev pub records_of : List ℕ → List (List (List ℕ))
 records_of bytes = records default_config (strip_bom bytes)
 
+-- the bytes of a file of rows
+abbrev pub most_file_bytes : ℕ
+most_file_bytes = 4194304
+
 -- no record is begun in this state
 abbrev pub IsBetween : State → Type 0
 IsBetween s = ends_at_end s ≡ false

@@ -6,9 +6,13 @@
 //! and the theory of `csv`'s machine is used here alone. The crate stands on `csv`.
 #![tactic(auto)]
 
+mod fields;
+mod numbers;
 mod records;
 #[cfg(test)]
 mod tests;
 
 pub use csv::ByteRecord;
+pub use fields::{ThreeFields, TwoFields, three_fields, two_fields};
+pub use numbers::{is_number, number_up_to};
 pub use records::{OutOfMemory, Records};

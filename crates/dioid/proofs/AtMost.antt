@@ -6,7 +6,7 @@ use Rattle.dioid.specs.Dates.{later_of, earlier_of, date_product, move}
 use Rattle.dioid.specs.Order.{Le}
 use Rattle.dioid.specs.declared.dates.Date.{Date}
 use Rattle.dioid.specs.declared.dates.Date.TheVariants.{Early, Never}
-use Rattle.dioid.proofs.DateOrder.{at_most_refl, at_most_is, at_most_trans, same_by_at_most, never_last, later_left, later_right, later_least, earlier_left, earlier_right, earlier_greatest, product_rises}
+use Rattle.dioid.proofs.DateOrder.{at_most_refl, at_most_is, at_most_trans, same_by_at_most, never_last, at_most_early, at_least_never, later_left, later_right, later_least, earlier_left, earlier_right, earlier_greatest, product_rises}
 use Rattle.dioid.proofs.Moves.{move_rises, move_back, move_forth}
 
 pub le_refl : (a : Date) → Le a a
@@ -26,6 +26,13 @@ early_le a = record { holds = tt }
 
 pub le_never : (a : Date) → Le a Never
 le_never a = record { holds = never_last a }
+
+-- what is at most Early is Early, and what Never is at most is Never
+pub le_early : {a : Date} → Le a Early → a ≡ Early
+le_early {a} h = at_most_early a h.holds
+
+pub never_le : {a : Date} → Le Never a → a ≡ Never
+never_le {a} h = at_least_never a h.holds
 
 -- ---- the later and the earlier date
 

@@ -5,9 +5,9 @@ use Rattle.dioid.specs.declared.dates.Date.{Date}
 use Rattle.dioid.specs.declared.dates.Date.TheVariants.{Early, At}
 use Rattle.series_form.specs.declared.forms.SeriesRefused.{SeriesRefused}
 use Rattle.series_form.specs.declared.forms.SeriesRefused.TheVariants.{TooLong, TooGreat, OutOfMemory}
-use Rattle.series_form.specs.Forms.{Form, form_with, value_at, gap, HasValues, IsCanonical}
+use Rattle.series_laws.specs.Forms.{Form, form_with, value_at, gap, HasValues, IsCanonical}
 use Rattle.series_form.specs.Bounds.{IsSmallDate, IsModerateDate, IsModerate, HasSmallNumbers, IsSeries}
-use Rattle.series_form.specs.Periodic.{Rising}
+use Rattle.series_laws.specs.Periodic.{Rising}
 
 -- v is the first value that is too great
 pub record IsFirstGreatValue (f : Form) (v : ℤ) : Type 0 where

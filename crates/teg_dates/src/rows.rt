@@ -1,5 +1,5 @@
 //! The rows of the least dating of a system, as many as a caller asks for.
-ghost use Rattle.std.specs.Prelude.{ℕ, ◌≡◌, ◌+◌, ◌<◌, ◌≤◌, length, [], IfOk};
+ghost use Rattle.std.specs.Prelude.{◌≡◌, ◌+◌, ◌<◌, ◌≤◌, length, [], IfOk};
 ghost use Rattle.dioid.specs.declared.dates.Date.{Date};
 ghost use Rattle.teg_net.specs.Nets.{IsNet};
 ghost use Rattle.teg_dates.specs.Tables.{date_at};

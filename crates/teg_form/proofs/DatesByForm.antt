@@ -1,6 +1,6 @@
 -- The least dates of a live net are those by its form, and no others are.
 use Rattle.std.proofs.Common.{ℕ, ◌+◌, ◌-◌, ◌<◌, ◌≤◌, ◌≡◌, ◌≢◌, List, [], ◌∷◌, length, get_or, refl, sym, ap, subst, ◌∙◌, arith, ⊎_elim}
-use Rattle.std.specs.Prelude.{pos, All, Any, slice_get, IsSomeAnd}
+use Rattle.std.specs.Prelude.{pos, All}
 use Rattle.std.proofs.lemmas.Bool.{cases_eq, cases_lt}
 use Rattle.std.proofs.lemmas.Int.{ints}
 use Rattle.std.proofs.lemmas.List.{get_or_default}
@@ -8,29 +8,26 @@ use Rattle.std.proofs.lemmas.List.Sums.{sum_by-cons}
 use Rattle.dioid.specs.declared.dates.Date.{Date}
 use Rattle.dioid.specs.declared.dates.Date.TheVariants.{Early, At}
 use Rattle.dioid.specs.Dates.{IsAtMostDate, delayed}
-use Rattle.dioid.proofs.DateOrder.{at_most_trans, at_most_is, later_left, later_least}
+use Rattle.dioid.proofs.DateOrder.{at_most_trans, later_left}
 use Rattle.teg_net.specs.declared.entries.PlaceId.{PlaceId}
 use Rattle.teg_net.specs.declared.entries.Place.{Place}
 use Rattle.teg_net.specs.Nets.{NetLists, IsInput}
-use Rattle.teg_net.specs.Circuits.{no_place, place_at, IsPathBetween, time_of, tokens_of, IsLive}
-use Rattle.teg_net.specs.ReadyDates.{ready_date, start_date}
-use Rattle.teg_net.proofs.StartDates.{IsStartDate-start_date}
+use Rattle.teg_net.specs.Circuits.{no_place, place_at, time_of, tokens_of}
+use Rattle.teg_net.specs.ReadyDates.{start_date}
 use Rattle.teg_model.specs.Systems.{Dating, System}
-use Rattle.teg_model.specs.Ranks.{AreRanks, HasEndsInRange}
+use Rattle.teg_model.specs.Ranks.{AreRanks}
 use Rattle.teg_model.specs.Starts.{start_of}
-use Rattle.teg_model.specs.Datings.{implicit_place, extended_places, initial_date, available_at, at_input, system_of, IsFeasibleUnder, IsLeastUnder}
-use Rattle.teg_model.specs.Laws.{IsTight}
-use Rattle.teg_model.proofs.OfNet.{all_extended_in, extended_has, implicit_is, at_input_is, release_below, feasible_in, tight_of_least}
+use Rattle.teg_model.specs.Datings.{implicit_place, extended_places, initial_date, available_at, at_input, system_of, IsLeastUnder}
+use Rattle.teg_model.proofs.OfNet.{all_extended_in, extended_has, at_input_is, feasible_in, tight_of_least}
 use Rattle.teg_model.proofs.Tokens.{available_after, available_first, implicit_gives, dates_climb}
-use Rattle.teg_model.proofs.WalkSteps.{Keeps, feasible_keeps_in}
+use Rattle.teg_model.proofs.WalkSteps.{feasible_keeps_in}
 use Rattle.teg_model.proofs.GreatestWalks.{start_not_before, start_below}
-use Rattle.teg_model.proofs.TightLeast.{tight_is_least}
 use Rattle.teg_form.specs.declared.form.StarEntry.{StarEntry}
 use Rattle.teg_form.specs.declared.form.Entry.{Entry}
 use Rattle.teg_form.specs.Forms.{FormLists, IsTimeOfFreePath, IsTimeOfMarkedPath, IsStarEntry, IsEntry, IsFormOf}
-use Rattle.teg_form.specs.FormDates.{IsNotBeforeForm, IsDateByForm, AreDatesByForm}
+use Rattle.teg_form.specs.FormDates.{IsNotBeforeForm, AreDatesByForm}
 use Rattle.teg_form.proofs.FreePaths.{one_place}
-use Rattle.teg_form.proofs.PathDates.{delayed_more, path_keeps, WaitsForPlaces, path_waits}
+use Rattle.teg_form.proofs.PathDates.{delayed_more, path_keeps}
 
 -- one place with tokens
 marked_place : (net : NetLists) (id : PlaceId) → id.index < length net.places

@@ -9,7 +9,7 @@ use Rattle.dioid.proofs.DateOrder.{at_most_refl, at_most_trans, later_left, late
 use Rattle.teg_net.specs.declared.entries.Place.{Place}
 use Rattle.teg_net.specs.Nets.{NetLists, IsNet, IsPlaceOf}
 use Rattle.teg_net.specs.Circuits.{no_place}
-use Rattle.teg_form.specs.Times.{cell, IsHoldBetween, AreFreeHolds}
+use Rattle.teg_form.specs.Times.{cell, IsHoldBetween}
 use Rattle.teg_form.proofs.Cells.{cell_in, one_cell}
 
 -- the place of this number

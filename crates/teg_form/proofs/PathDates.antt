@@ -1,5 +1,5 @@
 -- What paths say of dates: a dating keeps the time of each path, and a date that waits for a path's last place waits for the path.
-use Rattle.std.proofs.Common.{ℕ, ◌+◌, ◌-◌, ◌<◌, ◌≤◌, ◌≡◌, List, [], ◌∷◌, length, get_or, refl, sym, ap, subst, ◌∙◌, arith}
+use Rattle.std.proofs.Common.{ℕ, ◌+◌, ◌-◌, ◌<◌, ◌≤◌, ◌≡◌, List, [], ◌∷◌, length, sym, ap, subst, ◌∙◌, arith}
 use Rattle.std.proofs.lemmas.List.Sums.{sum_by-cons}
 use Rattle.std.proofs.lemmas.Int.{ints}
 use Rattle.dioid.specs.declared.dates.Date.{Date}
@@ -9,7 +9,7 @@ use Rattle.dioid.proofs.DateOrder.{at_most_trans, at_most_is, delayed_rises}
 use Rattle.teg_net.specs.declared.entries.PlaceId.{PlaceId}
 use Rattle.teg_net.specs.declared.entries.Place.{Place}
 use Rattle.teg_net.specs.Nets.{NetLists}
-use Rattle.teg_net.specs.Circuits.{no_place, place_at, IsPathBetween, time_of, tokens_of}
+use Rattle.teg_net.specs.Circuits.{place_at, IsPathBetween, time_of, tokens_of}
 use Rattle.teg_model.specs.Systems.{Dating}
 use Rattle.teg_model.specs.Datings.{initial_date, available_at}
 use Rattle.teg_model.proofs.Delays.{delayed_twice, delayed_not}
