@@ -1,0 +1,4 @@
+pub mod Runs
+pub mod Accepting
+pub mod Holding
+pub mod Sizes

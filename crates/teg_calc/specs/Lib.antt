@@ -1,0 +1,5 @@
+pub mod Trees
+pub mod Grammar
+pub mod Reading
+pub mod Meaning
+pub mod Readers
