@@ -26,11 +26,12 @@ record IsNoPart (b : ℕ) : Type 0 where
   letter : (b == 112) ≡ false
   digit : digit_of b ≡ None
 
+same_none : (c : Bool) → (let none : Option Part = None in if c then none else none) ≡ None
+same_none true = refl
+same_none false = refl
+
 no_date : (shift : ℕ) (minus : Bool) (count value b : ℕ) → digit_of b ≡ None → date_on shift minus count value b ≡ None
-no_date shift minus count value b h = rw h (same (nat_lt count 19)) where
-  same : (c : Bool) → (if c then None {A = Part} else None) ≡ None
-  same true = refl
-  same false = refl
+no_date shift minus count value b h = rw h (same_none (nat_lt count 19))
 
 -- such a byte goes on from behind the term
 behind_step_is : (o : List Level) (i : Level) (t : Tree) (s : State) (b : ℕ) → IsNoPart b → IsBehind o i t s → step s b ≡ operator_step o i t b
@@ -71,8 +72,8 @@ after_blanks (suc n) s o i t h = record {
 }
 
 -- one more text behind what was read
-then_reads : {s t : State} {u v : List ℕ} {o : List Level} {i : Level} {e : Tree} → run s u ≡ Some t → ReadsTo t v o i e → ReadsTo s (u ++ v) o i e
-then_reads {s} {t} {u} {v} h r = record { target = r.target; runs = runs_both u v s t r.target h r.runs; behind = r.behind }
+then_reads : {s t : State} (u v : List ℕ) {o : List Level} {i : Level} {e : Tree} → run s u ≡ Some t → ReadsTo t v o i e → ReadsTo s (u ++ v) o i e
+then_reads {s} {t} u v h r = record { target = r.target; runs = runs_both u v s t r.target h r.runs; behind = r.behind }
 
 -- an operator and its blanks, behind a term
 operator_token : (p : Blanks) (b : ℕ) (s : State) (o : List Level) (i : Level) (t : Tree) (next : State) → IsNoPart b → IsBehind o i t s
@@ -93,7 +94,7 @@ operand_token p token o i next h stays =
 factor_token : (p : Blanks) (token : List ℕ) (o : List Level) (i k : Level) (t : Tree) (s : State) → run (state o i operand) token ≡ Some s
     → IsBehind o k t s → ReadsTo (state o i operand) (spaced p token) o k t
 factor_token p token o i k t s h e =
-    then_reads (operand_blanks p.before o i) (then_reads h (after_blanks p.after s o k t e))
+    then_reads _ _ (operand_blanks p.before o i) (then_reads _ _ h (after_blanks p.after s o k t e))
 
 -- the bracket of a call, behind its name
 name_token : (p : Blanks) (o : List Level) (i : Level) (c : Call) → run (state o i (within (Name c))) (spaced p (codes "(")) ≡ Some (nested o i c)
@@ -177,7 +178,7 @@ closing o i c first text e f q r h = record {
 comma_then : (o : List Level) (c : Call) (text rest : List ℕ) (e t : Tree) (k : Level) (r : List Level) (p : Blanks) → ReadsExpr o c None text e → takes_comma c None ≡ true
     → ReadsTo (state o (level c (Some e) None None) operand) rest r k t → ReadsTo (state o (level c None None None) operand) (text ++ (spaced p (codes ",") ++ rest)) r k t
 comma_then o c text rest e t k r p a h next =
-    then_reads a.reads.runs (then_reads
+    then_reads _ _ a.reads.runs (then_reads _ _
     (operator_token p 44 a.reads.target o (level c None a.sum None) a.last (state o (level c (Some e) None None) operand) comma_is_none a.reads.behind
     (rw (h, a.total) refl) (λ n. operand_blanks n o (level c (Some e) None None))) next)
 
@@ -189,7 +190,7 @@ mutual
       record {
         sum = Some (joined r.sum r.last);
         last = term_tree t;
-        reads = then_reads r.reads.runs (then_reads
+        reads = then_reads _ _ r.reads.runs (then_reads _ _
             (operator_token p 43 r.reads.target o (level c first r.sum None) r.last (state o (level c first (Some (joined r.sum r.last)) None) operand) plus_is_none r.reads.behind
             refl (λ n. operand_blanks n o (level c first (Some (joined r.sum r.last)) None)))
             (term_reads t o c first (Some (joined r.sum r.last))));
@@ -201,7 +202,7 @@ mutual
   term_reads (factor f) o c first sum = factor_reads f o (level c first sum None)
   term_reads (times_factor t p f) o c first sum =
       let r : ReadsTo (state o (level c first sum None) operand) (term_text t) o (level c first sum None) (term_tree t) = term_reads t o c first sum in
-      then_reads r.runs (then_reads
+      then_reads _ _ r.runs (then_reads _ _
       (operator_token p 46 r.target o (level c first sum None) (term_tree t) (state o (level c first sum (Some (term_tree t))) operand) dot_is_none r.behind
       refl (λ n. operand_blanks n o (level c first sum (Some (term_tree t)))))
       (factor_reads f o (level c first sum (Some (term_tree t)))))
@@ -213,20 +214,20 @@ mutual
   factor_reads (e_word p) o i = factor_token p (codes "e") o i _ _ (state o i (within UnitPart)) refl (in_unit i refl refl)
   factor_reads (never_word p) o i = factor_token p (codes "never") o i _ _ (factored o i never) refl ended
   factor_reads (bracketed p a q) o i =
-      then_reads (operand_token p (codes "(") o i (nested o i Group) refl (λ n. operand_blanks n (i ∷ o) (opened Group)))
+      then_reads _ _ (operand_token p (codes "(") o i (nested o i Group) refl (λ n. operand_blanks n (i ∷ o) (opened Group)))
       (closing o i Group None (expr_text a) (expr_tree a) (expr_tree a) q (expr_reads a (i ∷ o) Group None) refl)
   factor_reads (star_of n p a q) o i =
-      then_reads (operand_token n (codes "star") o i (state o i (within (Name StarCall))) refl (λ m. name_blanks m o i StarCall))
-      (then_reads (name_token p o i StarCall)
+      then_reads _ _ (operand_token n (codes "star") o i (state o i (within (Name StarCall))) refl (λ m. name_blanks m o i StarCall))
+      (then_reads _ _ (name_token p o i StarCall)
       (closing o i StarCall None (expr_text a) (expr_tree a) (star (expr_tree a)) q (expr_reads a (i ∷ o) StarCall None) refl))
   factor_reads (min_of n p a c b q) o i =
-      then_reads (operand_token n (codes "min") o i (state o i (within (Name LeastCall))) refl (λ m. name_blanks m o i LeastCall))
-      (then_reads (name_token p o i LeastCall)
+      then_reads _ _ (operand_token n (codes "min") o i (state o i (within (Name LeastCall))) refl (λ m. name_blanks m o i LeastCall))
+      (then_reads _ _ (name_token p o i LeastCall)
       (comma_then (i ∷ o) LeastCall (expr_text a) (expr_text b ++ spaced q (codes ")")) (expr_tree a) _ _ o c (expr_reads a (i ∷ o) LeastCall None) refl
       (closing o i LeastCall (Some (expr_tree a)) (expr_text b) (expr_tree b) (least (expr_tree a) (expr_tree b)) q (expr_reads b (i ∷ o) LeastCall (Some (expr_tree a))) refl)))
   factor_reads (left_of n p a c b q) o i =
-      then_reads (operand_token n (codes "left") o i (state o i (within (Name LeftCall))) refl (λ m. name_blanks m o i LeftCall))
-      (then_reads (name_token p o i LeftCall)
+      then_reads _ _ (operand_token n (codes "left") o i (state o i (within (Name LeftCall))) refl (λ m. name_blanks m o i LeftCall))
+      (then_reads _ _ (name_token p o i LeftCall)
       (comma_then (i ∷ o) LeftCall (expr_text a) (expr_text b ++ spaced q (codes ")")) (expr_tree a) _ _ o c (expr_reads a (i ∷ o) LeftCall None) refl
       (closing o i LeftCall (Some (expr_tree a)) (expr_text b) (expr_tree b) (left (expr_tree a) (expr_tree b)) q (expr_reads b (i ∷ o) LeftCall (Some (expr_tree a))) refl)))
 

@@ -1,4 +1,13 @@
 pub mod Runs
 pub mod Accepting
+pub mod Meanings
+pub mod Digits
+pub mod Closing
+pub mod Signs
 pub mod Holding
+pub mod Written
+pub mod TokenSteps
+pub mod Stepping
+pub mod Completing
+pub mod Depth
 pub mod Sizes

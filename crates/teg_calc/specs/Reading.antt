@@ -41,11 +41,9 @@ pub record IsFault (text : List ℕ) (n : ℕ) : Type 0 where
   pub prefix : IsLongestBegun text n
   pub shallow : IsShallow text n
 
--- here, in the longest prefix of the text that is a prefix of some expression, a bracket is opened too deep for the first time
+-- up to and with this byte the text is a prefix of some expression, and here a bracket is opened too deep for the first time
 pub record IsFirstTooDeep (text : List ℕ) (at : ℕ) : Type 0 where
-  pub length : ℕ
-  pub prefix : IsLongestBegun text length
-  pub within : at < length
+  pub begun : IsBegun (take (at + 1) text)
   pub deep : OpensTooDeep text at
   pub first : IsShallow text at
 

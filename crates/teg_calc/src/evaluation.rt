@@ -1,9 +1,9 @@
 //! The meaning of expressions.
-ghost use Rattle.std.specs.Prelude.{◌≡◌, ◌≤◌, IfOk};
+ghost use Rattle.std.specs.Prelude.{◌≡◌, ◌≤◌, ◌<◌, ◌^◌, IfOk};
 ghost use Rattle.std.specs.Int.RustNames.{unsigned_abs};
 ghost use Rattle.series_form.specs.Forms.{value_at};
 ghost use Rattle.series_form.specs.Bounds.{IsSeries};
-ghost use Rattle.teg_calc.specs.Trees.{HasShortNumbers, node_count, tree_of};
+ghost use Rattle.teg_calc.specs.Trees.{HasShortNumbers, mono, node_count, tree_of};
 ghost use Rattle.teg_calc.specs.Meaning.{Evaluates, Means, signed_date};
 
 use crate::expressions::Expr;
@@ -22,9 +22,7 @@ pub fn evaluate(alloc: Global, expr: &Expr) -> Result<Series, SeriesRefused>
     ensures series { IfOk result IsSeries }
 {
     match expr {
-        Expr::Mono { shift, minus, date } => {
-            Series::monomial(alloc, *shift, signed(*minus, *date))
-        }
+        Expr::Mono { shift, minus, date } => monomial(alloc, *shift, *minus, *date),
         Expr::Epsilon => Series::constant(alloc, Date::Early),
         Expr::Unit => Series::constant(alloc, Date::At(0)),
         Expr::Never => Series::constant(alloc, Date::Never),
@@ -53,6 +51,17 @@ pub fn evaluate(alloc: Global, expr: &Expr) -> Result<Series, SeriesRefused>
             left(alloc, &first, &second)
         }
     }
+}
+
+/// The monomial of a shift and a date with its sign.
+fn monomial(alloc: Global, shift: u64, minus: bool, date: u64) -> Result<Series, SeriesRefused>
+    requires shift { shift < 10 ^ 19 }
+    requires date { date < 10 ^ 19 }
+    ensures answer { Evaluates (mono shift minus date) result }
+    ensures meaning { IfOk result (λ series. Means (mono shift minus date) (value_at series)) }
+{
+    let date = signed(minus, date);
+    Series::monomial(alloc, shift, date)
 }
 
 /// A date with its sign.

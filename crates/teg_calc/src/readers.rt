@@ -158,12 +158,7 @@ fn factored(
 }
 
 /// The innermost bracket closed behind a term.
-fn close(
-    alloc: Global,
-    mut outer: Vec<Bracket>,
-    inner: Bracket,
-    term: Expr,
-) -> Result<Reader, Stop>
+fn close(alloc: Global, mut outer: Vec<Bracket>, inner: Bracket, term: Expr) -> Result<Reader, Stop>
     ensures { IsReached (close_step (levels_of outer.items) (level_of inner) (tree_of term)) result }
 {
     let Bracket {
@@ -207,12 +202,7 @@ fn operator(
 }
 
 /// Behind a term and a `+`.
-fn summed(
-    alloc: Global,
-    outer: Vec<Bracket>,
-    inner: Bracket,
-    term: Expr,
-) -> Result<Reader, Stop>
+fn summed(alloc: Global, outer: Vec<Bracket>, inner: Bracket, term: Expr) -> Result<Reader, Stop>
     ensures { IsReached (operator_by Sign.Plus (levels_of outer.items) (level_of inner) (tree_of term)) result }
 {
     let Bracket {

@@ -1,0 +1,428 @@
+-- Each byte that the reader takes keeps that the text leads to its state.
+use Rattle.std.proofs.Common.{◌≡◌, refl, ap, sym, ◌∙◌, arith, subst, ℕ, ◌+◌, ◌<◌, ◌≤◌, Bool, true, false, List, [], ◌∷◌, ◌++◌, length, take, codes, replicate, Option, Some, None, append_assoc}
+use Rattle.std.specs.Prelude.{◌==◌, nat_lt, slice_get, option_map, option_and_then, if◌then◌else◌}
+use Rattle.std.proofs.lemmas.Bool.Decides.{nat_tests}
+use Rattle.std.proofs.lemmas.List.{append-nil, replicate_more, take_all}
+use Rattle.std.specs.Str.Parse.{digits_value}
+use Rattle.teg_calc.specs.declared.bytes.Sign.{Sign}
+use Rattle.teg_calc.specs.declared.bytes.Sign.TheVariants.{Blank, Open, Close, Comma, Plus, Dot, Other}
+use Rattle.teg_calc.specs.declared.brackets.Call.{Call}
+use Rattle.teg_calc.specs.declared.brackets.Call.TheVariants.{Text, Group, Star as StarCall, Least as LeastCall, Left as LeftCall}
+use Rattle.teg_calc.specs.declared.tokens.Word.{Word}
+use Rattle.teg_calc.specs.declared.tokens.Word.TheVariants.{Eps, Never as NeverWord, Star as StarWord, Min, Left as LeftWord}
+use Rattle.teg_calc.specs.declared.tokens.Part.{Part}
+use Rattle.teg_calc.specs.declared.tokens.Part.TheVariants.{Letters, Unit as UnitPart, Name, Shift, Delta, Date}
+use Rattle.teg_calc.specs.Trees.{Tree, mono, epsilon, unit, never}
+use Rattle.teg_calc.specs.Grammar.{Blanks, AreDigits, FactorText, ExprText, TermText, mono_token, eps_word, e_word, never_word, blanks, spaced, mono_text, minus_text, expr_text, term_text, factor_text, expr_tree, term_tree, factor_tree}
+use Rattle.teg_calc.specs.Readers.{Level, level, opened, Stand, State, state, start, operand, within, operator, step, run, nested, joined, multiplied, closed, takes_comma, sign_of, begun_by, letters_of, gone_on, factor_of, factored, factored_outside, behind_step, comma_step, close_step, within_step, operand_by, operator_by, word_end, word_on, letter_by, name_by, token_by, step_by}
+use Rattle.teg_calc.proofs.Signs.{IsSign, is_blank, is_open, is_close, is_comma, is_plus, is_dot, is_other, sign_is, decide, is_eq}
+use Rattle.teg_calc.proofs.Holding.{IsHead, IsHeads, IsInside, IsDeeper, IsBottom, IsSumText, IsProductText, IsPartText, IsCallHead, IsSecondHead, IsNameText, IsLetters, IsAtOperand, IsInPart, IsBehindTerm, IsStandText, Holds}
+use Rattle.teg_calc.proofs.Written.{IsFactorOf, IsTermOf, IsExprOf, with_product, with_sum, tight, closes, term_longer}
+use Rattle.teg_calc.proofs.TokenSteps.{IfPart, begun_text, gone_text, letters_more}
+
+-- the one state that a byte leads to
+reached : (x t : State) (w : List ℕ) → Some x ≡ Some t → Holds x w → Holds t w
+reached x t w e h = let g : x ≡ t = cc in subst (λ z. Holds z w) g h
+
+-- ---- into a bracket
+
+-- the text inside a bracket that opens behind `own`
+opens : (o : List Level) (i : Level) (c : Call) (w heads sum product own : List ℕ) → IsHeads o i.call i.first heads → IsSumText i.sum sum → IsProductText i.product product
+    → IsHead c None own → w ≡ (heads ++ (sum ++ product)) ++ own → Holds (nested o i c) w
+opens o i c w heads sum product own a b p h e = record {
+  heads = w;
+  sum = [];
+  last = [];
+  is_heads = record {
+    outer = heads ++ (sum ++ product);
+    own = own;
+    is_outer = record { heads = heads; sum = sum; product = product; is_heads = a; is_sum = b; is_product = p; text_is = refl };
+    is_own = h;
+    text_is = e;
+  };
+  is_sum = refl;
+  is_last = record { own = []; spaces = 0; is_product = refl; text_is = refl };
+  text_is = sym (append-nil w);
+}
+
+-- one blank more
+blank_more : (n : ℕ) → blanks (n + 1) ≡ blanks n ++ (32 ∷ [])
+blank_more n = sym (replicate_more n 32)
+
+-- ---- behind a factor
+
+-- a whole factor
+factor_holds : (o : List Level) (i : Level) (w heads sum own : List ℕ) (f : FactorText) → IsHeads o i.call i.first heads → IsSumText i.sum sum → IsProductText i.product own
+    → w ≡ heads ++ (sum ++ (own ++ factor_text f)) → Holds (factored o i (factor_tree f)) w
+factor_holds o i w heads sum own f a b p e =
+    let t : IsTermOf (multiplied i.product (factor_tree f)) (own ++ factor_text f) = with_product i.product own p f in
+    record {
+      heads = heads;
+      sum = sum;
+      last = own ++ factor_text f;
+      is_heads = a;
+      is_sum = b;
+      is_last = record { none = refl; written = t.written; tree_is = t.tree_is; text_is = sym t.text_is };
+      text_is = e;
+    }
+
+-- a token behind its blanks
+spaced_token : (n : ℕ) → Blanks
+spaced_token n = record { before = n; after = 0 }
+
+token_text : (n : ℕ) (z : List ℕ) → spaced (spaced_token n) z ≡ blanks n ++ z
+unfolding spaced_token
+token_text n z = ap (λ (x : List ℕ). blanks n ++ x) (append-nil z)
+
+-- a factor that is one token
+token_holds : (o : List Level) (i : Level) (w : List ℕ) (part : Part) (z : List ℕ) (h : Holds (state o i (within part)) w) (f : FactorText)
+    → factor_text f ≡ spaced (spaced_token h.is_last.spaces) z → w ≡ h.heads ++ (h.sum ++ (h.is_last.own ++ (blanks h.is_last.spaces ++ z))) → Holds (factored o i (factor_tree f)) w
+token_holds o i w part z h f e g =
+    factor_holds o i w h.heads h.sum h.is_last.own f h.is_heads h.is_sum h.is_last.is_product
+    (g ∙ ap (λ (x : List ℕ). h.heads ++ (h.sum ++ (h.is_last.own ++ x))) (sym (token_text h.is_last.spaces z) ∙ sym e))
+
+-- the text up to a token's last byte
+with_byte : (o : List Level) (i : Level) (w : List ℕ) (part : Part) (h : Holds (state o i (within part)) w) (x : List ℕ)
+    → w ++ x ≡ h.heads ++ (h.sum ++ (h.is_last.own ++ (blanks h.is_last.spaces ++ (h.is_last.token ++ x))))
+with_byte o i w part h x = rw (h.text_is, h.is_last.text_is) (simp append_assoc)
+
+-- a token with one byte more
+part_more : (o : List Level) (i : Level) (w x : List ℕ) (part next : Part) (h : Holds (state o i (within part)) w) → IsPartText next (h.is_last.token ++ x) → Holds (state o i (within next)) (w ++ x)
+part_more o i w x part next h p = record {
+  heads = h.heads;
+  sum = h.sum;
+  last = h.is_last.own ++ (blanks h.is_last.spaces ++ (h.is_last.token ++ x));
+  is_heads = h.is_heads;
+  is_sum = h.is_sum;
+  is_last = record { own = h.is_last.own; spaces = h.is_last.spaces; token = h.is_last.token ++ x; is_product = h.is_last.is_product; is_token = p; text_is = refl };
+  text_is = with_byte o i w part h x;
+}
+
+-- a token that may end is a factor
+ends_holds : (o : List Level) (i : Level) (w : List ℕ) (part : Part) (f : Tree) → Holds (state o i (within part)) w → factor_of part ≡ Some f → Holds (factored o i f) w
+unfolding spaced_token
+ends_holds o i w (Letters word read) f h e = cc
+ends_holds o i w UnitPart f h e =
+    let g : unit ≡ f = cc in
+    subst (λ z. Holds (factored o i z) w) g
+    (token_holds o i w UnitPart (codes "e") h (e_word (spaced_token h.is_last.spaces)) refl
+    (rw (h.text_is, h.is_last.text_is, h.is_last.is_token) refl))
+ends_holds o i w (Name call) f h e = cc
+ends_holds o i w (Shift count value) f h e = cc
+ends_holds o i w (Delta shift) f h e = cc
+ends_holds o i w (Date shift minus count value) f h e = decide (count == 0) (λ z. let none : None ≡ Some f = rw z at e in cc) (λ z.
+    let some : Some (mono shift minus value) ≡ Some f = rw z at e in
+    let g : mono shift minus value ≡ f = cc in
+    let d = h.is_last.is_token in
+    let c : length d.date ≡ count = d.date_are.count_is in
+    let are : AreDigits d.date = record { numeral = (grind (arith, nat_tests), d.date_are.digits_are); few = omega (arith, d.date_are.few) } in
+    let tree : mono (digits_value 10 d.digits) minus (digits_value 10 d.date) ≡ mono shift minus value = rw (d.value_is, d.date_are.value_is) refl in
+    subst (λ x. Holds (factored o i x) w) (tree ∙ g)
+    (token_holds o i w (Date shift minus count value) (mono_text d.digits minus d.date) h (mono_token (spaced_token h.is_last.spaces) d.digits d.are minus d.date are) refl
+    (rw (h.text_is, h.is_last.text_is, d.text_is) refl)))
+
+-- ---- behind a term
+
+-- the whole sum in the innermost bracket
+sum_of : (o : List Level) (i : Level) (t : Tree) (w : List ℕ) (h : Holds (state o i (operator t)) w) → IsExprOf (joined i.sum t) (h.sum ++ h.last)
+sum_of o i t w h =
+    let s : IsExprOf (joined i.sum (term_tree h.is_last.written)) (h.sum ++ term_text h.is_last.written) = with_sum i.sum h.sum h.is_sum h.is_last.written in
+    record { written = s.written; tree_is = s.tree_is ∙ ap (joined i.sum) h.is_last.tree_is; text_is = s.text_is ∙ ap (λ (x : List ℕ). h.sum ++ x) (sym h.is_last.text_is) }
+
+-- behind a comma
+comma_holds : (o : List Level) (m : Level) (c : Call) (name : List ℕ) (a : Tree) (w heads inner : List ℕ) → IsDeeper (IsInside (IsHeads o m.call m.first) m) (IsCallHead name) heads
+    → IsExprOf a inner → w ≡ heads ++ inner → ((own : List ℕ) → IsSecondHead name a own → IsHead c (Some a) own)
+    → Holds (state (m ∷ o) (level c (Some a) None None) operand) (w ++ (44 ∷ []))
+unfolding tight
+comma_holds o m c name a w heads inner d s e made = record {
+  heads = w ++ (44 ∷ []);
+  sum = [];
+  last = [];
+  is_heads = record {
+    outer = d.outer;
+    own = d.own ++ (inner ++ (44 ∷ []));
+    is_outer = d.is_outer;
+    is_own = made (d.own ++ (inner ++ (44 ∷ []))) (record {
+      before = d.is_own.before;
+      inside = d.is_own.inside;
+      comma = tight;
+      written = s.written;
+      tree_is = s.tree_is;
+      text_is = rw (d.is_own.text_is, ← s.text_is) (simp append_assoc);
+    });
+    text_is = rw (e, d.text_is) (simp append_assoc);
+  };
+  is_sum = refl;
+  is_last = record { own = []; spaces = 0; is_product = refl; text_is = refl };
+  text_is = sym (append-nil (w ++ (44 ∷ [])));
+}
+
+-- a comma behind the first operand of a call
+comma_step_holds : (o : List Level) (c : Call) (first sum product : Option Tree) (t : Tree) (n : State) (w : List ℕ) → Holds (state o (level c first sum product) (operator t)) w
+    → comma_step o (level c first sum product) t ≡ Some n → Holds n (w ++ (44 ∷ []))
+comma_step_holds o Text first sum product t n w h e = cc
+comma_step_holds o Group first sum product t n w h e = cc
+comma_step_holds o StarCall first sum product t n w h e = cc
+comma_step_holds [] LeastCall None sum product t n w h e = let g : LeastCall ≡ Text = h.is_heads.call_is in cc
+comma_step_holds (m ∷ o) LeastCall None sum product t n w h e =
+    reached _ n (w ++ (44 ∷ [])) e
+    (comma_holds o m LeastCall (codes "min") (joined sum t) w h.heads (h.sum ++ h.last) h.is_heads (sum_of (m ∷ o) (level LeastCall None sum product) t w h) h.text_is (λ own k. k))
+comma_step_holds o LeastCall (Some a) sum product t n w h e = cc
+comma_step_holds [] LeftCall None sum product t n w h e = let g : LeftCall ≡ Text = h.is_heads.call_is in cc
+comma_step_holds (m ∷ o) LeftCall None sum product t n w h e =
+    reached _ n (w ++ (44 ∷ [])) e
+    (comma_holds o m LeftCall (codes "left") (joined sum t) w h.heads (h.sum ++ h.last) h.is_heads (sum_of (m ∷ o) (level LeftCall None sum product) t w h) h.text_is (λ own k. k))
+comma_step_holds o LeftCall (Some a) sum product t n w h e = cc
+
+-- the text with the bracket that closes
+closed_text : (w heads sum last outer own oh os op ft et : List ℕ) → w ≡ heads ++ (sum ++ last) → heads ≡ outer ++ own → outer ≡ oh ++ (os ++ op) → et ≡ sum ++ last
+    → ft ≡ own ++ (et ++ codes ")") → w ++ (41 ∷ []) ≡ oh ++ (os ++ (op ++ ft))
+closed_text w heads sum last outer own oh os op ft et a b c d e = rw (a, b, c, e, d) (simp append_assoc)
+
+-- a bracket closed behind its last operand
+close_factor : (o : List Level) (i : Level) (t e : Tree) (n : State) (w : List ℕ) → Holds (state o i (operator t)) w → closed i.call i.first (joined i.sum t) ≡ Some e
+    → factored_outside o e ≡ Some n → Holds n (w ++ (41 ∷ []))
+close_factor [] i t e n w h g k = cc
+close_factor (m ∷ o) i t e n w h g k =
+    let s : IsExprOf (joined i.sum t) (h.sum ++ h.last) = sum_of (m ∷ o) i t w h in
+    let d = h.is_heads in
+    let f : IsFactorOf e (d.own ++ (expr_text s.written ++ codes ")")) = closes i.call i.first d.own s.written e d.is_own (ap (closed i.call i.first) s.tree_is ∙ g) in
+    reached _ n (w ++ (41 ∷ [])) k
+    (subst (λ z. Holds (factored o m z) (w ++ (41 ∷ []))) f.tree_is
+    (factor_holds o m (w ++ (41 ∷ [])) d.is_outer.heads d.is_outer.sum d.is_outer.product f.written d.is_outer.is_heads d.is_outer.is_sum d.is_outer.is_product
+    (closed_text w h.heads h.sum h.last d.outer d.own d.is_outer.heads d.is_outer.sum d.is_outer.product (factor_text f.written) (expr_text s.written) h.text_is d.text_is d.is_outer.text_is s.text_is f.text_is)))
+
+close_step_holds : (o : List Level) (i : Level) (t : Tree) (n : State) (w : List ℕ) → Holds (state o i (operator t)) w
+    → close_step o i t ≡ Some n → Holds n (w ++ (41 ∷ []))
+close_step_holds o i t n w h e = by_factor (closed i.call i.first (joined i.sum t)) refl e where
+  by_factor : (x : Option Tree) → closed i.call i.first (joined i.sum t) ≡ x → option_and_then (factored_outside o) x ≡ Some n → Holds n (w ++ (41 ∷ []))
+  by_factor None g k = cc
+  by_factor (Some f) g k = close_factor o i t f n w h g k
+
+-- one blank behind a term
+blank_behind : (o : List Level) (i : Level) (t : Tree) (w : List ℕ) → Holds (state o i (operator t)) w → Holds (state o i (operator t)) (w ++ (32 ∷ []))
+blank_behind o i t w h =
+    let l : IsTermOf (term_tree h.is_last.written) (term_text h.is_last.written ++ (32 ∷ [])) = term_longer h.is_last.written in
+    record {
+      heads = h.heads;
+      sum = h.sum;
+      last = h.last ++ (32 ∷ []);
+      is_heads = h.is_heads;
+      is_sum = h.is_sum;
+      is_last = record {
+        none = h.is_last.none;
+        written = l.written;
+        tree_is = l.tree_is ∙ h.is_last.tree_is;
+        text_is = ap (λ (x : List ℕ). x ++ (32 ∷ [])) h.is_last.text_is ∙ sym l.text_is;
+      };
+      text_is = rw h.text_is (simp append_assoc);
+    }
+
+-- a `+` behind a term
+plus_behind : (o : List Level) (i : Level) (t : Tree) (w : List ℕ) → Holds (state o i (operator t)) w
+    → Holds (state o (level i.call i.first (Some (joined i.sum t)) None) operand) (w ++ (43 ∷ []))
+unfolding tight
+plus_behind o i t w h =
+    let s : IsExprOf (joined i.sum t) (h.sum ++ h.last) = sum_of o i t w h in
+    record {
+      heads = h.heads;
+      sum = (h.sum ++ h.last) ++ (43 ∷ []);
+      last = [];
+      is_heads = h.is_heads;
+      is_sum = record { written = s.written; sign = tight; tree_is = s.tree_is; text_is = ap (λ (x : List ℕ). x ++ (43 ∷ [])) (sym s.text_is) };
+      is_last = record { own = []; spaces = 0; is_product = refl; text_is = refl };
+      text_is = rw h.text_is (simp (append_assoc, append-nil));
+    }
+
+-- a `.` behind a term
+dot_behind : (o : List Level) (i : Level) (t : Tree) (w : List ℕ) → Holds (state o i (operator t)) w
+    → Holds (state o (level i.call i.first i.sum (Some t)) operand) (w ++ (46 ∷ []))
+unfolding tight
+dot_behind o i t w h = record {
+  heads = h.heads;
+  sum = h.sum;
+  last = h.last ++ (46 ∷ []);
+  is_heads = h.is_heads;
+  is_sum = h.is_sum;
+  is_last = record {
+    own = h.last ++ (46 ∷ []);
+    spaces = 0;
+    is_product = record { written = h.is_last.written; sign = tight; tree_is = h.is_last.tree_is; text_is = ap (λ (x : List ℕ). x ++ (46 ∷ [])) h.is_last.text_is };
+    text_is = sym (append-nil (h.last ++ (46 ∷ [])));
+  };
+  text_is = rw h.text_is (simp append_assoc);
+}
+
+operator_holds : (g : Sign) (b : ℕ) (o : List Level) (i : Level) (t : Tree) (n : State) (w : List ℕ) → IsSign b g → Holds (state o i (operator t)) w
+    → operator_by g o i t ≡ Some n → Holds n (w ++ (b ∷ []))
+operator_holds Blank b o i t n w (is_blank v) h e = rw v (reached _ n _ e (blank_behind o i t w h))
+operator_holds Open b o i t n w s h e = cc
+operator_holds Close b o i t n w (is_close v) h e = rw v (close_step_holds o i t n w h e)
+operator_holds Comma b o i t n w (is_comma v) h e = rw v (comma_step_holds o i.call i.first i.sum i.product t n w h e)
+operator_holds Plus b o i t n w (is_plus v) h e = rw v (reached _ n _ e (plus_behind o i t w h))
+operator_holds Dot b o i t n w (is_dot v) h e = rw v (reached _ n _ e (dot_behind o i t w h))
+operator_holds Other b o i t n w s h e = cc
+
+-- ---- where an operand begins
+
+blank_before : (o : List Level) (i : Level) (w : List ℕ) → Holds (state o i operand) w → Holds (state o i operand) (w ++ (32 ∷ []))
+blank_before o i w h = record {
+  heads = h.heads;
+  sum = h.sum;
+  last = h.last ++ (32 ∷ []);
+  is_heads = h.is_heads;
+  is_sum = h.is_sum;
+  is_last = record {
+    own = h.is_last.own;
+    spaces = h.is_last.spaces + 1;
+    is_product = h.is_last.is_product;
+    text_is = rw (h.is_last.text_is, blank_more h.is_last.spaces) (simp append_assoc);
+  };
+  text_is = rw h.text_is (simp append_assoc);
+}
+
+open_before : (o : List Level) (i : Level) (w : List ℕ) → Holds (state o i operand) w → Holds (nested o i Group) (w ++ (40 ∷ []))
+open_before o i w h =
+    opens o i Group (w ++ (40 ∷ [])) h.heads h.sum h.is_last.own (blanks h.is_last.spaces ++ (40 ∷ [])) h.is_heads h.is_sum h.is_last.is_product
+    (record { inside = record { before = h.is_last.spaces; after = 0 }; text_is = refl })
+    (rw (h.text_is, h.is_last.text_is) (simp append_assoc))
+
+begun_holds : (p : Option Part) (b : ℕ) (o : List Level) (i : Level) (n : State) (w : List ℕ) → IfPart p (b ∷ []) → Holds (state o i operand) w
+    → option_map (λ q. state o i (within q)) p ≡ Some n → Holds n (w ++ (b ∷ []))
+begun_holds None b o i n w p h e = cc
+begun_holds (Some part) b o i n w p h e = reached _ n _ e (record {
+  heads = h.heads;
+  sum = h.sum;
+  last = h.last ++ (b ∷ []);
+  is_heads = h.is_heads;
+  is_sum = h.is_sum;
+  is_last = record { own = h.is_last.own; spaces = h.is_last.spaces; token = b ∷ []; is_product = h.is_last.is_product; is_token = p; text_is = rw h.is_last.text_is (simp append_assoc) };
+  text_is = rw h.text_is (simp append_assoc);
+})
+
+operand_holds : (g : Sign) (b : ℕ) (o : List Level) (i : Level) (n : State) (w : List ℕ) → IsSign b g → Holds (state o i operand) w
+    → operand_by g (begun_by b) o i ≡ Some n → Holds n (w ++ (b ∷ []))
+operand_holds Blank b o i n w (is_blank v) h e = rw v (reached _ n _ e (blank_before o i w h))
+operand_holds Open b o i n w (is_open v) h e = rw v (reached _ n _ e (open_before o i w h))
+operand_holds Close b o i n w s h e = begun_holds (begun_by b) b o i n w (begun_text b) h e
+operand_holds Comma b o i n w s h e = begun_holds (begun_by b) b o i n w (begun_text b) h e
+operand_holds Plus b o i n w s h e = begun_holds (begun_by b) b o i n w (begun_text b) h e
+operand_holds Dot b o i n w s h e = begun_holds (begun_by b) b o i n w (begun_text b) h e
+operand_holds Other b o i n w s h e = begun_holds (begun_by b) b o i n w (begun_text b) h e
+
+-- ---- in a token
+
+-- a factor that is one token, whole with the byte
+token_more_holds : (o : List Level) (i : Level) (w : List ℕ) (part : Part) (b : ℕ) (h : Holds (state o i (within part)) w) (z : List ℕ) → h.is_last.token ++ (b ∷ []) ≡ z → (f : FactorText)
+    → factor_text f ≡ spaced (spaced_token h.is_last.spaces) z → Holds (factored o i (factor_tree f)) (w ++ (b ∷ []))
+token_more_holds o i w part b h z e f g =
+    factor_holds o i (w ++ (b ∷ [])) h.heads h.sum h.is_last.own f h.is_heads h.is_sum h.is_last.is_product
+    (with_byte o i w part h (b ∷ []) ∙ ap (λ (x : List ℕ). h.heads ++ (h.sum ++ (h.is_last.own ++ (blanks h.is_last.spaces ++ x)))) e
+    ∙ ap (λ (x : List ℕ). h.heads ++ (h.sum ++ (h.is_last.own ++ x))) (sym (token_text h.is_last.spaces z) ∙ sym g))
+
+-- behind a whole word
+word_holds : (word : Word) (o : List Level) (i : Level) (w : List ℕ) (read b : ℕ) (h : Holds (state o i (within (Letters word read))) w)
+    → h.is_last.token ++ (b ∷ []) ≡ letters_of word → Holds (word_end word o i) (w ++ (b ∷ []))
+unfolding spaced_token
+word_holds Eps o i w read b h e =
+    token_more_holds o i w (Letters Eps read) b h (codes "eps") e (eps_word (spaced_token h.is_last.spaces)) refl
+word_holds NeverWord o i w read b h e =
+    token_more_holds o i w (Letters NeverWord read) b h (codes "never") e (never_word (spaced_token h.is_last.spaces)) refl
+word_holds StarWord o i w read b h e = part_more o i w (b ∷ []) (Letters StarWord read) (Name StarCall) h (record { after = 0; text_is = e })
+word_holds Min o i w read b h e = part_more o i w (b ∷ []) (Letters Min read) (Name LeastCall) h (record { after = 0; text_is = e })
+word_holds LeftWord o i w read b h e = part_more o i w (b ∷ []) (Letters LeftWord read) (Name LeftCall) h (record { after = 0; text_is = e })
+
+letter_holds : (word : Word) (read b : ℕ) (o : List Level) (i : Level) (n : State) (w : List ℕ) → Holds (state o i (within (Letters word read))) w
+    → letter_by (slice_get (letters_of word) read) word read o i b ≡ Some n → Holds n (w ++ (b ∷ []))
+letter_holds word read b o i n w h e = by_letter (slice_get (letters_of word) read) refl e where
+  on_letter : (slice_get (letters_of word) read ≡ Some b) → Some (word_on word read o i) ≡ Some n → Holds n (w ++ (b ∷ []))
+  on_letter g k =
+      let longer : h.is_last.token ++ (b ∷ []) ≡ take (read + 1) (letters_of word) = letters_more (letters_of word) read b h.is_last.token h.is_last.is_token g in
+      decide (nat_lt (read + 1) (length (letters_of word))) (λ z. let short : read + 1 < length (letters_of word) = grind (arith, nat_tests) in
+      reached _ n _ (rw z at k) (part_more o i w (b ∷ []) (Letters word read) (Letters word (read + 1)) h (record { within = short; text_is = longer }))) (λ z. let whole : length (letters_of word) ≤ read + 1 = grind (arith, nat_tests) in
+      reached (word_end word o i) n _ (rw z at k) (word_holds word o i w read b h (longer ∙ take_all (read + 1) (letters_of word) whole)))
+
+  by_letter : (x : Option ℕ) → slice_get (letters_of word) read ≡ x → letter_by x word read o i b ≡ Some n → Holds n (w ++ (b ∷ []))
+  by_letter None g k = cc
+  by_letter (Some letter) g k = decide (letter == b) (λ z. let same : letter ≡ b = is_eq letter b z in on_letter (g ∙ ap (λ (x : ℕ). Some x) same) (rw z at k)) (λ z. let none : None ≡ Some n = rw z at k in cc)
+
+-- a name of a call with its blanks, and the bracket behind it
+name_opens : (o : List Level) (i : Level) (c : Call) (name : List ℕ) (w : List ℕ) (h : Holds (state o i (within (Name c))) w) → IsNameText name h.is_last.token
+    → ((own : List ℕ) → IsCallHead name own → IsHead c None own) → Holds (nested o i c) (w ++ (40 ∷ []))
+name_opens o i c name w h d made =
+    opens o i c (w ++ (40 ∷ [])) h.heads h.sum h.is_last.own (blanks h.is_last.spaces ++ (h.is_last.token ++ (40 ∷ []))) h.is_heads h.is_sum h.is_last.is_product
+    (made _ (record {
+      before = record { before = h.is_last.spaces; after = d.after };
+      inside = record { before = 0; after = 0 };
+      text_is = rw d.text_is (simp append_assoc);
+    }))
+    (rw (h.text_is, h.is_last.text_is) (simp append_assoc))
+
+name_longer : (name z : List ℕ) → IsNameText name z → IsNameText name (z ++ (32 ∷ []))
+name_longer name z d = record { after = d.after + 1; text_is = rw (d.text_is, blank_more d.after) (simp append_assoc) }
+
+name_holds : (g : Sign) (b : ℕ) (c : Call) (o : List Level) (i : Level) (n : State) (w : List ℕ) → IsSign b g → Holds (state o i (within (Name c))) w
+    → name_by g c o i ≡ Some n → Holds n (w ++ (b ∷ []))
+name_holds Blank b Text o i n w s h e = absurd h.is_last.is_token
+name_holds Blank b Group o i n w s h e = absurd h.is_last.is_token
+name_holds Blank b StarCall o i n w (is_blank v) h e = rw v (reached _ n _ e (part_more o i w (32 ∷ []) (Name StarCall) (Name StarCall) h (name_longer (codes "star") h.is_last.token h.is_last.is_token)))
+name_holds Blank b LeastCall o i n w (is_blank v) h e = rw v (reached _ n _ e (part_more o i w (32 ∷ []) (Name LeastCall) (Name LeastCall) h (name_longer (codes "min") h.is_last.token h.is_last.is_token)))
+name_holds Blank b LeftCall o i n w (is_blank v) h e = rw v (reached _ n _ e (part_more o i w (32 ∷ []) (Name LeftCall) (Name LeftCall) h (name_longer (codes "left") h.is_last.token h.is_last.is_token)))
+name_holds Open b Text o i n w s h e = absurd h.is_last.is_token
+name_holds Open b Group o i n w s h e = absurd h.is_last.is_token
+name_holds Open b StarCall o i n w (is_open v) h e = rw v (reached _ n _ e (name_opens o i StarCall (codes "star") w h h.is_last.is_token (λ own k. k)))
+name_holds Open b LeastCall o i n w (is_open v) h e = rw v (reached _ n _ e (name_opens o i LeastCall (codes "min") w h h.is_last.is_token (λ own k. k)))
+name_holds Open b LeftCall o i n w (is_open v) h e = rw v (reached _ n _ e (name_opens o i LeftCall (codes "left") w h h.is_last.is_token (λ own k. k)))
+name_holds Close b c o i n w s h e = cc
+name_holds Comma b c o i n w s h e = cc
+name_holds Plus b c o i n w s h e = cc
+name_holds Dot b c o i n w s h e = cc
+name_holds Other b c o i n w s h e = cc
+
+-- behind a token that is a factor
+behind_holds : (f : Option Tree) (part : Part) (b : ℕ) (o : List Level) (i : Level) (n : State) (w : List ℕ) → Holds (state o i (within part)) w → factor_of part ≡ f
+    → behind_step o i f b ≡ Some n → Holds n (w ++ (b ∷ []))
+behind_holds None part b o i n w h e k = cc
+behind_holds (Some f) part b o i n w h e k =
+    operator_holds (sign_of b) b o (level i.call i.first i.sum None) (multiplied i.product f) n w (sign_is b) (ends_holds o i w part f h e) k
+
+-- in a token or behind it
+token_holds_on : (p : Option Part) (part : Part) (b : ℕ) (o : List Level) (i : Level) (n : State) (w : List ℕ) (h : Holds (state o i (within part)) w) → IfPart p (h.is_last.token ++ (b ∷ []))
+    → token_by p o i (factor_of part) b ≡ Some n → Holds n (w ++ (b ∷ []))
+token_holds_on None part b o i n w h p e = behind_holds (factor_of part) part b o i n w h refl e
+token_holds_on (Some next) part b o i n w h p e = reached _ n _ e (part_more o i w (b ∷ []) part next h p)
+
+within_holds : (part : Part) (b : ℕ) (o : List Level) (i : Level) (n : State) (w : List ℕ) → Holds (state o i (within part)) w
+    → within_step part o i b ≡ Some n → Holds n (w ++ (b ∷ []))
+within_holds (Letters word read) b o i n w h e = letter_holds word read b o i n w h e
+within_holds (Name c) b o i n w h e = name_holds (sign_of b) b c o i n w (sign_is b) h e
+within_holds UnitPart b o i n w h e = token_holds_on (gone_on UnitPart b) UnitPart b o i n w h (gone_text UnitPart b h.is_last.token h.is_last.is_token) e
+within_holds (Shift count value) b o i n w h e = token_holds_on (gone_on (Shift count value) b) (Shift count value) b o i n w h (gone_text (Shift count value) b h.is_last.token h.is_last.is_token) e
+within_holds (Delta shift) b o i n w h e = token_holds_on (gone_on (Delta shift) b) (Delta shift) b o i n w h (gone_text (Delta shift) b h.is_last.token h.is_last.is_token) e
+within_holds (Date shift minus count value) b o i n w h e = token_holds_on (gone_on (Date shift minus count value) b) (Date shift minus count value) b o i n w h (gone_text (Date shift minus count value) b h.is_last.token h.is_last.is_token) e
+
+-- ---- texts
+
+step_holds : (stand : Stand) (o : List Level) (i : Level) (b : ℕ) (n : State) (w : List ℕ) → Holds (state o i stand) w → step_by stand o i b ≡ Some n → Holds n (w ++ (b ∷ []))
+step_holds operand o i b n w h e = operand_holds (sign_of b) b o i n w (sign_is b) h e
+step_holds (within part) o i b n w h e = within_holds part b o i n w h e
+step_holds (operator t) o i b n w h e = operator_holds (sign_of b) b o i t n w (sign_is b) h e
+
+run_holds : (u w : List ℕ) (s t : State) → Holds s w → run s u ≡ Some t → Holds t (w ++ u)
+run_holds [] w s t h e = reached s t (w ++ []) e (rw (append-nil w) h)
+run_holds (b ∷ u) w s t h e = by_step (step s b) refl e (λ n k. run_holds u (w ++ (b ∷ [])) n t (step_holds s.stand s.outer s.inner b n w h k)) where
+  by_step : (x : Option State) → step s b ≡ x → option_and_then (λ n. run n u) x ≡ Some t → ((n : State) → step s b ≡ Some n → run n u ≡ Some t → Holds t ((w ++ (b ∷ [])) ++ u)) → Holds t (w ++ (b ∷ u))
+  by_step None g k rest = cc
+  by_step (Some n) g k rest = rw (append_assoc w (b ∷ []) u) at (rest n g k)
+
+-- what is read leads to the state
+pub read_holds : (text : List ℕ) (s : State) → run start text ≡ Some s → Holds s text
+read_holds text s e = run_holds text [] start s (record {
+  heads = [];
+  sum = [];
+  last = [];
+  is_heads = record { call_is = refl; first_is = refl; text_is = refl };
+  is_sum = refl;
+  is_last = record { own = []; spaces = 0; is_product = refl; text_is = refl };
+  text_is = refl;
+}) e
