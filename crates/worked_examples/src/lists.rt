@@ -8,6 +8,12 @@ use teg_run::Status;
 pub const KANBAN: &str =
     "[[transition]]\nname = \"m1\"\n\n[[transition]]\nname = \"m2\"\n\n[[transition]]\nname = \"m3\"\n\n[[place]]\nname = \"s1\"\nfrom = \"m1\"\nto = \"m1\"\nhold = 4\ntokens = 1\n\n[[place]]\nname = \"s2\"\nfrom = \"m2\"\nto = \"m2\"\nhold = 6\ntokens = 1\n\n[[place]]\nname = \"s3\"\nfrom = \"m3\"\nto = \"m3\"\nhold = 5\ntokens = 1\n\n[[place]]\nname = \"f12\"\nfrom = \"m1\"\nto = \"m2\"\nhold = 4\n\n[[place]]\nname = \"f23\"\nfrom = \"m2\"\nto = \"m3\"\nhold = 6\n\n[[place]]\nname = \"c21\"\nfrom = \"m2\"\nto = \"m1\"\nhold = 0\ntokens = 2\n\n[[place]]\nname = \"c32\"\nfrom = \"m3\"\nto = \"m2\"\nhold = 0\ntokens = 2\n";
 
+/// An input that fires twice, and what follows it.
+const ENDED: &str =
+    "[[transition]]\nname = \"u\"\nrole = \"input\"\n\n[[transition]]\nname = \"y\"\n\n[[place]]\nname = \"uy\"\nfrom = \"u\"\nto = \"y\"\nhold = 3\n\n[[input]]\ntransition = \"u\"\ndates = [0, 4]\n";
+
+const THREE_OF_ENDED: &str = "dates of 3 firings\ntransition u y\n1 0 3\n2 4 7\n3 never never\n";
+
 const THREE_OF_LOOP: &str = "dates of 3 firings\ntransition a b\n1 0 3\n2 5 8\n3 10 13\n";
 
 const ONE_OF_LOOP: &str = "dates of 1 firings\ntransition a b\n1 0 3\n";
@@ -23,6 +29,7 @@ fn a_live_net_is_listed_with_its_dates(rt: HostRuntime) -> Result<(), Fail> {
         (LOOP, "01", ONE_OF_LOOP),
         (LOOP, "0000000000000000003", THREE_OF_LOOP),
         (KANBAN, "7", SEVEN_OF_KANBAN),
+        (ENDED, "3", THREE_OF_ENDED),
     ] {
         let words = ["list", "net", count];
         let answered = answers(rt.alloc(), &words, net.as_bytes(), Status::Done, text)?;
