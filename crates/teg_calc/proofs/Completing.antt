@@ -140,7 +140,7 @@ begun_by_stand (operator t) o i w h =
       tree = c.tree;
       whole = record {
         written = c.whole.written;
-        text_is = c.whole.text_is ∙ rw (s.text_is, h.text_is) refl;
+        text_is = c.whole.text_is ∙ (ap (λ (x : List ℕ). (h.heads ++ x) ++ c.rest) s.text_is ∙ ap (λ (x : List ℕ). x ++ c.rest) (sym h.text_is));
         tree_is = c.whole.tree_is;
       };
     }

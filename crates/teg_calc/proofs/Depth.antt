@@ -1,7 +1,7 @@
 -- How many brackets are open is how many outer brackets the reader keeps.
-use Rattle.std.proofs.Common.{◌≡◌, refl, ap, sym, ◌∙◌, arith, subst, ℕ, zero, suc, ◌+◌, ◌-◌, ◌<◌, ◌≤◌, Bool, true, false, cond, List, [], ◌∷◌, ◌++◌, length, codes, Option, Some, None}
+use Rattle.std.proofs.Common.{◌≡◌, refl, ap, sym, ◌∙◌, arith, subst, ℕ, zero, suc, ◌+◌, ◌*◌, ◌<◌, ◌≤◌, Bool, true, false, cond, List, [], ◌∷◌, ◌++◌, length, codes, Option, Some, None}
 use Rattle.std.specs.Prelude.{◌==◌, nat_lt, slice_get, option_map, option_and_then, if◌then◌else◌}
-use Rattle.std.proofs.lemmas.Bool.Decides.{nat_tests}
+use Rattle.std.proofs.lemmas.List.Sums.{sum_by-append}
 use Rattle.teg_calc.specs.declared.bytes.Sign.{Sign}
 use Rattle.teg_calc.specs.declared.bytes.Sign.TheVariants.{Blank, Open, Close, Comma, Plus, Dot, Other}
 use Rattle.teg_calc.specs.declared.brackets.Call.{Call}
@@ -220,8 +220,8 @@ run_depth (b ∷ u) s t e = by_step (step s b) refl e (λ n k. run_depth u n t k
   by_step (Some n) g k rest =
       let d : length n.outer + cond (b == 41) 1 0 ≡ length s.outer + cond (b == 40) 1 0 = step_depth s n b g in
       let r : length t.outer + count_of 41 u ≡ length n.outer + count_of 40 u = rest n k in
-      let x : count_of 41 (b ∷ u) ≡ cond (b == 41) 1 0 + count_of 41 u = refl in
-      let y : count_of 40 (b ∷ u) ≡ cond (b == 40) 1 0 + count_of 40 u = refl in
+      let x : count_of 41 (b ∷ u) ≡ (0 + cond (b == 41) 1 0) + count_of 41 u = sum_by-append (λ y. cond (y == 41) 1 0) (b ∷ []) u in
+      let y : count_of 40 (b ∷ u) ≡ (0 + cond (b == 40) 1 0) + count_of 40 u = sum_by-append (λ z. cond (z == 40) 1 0) (b ∷ []) u in
       omega arith
 
 -- so many brackets are open behind a text

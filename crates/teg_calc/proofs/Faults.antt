@@ -1,13 +1,16 @@
 -- What each answer of `parse` rests on.
-use Rattle.std.proofs.Common.{◌≡◌, refl, ap, sym, ◌∙◌, arith, ℕ, zero, suc, ◌+◌, ◌<◌, ◌≤◌, List, [], ◌∷◌, ◌++◌, length, get_or, take, Option, Some, None, ⊎_elim}
+use Rattle.std.proofs.Common.{◌≡◌, refl, ap, sym, ◌∙◌, arith, ℕ, zero, suc, ◌+◌, ◌<◌, ◌≤◌, List, [], ◌∷◌, ◌++◌, length, get_or, take, map, Option, Some, None, Err, ⊎_elim}
 use Rattle.std.specs.Prelude.{slice_get, option_and_then}
 use Rattle.std.proofs.lemmas.Bool.{cases_lt}
-use Rattle.std.proofs.lemmas.List.{take_more, take_all}
+use Rattle.std.proofs.lemmas.List.{take_more, take_all, length-map, length-reverse}
 use Rattle.std.proofs.lemmas.Option.{get_or_from_slice_get, slice_get-get_or}
 use Rattle.teg_calc.specs.Trees.{Tree}
 use Rattle.teg_calc.specs.Grammar.{IsExpression, IsBegun}
-use Rattle.teg_calc.specs.Reading.{open_brackets, OpensTooDeep, IsShallow, IsLongestBegun, IsParsed, IsFault, IsFirstTooDeep}
-use Rattle.teg_calc.specs.Readers.{State, start, step, run, finish, OpensFew}
+use Rattle.teg_calc.specs.Reading.{open_brackets, OpensTooDeep, IsShallow, IsLongestBegun, IsParsed, IsFault, IsFirstTooDeep, IsParseOf}
+use Rattle.teg_calc.specs.declared.brackets.Bracket.{Bracket}
+use Rattle.teg_calc.specs.declared.refusals.Stop.{Stop}
+use Rattle.teg_calc.specs.declared.refusals.Stop.TheVariants.{Unexpected, TooDeep, OutOfMemory}
+use Rattle.teg_calc.specs.Readers.{State, start, step, run, finish, level_of, levels_of, refused_at, OpensFew, GoesOn, Finishes}
 use Rattle.teg_calc.proofs.Runs.{runs_then, stops_then}
 use Rattle.teg_calc.proofs.Accepting.{IsAccepted, accepted}
 use Rattle.teg_calc.proofs.Completing.{begun_is, whole_is}
@@ -48,8 +51,8 @@ pub fault_at : (text : List ℕ) (at : ℕ) (s : State) → at < length text →
 fault_at text at s h e g shallow =
     let stop : run start (take (at + 1) text) ≡ None = next_run text at s None h e g in
     let never : (m : ℕ) → at < m → run start (take m text) ≡ None = λ m k.
-        let l : IsLonger (take (at + 1) text) (take m text) = longer_take text (at + 1) m (omega arith) in
-        ap (run start) l.text_is ∙ stops_then (take (at + 1) text) l.rest start stop in
+    let l : IsLonger (take (at + 1) text) (take m text) = longer_take text (at + 1) m (omega arith) in
+    ap (run start) l.text_is ∙ stops_then (take (at + 1) text) l.rest start stop in
     record {
       none = λ tree x.
           let a : IsAccepted text tree = accepted text tree x in
@@ -111,3 +114,29 @@ deep_at text at s n h e g b many shallow = record {
   };
   first = shallow;
 }
+
+-- ---- the answers
+
+-- the outer brackets of the state are as many as the reader's
+pub levels_length : (brackets : List Bracket) → length (levels_of brackets) ≡ length brackets
+levels_length brackets = length-reverse (map level_of brackets) ∙ length-map brackets level_of
+
+-- what is told where the reader stops at a byte
+pub told_at : (text : List ℕ) (at depth : ℕ) (s : State) (stop : Stop) → at < length text → run start (take at text) ≡ Some s → depth ≡ length s.outer
+    → GoesOn (step s (get_or text at 0)) depth (get_or text at 0) (Err stop) → IsShallow text at → IsParseOf text (Err (refused_at at stop))
+told_at text at depth s Unexpected h e d g shallow = fault_at text at s h e g shallow
+told_at text at depth s TooDeep h e d g shallow = deep_at text at s g.0 h e g.1 g.2 (let many : 64 ≤ depth = g.3 in omega arith) shallow
+told_at text at depth s OutOfMemory h e d g shallow = tt
+
+-- the text was read to its end
+pub whole_read : (text : List ℕ) (at : ℕ) (s : State) → length text ≤ at → run start (take at text) ≡ Some s → run start text ≡ Some s
+whole_read text at s h e = ap (run start) (sym (take_all at text h)) ∙ e
+
+pub whole_shallow : (text : List ℕ) (at : ℕ) → length text ≤ at → IsShallow text at → IsShallow text (length text)
+whole_shallow text at h shallow j low deep = shallow j (omega arith) deep
+
+-- what is told where the text ends before an expression does
+pub told_at_end : (text : List ℕ) (s : State) (stop : Stop) → run start text ≡ Some s → Finishes (finish s) (Err stop) → IsShallow text (length text) → IsParseOf text (Err (refused_at (length text) stop))
+told_at_end text s Unexpected e g shallow = fault_at_end text s e g shallow
+told_at_end text s TooDeep e g shallow = absurd g
+told_at_end text s OutOfMemory e g shallow = tt

@@ -11,3 +11,6 @@ pub mod Stepping
 pub mod Completing
 pub mod Depth
 pub mod Sizes
+pub mod Faults
+pub mod Printed
+pub mod SignedNumbers

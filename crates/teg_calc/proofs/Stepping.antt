@@ -99,7 +99,7 @@ part_more o i w x part next h p = record {
 }
 
 -- a token that may end is a factor
-ends_holds : (o : List Level) (i : Level) (w : List ℕ) (part : Part) (f : Tree) → Holds (state o i (within part)) w → factor_of part ≡ Some f → Holds (factored o i f) w
+pub ends_holds : (o : List Level) (i : Level) (w : List ℕ) (part : Part) (f : Tree) → Holds (state o i (within part)) w → factor_of part ≡ Some f → Holds (factored o i f) w
 unfolding spaced_token
 ends_holds o i w (Letters word read) f h e = cc
 ends_holds o i w UnitPart f h e =
@@ -124,7 +124,7 @@ ends_holds o i w (Date shift minus count value) f h e = decide (count == 0) (λ 
 -- ---- behind a term
 
 -- the whole sum in the innermost bracket
-sum_of : (o : List Level) (i : Level) (t : Tree) (w : List ℕ) (h : Holds (state o i (operator t)) w) → IsExprOf (joined i.sum t) (h.sum ++ h.last)
+pub sum_of : (o : List Level) (i : Level) (t : Tree) (w : List ℕ) (h : Holds (state o i (operator t)) w) → IsExprOf (joined i.sum t) (h.sum ++ h.last)
 sum_of o i t w h =
     let s : IsExprOf (joined i.sum (term_tree h.is_last.written)) (h.sum ++ term_text h.is_last.written) = with_sum i.sum h.sum h.is_sum h.is_last.written in
     record { written = s.written; tree_is = s.tree_is ∙ ap (joined i.sum) h.is_last.tree_is; text_is = s.text_is ∙ ap (λ (x : List ℕ). h.sum ++ x) (sym h.is_last.text_is) }

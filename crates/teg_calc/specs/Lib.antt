@@ -3,3 +3,4 @@ pub mod Grammar
 pub mod Reading
 pub mod Meaning
 pub mod Readers
+pub mod Printing

@@ -45,10 +45,10 @@ pub fn evaluate(alloc: Global, expr: &Expr) -> Result<Series, SeriesRefused>
             let second = evaluate(alloc, second)?;
             least(alloc, &first, &second)
         }
-        Expr::Left(first, second) => {
-            let first = evaluate(alloc, first)?;
-            let second = evaluate(alloc, second)?;
-            left(alloc, &first, &second)
+        Expr::Left(by, of) => {
+            let by = evaluate(alloc, by)?;
+            let of = evaluate(alloc, of)?;
+            left(alloc, &by, &of)
         }
     }
 }

@@ -4,7 +4,8 @@
 //! offset at which no expression goes on or a bracket is opened too deep. [`evaluate`] answers the
 //! canonical form of what the tree means, a function of every shift, or the first refusal of its
 //! operations. [`print`] writes a series as a line. The crate stands on `series_form` and
-//! `series_ops` for series, on `dioid` for dates and on `teg_net` for want of memory.
+//! `series_ops` for series, on `dioid` for dates, on `teg_text` for words and on `teg_net` for want
+//! of memory.
 #![tactic(auto)]
 
 mod brackets;
@@ -12,6 +13,7 @@ mod bytes;
 mod evaluation;
 mod expressions;
 mod parsing;
+mod printing;
 mod readers;
 mod refusals;
 #[cfg(test)]
@@ -21,4 +23,5 @@ mod tokens;
 pub use evaluation::evaluate;
 pub use expressions::Expr;
 pub use parsing::parse;
+pub use printing::print;
 pub use refusals::ParseRefused;

@@ -20,7 +20,7 @@ returns-in_ok-second-in-Least-clause-meaning t c = rw c.in-Least.is
     (least_means (tree_of c.in-Least.first.value) (tree_of c.in-Least.second.value) c.in_ok-first-in-Least.first c.in_ok-second-in-Least.second c.least.result
     (rw c.deref-in-Least.ensures at c.in_ok-first-in-Least.ensures.meaning) (rw c.deref-in-Least-2.ensures at c.in_ok-second-in-Least.ensures.meaning) c.least.ensures.answer)
 
-pub returns-in_ok-second-in-Left-clause-meaning : goal.returns-in_ok-second-in-Left-clause-meaning
-returns-in_ok-second-in-Left-clause-meaning t c = rw c.in-Left.is
-    (left_means (tree_of c.in-Left.first.value) (tree_of c.in-Left.second.value) c.in_ok-first-in-Left.first c.in_ok-second-in-Left.second c.left.result
-    (rw c.deref-in-Left.ensures at c.in_ok-first-in-Left.ensures.meaning) (rw c.deref-in-Left-2.ensures at c.in_ok-second-in-Left.ensures.meaning) c.left.ensures.answer)
+pub returns-in_ok-of-in-Left-clause-meaning : goal.returns-in_ok-of-in-Left-clause-meaning
+returns-in_ok-of-in-Left-clause-meaning t c = rw c.in-Left.is
+    (left_means (tree_of c.in-Left.by.value) (tree_of c.in-Left.of.value) c.in_ok-by-in-Left.by c.in_ok-of-in-Left.of c.left.result
+    (rw c.deref-in-Left.ensures at c.in_ok-by-in-Left.ensures.meaning) (rw c.deref-in-Left-2.ensures at c.in_ok-of-in-Left.ensures.meaning) c.left.ensures.answer)
