@@ -15,7 +15,8 @@ use Rattle.teg_calc.specs.Grammar.{Blanks, AreDigits, FactorText, term, factor, 
 use Rattle.teg_calc.specs.Readers.{Level, Stand, State, state, start, operand, within, operator, run, joined, multiplied, letters_of, factor_of, factored, term_of, finish_by, finish}
 use Rattle.teg_calc.proofs.Holding.{AreDigitsOf, IsPartText, IsNameText, Holds}
 use Rattle.teg_calc.proofs.Written.{IsTermOf, IsExprOf, IsCompleted, with_product, with_sum, completed, tight}
-use Rattle.teg_calc.proofs.Stepping.{sum_of, ends_holds, read_holds}
+use Rattle.teg_calc.proofs.Behind.{sum_of, ends_holds}
+use Rattle.teg_calc.proofs.Stepping.{read_holds}
 
 -- ---- tokens
 

@@ -7,6 +7,7 @@ pub mod Signs
 pub mod Holding
 pub mod Written
 pub mod TokenSteps
+pub mod Behind
 pub mod Stepping
 pub mod Completing
 pub mod Depth
@@ -14,3 +15,4 @@ pub mod Sizes
 pub mod Faults
 pub mod Printed
 pub mod SignedNumbers
+pub mod OneAnswer

@@ -3,6 +3,7 @@ use Rattle.std.specs.Prelude.{◌≡◌, ℕ, ℤ, pos, neg_ℤ, ◌+◌, ◌⊎
 use Rattle.dioid.specs.declared.dates.Date.{Date}
 use Rattle.dioid.specs.declared.dates.Date.TheVariants.{Early, At, Never}
 use Rattle.series_form.specs.declared.forms.SeriesRefused.{SeriesRefused}
+use Rattle.series_form.specs.declared.forms.SeriesRefused.TheVariants.{OutOfMemory}
 use Rattle.series_form.specs.Forms.{Form, value_at, HasValues, monomial_at}
 use Rattle.series_form.specs.Pointwise.{sum_at, least_at}
 use Rattle.series_form.specs.Needs.{need_of, sum_plan, least_plan}
@@ -109,3 +110,11 @@ Evaluates (times a b) r = AnswersInOrder (Evaluates a) (Evaluates b) product_ans
 Evaluates (star a) r = AnswersAfter (Evaluates a) star_answers r
 Evaluates (least a b) r = AnswersInOrder (Evaluates a) (Evaluates b) least_answers r
 Evaluates (left a b) r = AnswersInOrder (Evaluates a) (Evaluates b) left_answers r
+
+-- two answers are the same, or one of them is want of memory
+abbrev pub AreOneAnswer : Result Form SeriesRefused → Result Form SeriesRefused → Type 0
+AreOneAnswer r s = (r ≡ s) ⊎ ((r ≡ Err OutOfMemory) ⊎ (s ≡ Err OutOfMemory))
+
+-- each tree has one answer, but for want of memory
+abbrev pub HaveOneAnswer : Type 0
+HaveOneAnswer = (t : Tree) (r s : Result Form SeriesRefused) → Evaluates t r → Evaluates t s → AreOneAnswer r s

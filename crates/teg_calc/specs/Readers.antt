@@ -346,6 +346,18 @@ IsReached next (Err Unexpected) = next ≡ None
 IsReached next (Err TooDeep) = ⊥
 IsReached next (Err OutOfMemory) = Unit {0}
 
+-- the reader, with a stand of its own, that these brackets lead to
+abbrev pub IsAt : (List Level → Level → Option State) → List Bracket → Bracket → Reader → Type 0
+IsAt next outer inner r = (next (levels_of outer) (level_of inner) ≡ Some (state_of r)) × StandsWell (stand_of r.place)
+
+-- the same, or none
+abbrev pub Reaches : (List Level → Level → Option State) → List Bracket → Bracket → Result Reader Stop → Type 0
+Reaches next outer inner result = IsReached (next (levels_of outer) (level_of inner)) result
+
+-- the reader that these brackets and the byte lead to
+abbrev pub Goes : (List Level → Level → ℕ → Option State) → List Bracket → Bracket → ℕ → Result Reader Stop → Type 0
+Goes next outer inner byte result = GoesOn (next (levels_of outer) (level_of inner) byte) (length outer) byte result
+
 -- the refusal at an offset
 abbrev pub refused_at : ℕ → Stop → ParseRefused
 refused_at at Unexpected = Syntax at

@@ -58,7 +58,7 @@ pub(crate) fn multiplied(
     product: Option<Expr>,
     factor: Expr,
 ) -> Result<Expr, AllocError>
-    ensures { IfOk result (λ expr. tree_of expr ≡ multiplied (tree_in product) (tree_of factor)) }
+    ensures { IfOk result (λ e. tree_of e ≡ multiplied (tree_in product) (tree_of factor)) }
 {
     match product {
         None => Ok(factor),

@@ -12,6 +12,7 @@ mod brackets;
 mod bytes;
 mod evaluation;
 mod expressions;
+mod laws;
 mod parsing;
 mod printing;
 mod readers;
@@ -22,6 +23,7 @@ mod tokens;
 
 pub use evaluation::evaluate;
 pub use expressions::Expr;
+pub use laws::trees_have_one_answer;
 pub use parsing::parse;
 pub use printing::print;
 pub use refusals::ParseRefused;

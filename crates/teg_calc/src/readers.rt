@@ -1,7 +1,7 @@
 //! A reader of expressions, byte by byte: the open brackets, and where the next byte stands.
 ghost use Rattle.std.specs.Prelude.{◌≡◌, ◌≢◌, IfSome, length};
 ghost use Rattle.teg_calc.specs.Trees.{tree_of};
-ghost use Rattle.teg_calc.specs.Readers.{Finishes, GoesOn, HasFewDigits, IsReached, StandsWell, behind_step, close_step, comma_step, date_on, factor_of, factored, finish, gone_on, level_of, levels_of, nested, operand_step, operator_by, operator_step, stand_of, start, state, state_of, step, tree_in, within, within_step};
+ghost use Rattle.teg_calc.specs.Readers.{Finishes, Goes, GoesOn, HasFewDigits, IsAt, Reaches, StandsWell, behind_step, close_step, comma_step, date_on, factor_of, factored, finish, gone_on, nested, operand_step, operator_by, operator_step, stand_of, start, state, state_of, step, tree_in, within, within_step};
 
 use crate::brackets::{Bracket, Call, closed, joined, multiplied, opened, takes_comma};
 use crate::bytes::{Sign, digit_of, sign_of};
@@ -92,7 +92,7 @@ impl Reader {
 
 /// The brackets once one more is opened.
 fn nested(mut outer: Vec<Bracket>, inner: Bracket, call: Call) -> Result<Reader, Stop>
-    ensures { GoesOn (Some (nested (levels_of outer.items) (level_of inner) call)) (length outer.items) 40 result }
+    ensures { Goes (λ o i _. Some (nested o i call)) outer.items inner 40 result }
 {
     if outer.len() >= 64 {
         return Err(Stop::TooDeep);
@@ -109,7 +109,7 @@ fn nested(mut outer: Vec<Bracket>, inner: Bracket, call: Call) -> Result<Reader,
 
 /// One byte more, where an operand begins.
 fn operand(outer: Vec<Bracket>, inner: Bracket, byte: u8) -> Result<Reader, Stop>
-    ensures { GoesOn (operand_step (levels_of outer.items) (level_of inner) byte) (length outer.items) byte result }
+    ensures { Goes operand_step outer.items inner byte result }
 {
     match sign_of(byte) {
         Sign::Blank => Ok(Reader {
@@ -136,7 +136,7 @@ fn factored(
     inner: Bracket,
     factor: Expr,
 ) -> Result<Reader, Stop>
-    ensures { IsReached (Some (factored (levels_of outer.items) (level_of inner) (tree_of factor))) result }
+    ensures { Reaches (λ o i. Some (factored o i (tree_of factor))) outer.items inner result }
 {
     let Bracket {
         call,
@@ -159,7 +159,7 @@ fn factored(
 
 /// The innermost bracket closed behind a term.
 fn close(alloc: Global, mut outer: Vec<Bracket>, inner: Bracket, term: Expr) -> Result<Reader, Stop>
-    ensures { IsReached (close_step (levels_of outer.items) (level_of inner) (tree_of term)) result }
+    ensures { Reaches (λ o i. close_step o i (tree_of term)) outer.items inner result }
 {
     let Bracket {
         call,
@@ -185,7 +185,7 @@ fn operator(
     term: Expr,
     byte: u8,
 ) -> Result<Reader, Stop>
-    ensures { GoesOn (operator_step (levels_of outer.items) (level_of inner) (tree_of term) byte) (length outer.items) byte result }
+    ensures { Goes (λ o i b. operator_step o i (tree_of term) b) outer.items inner byte result }
 {
     match sign_of(byte) {
         Sign::Blank => Ok(Reader {
@@ -203,7 +203,7 @@ fn operator(
 
 /// Behind a term and a `+`.
 fn summed(alloc: Global, outer: Vec<Bracket>, inner: Bracket, term: Expr) -> Result<Reader, Stop>
-    ensures { IsReached (operator_by Sign.Plus (levels_of outer.items) (level_of inner) (tree_of term)) result }
+    ensures { Reaches (λ o i. operator_by Sign.Plus o i (tree_of term)) outer.items inner result }
 {
     let Bracket {
         call,
@@ -226,8 +226,7 @@ fn summed(alloc: Global, outer: Vec<Bracket>, inner: Bracket, term: Expr) -> Res
 
 /// Behind a term and a `.`.
 fn before_factor(outer: Vec<Bracket>, inner: Bracket, term: Expr) -> Reader
-    ensures state { operator_by Sign.Dot (levels_of outer.items) (level_of inner) (tree_of term) ≡ Some (state_of result) }
-    ensures well { StandsWell (stand_of result.place) }
+    ensures { IsAt (λ o i. operator_by Sign.Dot o i (tree_of term)) outer.items inner result }
 {
     let Bracket {
         call,
@@ -249,7 +248,7 @@ fn before_factor(outer: Vec<Bracket>, inner: Bracket, term: Expr) -> Reader
 
 /// Behind the first operand of a call and a comma.
 fn comma(alloc: Global, outer: Vec<Bracket>, inner: Bracket, term: Expr) -> Result<Reader, Stop>
-    ensures { IsReached (comma_step (levels_of outer.items) (level_of inner) (tree_of term)) result }
+    ensures { Reaches (λ o i. comma_step o i (tree_of term)) outer.items inner result }
 {
     let Bracket {
         call,
@@ -308,7 +307,7 @@ fn within(
     byte: u8,
 ) -> Result<Reader, Stop>
     requires { HasFewDigits part }
-    ensures { GoesOn (within_step part (levels_of outer.items) (level_of inner) byte) (length outer.items) byte result }
+    ensures { Goes (within_step part) outer.items inner byte result }
 {
     match part {
         Part::Letters { word, read } => letter(alloc, outer, inner, word, read, byte),
@@ -335,7 +334,7 @@ fn behind(
     factor: Expr,
     byte: u8,
 ) -> Result<Reader, Stop>
-    ensures { GoesOn (behind_step (levels_of outer.items) (level_of inner) (Some (tree_of factor)) byte) (length outer.items) byte result }
+    ensures { Goes (λ o i b. behind_step o i (Some (tree_of factor)) b) outer.items inner byte result }
 {
     let Bracket {
         call,
@@ -455,7 +454,7 @@ fn letter(
     read: usize,
     byte: u8,
 ) -> Result<Reader, Stop>
-    ensures { GoesOn (within_step (Part.Letters word read) (levels_of outer.items) (level_of inner) byte) (length outer.items) byte result }
+    ensures { Goes (within_step (Part.Letters word read)) outer.items inner byte result }
 {
     let letters = letters(word);
     if read >= letters.len() || letters[read] != byte {
@@ -482,8 +481,7 @@ fn letter(
 
 /// Behind the name of a call.
 fn before_bracket(outer: Vec<Bracket>, inner: Bracket, call: Call) -> Reader
-    ensures state { state_of result ≡ state (levels_of outer.items) (level_of inner) (within (Part.Name call)) }
-    ensures well { StandsWell (stand_of result.place) }
+    ensures { IsAt (λ o i. Some (state o i (within (Part.Name call)))) outer.items inner result }
 {
     Reader {
         outer,
@@ -494,7 +492,7 @@ fn before_bracket(outer: Vec<Bracket>, inner: Bracket, call: Call) -> Reader
 
 /// One byte more behind the name of a call.
 fn named(outer: Vec<Bracket>, inner: Bracket, call: Call, byte: u8) -> Result<Reader, Stop>
-    ensures { GoesOn (within_step (Part.Name call) (levels_of outer.items) (level_of inner) byte) (length outer.items) byte result }
+    ensures { Goes (within_step (Part.Name call)) outer.items inner byte result }
 {
     match sign_of(byte) {
         Sign::Blank => Ok(before_bracket(outer, inner, call)),
