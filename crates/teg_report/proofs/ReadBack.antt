@@ -4,13 +4,14 @@ use Rattle.teg_net.specs.Nets.{NetLists}
 use Rattle.teg_report.specs.declared.answer.Which.{Which}
 use Rattle.teg_report.specs.declared.answer.Which.TheVariants.{Net as NetFile}
 use Rattle.teg_report.specs.Answering.{answer_of, answer_in, AreOfOneNet, IsNamedBy}
-use Rattle.teg_report.specs.Answers.{Answer, Usage, Live, Listed, Form, NoCircuit, Cycle, Read, TooLarge, TokenFree, Fault}
+use Rattle.teg_report.specs.Answers.{Answer, Usage, Live, Listed, Form, NoCircuit, Cycle, Calc, Read, TooLarge, TokenFree, Parse, Series, Fault}
 use Rattle.teg_report.specs.Kept.{IsTold}
 use Rattle.teg_report.specs.Reports.{lines_of, names_of, text_of}
 use Rattle.teg_report.proofs.IsRead.{IsRead, with_net}
 use Rattle.teg_report.proofs.Cycled.{cycle_read}
 use Rattle.teg_report.proofs.Listed.{list_read, circuit_read, form_read}
 use Rattle.teg_report.proofs.Refused.{refusal_read}
+use Rattle.teg_report.proofs.SeriesRead.{series_read, parse_read, series_refused_read}
 use Rattle.teg_text.proofs.Back.{word32_back}
 use Rattle.teg_text.proofs.Reading.{written_read}
 use Rattle.teg_text.proofs.Words.{decimal_is_word}
@@ -32,9 +33,12 @@ lines_read net names e (Listed table) h = with_net _ (λ names n. IsRead names (
 lines_read net names e (Form form) h = with_net _ (λ names n. IsRead names (lines_of n (Form form)) (Form form)) net names e h.keeps_rules h.about (form_read form h.kept)
 lines_read net names e NoCircuit h = record { words = refl; back = refl }
 lines_read net names e (Cycle answer rounds) h = with_net _ (λ names n. IsRead names (lines_of n (Cycle answer rounds)) (Cycle answer rounds)) net names e h.keeps_rules h.about (cycle_read answer rounds h.kept)
+lines_read net names e (Calc series) h = series_read names series h.kept
 lines_read net names e (Read refusal) h = refusal_read names refusal h.kept
 lines_read net names e (TooLarge file) h = too_large_read names (names_of net) file
 lines_read net names e (TokenFree circuit) h = with_net _ (λ names n. IsRead names (lines_of n (TokenFree circuit)) (TokenFree circuit)) net names e h.keeps_rules h.about (circuit_read circuit)
+lines_read net names e (Parse refusal) h = parse_read names refusal h.kept
+lines_read net names e (Series refusal) h = series_refused_read names refusal h.kept
 lines_read net names e (Fault file) h = fault_read names (names_of net) file
 
 pub told_read : (net : Option NetLists) (names : NetLists) → IsNamedBy net names → (answer : Answer) → IsTold net answer → answer_in names (text_of net answer) ≡ answer

@@ -1,5 +1,5 @@
 -- How an answer is read back from its text. No text rests on these definitions: all that they say is that there is such a function.
-use Rattle.std.specs.Prelude.{ℕ, Bool, ◌*◌, ◌≡◌, not, ◌&&◌, ◌||◌, ◌==◌, false, List, [], ◌∷◌, map, drop, length, codes, bytes_eq, Option, Some, None, if◌then◌else◌, ⊤}
+use Rattle.std.specs.Prelude.{ℕ, Bool, ◌*◌, ◌≡◌, not, ◌&&◌, ◌||◌, ◌==◌, false, List, [], ◌∷◌, map, drop, take, ◌-◌, length, codes, bytes_eq, Option, Some, None, if◌then◌else◌, ⊤}
 use Rattle.std.specs.List.{range_with_len}
 use Rattle.teg_dates.specs.Tables.{TableDates}
 use Rattle.teg_form.specs.declared.form.Entry.{Entry}
@@ -18,8 +18,11 @@ use Rattle.teg_reader.specs.declared.refusals.ReadRefusal.TheVariants.{NotToml, 
 use Rattle.teg_reader.specs.declared.refusals.Section.{Section}
 use Rattle.teg_reader.specs.declared.refusals.Section.TheVariants.{Top, Transition, Place, Input}
 use Rattle.teg_reader.specs.declared.refusals.Spot.{Spot}
+use Rattle.series_form.specs.declared.forms.SeriesRefused.TheVariants.{TooLong, TooGreat}
+use Rattle.series_form.specs.Forms.{Form as SeriesForm}
+use Rattle.teg_calc.specs.declared.refusals.ParseRefused.TheVariants.{Syntax, TooDeep}
 use Rattle.teg_report.specs.declared.answer.Which.TheVariants.{Net as NetFile}
-use Rattle.teg_report.specs.Answers.{Answer, Usage, Live, Listed, Form, NoCircuit, Cycle, Read, TooLarge, TokenFree, Fault}
+use Rattle.teg_report.specs.Answers.{Answer, Usage, Live, Listed, Form, NoCircuit, Cycle, Calc, Read, TooLarge, TokenFree, Parse, Series, Fault}
 use Rattle.teg_report.specs.Cycles.{PartLists, NoCircuitIn, BestOf, CycleLists, has_ratio}
 use Rattle.teg_report.specs.Rounds.{RoundLists}
 use Rattle.teg_text.specs.Reading.{lines_in, line_at, word, stands_at, number_in, is_numeral, signed_in, before_slash, behind_slash, date_in, label_in, index_in}
@@ -134,6 +137,14 @@ cycle_in net lines = record {
   best = Some (first_where (has_ratio (ratio_in (word 2 (line_at 0 lines)))) (map (part_in net) (parts_in lines)));
 }
 
+-- a series: behind its values stand four words
+abbrev pub series_in : List (List ℕ) → SeriesForm
+series_in line = record {
+  values = map date_in (take (length line - 5) (drop 1 line));
+  period = number_in (word (length line - 3) line);
+  step = signed_in (word (length line - 1) line);
+}
+
 -- a key of the file
 abbrev pub key_in : List ℕ → Key
 key_in word =
@@ -186,9 +197,14 @@ answer_of net lines =
     else if stands_at 0 (line_at 0 lines) (codes "form") then Form (form_in net lines)
     else if stands_at 0 (line_at 0 lines) (codes "no") then NoCircuit
     else if stands_at 0 (line_at 0 lines) (codes "cycle") then Cycle (cycle_in net lines) (rounds_in net lines)
+    else if stands_at 0 (line_at 0 lines) (codes "series") then Calc (series_in (line_at 0 lines))
     else if stands_at 0 (line_at 0 lines) (codes "fault:") then Fault NetFile
     else if stands_at 1 (line_at 0 lines) (codes "the") then TooLarge NetFile
     else if stands_at 1 (line_at 0 lines) (codes "token-free") then TokenFree (map (place_in net) (drop 3 (line_at 0 lines)))
+    else if stands_at 1 (line_at 0 lines) (codes "syntax") then Parse (Syntax (number_in (word 3 (line_at 0 lines))))
+    else if stands_at 1 (line_at 0 lines) (codes "too") then Parse (TooDeep (number_in (word 4 (line_at 0 lines))))
+    else if stands_at 1 (line_at 0 lines) (codes "series") then Series (TooLong (number_in (word 3 (line_at 0 lines))))
+    else if stands_at 1 (line_at 0 lines) (codes "number") then Series (TooGreat (signed_in (word 2 (line_at 0 lines))))
     else Read (refusal_in (line_at 0 lines))
 
 -- the answer that this text tells, by the names of the net

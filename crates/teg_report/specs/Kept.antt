@@ -4,6 +4,11 @@ use Rattle.std.specs.Int.RustNames.{unsigned_abs}
 use Rattle.teg_dates.specs.Tables.{IsTable}
 use Rattle.teg_form.specs.declared.form.Entry.{Entry}
 use Rattle.teg_form.specs.declared.form.StarEntry.{StarEntry}
+use Rattle.series_form.specs.declared.forms.SeriesRefused.{SeriesRefused}
+use Rattle.series_form.specs.declared.forms.SeriesRefused.TheVariants.{TooLong, TooGreat, OutOfMemory as NoRoom}
+use Rattle.series_form.specs.Forms.{Form as SeriesForm}
+use Rattle.teg_calc.specs.declared.refusals.ParseRefused.{ParseRefused}
+use Rattle.teg_calc.specs.declared.refusals.ParseRefused.TheVariants.{Syntax, TooDeep, OutOfMemory as NoMemory}
 use Rattle.teg_net.specs.declared.rounds.Choice.{Choice}
 use Rattle.teg_net.specs.Names.{is_name}
 use Rattle.teg_net.specs.Nets.{NetLists, IsNet}
@@ -12,7 +17,7 @@ use Rattle.teg_reader.specs.declared.refusals.ReadRefusal.{ReadRefusal}
 use Rattle.teg_reader.specs.declared.refusals.ReadRefusal.TheVariants.{NotToml, UnknownKey, WrongKind, MissingKey, BadName, Repeated, OutOfRange, NoTransitions, UnknownTransition, NotEventGraph, InputHasUpstream, BadInput, OutOfMemory}
 use Rattle.teg_reader.specs.declared.refusals.Section.TheVariants.{Top}
 use Rattle.teg_reader.specs.declared.refusals.Spot.{Spot}
-use Rattle.teg_report.specs.Answers.{Answer, Usage, Live, Listed, Form, NoCircuit, Cycle, Read, TooLarge, TokenFree, Fault}
+use Rattle.teg_report.specs.Answers.{Answer, Usage, Live, Listed, Form, NoCircuit, Cycle, Calc, Read, TooLarge, TokenFree, Parse, Series, Fault}
 use Rattle.teg_report.specs.Reports.{IsAbout}
 use Rattle.teg_report.specs.Rounds.{RoundLists}
 use Rattle.teg_text.specs.Words.{AreBytes, IsDate}
@@ -69,6 +74,24 @@ pub record IsRunKept (rounds : List RoundLists) : Type 0 where
   pub count : IsWord64 (length rounds)
   pub each : All IsRoundKept rounds
 
+-- the numbers of a series
+pub record IsSeriesKept (series : SeriesForm) : Type 0 where
+  pub values : All IsDate series.values
+  pub period : IsWord64 series.period
+  pub step : unsigned_abs series.step < 2 ^ 128
+
+-- what a refusal of a text keeps; it is not its want of memory
+abbrev pub IsParseKept : ParseRefused → Type 0
+IsParseKept (Syntax at) = IsWord32 at
+IsParseKept (TooDeep at) = IsWord32 at
+IsParseKept NoMemory = ⊥
+
+-- what a refusal of an operation keeps; it is not its want of memory
+abbrev pub IsSeriesRefusalKept : SeriesRefused → Type 0
+IsSeriesRefusalKept (TooLong need) = need < 2 ^ 128
+IsSeriesRefusalKept (TooGreat value) = unsigned_abs value < 2 ^ 128
+IsSeriesRefusalKept NoRoom = ⊥
+
 -- what the values of an answer keep
 abbrev pub IsKept : Answer → Type 0
 IsKept Usage = ⊤
@@ -77,9 +100,12 @@ IsKept (Listed table) = IsTable table × All IsDate table.dates
 IsKept (Form form) = All IsStarKept form.stars × All IsEntryKept form.entries
 IsKept NoCircuit = ⊤
 IsKept (Cycle answer rounds) = IfSome rounds (λ runs. All IsRunKept runs)
+IsKept (Calc series) = IsSeriesKept series
 IsKept (Read refusal) = IsRefusal refusal
 IsKept (TooLarge file) = ⊤
 IsKept (TokenFree circuit) = ⊤
+IsKept (Parse refusal) = IsParseKept refusal
+IsKept (Series refusal) = IsSeriesRefusalKept refusal
 IsKept (Fault file) = ⊤
 
 -- the spot that an answer tells, if it tells one, is plain

@@ -3,8 +3,12 @@ use Rattle.std.specs.Prelude.{ℕ, ◌≡◌, ◌≢◌, List, [], ◌∷◌, �
 use Rattle.teg_dates.specs.Tables.{date_at}
 use Rattle.teg_net.specs.Circuits.{AreInRange}
 use Rattle.teg_net.specs.Nets.{NetLists}
+use Rattle.series_form.specs.declared.forms.SeriesRefused.TheVariants.{OutOfMemory as NoRoom}
+use Rattle.teg_calc.specs.declared.refusals.ParseRefused.TheVariants.{OutOfMemory as NoMemory}
+use Rattle.teg_calc.specs.Printing.{series_line}
 use Rattle.teg_reader.specs.declared.refusals.ReadRefusal.TheVariants.{OutOfMemory}
-use Rattle.teg_report.specs.Answers.{Answer, Usage, Live, Listed, Form, NoCircuit, Cycle, Read, TooLarge, TokenFree, Fault}
+use Rattle.teg_report.specs.Series.{parse_line, series_refused_line}
+use Rattle.teg_report.specs.Answers.{Answer, Usage, Live, Listed, Form, NoCircuit, Cycle, Calc, Read, TooLarge, TokenFree, Parse, Series, Fault}
 use Rattle.teg_report.specs.Cycles.{IsCycleTold, cycle_lines}
 use Rattle.teg_report.specs.Rounds.{AreRoundsTold, runs_lines, told_runs}
 use Rattle.teg_report.specs.Forms.{IsFormWithin, form_lines}
@@ -26,9 +30,12 @@ lines_of net (Listed table) = list_lines net (date_at table) table.count
 lines_of net (Form form) = form_lines net form
 lines_of net NoCircuit = no_circuit_line ∷ []
 lines_of net (Cycle answer rounds) = cycle_lines net answer ++ runs_lines net (told_runs answer.parts rounds)
+lines_of net (Calc series) = series_line series ∷ []
 lines_of net (Read refusal) = read_line refusal ∷ []
 lines_of net (TooLarge file) = too_large_line file ∷ []
 lines_of net (TokenFree circuit) = token_free_line net circuit ∷ []
+lines_of net (Parse refusal) = parse_line refusal ∷ []
+lines_of net (Series refusal) = series_refused_line refusal ∷ []
 lines_of net (Fault file) = read_fault_line file ∷ []
 
 -- the text of an answer, with the names of the net where one is given
@@ -43,7 +50,10 @@ IsAbout net (Listed table) = IsSomeAnd net (λ n. table.width ≡ length n.trans
 IsAbout net (Form form) = IsSomeAnd net (λ n. IsFormWithin n form)
 IsAbout net NoCircuit = ⊤
 IsAbout net (Cycle answer rounds) = IsSomeAnd net (λ n. IsCycleTold n answer × AreRoundsTold n answer.parts rounds)
+IsAbout net (Calc series) = ⊤
 IsAbout net (Read refusal) = refusal ≢ OutOfMemory
 IsAbout net (TooLarge file) = ⊤
 IsAbout net (TokenFree circuit) = IsSomeAnd net (λ n. AreInRange n circuit)
+IsAbout net (Parse refusal) = refusal ≢ NoMemory
+IsAbout net (Series refusal) = refusal ≢ NoRoom
 IsAbout net (Fault file) = ⊤

@@ -10,7 +10,7 @@ use Rattle.teg_text.specs.Lines.{phrase}
 
 -- the commands that are built, each with what follows it
 abbrev pub command_forms : List (List ℕ)
-command_forms = codes "check NET" ∷ codes "list NET K" ∷ codes "form NET" ∷ codes "cycle NET [--rounds]" ∷ []
+command_forms = codes "check NET" ∷ codes "list NET K" ∷ codes "form NET" ∷ codes "cycle NET [--rounds]" ∷ codes "calc EXPR" ∷ []
 
 -- a line of the usage but the first
 abbrev pub usage_line : List ℕ → List (List ℕ)

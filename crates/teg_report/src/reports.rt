@@ -8,7 +8,7 @@ ghost use Rattle.teg_report.specs.Meanings.{meant};
 ghost use Rattle.teg_report.specs.Reports.{IsAbout, text_of};
 
 use crate::answer::Answer;
-use crate::{cycles, forms, lists, refusals, texts};
+use crate::{cycles, forms, lists, refusals, series, texts};
 use std::alloc::Global;
 use teg_net::{Net, OutOfMemory};
 
@@ -31,9 +31,12 @@ fn text(alloc: Global, net: Option<&Net>, answer: &Answer<'_>) -> Result<Vec<u8>
         (Answer::Form { form }, Some(net)) => forms::form(alloc, net, form),
         (Answer::NoCircuit, _) => texts::no_circuit(alloc),
         (Answer::Cycle { answer, rounds }, Some(net)) => cycles::cycle(alloc, net, answer, *rounds),
+        (Answer::Calc { series }, _) => series::calc(alloc, series),
         (Answer::Read { refusal }, _) => refusals::read(alloc, refusal),
         (Answer::TooLarge { file }, _) => texts::too_large(alloc, *file),
         (Answer::TokenFree { circuit }, Some(net)) => texts::token_free(alloc, net, circuit),
+        (Answer::Parse { refusal }, _) => series::parse(alloc, refusal),
+        (Answer::Series { refusal }, _) => series::refused(alloc, refusal),
         (Answer::Fault { file }, _) => texts::fault(alloc, *file),
         (
             Answer::List { .. }
@@ -60,7 +63,7 @@ fn know_rules(net: Option<&Net>)
 /// `Form`, `Cycle` and `TokenFree`. What the answer names is in the net: a table has a date for each
 /// of its transitions, and the ends of entries, the places of a circuit, and the transitions and
 /// places of a round are among its own. Rounds are a list for each part with a circuit, and none of
-/// these lists is empty. A refusal of the reader is not its want of memory.
+/// these lists is empty. A refusal is not want of memory.
 ///
 /// `OutOfMemory` comes only where no memory is found. It takes time of the order of the text.
 pub fn report(alloc: Global, net: Option<&Net>, answer: &Answer<'_>) -> Result<Vec<u8>, OutOfMemory>

@@ -12,12 +12,12 @@ use Rattle.teg_run.specs.declared.status.Status.TheVariants.{Done, Words, Text, 
 use Rattle.teg_run.specs.declared.status.Verdict.{Verdict}
 use Rattle.teg_run.specs.Calls.{Call}
 use Rattle.teg_run.specs.Endings.{Ending, Whole, Lost}
-use Rattle.teg_run.specs.Headline.{Ends, EndsLost, HasFault, Follows, ComesOnly, ReadsAreCalm, OverlongRose, WroteWhole, WrotePrefix, ReadsFirstOf, NamesLastRead, AllowsNet, Allows, EndsAsAllowed, Concerns, SaysOfNet, SaysLive, SaysLeastDates, SaysStandardForm, SaysCycleTimes, SaysPolicyRuns, SaysNoCircuit, KeepsPromises}
-use Rattle.teg_run.specs.Requests.{NetCommand, CheckNet, ListNet, FormNet, CycleNet, Request, OfNet, request_of, files_of, asked_files}
+use Rattle.teg_run.specs.Headline.{Ends, EndsLost, HasFault, Follows, ComesOnly, ReadsAreCalm, WritesAreCalm, OverlongRose, WroteWhole, WrotePrefix, ReadsFirstOf, NamesLastRead, AllowsNet, AllowsValue, Allows, EndsAsAllowed, Concerns, SaysOfNet, SaysLive, SaysLeastDates, SaysStandardForm, SaysCycleTimes, SaysPolicyRuns, SaysNoCircuit, SaysValues, KeepsPromises}
+use Rattle.teg_run.specs.Requests.{NetCommand, CheckNet, ListNet, FormNet, CycleNet, Request, OfNet, ValueOf, request_of, files_of, asked_files}
 use Rattle.teg_run.specs.Runs.{Answered, CarriesOut, Finished, Runs}
-use Rattle.teg_run.specs.Says.{Asked, SaysNet, SaysOutcome}
+use Rattle.teg_run.specs.Says.{Asked, SaysNet, SaysOutcome, SaysValue}
 use Rattle.teg_run.specs.Statuses.{status_of}
-use Rattle.teg_run.specs.Texts.{usage, live_text, list_text, form_text, cycle_text, no_circuit_text, runs_text, too_large_text, fault_text}
+use Rattle.teg_run.specs.Texts.{usage, live_text, list_text, form_text, cycle_text, no_circuit_text, runs_text, series_text, too_large_text, fault_text}
 use Rattle.teg_run.proofs.CycleTold.{no_circuit_said}
 use Rattle.teg_run.proofs.Faults.{IsFaultOf, text_is_fault, net_is_fault, comes_only, follows, way_is_said, overlong_way, fault_way}
 use Rattle.teg_run.proofs.LiveNets.{live_goes_on}
@@ -206,15 +206,50 @@ allowed FormNet net verdict text h = h.0
 allowed (CycleNet false) net verdict text h = h.0
 allowed (CycleNet true) net verdict text h = h.0
 
-ends_as_allowed : (call : Call) → Runs call → EndsAsAllowed call
-ends_as_allowed call runs files (OfNet command name) asks told reads writes accepts =
+-- ---- values
+
+value_said : (call : Call) (text : List ℕ) (ending : Ending) → Answered (Asked (Some (ValueOf text)) call.lines) [] call.shelf_before call.shelf_after ending →
+    Finished call.sink_before call.sink_after ending call.status → ((verdict : Verdict) × (told : List ℕ) × SaysValue text verdict told × Ends call (status_of verdict) told) ⊎ EndsLost call
+value_said call text Lost h k = inr k
+value_said call text (Whole said told) h k =
+    inl (h.2.1.0, told, h.2.1.2, inl (subst (λ (s : Status). Finished call.sink_before call.sink_after (Whole s told) call.status) h.2.1.1 k))
+
+says_of_value : (call : Call) → Runs call → (text : List ℕ) → request_of call.words ≡ Some (ValueOf text) →
+    ((verdict : Verdict) × (told : List ℕ) × SaysValue text verdict told × Ends call (status_of verdict) told) ⊎ EndsLost call
+says_of_value call runs text asks =
+    let h = subst (λ (asked : Option Request). CarriesOut asked call) asks runs in value_said call text h.0 h.1 h.2
+
+value_follows : (call : Call) → Runs call → SaysValues call
+value_follows call runs text asks =
     ⊎_elim
     (λ (said : _). ⊎_elim
-    (λ (finished : _). ⊎_elim (λ (whole : _). inr (said.0, whole.0, allowed command accepts.0 said.0 said.1 said.2))
+    (λ (done : _). inl (done.1.0, done.1.1, done_with call said.0 said.1 (series_text done.1.0) (ap status_of done.0) done.1.2 said.3))
+    (λ (refused : _). inr (inl (said.1, refused.1, subst (λ (s : Status). Ends call s said.1) (ap status_of refused.0) said.3))) said.2)
+    (λ (lost : _). inr (inr lost)) (says_of_value call runs text asks)
+
+value_allowed : (text : List ℕ) (verdict : Verdict) (told : List ℕ) → SaysValue text verdict told → AllowsValue text verdict
+value_allowed text verdict told said =
+    ⊎_elim (λ (done : _). subst (AllowsValue text) (sym done.0) (done.1.0, done.1.1)) (λ (refused : _). subst (AllowsValue text) (sym refused.0) (told, refused.1)) said
+
+ended_as : (request : Request) (call : Call) → WritesAreCalm call →
+    ((verdict : Verdict) × (text : List ℕ) × Allows request verdict × Ends call (status_of verdict) text) ⊎ EndsLost call →
+    (call.status ≡ NoMemory) ⊎ ((verdict : Verdict) × (call.status ≡ status_of verdict) × Allows request verdict)
+ended_as request call writes h =
+    ⊎_elim
+    (λ (said : _). ⊎_elim
+    (λ (finished : _). ⊎_elim (λ (whole : _). inr (said.0, whole.0, said.2))
     (λ (cut : _). absurd (rose_not_rested call.sink_before.faults call.sink_after.faults cut.1 writes)) finished)
     (λ (lost : _). inl lost.0) said.3)
-    (λ (lost : _). inl lost.0)
-    (says_of_net call runs command accepts.0 (record { name = name; files = files; asks = asks; told = told; calm = reads; opens = accepts.1 }))
+    (λ (lost : _). inl lost.0) h
+
+ends_as_allowed : (call : Call) → Runs call → EndsAsAllowed call
+ends_as_allowed call runs files (OfNet command name) asks told reads writes accepts =
+    ended_as (OfNet command name) call writes
+    (⊎_elim (λ (said : _). inl (said.0, said.1, allowed command accepts.0 said.0 said.1 said.2, said.3)) (λ (lost : _). inr lost)
+    (says_of_net call runs command accepts.0 (record { name = name; files = files; asks = asks; told = told; calm = reads; opens = accepts.1 })))
+ends_as_allowed call runs files (ValueOf text) asks told reads writes accepts =
+    ended_as (ValueOf text) call writes
+    (⊎_elim (λ (said : _). inl (said.0, said.1, value_allowed text said.0 said.1 said.2, said.3)) (λ (lost : _). inr lost) (says_of_value call runs text asks))
 
 -- ---- what was written and read
 
@@ -276,6 +311,7 @@ keeps_promises call runs =
       cycle = cycle_follows call runs;
       cycle_rounds = rounds_follow call runs;
       no_circuit = no_circuit_follows call runs;
+      calc = value_follows call runs;
       written = λ other memory. wrote_whole call runs.0 other memory runs.1 runs.2;
       cut_off = λ e. (cut_off_with call runs.0 e runs.1 runs.2).1;
       unwritten = λ e. unwritten_with call runs.0 e runs.1 runs.2;

@@ -15,8 +15,8 @@ use Rattle.teg_run.specs.declared.status.Verdict.{Verdict}
 use Rattle.teg_run.specs.Limits.{most_bytes}
 use Rattle.teg_run.specs.Openings.{Opening, Accepted, Refused, OpensNet, OpensDocument, read_status}
 use Rattle.teg_run.specs.Reads.{ReadsAll}
-use Rattle.teg_run.specs.Requests.{Request, OfNet, files_of}
-use Rattle.teg_run.specs.Says.{Says, SaysFile, SaysNet, SaysOpening, SaysOutcome}
+use Rattle.teg_run.specs.Requests.{Request, OfNet, ValueOf, files_of}
+use Rattle.teg_run.specs.Says.{Says, SaysFile, SaysNet, SaysOpening, SaysOutcome, SaysValue}
 use Rattle.teg_run.specs.Texts.{read_text}
 use Rattle.teg_run.proofs.ReadOrder.{none_left}
 use Rattle.teg_run.proofs.Refusals.{Accepts, Refusal, Unread, Overlong, NoToml, NoNet, NotLive}
@@ -112,3 +112,4 @@ pub way_of : (request : Request) (lines : List Firing → List (List ℕ)) (old 
 way_of (OfNet command name) lines old new replies status text reads h =
     net_way old new name [] (λ net. SaysOutcome (SaysNet command net)) replies status text reads h
     (λ net mid more rest k. outcome_way mid new (SaysNet command net) more status text k)
+way_of (ValueOf text) lines old new replies status told reads h = outcome_way old new (SaysValue text) replies status told h

@@ -1,6 +1,7 @@
 -- What the whole call promises its caller, one promise at a time.
-use Rattle.std.specs.Prelude.{ℕ, ◌≡◌, ◌≢◌, ◌≤◌, ◌<◌, ◌⊎◌, Bool, true, false, List, [], ◌∷◌, ◌++◌, length, take, map, Some, None, Ok, Err, Result}
+use Rattle.std.specs.Prelude.{ℕ, ◌≡◌, ◌≢◌, ◌≤◌, ◌<◌, ◌⊎◌, Bool, true, false, List, [], ◌∷◌, ◌++◌, length, take, map, Some, None, Ok, Err, Result, ⊤}
 use Rattle.dioid.specs.declared.dates.Date.{Date}
+use Rattle.series_form.specs.Forms.{Form}
 use Rattle.teg_form.specs.Forms.{FormLists, IsFormOf}
 use Rattle.teg_model.specs.Datings.{IsLeastDating}
 use Rattle.teg_net.specs.declared.answers.CycleAnswer.{CycleAnswer}
@@ -19,19 +20,20 @@ use Rattle.teg_outside.specs.Sinks.{BytesGrow, PrefixGrows}
 use Rattle.teg_report.specs.declared.answer.Which.{Which}
 use Rattle.teg_report.specs.declared.answer.Which.TheVariants.{Net as NetFile}
 use Rattle.teg_run.specs.declared.status.Status.{Status}
-use Rattle.teg_run.specs.declared.status.Status.TheVariants.{Done, Words, Text, Net, ReadFault, WriteFault, NoMemory}
+use Rattle.teg_run.specs.declared.status.Status.TheVariants.{Done, Words, Text, Net, Calc, ReadFault, WriteFault, NoMemory}
 use Rattle.teg_run.specs.declared.status.Verdict.{Verdict}
-use Rattle.teg_run.specs.declared.status.Verdict.TheVariants.{Done as VerdictDone}
+use Rattle.teg_run.specs.declared.status.Verdict.TheVariants.{Done as VerdictDone, Calc as VerdictCalc}
 use Rattle.teg_run.specs.Calls.{Call}
 use Rattle.teg_run.specs.CycleTimes.{IsCycleAnswer, AreRuns}
 use Rattle.teg_run.specs.Endings.{Whole, Lost}
 use Rattle.teg_run.specs.Limits.{most_bytes}
 use Rattle.teg_run.specs.Reads.{ReadsAll}
-use Rattle.teg_run.specs.Requests.{NetCommand, CheckNet, ListNet, FormNet, CycleNet, Request, OfNet, request_of, files_of, asked_files}
+use Rattle.teg_run.specs.Requests.{NetCommand, CheckNet, ListNet, FormNet, CycleNet, Request, OfNet, ValueOf, request_of, files_of, asked_files}
 use Rattle.teg_run.specs.Runs.{Finished, Runs}
 use Rattle.teg_run.specs.Says.{Asked, SaysNet}
 use Rattle.teg_run.specs.Statuses.{status_of}
-use Rattle.teg_run.specs.Texts.{usage, read_text, live_text, list_text, form_text, cycle_text, no_circuit_text, runs_text, token_free_text, too_large_text, fault_text}
+use Rattle.teg_run.specs.Values.{IsValueOf, TellsRefusal}
+use Rattle.teg_run.specs.Texts.{usage, read_text, live_text, list_text, form_text, cycle_text, no_circuit_text, runs_text, series_text, token_free_text, too_large_text, fault_text}
 
 -- ---- how a call ended
 
@@ -155,9 +157,10 @@ NamesLastRead call named =
 
 -- ---- what is said of accepted files
 
--- the files of the request are accepted: its net file says a live net
+-- the files of the request are accepted: its net file, where it has one, says a live net
 abbrev pub AcceptsFiles : List (List ℕ × List ℕ) → Request → Type 0
 AcceptsFiles files (OfNet command name) = (net : NetLists) × Opens files name net
+AcceptsFiles files (ValueOf text) = ⊤
 
 -- how a command on a net may end, once its files are accepted
 abbrev pub AllowsNet : NetCommand → Verdict → Type 0
@@ -166,9 +169,15 @@ AllowsNet (ListNet count) verdict = verdict ≡ VerdictDone
 AllowsNet FormNet verdict = verdict ≡ VerdictDone
 AllowsNet (CycleNet rounds) verdict = verdict ≡ VerdictDone
 
+-- how the value of an expression may end: with its refusal exactly where it is refused
+abbrev pub AllowsValue : List ℕ → Verdict → Type 0
+AllowsValue text VerdictDone = (form : Form) × IsValueOf text form
+AllowsValue text VerdictCalc = (told : List ℕ) × TellsRefusal text told
+
 -- how a request may end, once its files are accepted
 abbrev pub Allows : Request → Verdict → Type 0
 Allows (OfNet command name) verdict = AllowsNet command verdict
+Allows (ValueOf text) verdict = AllowsValue text verdict
 
 -- over told files, accepted words and files and no fault lead to an ending of the command itself, or to want of memory
 abbrev pub EndsAsAllowed : Call → Type 0
@@ -227,6 +236,13 @@ abbrev pub SaysNoCircuit : Call → Type 0
 SaysNoCircuit call =
     (rounds : Bool) (net : NetLists) → Concerns call (CycleNet rounds) net → HasNoCircuit net IsAnyPlace → Ends call Done no_circuit_text
 
+-- the canonical form of what an expression means is told, or its refusal, unless memory ran out
+abbrev pub SaysValues : Call → Type 0
+SaysValues call =
+    (text : List ℕ) → request_of call.words ≡ Some (ValueOf text) →
+    ((form : Form) × IsValueOf text form × Ends call Done (series_text form))
+    ⊎ (((told : List ℕ) × TellsRefusal text told × Ends call Calc told) ⊎ EndsLost call)
+
 -- ---- the promises
 
 pub record KeepsPromises (call : Call) : Type 0 where
@@ -250,6 +266,8 @@ pub record KeepsPromises (call : Call) : Type 0 where
   pub cycle : SaysCycleTimes call
   pub cycle_rounds : SaysPolicyRuns call
   pub no_circuit : SaysNoCircuit call
+  -- An expression: its value is written, or why it has none.
+  pub calc : SaysValues call
   -- What was written: the whole text, a first part before a fault, nothing for want of memory.
   pub written : call.status ≢ WriteFault → call.status ≢ NoMemory → WroteWhole call
   pub cut_off : call.status ≡ WriteFault → WrotePrefix call

@@ -12,4 +12,5 @@ pub mod Runs
 pub mod Says
 pub mod Statuses
 pub mod Texts
+pub mod Values
 pub mod Writing

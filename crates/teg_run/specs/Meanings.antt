@@ -11,12 +11,12 @@ use Rattle.teg_run.specs.declared.opening.Opened.TheVariants.{Accepted as Opened
 use Rattle.teg_run.specs.declared.request.NetCommand.{NetCommand as CodedCommand}
 use Rattle.teg_run.specs.declared.request.NetCommand.TheVariants.{Check, Cycle, Form, List as ListCommand}
 use Rattle.teg_run.specs.declared.request.Request.{Request as CodedRequest}
-use Rattle.teg_run.specs.declared.request.Request.TheVariants.{OfNet as CodedOfNet}
+use Rattle.teg_run.specs.declared.request.Request.TheVariants.{OfNet as CodedOfNet, ValueOf as CodedValueOf}
 use Rattle.teg_run.specs.declared.status.Status.{Status}
 use Rattle.teg_run.specs.declared.status.Verdict.{Verdict}
 use Rattle.teg_run.specs.Endings.{Ending, Whole, Lost}
 use Rattle.teg_run.specs.Openings.{Opening, Accepted, Refused}
-use Rattle.teg_run.specs.Requests.{NetCommand, CheckNet, ListNet, FormNet, CycleNet, Request, OfNet}
+use Rattle.teg_run.specs.Requests.{NetCommand, CheckNet, ListNet, FormNet, CycleNet, Request, OfNet, ValueOf}
 
 -- the command on a net
 abbrev pub command_asked : CodedCommand → NetCommand
@@ -28,6 +28,7 @@ command_asked (Cycle rounds) = CycleNet rounds
 -- the request
 abbrev pub asked : CodedRequest → Request
 asked (CodedOfNet command net) = OfNet (command_asked command) net.now
+asked (CodedValueOf text) = ValueOf text.now
 
 -- rounds, a list for each part
 abbrev pub rounds_in : List (Vec Round) → List (List Round)

@@ -1,7 +1,8 @@
 -- The numbers that commands take.
-use Rattle.std.specs.Prelude.{◌≤◌}
+use Rattle.std.specs.Prelude.{◌≤◌, length}
 use Rattle.teg_dates.specs.Tables.{most_numbers}
-use Rattle.teg_run.specs.Requests.{NetCommand, CheckNet, ListNet, FormNet, CycleNet, Request, OfNet}
+use Rattle.teg_run.specs.Limits.{most_expression}
+use Rattle.teg_run.specs.Requests.{NetCommand, CheckNet, ListNet, FormNet, CycleNet, Request, OfNet, ValueOf}
 
 -- the numbers that the command takes keep their limits
 abbrev pub IsInRange : NetCommand → Type 0
@@ -13,3 +14,4 @@ IsInRange (CycleNet rounds) = Unit {0}
 -- the numbers of the request keep their limits
 abbrev pub IsRequestInRange : Request → Type 0
 IsRequestInRange (OfNet command net) = IsInRange command
+IsRequestInRange (ValueOf text) = length text ≤ most_expression

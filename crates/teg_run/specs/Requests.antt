@@ -1,9 +1,10 @@
 -- What the words of the command line ask for.
-use Rattle.std.specs.Prelude.{ℕ, Bool, false, List, [], ◌∷◌, Option, Some, None, codes, bytes_eq, if◌then◌else◌, option_and_then}
+use Rattle.std.specs.Prelude.{ℕ, Bool, false, List, [], ◌∷◌, Option, Some, None, codes, bytes_eq, nat_le, length, if◌then◌else◌, option_and_then}
 use Rattle.std.specs.Option.{option_map}
 use Rattle.teg_dates.specs.Tables.{most_numbers}
 use Rattle.teg_words.specs.Numbers.{number_of}
 use Rattle.teg_words.specs.Words.{Given, given_of}
+use Rattle.teg_run.specs.Limits.{most_expression}
 use Rattle.teg_report.specs.declared.answer.Which.{Which}
 use Rattle.teg_report.specs.declared.answer.Which.TheVariants.{Net as NetFile}
 
@@ -14,9 +15,10 @@ pub data NetCommand : Type 0 where
   FormNet : NetCommand
   CycleNet : (rounds : Bool) → NetCommand
 
--- what words can ask for: a command on the net in the file of this name
+-- what words can ask for: a command on the net in the file of this name, or the value of this expression
 pub data Request : Type 0 where
   OfNet : (command : NetCommand) (net : List ℕ) → Request
+  ValueOf : (text : List ℕ) → Request
 
 -- `check NET`
 abbrev pub check_asked : List (List ℕ) → Option (List ℕ) → Bool → Option Request
@@ -38,6 +40,11 @@ abbrev pub cycle_asked : List (List ℕ) → Option (List ℕ) → Bool → Opti
 cycle_asked (net ∷ []) None rounds = Some (OfNet (CycleNet rounds) net)
 cycle_asked rest limit rounds = None
 
+-- `calc EXPR`, with an expression of at most 4,096 bytes
+abbrev pub calc_asked : List (List ℕ) → Option (List ℕ) → Bool → Option Request
+calc_asked (text ∷ []) None false = if nat_le (length text) most_expression then Some (ValueOf text) else None
+calc_asked rest limit rounds = None
+
 -- the request of a command with what is given to it: nothing for a command that is not built
 abbrev pub asked_for : Given → Option Request
 asked_for given =
@@ -45,7 +52,8 @@ asked_for given =
     else (if bytes_eq given.command (codes "list") then list_asked given.rest given.limit given.rounds
     else (if bytes_eq given.command (codes "form") then form_asked given.rest given.limit given.rounds
     else (if bytes_eq given.command (codes "cycle") then cycle_asked given.rest given.limit given.rounds
-    else None)))
+    else (if bytes_eq given.command (codes "calc") then calc_asked given.rest given.limit given.rounds
+    else None))))
 
 -- the request that the words give, if they give one
 abbrev pub request_of : List (List ℕ) → Option Request
@@ -54,6 +62,7 @@ request_of words = option_and_then asked_for (given_of words)
 -- the files that a request names, in the order in which they are read: what each is for, and its name
 abbrev pub files_of : Request → List (Which × List ℕ)
 files_of (OfNet command net) = (NetFile, net) ∷ []
+files_of (ValueOf text) = []
 
 -- the files that the words name
 abbrev pub asked_files : Option Request → List (Which × List ℕ)

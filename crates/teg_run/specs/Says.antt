@@ -1,5 +1,5 @@
 -- What each command says, by what its reads gave.
-use Rattle.std.specs.Prelude.{ℕ, ◌≡◌, Bool, true, false, List, [], ◌∷◌, Option, Some, None, Result}
+use Rattle.std.specs.Prelude.{ℕ, ◌≡◌, ◌⊎◌, Bool, true, false, List, [], ◌∷◌, Option, Some, None, Result}
 use Rattle.dioid.specs.declared.dates.Date.{Date}
 use Rattle.teg_form.specs.Forms.{FormLists, IsFormOf}
 use Rattle.teg_model.specs.Datings.{IsLeastDating}
@@ -11,11 +11,12 @@ use Rattle.teg_outside.specs.declared.monitor.Firing.{Firing}
 use Rattle.teg_run.specs.declared.status.Status.{Status}
 use Rattle.teg_run.specs.declared.status.Status.TheVariants.{Words}
 use Rattle.teg_run.specs.declared.status.Verdict.{Verdict}
-use Rattle.teg_run.specs.declared.status.Verdict.TheVariants.{Done as VerdictDone}
+use Rattle.teg_run.specs.declared.status.Verdict.TheVariants.{Done as VerdictDone, Calc as VerdictCalc}
 use Rattle.teg_run.specs.CycleTimes.{IsCycleAnswer, AreRuns}
-use Rattle.teg_run.specs.Requests.{NetCommand, CheckNet, ListNet, FormNet, CycleNet, Request, OfNet}
+use Rattle.teg_run.specs.Requests.{NetCommand, CheckNet, ListNet, FormNet, CycleNet, Request, OfNet, ValueOf}
 use Rattle.teg_run.specs.Openings.{Opening, Accepted, Refused, OpensNet}
 use Rattle.teg_run.specs.Statuses.{status_of}
+use Rattle.teg_run.specs.Values.{TellsValue, TellsRefusal}
 use Rattle.teg_run.specs.Texts.{usage, live_text, list_text, form_text, cycle_text, runs_text}
 
 -- of a live net its size is said
@@ -50,6 +51,10 @@ SaysNet FormNet = SaysForm
 SaysNet (CycleNet false) = SaysCycle
 SaysNet (CycleNet true) = SaysRounds
 
+-- of an expression its value is said, or its refusal
+abbrev pub SaysValue : List ℕ → Verdict → List ℕ → Type 0
+SaysValue text verdict told = ((verdict ≡ VerdictDone) × TellsValue text told) ⊎ ((verdict ≡ VerdictCalc) × TellsRefusal text told)
+
 -- a claim on what a command comes to, where it found memory
 abbrev pub Tells : (Verdict → List ℕ → Type 0) → Option (Verdict × List ℕ) → Type 0
 Tells says None = Unit {0}
@@ -78,6 +83,7 @@ SaysOutcome says replies status text =
 -- what a request says, with the lines of the monitors after given firings
 abbrev pub Says : Request → (List Firing → List (List ℕ)) → List (Result (List ℕ) ShelfFault) → Status → List ℕ → Type 0
 Says (OfNet command net) lines = SaysFile OpensNet (λ file. SaysOutcome (SaysNet command file))
+Says (ValueOf text) lines = SaysOutcome (SaysValue text)
 
 -- what the words make the call say
 abbrev pub Asked : Option Request → (List Firing → List (List ℕ)) → List (Result (List ℕ) ShelfFault) → Status → List ℕ → Type 0

@@ -6,9 +6,12 @@ use Rattle.teg_net.specs.declared.answers.CycleAnswer.{CycleAnswer}
 use Rattle.teg_net.specs.declared.entries.PlaceId.{PlaceId}
 use Rattle.teg_net.specs.declared.rounds.Round.{Round}
 use Rattle.teg_net.specs.Nets.{NetLists}
+use Rattle.series_form.specs.declared.forms.SeriesRefused.{SeriesRefused}
+use Rattle.series_form.specs.Forms.{Form as SeriesForm}
+use Rattle.teg_calc.specs.declared.refusals.ParseRefused.{ParseRefused}
 use Rattle.teg_reader.specs.declared.refusals.ReadRefusal.{ReadRefusal}
 use Rattle.teg_report.specs.declared.answer.Which.{Which}
-use Rattle.teg_report.specs.Answers.{Answer, Usage, Live, Form, NoCircuit, Cycle, Read, TooLarge, TokenFree, Fault}
+use Rattle.teg_report.specs.Answers.{Answer, Usage, Live, Form, NoCircuit, Cycle, Calc, Read, TooLarge, TokenFree, Parse, Series, Fault}
 use Rattle.teg_report.specs.Lists.{list_lines}
 use Rattle.teg_report.specs.Meanings.{cycle_lists, round_lists}
 use Rattle.teg_report.specs.Reports.{text_of}
@@ -48,6 +51,18 @@ cycle_text net answer rounds = text_of (Some net) (cycle_told answer.best answer
 -- the cycle times of a net and the runs of policy iteration that end in them
 abbrev pub runs_text : NetLists → CycleAnswer → List (List Round) → List ℕ
 runs_text net answer runs = cycle_text net answer (Some (map (map round_lists) runs))
+
+-- a series
+abbrev pub series_text : SeriesForm → List ℕ
+series_text form = text_of None (Calc form)
+
+-- where a text is no expression, or too deep
+abbrev pub parse_text : ParseRefused → List ℕ
+parse_text refusal = text_of None (Parse refusal)
+
+-- why an operation has no series
+abbrev pub series_refused_text : SeriesRefused → List ℕ
+series_refused_text refusal = text_of None (Series refusal)
 
 -- why the bytes of a file say no net
 abbrev pub read_text : ReadRefusal → List ℕ

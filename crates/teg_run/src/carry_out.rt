@@ -14,6 +14,7 @@ use crate::net_commands::of_net;
 use crate::net_file::open_net;
 use crate::opening::Opened;
 use crate::request::{NetCommand, Request};
+use crate::values::tell_value;
 use std::alloc::Global;
 use teg_outside::{Monitor, Shelf};
 use teg_report::Which;
@@ -44,5 +45,6 @@ pub fn answer_request<S: Shelf>(
 {
     match request {
         Request::OfNet { command, net } => answer_net(alloc, command, net, shelf),
+        Request::ValueOf { text } => closed(tell_value(alloc, text)),
     }
 }

@@ -6,7 +6,7 @@
 //! words ask for, what the reads gave and what answer they lead to, and how that answer was written.
 //! The other fields say what follows from it, one promise each.
 //! It stands on `teg_words`, `teg_net`, `teg_reader`, `teg_check`, `teg_dates`, `teg_form`,
-//! `teg_parts`, `teg_howard`, `teg_cycle`, what `teg_model` and `dioid` say of dates, `teg_report` for
+//! `teg_parts`, `teg_howard`, `teg_cycle`, `series_form`, `teg_calc`, what `teg_model` and `dioid` say of dates, `teg_report` for
 //! the texts, and `teg_outside`.
 #![tactic(auto)]
 
@@ -21,6 +21,7 @@ mod net_file;
 mod opening;
 mod request;
 mod status;
+mod values;
 mod writing;
 
 pub use call::workbench;

@@ -4,13 +4,16 @@ ghost use Rattle.std.specs.Option.{option_copied, option_map};
 ghost use Rattle.teg_words.specs.Meanings.{told, texts};
 ghost use Rattle.teg_words.specs.Numbers.{number_of};
 ghost use Rattle.teg_dates.specs.Tables.{most_numbers};
-ghost use Rattle.teg_run.specs.Requests.{asked_for, check_asked, cycle_asked, form_asked, list_asked, request_of};
+ghost use Rattle.teg_run.specs.Requests.{asked_for, calc_asked, check_asked, cycle_asked, form_asked, list_asked, request_of};
 ghost use Rattle.teg_run.specs.Meanings.{asked};
 ghost use Rattle.teg_run.specs.Ranges.{IsRequestInRange};
 
 use std::alloc::Global;
 use teg_net::OutOfMemory;
 use teg_words::{GivenWords, WordsRefusal, number, read_words};
+
+// The most bytes that an expression has.
+const MOST_EXPRESSION: usize = 4096;
 
 // The most firing numbers that a list has.
 const MOST_NUMBERS: u64 = 10_000;
@@ -33,6 +36,8 @@ pub enum NetCommand {
 pub enum Request<'a> {
     /// A command on the net in the file of this name.
     OfNet { command: NetCommand, net: &'a str },
+    /// The value of this expression, which has at most 4,096 bytes.
+    ValueOf { text: &'a str },
 }
 
 // `check NET`
@@ -103,6 +108,23 @@ fn cycle_asked<'a>(rest: &[&'a str], limit: Option<&'a str>, rounds: bool) -> Op
     }
 }
 
+// `calc EXPR`
+fn calc_asked<'a>(rest: &[&'a str], limit: Option<&'a str>, rounds: bool) -> Option<Request<'a>>
+    ensures value { option_map asked result ≡ calc_asked (texts rest.now) (option_copied limit.entry) rounds }
+    ensures in_range { IfSome (option_map asked result) IsRequestInRange }
+{
+    match (rest, limit, rounds) {
+        ([text], None, false) => {
+            if text.len() <= MOST_EXPRESSION {
+                Some(Request::ValueOf { text })
+            } else {
+                None
+            }
+        }
+        _ => None,
+    }
+}
+
 // The request of a command with what is given to it. A command that is not built is none.
 fn asked_for<'a>(given: &GivenWords<'a>) -> Option<Request<'a>>
     ensures value { option_map asked result ≡ asked_for (told given.now) }
@@ -114,6 +136,7 @@ fn asked_for<'a>(given: &GivenWords<'a>) -> Option<Request<'a>>
         "list" => list_asked(rest, given.limit, given.rounds),
         "form" => form_asked(rest, given.limit, given.rounds),
         "cycle" => cycle_asked(rest, given.limit, given.rounds),
+        "calc" => calc_asked(rest, given.limit, given.rounds),
         _ => None,
     }
 }

@@ -62,6 +62,8 @@ impl Status {
 pub enum Verdict {
     /// The command was carried out.
     Done,
+    /// The expression has no value within the limits.
+    Calc,
 }
 
 impl Verdict {
@@ -71,6 +73,7 @@ impl Verdict {
     {
         match self {
             Verdict::Done => Status::Done,
+            Verdict::Calc => Status::Calc,
         }
     }
 }

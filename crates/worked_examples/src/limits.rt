@@ -88,6 +88,25 @@ fn the_widest_net_has_its_cycle_times(rt: HostRuntime) -> Result<(), Fail> {
 }
 
 #[test]
+fn an_expression_is_read_up_to_its_limit(rt: HostRuntime) -> Result<(), Fail> {
+    let alloc = rt.alloc();
+    let mut expression = String::from_str(alloc, "e")?;
+    for _ in 0..4095 {
+        expression.push(' ')?;
+    }
+    let value = "series 0 period 1 step 0\n";
+    let words = ["calc", expression.as_str()];
+    assert!(rt; answers(alloc, &words, b"", Status::Done, value)?);
+    expression.push(' ')?;
+    let mut shelf = shelf_of(alloc, b"", Vec::new(alloc))?;
+    let mut out = sink_of(alloc, 65536)?;
+    let words = ["calc", expression.as_str()];
+    let status = call(alloc, &words, &mut shelf, &mut out, Vec::new(alloc))?;
+    assert_eq!(rt; status, Status::Words);
+    Ok(())
+}
+
+#[test]
 fn the_longest_list_is_told(rt: HostRuntime) -> Result<(), Fail> {
     let alloc = rt.alloc();
     let mut shelf = shelf_of(alloc, LOOP.as_bytes(), Vec::new(alloc))?;

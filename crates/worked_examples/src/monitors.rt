@@ -37,12 +37,13 @@ impl Monitor for Counter {
 #[test]
 fn monitors_are_dropped_once_and_see_nothing(rt: HostRuntime) -> Result<(), Fail> {
     let alloc = rt.alloc();
-    let table: [&[&str]; 6] = [
+    let table: [&[&str]; 7] = [
         &["check", "net"],
         &["list", "net", "3"],
         &["form", "net"],
         &["cycle", "net"],
         &["cycle", "net", "--rounds"],
+        &["calc", "e"],
         &["check"],
     ];
     for words in table {

@@ -9,14 +9,14 @@ use std::test::Fail;
 use teg_run::Status;
 
 const USAGE: &str =
-    "usage: teg check NET\n       teg list NET K\n       teg form NET\n       teg cycle NET [--rounds]\n";
+    "usage: teg check NET\n       teg list NET K\n       teg form NET\n       teg cycle NET [--rounds]\n       teg calc EXPR\n";
 
 const LIVE: &str = "live\ntransitions 2\nplaces 2\n";
 
 const CHECK: [&str; 2] = ["check", "net"];
 
 /// Words that ask for nothing.
-const WORDS: [Row<'static>; 25] = [
+const WORDS: [Row<'static>; 28] = [
     (&[], LOOP, Status::Words, USAGE),
     (&["chek", "net"], LOOP, Status::Words, USAGE),
     (&["check"], LOOP, Status::Words, USAGE),
@@ -49,6 +49,9 @@ const WORDS: [Row<'static>; 25] = [
     (&["form"], LOOP, Status::Words, USAGE),
     (&["form", "net", "net"], LOOP, Status::Words, USAGE),
     (&["form", "net", "--rounds"], LOOP, Status::Words, USAGE),
+    (&["calc"], LOOP, Status::Words, USAGE),
+    (&["calc", "e", "e"], LOOP, Status::Words, USAGE),
+    (&["calc", "e", "--rounds"], LOOP, Status::Words, USAGE),
     (&["cycle"], LOOP, Status::Words, USAGE),
     (&["cycle", "net", "net"], LOOP, Status::Words, USAGE),
     (
@@ -247,6 +250,95 @@ const CYCLES: [Row<'static>; 12] = [
     ),
 ];
 
+/// Expressions and their values.
+const VALUES: [Row<'static>; 14] = [
+    (
+        &["calc", "star(g1d2).star(g1d3)"],
+        ONE,
+        Status::Done,
+        "series 0 period 1 step 3\n",
+    ),
+    (
+        &["calc", "star(g1d2)+g0d5"],
+        ONE,
+        Status::Done,
+        "series 5 5 5 6 period 1 step 2\n",
+    ),
+    (
+        &["calc", "star(g0d1)"],
+        ONE,
+        Status::Done,
+        "series never period 1 step 0\n",
+    ),
+    (
+        &["calc", "left(star(g1d3),star(g1d2))"],
+        ONE,
+        Status::Done,
+        "series epsilon period 1 step 0\n",
+    ),
+    (
+        &["calc", "min(star(g1d2),g0d5)"],
+        ONE,
+        Status::Done,
+        "series 0 2 4 5 period 1 step 0\n",
+    ),
+    (
+        &["calc", "g1d"],
+        ONE,
+        Status::Calc,
+        "refused: syntax at 3\n",
+    ),
+    (
+        &["calc", "g20000d0"],
+        ONE,
+        Status::Calc,
+        "refused: series needs 20001\n",
+    ),
+    (
+        &["calc", "g0d1000000000000000001"],
+        ONE,
+        Status::Calc,
+        "refused: number 1000000000000000001\n",
+    ),
+    (
+        &[
+            "calc",
+            "(((((((((((((((((((((((((((((((((((((((((((((((((((((((((((((((((e)))))))))))))))))))))))))))))))))))))))))))))))))))))))))))))))))",
+        ],
+        ONE,
+        Status::Calc,
+        "refused: too deep at 64\n",
+    ),
+    (
+        &[
+            "calc",
+            "((((((((((((((((((((((((((((((((((((((((((((((((((((((((((((((((e))))))))))))))))))))))))))))))))))))))))))))))))))))))))))))))))",
+        ],
+        ONE,
+        Status::Done,
+        "series 0 period 1 step 0\n",
+    ),
+    (
+        &["calc", "g1d2 . g3d4"],
+        ONE,
+        Status::Done,
+        "series epsilon epsilon epsilon epsilon 6 period 1 step 0\n",
+    ),
+    (
+        &["calc", "star(g3d1)"],
+        ONE,
+        Status::Done,
+        "series 0 0 0 period 3 step 1\n",
+    ),
+    (
+        &["calc", "star(g200d1)"],
+        ONE,
+        Status::Calc,
+        "refused: series needs 40401\n",
+    ),
+    (&["calc", ""], ONE, Status::Calc, "refused: syntax at 0\n"),
+];
+
 /// Files that say no net. Many are the loop with one change.
 const REFUSED: [Row<'static>; 18] = [
     (
@@ -356,7 +448,7 @@ const REFUSED: [Row<'static>; 18] = [
 
 #[test]
 fn rows_are_answered(rt: HostRuntime) -> Result<(), Fail> {
-    let tables: [&[Row<'static>]; 4] = [&WORDS, &ANSWERS, &CYCLES, &REFUSED];
+    let tables: [&[Row<'static>]; 5] = [&WORDS, &ANSWERS, &CYCLES, &VALUES, &REFUSED];
     for table in tables {
         for (words, net, status, text) in table {
             let answered = answers(rt.alloc(), words, net.as_bytes(), *status, text)?;

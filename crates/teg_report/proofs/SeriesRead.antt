@@ -1,0 +1,75 @@
+-- Series and their refusals are read back from their lines.
+use Rattle.std.proofs.Common.{◌≡◌, ℕ, zero, suc, ◌+◌, ◌-◌, ◌<◌, ◌≤◌, ◌^◌, true, List, [], ◌∷◌, ◌++◌, All, map, take, drop, length, get_or, refl, ap, sym, ◌∙◌, arith, codes}
+use Rattle.std.specs.Fmt.{decimal, signed_decimal}
+use Rattle.std.specs.List.{list_all}
+use Rattle.std.specs.Prelude.{⊤}
+use Rattle.std.proofs.lemmas.Bool.{and_from}
+use Rattle.std.proofs.lemmas.List.{length-append, length-map}
+use Rattle.dioid.specs.declared.dates.Date.{Date}
+use Rattle.series_form.specs.declared.forms.SeriesRefused.{SeriesRefused}
+use Rattle.series_form.specs.declared.forms.SeriesRefused.TheVariants.{TooLong, TooGreat, OutOfMemory as NoRoom}
+use Rattle.series_form.specs.Forms.{Form as SeriesForm}
+use Rattle.teg_calc.specs.declared.refusals.ParseRefused.{ParseRefused}
+use Rattle.teg_calc.specs.declared.refusals.ParseRefused.TheVariants.{Syntax, TooDeep, OutOfMemory as NoMemory}
+use Rattle.teg_calc.specs.Printing.{series_line}
+use Rattle.teg_net.specs.Nets.{NetLists}
+use Rattle.teg_report.specs.Answering.{series_in}
+use Rattle.teg_report.specs.Answers.{Calc, Parse, Series}
+use Rattle.teg_report.specs.Kept.{IsSeriesKept, IsParseKept, IsSeriesRefusalKept}
+use Rattle.teg_report.specs.Series.{parse_line, series_refused_line}
+use Rattle.teg_report.proofs.IsRead.{IsRead}
+use Rattle.teg_text.specs.Lines.{is_word, is_line}
+use Rattle.teg_text.specs.Reading.{date_in, number_in, signed_in}
+use Rattle.teg_text.specs.Words.{IsDate, date_word}
+use Rattle.teg_text.proofs.Back.{number_back, word32_back, word64_back, signed_back, date_back}
+use Rattle.teg_text.proofs.Rows.{map_back, map_passes}
+use Rattle.teg_text.proofs.Words.{all_append, decimal_is_word, date_is_word, signed_is_word}
+
+-- the words before and those behind
+before_back : (words more : List (List ℕ)) → take (length words) (words ++ more) ≡ words
+before_back [] more = refl
+before_back (w ∷ words) more = ap (λ (l : List (List ℕ)). w ∷ l) (before_back words more)
+
+behind_back : (words more : List (List ℕ)) (i : ℕ) → get_or (words ++ more) (length words + i) [] ≡ get_or more i []
+behind_back [] more i = let same : 0 + i ≡ i = omega arith in ap (λ (j : ℕ). get_or more j []) same
+behind_back (w ∷ words) more i = let same : suc (length words) + i ≡ suc (length words + i) = omega arith in ap (λ (j : ℕ). get_or (w ∷ (words ++ more)) j []) same ∙ behind_back words more i
+
+abbrev told_values : SeriesForm → List (List ℕ)
+told_values f = map date_word f.values
+
+abbrev told_numbers : SeriesForm → List (List ℕ)
+told_numbers f = codes "period" ∷ decimal f.period ∷ codes "step" ∷ signed_decimal f.step ∷ []
+
+series_back : (f : SeriesForm) → IsSeriesKept f → series_in (series_line f) ≡ f
+series_back f h =
+    let n : length (told_values f ++ told_numbers f) ≡ length (told_values f) + 4 = length-append (told_values f) (told_numbers f) in
+    let first : length (series_line f) - 5 ≡ length (told_values f) = omega (arith, n) in
+    let third : length (series_line f) - 3 ≡ suc (length (told_values f) + 1) = omega (arith, n) in
+    let last : length (series_line f) - 1 ≡ suc (length (told_values f) + 3) = omega (arith, n) in
+    let values : map date_in (take (length (series_line f) - 5) (told_values f ++ told_numbers f)) ≡ f.values =
+    ap (λ (k : ℕ). map date_in (take k (told_values f ++ told_numbers f))) first
+    ∙ (ap (map date_in) (before_back (told_values f) (told_numbers f)) ∙ map_back IsDate date_word date_in date_back f.values h.values) in
+    let period : number_in (get_or (series_line f) (length (series_line f) - 3) []) ≡ f.period =
+    ap (λ (k : ℕ). number_in (get_or (series_line f) k [])) third
+    ∙ (ap number_in (behind_back (told_values f) (told_numbers f) 1) ∙ word64_back f.period h.period) in
+    let step : signed_in (get_or (series_line f) (length (series_line f) - 1) []) ≡ f.step =
+    ap (λ (k : ℕ). signed_in (get_or (series_line f) k [])) last
+    ∙ (ap signed_in (behind_back (told_values f) (told_numbers f) 3) ∙ signed_back f.step h.step) in
+    λ i. record { values = values i; period = period i; step = step i }
+
+pub series_read : (names : NetLists) (f : SeriesForm) → IsSeriesKept f → IsRead names (series_line f ∷ []) (Calc f)
+series_read names f h = record {
+  words = and_from _ _
+      (all_append is_word (told_values f) (told_numbers f) (map_passes (λ (d : Date). ⊤) is_word date_word (λ d _. date_is_word d) f.values (λ i d l. tt)) (rw (decimal_is_word f.period, signed_is_word f.step) refl)) refl;
+  back = ap Calc (series_back f h);
+}
+
+pub parse_read : (names : NetLists) (refusal : ParseRefused) → IsParseKept refusal → IsRead names (parse_line refusal ∷ []) (Parse refusal)
+parse_read names (Syntax at) h = record { words = rw (decimal_is_word at) refl; back = rw (word32_back at h) refl }
+parse_read names (TooDeep at) h = record { words = rw (decimal_is_word at) refl; back = rw (word32_back at h) refl }
+parse_read names NoMemory h = absurd h
+
+pub series_refused_read : (names : NetLists) (refusal : SeriesRefused) → IsSeriesRefusalKept refusal → IsRead names (series_refused_line refusal ∷ []) (Series refusal)
+series_refused_read names (TooLong need) h = record { words = rw (decimal_is_word need) refl; back = rw (number_back need (omega (arith, h))) refl }
+series_refused_read names (TooGreat value) h = record { words = rw (signed_is_word value) refl; back = rw (signed_back value h) refl }
+series_refused_read names NoRoom h = absurd h

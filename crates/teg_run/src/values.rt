@@ -1,0 +1,54 @@
+//! The values of expressions.
+ghost use Rattle.std.specs.Prelude.{◌≡◌, ◌≤◌, ◌^◌, ◌<◌, length};
+ghost use Rattle.teg_calc.specs.Reading.{IsParsed};
+ghost use Rattle.teg_calc.specs.Trees.{HasShortNumbers, node_count, tree_of};
+ghost use Rattle.teg_run.specs.Limits.{most_expression};
+ghost use Rattle.teg_run.specs.Meanings.{outcome_of};
+ghost use Rattle.teg_run.specs.Says.{Tells, SaysValue};
+
+use crate::ending::Outcome;
+use crate::status::Verdict;
+use series_form::SeriesRefused;
+use std::alloc::Global;
+use teg_calc::{Expr, ParseRefused, evaluate, parse};
+use teg_net::OutOfMemory;
+use teg_report::{Answer, report};
+
+// The value of an expression that was read.
+fn tell_series(alloc: Global, text: &str, expr: &Expr) -> Result<Outcome, OutOfMemory>
+    requires parsed { IsParsed text.now (tree_of expr.now) }
+    requires nodes { node_count (tree_of expr.now) ≤ 4096 }
+    requires numbers { HasShortNumbers (tree_of expr.now) }
+    ensures { Tells (SaysValue text.now) (outcome_of result) }
+{
+    let _text = text;
+    match evaluate(alloc, expr) {
+        Ok(series) => {
+            let text = report(alloc, None, &Answer::Calc { series: &series })?;
+            let verdict = Verdict::Done;
+            Ok(Outcome { verdict, text })
+        }
+        Err(SeriesRefused::OutOfMemory) => Err(OutOfMemory),
+        Err(refusal) => {
+            let text = report(alloc, None, &Answer::Series { refusal: &refusal })?;
+            let verdict = Verdict::Calc;
+            Ok(Outcome { verdict, text })
+        }
+    }
+}
+
+/// The value of an expression, or its refusal.
+pub fn tell_value(alloc: Global, text: &str) -> Result<Outcome, OutOfMemory>
+    requires { length text.now ≤ most_expression }
+    ensures { Tells (SaysValue text.now) (outcome_of result) }
+{
+    match parse(alloc, text.as_bytes()) {
+        Ok(expr) => tell_series(alloc, text, &expr),
+        Err(ParseRefused::OutOfMemory) => Err(OutOfMemory),
+        Err(refusal) => {
+            let text = report(alloc, None, &Answer::Parse { refusal: &refusal })?;
+            let verdict = Verdict::Calc;
+            Ok(Outcome { verdict, text })
+        }
+    }
+}
