@@ -1,8 +1,8 @@
 //! The first part of greatest ratio among the answers of parts.
-ghost use Rattle.std.specs.Prelude.{◌≡◌, ◌↔◌, ◌<◌, ◌≤◌, length, IsTrue};
+ghost use Rattle.std.specs.Prelude.{◌↔◌, ◌≤◌, length, IsTrue};
 ghost use Rattle.teg_net.specs.Limits.{most_transitions};
 ghost use Rattle.teg_net.specs.GreatestRatios.{IsFirstGreatest};
-ghost use Rattle.teg_cycle.specs.BestParts.{IsBestBelow, IsRatioAbove, HaveTokens};
+ghost use Rattle.teg_cycle.specs.BestParts.{IsRatioAbove, HaveTokens};
 
 use std::cmp::Ordering;
 use teg_net::{PartAnswer, Ratio};
