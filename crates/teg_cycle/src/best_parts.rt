@@ -25,7 +25,7 @@ fn is_above(ratio: &Ratio, best: &Option<BestPart>) -> bool
 }
 
 /// The first part of greatest ratio; none where no part has a circuit.
-fn best_part(answers: &[PartAnswer]) -> Option<usize>
+pub(crate) fn best_part(answers: &[PartAnswer]) -> Option<usize>
     requires { HaveTokens answers.now }
     ensures { IsFirstGreatest answers.now result }
 {

@@ -3,15 +3,15 @@ ghost use Rattle.std.specs.Prelude.{◌≡◌, ◌<◌, length, IfOk};
 ghost use Rattle.teg_check.specs.Ranks.{IsRanking};
 ghost use Rattle.teg_parts.specs.Partitions.{AreParts};
 
-use crate::cycle;
+use crate::{check_cycle, cycle};
 use sample_nets::{kanban, lone, ring, two_loops, two_ways};
 use std::alloc::Global;
 use std::test::Fail;
 use teg_check::{Live, check};
 use teg_howard::howard;
 use teg_net::{
-    CycleAnswer, DateList, Name, Net, OutOfMemory, PartAnswer, Place, PlaceId, Potential, Role,
-    Round, Transition, TransitionId,
+    Circuit, CycleAnswer, DateList, Name, Net, OutOfMemory, PartAnswer, Place, PlaceId, Potential,
+    Ratio, Role, Round, Transition, TransitionId,
 };
 use teg_parts::{Parts, split};
 
@@ -104,6 +104,22 @@ fn potential(transition: u32, value: i128) -> Potential {
     }
 }
 
+/// The answer on the ring, with this potential of b.
+fn ring_answer(alloc: Global, value: i128) -> Result<CycleAnswer, Fail> {
+    let part = PartAnswer::Best {
+        ratio: Ratio::of(5, 1),
+        circuit: Circuit {
+            places: vec![in alloc; place(0), place(1)]?,
+        },
+        potentials: vec![in alloc; potential(0, 0), potential(1, value)]?,
+    };
+    Ok(CycleAnswer {
+        part_of: vec![in alloc; 0, 0]?,
+        parts: vec![in alloc; part]?,
+        best: Some(0),
+    })
+}
+
 #[test]
 fn no_way_back_is_no_circuit(rt: HostRuntime) -> Result<(), Fail> {
     let alloc = rt.alloc();
@@ -166,5 +182,15 @@ fn the_slower_loop_takes_over(rt: HostRuntime) -> Result<(), Fail> {
     let answer = answer_of(alloc, &net)?;
     let part = answer.parts.first().ok_or("no part")?;
     assert!(rt; is_best(part, (5, 1), &[place(1)], &[potential(0, 0)]));
+    Ok(())
+}
+
+#[test]
+fn a_potential_of_zero_is_no_certificate(rt: HostRuntime) -> Result<(), Fail> {
+    let alloc = rt.alloc();
+    let net = ring(alloc, 1)?;
+    assert!(rt; check_cycle(&net, &answer_of(alloc, &net)?));
+    assert!(rt; check_cycle(&net, &ring_answer(alloc, 3)?));
+    assert!(rt; !check_cycle(&net, &ring_answer(alloc, 0)?));
     Ok(())
 }
