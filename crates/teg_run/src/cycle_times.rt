@@ -1,5 +1,5 @@
 //! The cycle times of a live net, and the rounds of policy iteration that led to them.
-ghost use Rattle.std.specs.Prelude.{◌≡◌, ◌++◌, ◌∷◌, [], IfOk, IfSome, OnOk, map};
+ghost use Rattle.std.specs.Prelude.{◌≡◌, ◌++◌, ◌∷◌, [], IfOk, IfSome, OnOk, length, map};
 ghost use Rattle.std.specs.Option.{option_copied, option_map};
 ghost use Rattle.teg_cycle.specs.LastRounds.{AreLastOfRuns};
 ghost use Rattle.teg_net.specs.Certificates.{IsCertificate};
@@ -53,14 +53,15 @@ fn policy_runs(
     answer: &CycleAnswer,
 ) -> Result<Vec<Vec<Round>>, OutOfMemory>
     requires strong { AreParts net.now parts.now }
+    requires count { length answer.now.parts.items ≡ length parts.now.inner }
     requires part_of { answer.now.part_of.items ≡ parts.now.part_of }
     requires answers { ArePartAnswers net.now parts.now.part_of answer.now.parts.items }
     requires runs { AreLastOfRuns net.now parts.now.part_of answer.now.parts.items }
     ensures { IfOk result (λ runs. AreRuns net.now answer.now (rounds_in runs.items)) }
 {
     let mut runs = Vec::new(alloc);
-    for part in 0..answer.parts.len() {
-        let found = net.rounds(alloc, parts, part as u32, &answer.parts[part])?;
+    for part in 0..parts.count() {
+        let found = net.rounds(alloc, parts, part, &answer.parts[part as usize])?;
         match found {
             Some(rounds) => keep(&mut runs, rounds)?,
             None => {}

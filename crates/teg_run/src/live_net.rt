@@ -87,6 +87,7 @@ impl LiveNet {
         requires { AreParts self.now parts.now }
         ensures answer { IfOk result (λ answer. IsCycleAnswer self.now answer) }
         ensures part_of { IfOk result (λ answer. answer.part_of.items ≡ parts.now.part_of) }
+        ensures count { IfOk result (λ answer. length answer.parts.items ≡ length parts.now.inner) }
         ensures runs { IfOk result (λ answer. AreLastOfRuns self.now parts.now.part_of answer.parts.items) }
         ensures certificate { IfOk result (λ answer. IsCertificate self.now answer) }
     {
