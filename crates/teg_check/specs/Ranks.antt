@@ -9,6 +9,6 @@ pub record IsRanking (net : NetLists) (ranks : List ℕ) : Type 0 where
   pub small : All (λ r. r < length net.transitions) ranks
   pub rises : All (λ p. p.tokens ≡ 0 → slice_index ranks p.from.index < slice_index ranks p.to.index) net.places
 
--- each net that these ranks stand for is live
-abbrev pub OnlyRankLiveNets : List ℕ → Type 0
-OnlyRankLiveNets ranks = (net : NetLists) → IsRanking net ranks → IsLive net
+-- a net for which ranks stand is live
+abbrev pub RankedNetsAreLive : Type 0
+RankedNetsAreLive = (net : NetLists) (ranks : List ℕ) → IsRanking net ranks → IsLive net

@@ -14,5 +14,5 @@ mod refusal;
 mod tests;
 
 pub use elimination::check;
-pub use live::Live;
+pub use live::{Live, ranked_nets_are_live};
 pub use refusal::CheckRefusal;

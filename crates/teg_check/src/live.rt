@@ -1,6 +1,6 @@
 //! Ranks of a live net.
 ghost use Rattle.std.specs.Prelude.{◌≡◌, ◌<◌, length, slice_index};
-ghost use Rattle.teg_check.specs.Ranks.{OnlyRankLiveNets};
+ghost use Rattle.teg_check.specs.Ranks.{RankedNetsAreLive};
 
 use std::marker::Model;
 use teg_net::TransitionId;
@@ -28,13 +28,17 @@ impl Live {
         Live { ranks }
     }
 
-    /// The rank of a transition: along each place without tokens it rises strictly. Ranks exist
-    /// only for live nets (chapter 2). It takes no memory.
+    /// The rank of a transition: along each place without tokens it rises strictly. It takes no
+    /// memory.
     pub fn rank(&self, transition: TransitionId) -> u32
         requires { transition.index < length self.now }
         ensures rank { result ≡ slice_index self.now transition.index }
-        ensures live { OnlyRankLiveNets self.now }
     {
         self.ranks[transition.index as usize]
     }
 }
+
+/// The law that ranks exist only for live nets (chapter 2). It does nothing when it runs.
+pub fn ranked_nets_are_live()
+    ensures { RankedNetsAreLive }
+{}

@@ -1,16 +1,17 @@
 -- What the dates of an input list come to.
-use Rattle.std.proofs.Common.{ℕ, zero, suc, ◌+◌, ◌-◌, ◌*◌, ◌/◌, ◌<◌, ◌≤◌, ◌≡◌, ◌≢◌, List, [], ◌∷◌, true, false, eqb, leb, length, get_or, Option, Some, None, refl, sym, ap, subst, ◌∙◌, arith, ⊎_elim}
-use Rattle.std.specs.Prelude.{All, AllPairs, IfSome, find, ◌==◌}
-use Rattle.std.proofs.lemmas.Bool.{cases_Bool, cases_lt}
+use Rattle.std.proofs.Common.{ℕ, zero, suc, ◌+◌, ◌-◌, ◌*◌, ◌/◌, ◌<◌, ◌≤◌, ◌≡◌, ◌≢◌, List, [], ◌∷◌, true, false, eqb, leb, length, get_or, Option, Some, None, refl, sym, ap, subst, ◌∙◌, arith, ⊎_elim, ◌⊎◌, inl, inr}
+use Rattle.std.specs.Prelude.{All, AllPairs, Any, IfSome, find, ◌==◌}
+use Rattle.std.proofs.lemmas.Bool.{cases_Bool, cases_lt, cases_eq}
 use Rattle.std.proofs.lemmas.Bool.Decides.{nat_tests}
 use Rattle.std.proofs.lemmas.List.{get_or_past}
+use Rattle.std.proofs.lemmas.List.Elements.{All-cons}
 use Rattle.std.proofs.lemmas.Nat.{div_below}
 use Rattle.std.proofs.Math.Nat.{add-div_right, mul-le-mul_left, div-le_self}
 use Rattle.teg_net.specs.declared.entries.Again.{Again}
 use Rattle.teg_net.specs.declared.entries.InputList.{InputList}
 use Rattle.teg_net.specs.Limits.{greatest_date}
 use Rattle.teg_net.specs.Nets.{NetLists, IsNet, IsInputOf, EndsOrGoesOn}
-use Rattle.teg_net.specs.Inputs.{moved_by, GoOnBy, IsInputDates, AreInputDates, rounds_past, date_past, list_date, date_by, input_date}
+use Rattle.teg_net.specs.Inputs.{moved_by, GoOnBy, IsInputDates, AreInputDates, IsInputDate, rounds_past, date_past, list_date, date_by, input_date}
 
 in_list : (dates : List ℕ) (again : Option Again) (k : ℕ) → k ≤ length dates → list_date dates again k ≡ Some (get_or dates (k - 1) 0)
 in_list dates again k l = let e : leb k (length dates) ≡ true = grind (arith, nat_tests) in rw e refl
@@ -106,7 +107,52 @@ AreInputDates-input_date net t h = record {
   no_list = λ none k. ap (λ o. date_by o k) (not_found net.inputs t none);
 }
 
-date_le : (dates : List ℕ) (i : ℕ) → All (λ d. d ≤ greatest_date) dates → get_or dates i 0 ≤ greatest_date
+-- past the list, dates that agree before agree
+past_agree :
+    (l : InputList) (u v : ℕ → Option ℕ) (k : ℕ) (o : Option Again) → EndsOrGoesOn l.dates o → GoOnBy (length l.dates) o u → GoOnBy (length l.dates) o v
+    → length l.dates < k → ((j : ℕ) → j < k → 1 ≤ j → u j ≡ v j) → u k ≡ v k
+past_agree l u v k None rule h g past before = h k past ∙ sym (g k past)
+past_agree l u v k (Some a) rule h g past before =
+    h k past ∙ (ap (moved_by a.gap) (before (k - a.every) (omega (arith, rule.some)) (omega (arith, rule.enough))) ∙ sym (g k past))
+
+-- two givings of dates by one list agree
+one_date :
+    (l : InputList) (u v : ℕ → Option ℕ) → EndsOrGoesOn l.dates l.again → IsInputDates l u → IsInputDates l v → (n k : ℕ) → k ≤ n → 1 ≤ k → u k ≡ v k
+one_date l u v rule h g zero k m p = absurd (omega arith)
+one_date l u v rule h g (suc n) k m p =
+    ⊎_elim
+    (λ (past : length l.dates < k). past_agree l u v k l.again rule h.past g.past past (λ j b q. one_date l u v rule h g n j (omega arith) q))
+    (λ (inside : k ≤ length l.dates). h.listed k p inside ∙ sym (g.listed k p inside))
+    (cases_lt (length l.dates) k)
+
+-- a transition has a list or none
+has_list : (xs : List InputList) (t : ℕ) → Any (λ l. l.transition.index ≡ t) xs ⊎ All (λ l. l.transition.index ≢ t) xs
+has_list [] t = inr (λ i d m. absurd (omega arith))
+has_list (x ∷ xs) t =
+    ⊎_elim
+    (λ (same : x.transition.index ≡ t). inl (0, x, omega arith, refl, same))
+    (λ (apart : x.transition.index ≢ t).
+    ⊎_elim
+    (λ (found : Any (λ l. l.transition.index ≡ t) xs). let (i, l, m, r, e) = found in inl (suc i, l, omega arith, r, e))
+    (λ (none : All (λ l. l.transition.index ≢ t) xs). inr (All-cons (λ l. l.transition.index ≢ t) x xs apart none))
+    (has_list xs t))
+    (cases_eq x.transition.index t)
+
+-- the function gives the date that the lists give
+pub IsInputDate-input_date : (net : NetLists) (t k : ℕ) → IsNet net → 1 ≤ k → IsInputDate net t k (input_date net t k)
+IsInputDate-input_date net t k ok one = record {
+  some = (input_date net t, AreInputDates-input_date net t ok);
+  each = λ u h. ⊎_elim
+      (λ (found : Any (λ l. l.transition.index ≡ t) net.inputs).
+      let (i, l, m, r, e) = found in
+      let same : (get_or net.inputs i l).transition.index ≡ t = rw r e in
+      one_date (get_or net.inputs i l) u (input_date net t) (ok.each_input i l m).again
+      (h.by_list i l m same) ((AreInputDates-input_date net t ok).by_list i l m same) k k (omega arith) one)
+      (λ (none : All (λ l. l.transition.index ≢ t) net.inputs). h.no_list none k ∙ sym ((AreInputDates-input_date net t ok).no_list none k))
+      (has_list net.inputs t);
+}
+
+pub date_le : (dates : List ℕ) (i : ℕ) → All (λ d. d ≤ greatest_date) dates → get_or dates i 0 ≤ greatest_date
 date_le dates i h =
     ⊎_elim
     (λ (l : i < length dates). h i 0 l)

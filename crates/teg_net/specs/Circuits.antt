@@ -6,7 +6,7 @@ use Rattle.teg_net.specs.Nets.{NetLists}
 
 -- what stands past the end of the list of places
 abbrev pub no_place : Place
-no_place = record { name = []; from = record { index = 0 }; to = record { index = 0 }; hold = 0; tokens = 0 }
+no_place = record { name = []; from = record { index = 0 }; to = record { index = 0 }; hold = 0; tokens = 0; ready = [] }
 
 -- the place of this number
 abbrev pub place_at : NetLists → PlaceId → Place

@@ -23,6 +23,11 @@ pub record AreInputDates (net : NetLists) (t : ℕ) (u : ℕ → Option ℕ) : T
   pub by_list : All (λ l. l.transition.index ≡ t → IsInputDates l u) net.inputs
   pub no_list : All (λ l. l.transition.index ≢ t) net.inputs → (k : ℕ) → u k ≡ Some 0
 
+-- the date of firing k of the transition: some dates are those that the lists give, and all that are give firing k this one
+pub record IsInputDate (net : NetLists) (t k : ℕ) (date : Option ℕ) : Type 0 where
+  pub some : (u : ℕ → Option ℕ) × AreInputDates net t u
+  pub each : (u : ℕ → Option ℕ) → AreInputDates net t u → u k ≡ date
+
 -- how many times `every` firings lead from firing k back into a list of `long` dates
 abbrev pub rounds_past : ℕ → ℕ → ℕ → ℕ
 rounds_past long every k = (k - long - 1) / every + 1
@@ -44,6 +49,10 @@ abbrev pub date_by : Option InputList → ℕ → Option ℕ
 date_by None k = Some 0
 date_by (Some l) k = list_date l.dates l.again k
 
+-- the list of the transition, if it has one
+abbrev pub list_of : NetLists → ℕ → Option InputList
+list_of net t = find (λ l. l.transition.index == t) net.inputs
+
 -- the date of firing k of an input transition; none is never
 abbrev pub input_date : NetLists → ℕ → ℕ → Option ℕ
-input_date net t k = date_by (find (λ l. l.transition.index == t) net.inputs) k
+input_date net t k = date_by (list_of net t) k

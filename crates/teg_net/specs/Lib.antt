@@ -3,6 +3,13 @@ pub mod Names
 pub mod Nets
 pub mod Circuits
 pub mod Paths
+pub mod ReadyDates
 pub mod Inputs
 pub mod Walks
+pub mod NameOrders
 pub mod Ratios
+pub mod Parts
+pub mod ReducedTimes
+pub mod GreatestRatios
+pub mod PartAnswers
+pub mod Certificates

@@ -21,7 +21,7 @@ most_tokens = 1000
 abbrev pub most_dates : ℕ
 most_dates = 100000
 
--- an input date, and the gap by which a list goes on
+-- an input date, the gap by which a list goes on, and the ready date of a token
 abbrev pub greatest_date : ℕ
 greatest_date = 1000000000000
 
@@ -32,3 +32,11 @@ most_every = 1000
 -- a firing number that is asked or walked to
 abbrev pub greatest_number : ℕ
 greatest_number = 1000000000000000000
+
+-- the time and the tokens of a ratio in an answer that is checked
+abbrev pub greatest_ratio : ℕ
+greatest_ratio = 1000000000000
+
+-- the magnitude of a potential in an answer that is checked
+abbrev pub greatest_potential : ℕ
+greatest_potential = 1000000000000000000

@@ -1,5 +1,5 @@
 -- What a net is: its lists, and the rules that they keep.
-use Rattle.std.specs.Prelude.{ℕ, ◌+◌, ◌-◌, ◌<◌, ◌≤◌, ◌≡◌, ◌≢◌, List, Option, Some, None, IsSomeAnd, slice_get, slice_index, length, All, AllPairs, IsTrue, ⊤, []}
+use Rattle.std.specs.Prelude.{ℕ, ◌+◌, ◌-◌, ◌<◌, ◌≤◌, ◌≡◌, ◌≢◌, ◌⊎◌, List, Option, Some, None, IsSomeAnd, slice_get, slice_index, length, All, AllPairs, IsTrue, ⊤, []}
 use Rattle.std.specs.List.Sorted.{IsNonDecreasing}
 use Rattle.teg_net.specs.declared.entries.Role.TheVariants.{Input}
 use Rattle.teg_net.specs.declared.entries.Again.{Again}
@@ -15,17 +15,24 @@ pub record NetLists : Type 0 where
   pub places : List Place
   pub inputs : List InputList
 
+-- the lists of these entries
+abbrev pub lists_of : List Transition → List Place → List InputList → NetLists
+lists_of transitions places inputs = record { transitions = transitions; places = places; inputs = inputs }
+
 -- the transition of this number is an input
 abbrev pub IsInput : NetLists → ℕ → Type 0
 IsInput net t = IsSomeAnd (slice_get net.transitions t) (λ x. x.role ≡ Input)
 
--- both ends of the place are transitions of the net, the end is no input, and its numbers keep their limits
+-- both ends of the place are transitions of the net, the end is no input, its numbers keep their limits,
+-- and it has no ready date, which means that all tokens are ready at 0, or one for each token
 pub record IsPlaceOf (net : NetLists) (p : Place) : Type 0 where
   pub from_in : p.from.index < length net.transitions
   pub to_in : p.to.index < length net.transitions
   pub enters_no_input : IsInput net p.to.index → ⊥
   pub hold_in : p.hold ≤ greatest_hold
   pub tokens_in : p.tokens ≤ most_tokens
+  pub ready_all : (length p.ready ≡ 0) ⊎ (length p.ready ≡ p.tokens)
+  pub ready_in : All (λ d. d ≤ greatest_date) p.ready
 
 -- the list goes on past its end: each date is that of `every` firings before, plus the gap, and dates do not fall there
 pub record GoesOn (dates : List ℕ) (a : Again) : Type 0 where
@@ -63,4 +70,4 @@ pub record IsNet (net : NetLists) : Type 0 where
 
 -- the same transitions and places in order, and no input list
 abbrev pub without_inputs : NetLists → NetLists
-without_inputs net = record { transitions = net.transitions; places = net.places; inputs = [] }
+without_inputs net = lists_of net.transitions net.places []

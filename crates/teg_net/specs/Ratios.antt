@@ -1,6 +1,8 @@
 -- Ratios of holding time to tokens (chapters 2 and 3).
-use Rattle.std.specs.Prelude.{ℕ, ◌*◌, ◌≤◌, ◌≡◌}
+use Rattle.std.specs.Prelude.{ℕ, ◌*◌, ◌<◌, ◌≤◌, ◌≡◌}
 use Rattle.std.specs.Int.{◌∣◌}
+use Rattle.std.specs.Ordering.{MatchOrdering}
+use Rattle.std.specs.declared.cmp.Ordering.{Ordering}
 
 -- a time over a number of tokens
 pub record Fraction : Type 0 where
@@ -11,6 +13,11 @@ pub record Fraction : Type 0 where
 pub record IsLowestTerms (r : Fraction) : Type 0 where
   pub some : 1 ≤ r.tokens
   pub lowest : (d : ℕ) → d ∣ r.time → d ∣ r.tokens → d ≡ 1
+
+-- the ordering is that of the two ratios, compared by products of whole numbers
+abbrev pub IsOrderOf : Ordering → Fraction → Fraction → Type 0
+IsOrderOf order r s =
+    MatchOrdering order (r.time * s.tokens < s.time * r.tokens) (r.time * s.tokens ≡ s.time * r.tokens) (s.time * r.tokens < r.time * s.tokens)
 
 -- the ratio of this time to these tokens, in lowest terms
 pub record IsRatioOf (time tokens : ℕ) (r : Fraction) : Type 0 where

@@ -25,12 +25,20 @@ abbrev pub IsStepOf : NetLists → Step → Type 0
 IsStepOf net (By p) = p.index < length net.places
 IsStepOf net Next = ⊤
 
+-- a transition of the net, and a number that is asked or walked to
+abbrev pub IsFiring : NetLists → ℕ → ℕ → Type 0
+IsFiring net t k = (t < length net.transitions) × (1 ≤ k) × (k ≤ greatest_number)
+
 -- it starts at a firing of the net, its steps follow each other, and each firing number keeps its limit
 pub record IsWalk (net : NetLists) (w : Walk) : Type 0 where
   pub start_in : w.start.index < length net.transitions
   pub number_in : 1 ≤ w.number
   pub steps : (b k : ℕ) × Walks net w.start.index w.number w.steps.items b k
   pub numbers : All (λ k. k ≤ greatest_number) (numbers_of net w.number w.steps.items)
+
+-- the walk ends at firing k of transition b
+abbrev pub EndsAt : NetLists → Walk → ℕ → ℕ → Type 0
+EndsAt net w b k = Walks net w.start.index w.number w.steps.items b k
 
 -- the holding time that a step takes
 abbrev pub step_time : NetLists → Step → ℕ

@@ -8,6 +8,7 @@ use crate::names::Name;
 use crate::net::Net;
 use std::alloc::{AllocError, Global};
 
+/// The same transition once more.
 fn transition_copy(alloc: Global, transition: &Transition) -> Result<Transition, AllocError>
     ensures { IfOk result (λ copy. copy ≡ transition.now) }
 {
@@ -18,19 +19,23 @@ fn transition_copy(alloc: Global, transition: &Transition) -> Result<Transition,
     })
 }
 
+/// The same place once more.
 fn place_copy(alloc: Global, place: &Place) -> Result<Place, AllocError>
     ensures { IfOk result (λ copy. copy ≡ place.now) }
 {
     let name = place.name.copy(alloc)?;
+    let ready = place.ready.copy(alloc)?;
     Ok(Place {
         name,
         from: place.from,
         to: place.to,
         hold: place.hold,
         tokens: place.tokens,
+        ready,
     })
 }
 
+/// The same transitions once more, in order.
 fn transitions_copy(
     alloc: Global,
     transitions: &[Transition],
@@ -44,6 +49,7 @@ fn transitions_copy(
     Ok(copies)
 }
 
+/// The same places once more, in order.
 fn places_copy(alloc: Global, places: &[Place]) -> Result<Vec<Place>, AllocError>
     ensures { IfOk result (λ copies. copies.items ≡ places.now) }
 {
@@ -55,7 +61,8 @@ fn places_copy(alloc: Global, places: &[Place]) -> Result<Vec<Place>, AllocError
 }
 
 impl Net {
-    /// The net with the same transitions and the same places, in order, and no input list.
+    /// The net with the same transitions and the same places, in order, ready dates with them, and
+    /// no input list.
     pub fn without_inputs(&self, alloc: Global) -> Result<Net, OutOfMemory>
         ensures { IfOk result (λ net. net ≡ without_inputs self.now) }
     {

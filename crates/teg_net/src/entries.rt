@@ -1,7 +1,8 @@
 //! The entries of a net: transitions, places and input lists.
-ghost use Rattle.std.specs.Prelude.{◌≡◌};
+ghost use Rattle.std.specs.Prelude.{◌≡◌, IfOk};
 
 use crate::names::Name;
+use std::alloc::{AllocError, Global};
 use std::marker::Model;
 
 /// What a transition is to the outside.
@@ -42,8 +43,12 @@ pub struct Place {
     pub to: TransitionId,
     /// The holding time, in the user's unit: 0 to 1,000,000,000.
     pub hold: u64,
-    /// The initial tokens, ready at date 0: 0 to 1,000.
+    /// The initial tokens: 0 to 1,000.
     pub tokens: u32,
+    /// From when each initial token is ready, in the user's unit: one date for each token, 0 to
+    /// 10^12, in any order, or none, which means that all are ready at 0. Token 1 is the one that
+    /// the first firing of the downstream transition takes.
+    pub ready: DateList,
 }
 
 /// How an input list goes on past its end: each date is that of `every` firings before, plus `gap`.
@@ -70,6 +75,14 @@ impl Model for DateList {
 }
 
 impl DateList {
+    /// The same dates once more.
+    pub(crate) fn copy(&self, alloc: Global) -> Result<DateList, AllocError>
+        ensures { IfOk result (λ copy. copy ≡ self.now) }
+    {
+        let dates = Vec::from_slice(alloc, &self.dates)?;
+        Ok(DateList { dates })
+    }
+
     /// The dates as a list. It takes no memory.
     pub fn new(dates: Vec<u64>) -> DateList
         ensures { result ≡ dates.items }

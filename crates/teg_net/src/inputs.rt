@@ -1,6 +1,6 @@
 //! The dates before which the firings of an input transition cannot happen.
-ghost use Rattle.std.specs.Prelude.{◌≡◌, ◌≤◌, ◌+◌, ◌*◌, IfSome, find, ◌==◌, option_map};
-ghost use Rattle.teg_net.specs.Inputs.{AreInputDates, input_date, list_date};
+ghost use Rattle.std.specs.Prelude.{◌≡◌, ◌≤◌, ◌+◌, ◌*◌, IfSome, option_copied};
+ghost use Rattle.teg_net.specs.Inputs.{IsInputDate, input_date, list_date, list_of};
 ghost use Rattle.teg_net.specs.Limits.{greatest_date, greatest_number};
 ghost use Rattle.teg_net.specs.Nets.{IsInput, IsNet, EndsOrGoesOn};
 
@@ -28,7 +28,7 @@ fn list_date(list: &InputList, number: u64) -> Option<u128>
 /// The list of the transition, if it has one.
 fn list_of(net: &Net, transition: TransitionId) -> Option<&InputList>
     ensures rules { IsNet net.now }
-    ensures first { option_map (λ l. l.now) result ≡ find (λ l. l.transition.index == transition.index) net.now.inputs }
+    ensures first { option_copied result ≡ list_of net.now transition.index }
 {
     net.inputs()
         .iter()
@@ -43,7 +43,7 @@ impl Net {
         requires first { 1 ≤ number }
         requires last { number ≤ greatest_number }
         ensures value { result ≡ input_date self.now transition.index number }
-        ensures meaning { AreInputDates self.now transition.index (input_date self.now transition.index) }
+        ensures meaning { IsInputDate self.now transition.index number result }
         ensures most { IfSome result (λ date. date ≤ greatest_date * (number + 1)) }
     {
         match list_of(self, transition) {

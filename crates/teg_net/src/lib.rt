@@ -1,9 +1,11 @@
-//! Timed event graphs: their entries, names and rules, and what paths and circuits of them are.
+//! Timed event graphs: their entries, names and rules, from when their inputs and initial tokens
+//! are there, and what paths, circuits and walks of them are.
 //!
 //! A [`Net`] is seen by contracts as its three lists (`NetLists`), which keep the rules of `IsNet`.
-//! This crate stands on std alone; what speaks of dates stands in crates above it.
+//! This crate stands on std alone; what speaks of dates of firings stands in crates above it.
 #![tactic(auto)]
 
+mod answers;
 mod circuits;
 mod copies;
 mod entries;
@@ -11,20 +13,26 @@ mod inputs;
 mod labels;
 mod lookups;
 mod memory;
+mod name_order;
 mod names;
 mod net;
 mod paths;
 mod ratios;
+mod ready;
+mod rounds;
 #[cfg(test)]
 mod tests;
 mod walks;
 
+pub use answers::{CycleAnswer, PartAnswer, Potential};
 pub use circuits::Circuit;
 pub use entries::{Again, DateList, InputList, Place, PlaceId, Role, Transition, TransitionId};
 pub use labels::Label;
 pub use memory::OutOfMemory;
+pub use name_order::NameOrder;
 pub use names::{Name, NameRefused};
 pub use net::Net;
 pub use paths::{is_circuit, is_path, time_of, tokens_of};
 pub use ratios::Ratio;
+pub use rounds::{Choice, Round};
 pub use walks::{Step, Walk, is_walk, walk_end, walk_time};

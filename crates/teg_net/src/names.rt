@@ -33,12 +33,14 @@ pub enum NameRefused {
     OutOfMemory,
 }
 
+/// Whether a name may have the byte.
 fn is_name_byte(byte: u8) -> bool
     ensures { result ≡ is_name_byte byte }
 {
     0x21 <= byte && byte != b'"' && byte != b',' && byte != 0x7F
 }
 
+/// Whether a name may have each byte of the text.
 fn has_name_bytes(text: &str) -> bool
     ensures { result ≡ list_all is_name_byte text.now }
 {

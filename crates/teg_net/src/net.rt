@@ -7,6 +7,7 @@ use std::marker::Model;
 /// A timed event graph (chapter 2) whose lists keep the rules of `IsNet`: 1 to 400 transitions and
 /// at most 4,000 places with names that are distinct among transitions and among places, places
 /// within their limits whose ends are transitions of the net and of which none enters an input,
+/// with a ready date for each of their tokens or none,
 /// and at most one list for each input transition, whose dates never fall.
 #[derive(Debug, Drop)]
 pub struct Net {
@@ -16,22 +17,22 @@ pub struct Net {
 }
 
 impl Model for Net {
-    ghost use Rattle.teg_net.specs.Nets.{NetLists, IsNet};
+    ghost use Rattle.teg_net.specs.Nets.{NetLists, IsNet, lists_of};
 
     ghost Value = { NetLists };
 
-    ghost view = { λ n. record { transitions = n.transitions.items; places = n.places.items; inputs = n.inputs.items } };
+    ghost view = { λ n. lists_of n.transitions.items n.places.items n.inputs.items };
 
-    ghost invariant = { λ n. IsNet (record { transitions = n.transitions.items; places = n.places.items; inputs = n.inputs.items }) };
+    ghost invariant = { λ n. IsNet (lists_of n.transitions.items n.places.items n.inputs.items) };
 }
 
 impl Net {
-    ghost use Rattle.teg_net.specs.Nets.{NetLists, IsNet};
+    ghost use Rattle.teg_net.specs.Nets.{IsNet, lists_of};
 
     /// The net of these lists, which keep the rules of a net. It takes no memory.
     pub fn new(transitions: Vec<Transition>, places: Vec<Place>, inputs: Vec<InputList>) -> Net
-        requires { IsNet (record { transitions = transitions.items; places = places.items; inputs = inputs.items }) }
-        ensures { result ≡ record { transitions = transitions.items; places = places.items; inputs = inputs.items } }
+        requires { IsNet (lists_of transitions.items places.items inputs.items) }
+        ensures { result ≡ lists_of transitions.items places.items inputs.items }
     {
         Net {
             transitions,

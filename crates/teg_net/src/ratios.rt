@@ -1,8 +1,7 @@
 //! Ratios of holding time to tokens (chapters 2 and 3).
-ghost use Rattle.std.specs.Prelude.{◌≡◌, ◌≤◌, ◌<◌, ◌*◌};
+ghost use Rattle.std.specs.Prelude.{◌≡◌, ◌≤◌};
 ghost use Rattle.std.specs.Int.{IsGcd};
-ghost use Rattle.std.specs.Ordering.{MatchOrdering};
-ghost use Rattle.teg_net.specs.Ratios.{IsLowestTerms, IsRatioOf};
+ghost use Rattle.teg_net.specs.Ratios.{IsLowestTerms, IsOrderOf, IsRatioOf};
 
 use std::cmp::Ordering;
 use std::marker::Model;
@@ -74,7 +73,7 @@ impl Ratio {
 
     /// Which ratio is the greater. It takes no memory.
     pub fn compare(&self, other: &Ratio) -> Ordering
-        ensures { MatchOrdering result (self.now.time * other.now.tokens < other.now.time * self.now.tokens) (self.now.time * other.now.tokens ≡ other.now.time * self.now.tokens) (other.now.time * self.now.tokens < self.now.time * other.now.tokens) }
+        ensures { IsOrderOf result self.now other.now }
     {
         let left = u128::from(self.time) * u128::from(other.tokens);
         let right = u128::from(other.time) * u128::from(self.tokens);

@@ -1,7 +1,7 @@
 //! Walks over firings: the net unfolded over firing numbers (chapter 2).
-ghost use Rattle.std.specs.Prelude.{◌≡◌, ◌<◌, ◌≤◌, ◌↔◌, ℕ, length, List, [], ◌∷◌, IsTrue, IfNone, IfSome};
+ghost use Rattle.std.specs.Prelude.{◌≡◌, ◌≤◌, ◌↔◌, ℕ, [], ◌∷◌, IsTrue, IfNone, IfSome};
 ghost use Rattle.teg_net.specs.Limits.{greatest_hold, greatest_number};
-ghost use Rattle.teg_net.specs.Walks.{Walks, WalksWithin, IsWalk, IsStepOf, step_time, walk_time};
+ghost use Rattle.teg_net.specs.Walks.{EndsAt, IsFiring, IsStepOf, IsWalk, WalksWithin, step_time, walk_time};
 
 use crate::entries::{PlaceId, TransitionId};
 use crate::net::Net;
@@ -74,7 +74,7 @@ fn steps_end(
 
 /// Whether this is a firing of the net, with a number from 1 to the greatest one.
 fn is_firing(net: &Net, transition: TransitionId, number: u64) -> bool
-    ensures { IsTrue result ↔ ((transition.index < length net.now.transitions) × (1 ≤ number) × (number ≤ greatest_number)) }
+    ensures { IsTrue result ↔ IsFiring net.now transition.index number }
 {
     (transition.index as usize) < net.transitions().len()
         && 1 <= number
@@ -117,7 +117,7 @@ pub fn walk_time(net: &Net, walk: &Walk) -> u128
 /// The transition and the firing number at which the walk ends. It takes no memory.
 pub fn walk_end(net: &Net, walk: &Walk) -> (TransitionId, u64)
     requires { IsWalk net.now walk.now }
-    ensures end { Walks net.now walk.now.start.index walk.now.number walk.now.steps.items result.0.index result.1 }
+    ensures end { EndsAt net.now walk.now result.0.index result.1 }
     ensures number { result.1 ≤ greatest_number }
 {
     steps_end(net, walk.start, walk.number, &walk.steps).unwrap()

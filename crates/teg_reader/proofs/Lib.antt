@@ -12,3 +12,4 @@ pub mod InputLemmas
 pub mod RuleLemmas
 pub mod SoundLemmas
 pub mod DateLemmas
+pub mod SpotLemmas

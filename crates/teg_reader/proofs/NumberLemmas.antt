@@ -89,6 +89,13 @@ differ a b h = step (bytes_eq b a) (λ e. sym h ∙ (bytes_eq-Decides a b).1 (sy
   step true f = sym (f (λ _. true))
   step false f = λ _. false
 
+-- whether two texts are the same does not depend on their order
+pub same_either_way : (a b : List ℕ) → bytes_eq a b ≡ bytes_eq b a
+same_either_way a b = step (bytes_eq a b) (λ e. sym ((bytes_eq-Decides b a).1 (sym (same_text a b e)))) (λ e. sym (differ a b e)) where
+  step : (c : Bool) → (c ≡ true → true ≡ bytes_eq b a) → (c ≡ false → false ≡ bytes_eq b a) → c ≡ bytes_eq b a
+  step true f g = f (λ _. true)
+  step false f g = g (λ _. false)
+
 among_push : (k t : List ℕ) (ks : List (List ℕ)) → is_among ks k ≡ false → bytes_eq k t ≡ false → is_among (ks ++ t ∷ []) k ≡ false
 among_push k t [] h e = rw e
 among_push k t (j ∷ ks) h e =

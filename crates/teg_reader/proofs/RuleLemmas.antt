@@ -1,5 +1,5 @@
 -- The net of a tree without a finding keeps the rules of a net.
-use Rattle.std.proofs.Common.{◌≡◌, ◌≢◌, ℕ, suc, ◌+◌, ◌<◌, ◌≤◌, Bool, true, false, not, cond, ◌||◌, List, [], ◌∷◌, length, map, bytes_eq, None, IsTrue, refl, ap, sym, ◌∙◌, subst, arith}
+use Rattle.std.proofs.Common.{◌≡◌, ◌≢◌, ℕ, suc, inl, ◌+◌, ◌<◌, ◌≤◌, Bool, true, false, not, cond, ◌||◌, List, [], ◌∷◌, length, map, bytes_eq, None, IsTrue, refl, ap, sym, ◌∙◌, subst, arith}
 use Rattle.std.proofs.lemmas.Bool.{and_parts, false≢true}
 use Rattle.std.proofs.lemmas.Slice.Eq.{bytes_eq-Decides}
 use Rattle.std.proofs.lemmas.List.{length-map, get_or-map}
@@ -101,6 +101,8 @@ place_fits net ts p same good =
       enters_no_input = λ input. false≢true (sym (negated _ good.free) ∙ named-from_is_input (end_at key.To p) ts (rw same at input));
       hold_in = number_up_to key.Hold greatest_hold p numbers.0;
       tokens_in = number_up_to key.Tokens most_tokens p numbers.1;
+      ready_all = inl refl;
+      ready_in = λ i d l. absurd (omega arith);
     }
 
 places_fit : (net : NetLists) (ts ps : List Data) → net.transitions ≡ map transition_of ts

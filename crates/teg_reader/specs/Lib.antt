@@ -15,3 +15,4 @@ pub mod InputLists
 pub mod NetOf
 pub mod Sound
 pub mod Documents
+pub mod Spots

@@ -10,6 +10,7 @@ use std::alloc::Global;
 use teg_net::{Name, NameRefused};
 use toml::Value;
 
+/// Whether the entries of this section have names.
 fn is_named(section: Section) -> bool
     ensures { result ≡ is_named section }
 {

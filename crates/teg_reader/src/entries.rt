@@ -20,6 +20,7 @@ use std::alloc::{AllocError, Global};
 use teg_net::{Again, DateList, InputList, Net, Place, Role, Transition};
 use toml::Value;
 
+/// The role of this text; without one a transition is internal.
 #[tactic(auto, unfolding(crate::specs::NetOf::role_of))]
 fn role_of(text: &str) -> Role
     ensures { result ≡ role_of text.now }
@@ -33,6 +34,7 @@ fn role_of(text: &str) -> Role
     }
 }
 
+/// The transition of an entry.
 #[tactic(auto, unfolding(crate::specs::NetOf::transition_of))]
 fn make_transition(alloc: Global, entry: &Value) -> Result<Transition, AllocError>
     requires { has_good_name (view entry.now) ≡ true }
@@ -43,6 +45,7 @@ fn make_transition(alloc: Global, entry: &Value) -> Result<Transition, AllocErro
     Ok(Transition { name, role })
 }
 
+/// The transitions of the entries in order.
 fn make_transitions(alloc: Global, entries: &[Value]) -> Result<Vec<Transition>, AllocError>
     requires { list_all has_good_name (map view entries.now) ≡ true }
     ensures { IfOk result (λ ts. ts.items ≡ map transition_of (map view entries.now)) }
@@ -54,6 +57,7 @@ fn make_transitions(alloc: Global, entries: &[Value]) -> Result<Vec<Transition>,
     Ok(transitions)
 }
 
+/// The place of an entry, all of whose tokens are ready at 0.
 #[tactic(auto, unfolding(crate::specs::NetOf::place_of))]
 fn make_place(alloc: Global, names: &IndexSet<&str>, entry: &Value) -> Result<Place, AllocError>
     requires sound { is_sound_place (map deref names.now.keys) (view entry.now) ≡ true }
@@ -66,9 +70,11 @@ fn make_place(alloc: Global, names: &IndexSet<&str>, entry: &Value) -> Result<Pl
         to: number_of(names, end_at(entry, Key::To)),
         hold: number_at(entry, Key::Hold),
         tokens: number_at(entry, Key::Tokens) as u32,
+        ready: DateList::new(Vec::new(alloc)),
     })
 }
 
+/// The places of the entries in order.
 fn make_places(
     alloc: Global,
     names: &IndexSet<&str>,
@@ -85,6 +91,7 @@ fn make_places(
     Ok(places)
 }
 
+/// The numbers of the values in order.
 fn make_dates(alloc: Global, values: &[Value]) -> Result<Vec<u64>, AllocError>
     ensures { IfOk result (λ ds. ds.items ≡ map as_number (map view values.now)) }
 {
@@ -95,6 +102,7 @@ fn make_dates(alloc: Global, values: &[Value]) -> Result<Vec<u64>, AllocError>
     Ok(dates)
 }
 
+/// How the input entry goes on past its list, if it does.
 #[tactic(auto, unfolding(crate::specs::InputLists::again_of))]
 fn again_of(entry: &Value) -> Option<Again>
     requires { has_small_every (view entry.now) ≡ true }
@@ -109,6 +117,7 @@ fn again_of(entry: &Value) -> Option<Again>
     }
 }
 
+/// The input list of an entry.
 #[tactic(auto, unfolding(crate::specs::NetOf::input_of, crate::specs::InputLists::dates_of))]
 fn make_input(alloc: Global, names: &IndexSet<&str>, entry: &Value) -> Result<InputList, AllocError>
     requires sound { is_sound_input (map deref names.now.keys) (view entry.now) ≡ true }
@@ -124,6 +133,7 @@ fn make_input(alloc: Global, names: &IndexSet<&str>, entry: &Value) -> Result<In
     })
 }
 
+/// The input lists of the entries in order.
 fn make_inputs(
     alloc: Global,
     names: &IndexSet<&str>,

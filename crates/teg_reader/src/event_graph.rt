@@ -40,6 +40,7 @@ pub(crate) fn look_for_transitions(transitions: &[Value]) -> Result<(), ReadRefu
     Ok(())
 }
 
+/// How many texts the value is: one text, or those of an array.
 #[tactic(auto, using(crate::proofs::TreeLemmas::lengths), unfolding(crate::specs::Trees::texts_of))]
 fn texts_len(value: &Value) -> usize
     ensures { result ≡ length (texts_of (view value.now)) }
@@ -53,6 +54,7 @@ fn texts_len(value: &Value) -> usize
     }
 }
 
+/// How many texts stand at the key.
 #[tactic(auto, unfolding(crate::specs::Trees::texts_at))]
 fn texts_len_at(entry: &Value, key: Key) -> usize
     ensures { result ≡ length (texts_at key (view entry.now)) }
@@ -102,6 +104,7 @@ pub(crate) fn look_at_all_ends(alloc: Global, places: &[Value]) -> Result<(), Re
     Ok(())
 }
 
+/// The first text of the value, or the empty text.
 #[tactic(auto, unfolding(crate::specs::Trees::texts_of))]
 fn first_text(value: &Value) -> &str
     ensures { result.now ≡ first_text (texts_of (view value.now)) }
@@ -129,6 +132,7 @@ pub(crate) fn end_at(place: &Value, key: Key) -> &str
     }
 }
 
+/// Whether the transition has the role of an input.
 #[tactic(auto, unfolding(crate::specs::EventGraphs::is_input_entry))]
 fn is_input_entry(transition: &Value) -> bool
     ensures { result ≡ is_input_entry (view transition.now) }
@@ -147,6 +151,7 @@ pub(crate) fn is_input_named(names: &IndexSet<&str>, transitions: &[Value], text
     }
 }
 
+/// Looks whether the place enters an input.
 #[tactic(auto, unfolding(crate::specs::EventGraphs::input_has_upstream))]
 fn look_at_end(
     alloc: Global,

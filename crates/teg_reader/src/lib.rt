@@ -26,5 +26,5 @@ mod walk;
 mod wrong_kinds;
 
 pub use keys::Key;
-pub use reader::read_net;
+pub use reader::{read_net, refusals_are_plain};
 pub use refusals::{ReadRefusal, Section, Spot};

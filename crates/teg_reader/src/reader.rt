@@ -7,6 +7,7 @@ ghost use Rattle.teg_reader.specs.declared.keys.Key.TheVariants as key;
 ghost use Rattle.teg_reader.specs.Trees.{list_at, names_of};
 ghost use Rattle.teg_reader.specs.Walks.{Finds};
 ghost use Rattle.teg_reader.specs.Documents.{bad_entries, bad_graph, tree_document, document, Answers};
+ghost use Rattle.teg_reader.specs.Spots.{RefusalsArePlain};
 
 use crate::bad_names::BadNames;
 use crate::entries::make_net;
@@ -73,6 +74,7 @@ fn read_tree(alloc: Global, top: &Value) -> Result<Net, ReadRefusal>
     }
 }
 
+/// The net of a table.
 fn read_table(alloc: Global, table: Table) -> Result<Net, ReadRefusal>
     ensures { Answers (tree_document (table_data (table_view table))) result }
 {
@@ -103,3 +105,9 @@ pub fn read_net(alloc: Global, bytes: &[u8]) -> Result<Net, ReadRefusal>
         }
     }
 }
+
+/// The law that a refusal which bytes get is plain: a spot at the top of the file has position 0,
+/// and want of memory is no word on the bytes. It does nothing when it runs.
+pub fn refusals_are_plain()
+    ensures { RefusalsArePlain }
+{}

@@ -7,10 +7,12 @@ ghost use Rattle.teg_reader.specs.Repeats.{repeated_at, repeated};
 use crate::keys::Key;
 use crate::refusals::{ReadRefusal, Section, Spot};
 use crate::trees::{list_at, text_at};
-use indexmap::IndexSet;
 use std::alloc::Global;
+use std::collections::BTreeSet;
 use toml::Value;
 
+/// Looks for a text at the key that an earlier entry has there. The texts are kept in order, since
+/// their number has no limit yet, and a stranger's texts could all fall on one place of a hash.
 #[tactic(auto, unfolding(crate::specs::Repeats::repeated_at))]
 fn look_for_repeats_at(
     alloc: Global,
@@ -20,14 +22,14 @@ fn look_for_repeats_at(
 ) -> Result<(), ReadRefusal>
     ensures { Finds (repeated_at section key (map view entries.now)) result }
 {
-    let mut texts = IndexSet::new(alloc);
+    let mut texts = BTreeSet::new(alloc);
     for (index, entry) in entries.iter().enumerate() {
         let Ok(position) = u32::try_from(index.saturating_add(1)) else {
             return Err(ReadRefusal::OutOfMemory);
         };
-        match texts.insert_full(text_at(entry, key)) {
-            Ok((_, true)) => {}
-            Ok((_, false)) => {
+        match texts.insert(text_at(entry, key)) {
+            Ok(true) => {}
+            Ok(false) => {
                 let spot = Spot { section, position };
                 return Err(ReadRefusal::Repeated { spot });
             }

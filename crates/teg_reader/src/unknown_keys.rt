@@ -14,6 +14,7 @@ use std::alloc::Global;
 use teg_net::Label;
 use toml::{Table, Value};
 
+/// Whether the text is the key of one of the fields.
 #[tactic(auto, unfolding(crate::specs::UnknownKeys::is_field))]
 fn is_field(text: &str, fields: &[Field]) -> bool
     ensures { result ≡ is_field fields.now text.now }
@@ -21,6 +22,7 @@ fn is_field(text: &str, fields: &[Field]) -> bool
     fields.iter().any(|field| text == field.key.text())
 }
 
+/// The first key of the table that is none of the fields.
 fn unlisted_in<'a>(table: &'a Table, fields: &[Field]) -> Option<&'a String>
     ensures first { option_copied result ≡ find (λ k. not (is_field fields.now (string_bytes k))) (keys_in table.now) }
     ensures ordered { IsStrictlySortedBy string_cmp (keys_in table.now) }
@@ -39,6 +41,7 @@ fn unlisted_text<'a>(table: &'a Table, fields: &[Field]) -> Option<&'a str>
     }
 }
 
+/// The least key of the entry that is none of the fields.
 #[tactic(auto, using(crate::proofs::KeyLemmas::least_of_none), unfolding(crate::specs::UnknownKeys::unlisted_keys))]
 fn unlisted_key<'a>(entry: &'a Value, fields: &[Field]) -> Option<&'a str>
     ensures { option_map (λ k. k.now) result ≡ least_of (unlisted_keys fields.now (view entry.now)) }

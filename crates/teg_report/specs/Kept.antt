@@ -5,6 +5,7 @@ use Rattle.teg_form.specs.declared.form.Entry.{Entry}
 use Rattle.teg_form.specs.declared.form.StarEntry.{StarEntry}
 use Rattle.teg_net.specs.Names.{is_name}
 use Rattle.teg_net.specs.Nets.{NetLists, IsNet}
+use Rattle.teg_reader.specs.Spots.{IsPlainSpot, HasPlainSpot}
 use Rattle.teg_reader.specs.declared.refusals.ReadRefusal.{ReadRefusal}
 use Rattle.teg_reader.specs.declared.refusals.ReadRefusal.TheVariants.{NotToml, UnknownKey, WrongKind, MissingKey, BadName, Repeated, OutOfRange, NoTransitions, UnknownTransition, NotEventGraph, InputHasUpstream, BadInput, OutOfMemory}
 use Rattle.teg_reader.specs.declared.refusals.Section.TheVariants.{Top}
@@ -20,10 +21,6 @@ IsWord32 n = n < 2 ^ 32
 -- a number of 64 bits
 abbrev pub IsWord64 : ℕ → Type 0
 IsWord64 n = n < 2 ^ 64
-
--- at the top of the file there is no position, which is told as 0
-abbrev pub IsPlainSpot : Spot → Type 0
-IsPlainSpot spot = spot.section ≡ Top → spot.position ≡ 0
 
 -- a position is one of 32 bits, and 0 at the top
 pub record IsSpot (spot : Spot) : Type 0 where
@@ -45,17 +42,6 @@ IsRefusal (NotEventGraph place producers consumers) = IsTrue (is_name place) × 
 IsRefusal (InputHasUpstream place) = IsTrue (is_name place)
 IsRefusal (BadInput transition position) = IsTrue (is_name transition) × IsWord32 position
 IsRefusal OutOfMemory = ⊥
-
--- the spot that a refusal tells, if it tells one, is plain
-abbrev pub HasPlainSpot : ReadRefusal → Type 0
-HasPlainSpot (UnknownKey spot key) = IsPlainSpot spot
-HasPlainSpot (WrongKind spot key) = IsPlainSpot spot
-HasPlainSpot (MissingKey spot key) = IsPlainSpot spot
-HasPlainSpot (BadName spot) = IsPlainSpot spot
-HasPlainSpot (Repeated spot) = IsPlainSpot spot
-HasPlainSpot (OutOfRange spot key) = IsPlainSpot spot
-HasPlainSpot (UnknownTransition spot name) = IsPlainSpot spot
-HasPlainSpot _ = ⊤
 
 -- the numbers of a star entry
 abbrev pub IsStarKept : StarEntry → Type 0

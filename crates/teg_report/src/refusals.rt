@@ -1,7 +1,8 @@
 //! The texts of refused net files.
 ghost use Rattle.std.specs.Prelude.{◌≡◌, [], ◌∷◌, IfOk, IsTrue, string_bytes};
 ghost use Rattle.teg_net.specs.Names.{is_name};
-ghost use Rattle.teg_report.specs.Kept.{HasPlainSpot, IsRefusal, IsWord32};
+ghost use Rattle.teg_reader.specs.Spots.{HasPlainSpot};
+ghost use Rattle.teg_report.specs.Kept.{IsRefusal, IsWord32};
 ghost use Rattle.teg_report.specs.Refusals.{ends_line, entered_line, fault_line, input_line, read_line};
 ghost use Rattle.teg_report.specs.Spots.{spot_text};
 ghost use Rattle.teg_text.specs.Lines.{written};

@@ -64,21 +64,23 @@ pub cells_back : {A W : Type 0} (P : A → Type 0) (f : A → W) (g : W → A) �
     map (λ i. g (cell_in width i e (map (cells_row head (λ k t. f (get_or xs ((k - 1) * width + t) d)) width) (range_with_len 1 count)))) (range_with_len 0 (count * width)) ≡ xs
 cells_back {A} {W} P f g back head width count xs d e all full =
     ext_get_or d _ xs (length-map-range_with_len _ 0 (count * width) ∙ sym full) (λ i l. cell i (omega (arith, l, length-map-range_with_len word 0 (count * width)))) where
-  row : ℕ → List W
-  row k = cells_row head (λ j t. f (get_or xs ((j - 1) * width + t) d)) width k
-  word : ℕ → A
-  word i = g (cell_in width i e (map (cells_row head (λ k t. f (get_or xs ((k - 1) * width + t) d)) width) (range_with_len 1 count)))
-  cell : (i : ℕ) → i < count * width → get_or (map word (range_with_len 0 (count * width))) i d ≡ get_or xs i d
-  cell i l =
-      let positive = positive_width i count width l in
-      let in_row : i / width < count = (div-lt_iff_lt-mul positive).1 l in
-      let in_column : i % width < width = mod-lt i positive in
-      let here : (i / width + 1 - 1) * width + i % width ≡ i = ap (λ (q : ℕ). q * width + i % width) (omega arith) ∙ div-add-mod' i width in
-      get_or-map-range_with_len word 0 (count * width) i i d l (omega arith)
-      ∙ ap (λ (line : List W). g (get_or (drop 1 line) (i % width) e)) (get_or-map-range_with_len (cells_row head (λ k t. f (get_or xs ((k - 1) * width + t) d)) width) 1 count (i / width) (i / width + 1) [] in_row (omega arith))
-      ∙ ap g (get_or-map-range_with_len (λ t. f (get_or xs ((i / width + 1 - 1) * width + t) d)) 0 width (i % width) (i % width) e in_column (omega arith))
-      ∙ ap (λ (n : ℕ). g (f (get_or xs n d))) here
-      ∙ back (get_or xs i d) (all i d (omega (arith, l, full)))
+      row : ℕ → List W
+      row k = cells_row head (λ j t. f (get_or xs ((j - 1) * width + t) d)) width k
+
+      word : ℕ → A
+      word i = g (cell_in width i e (map (cells_row head (λ k t. f (get_or xs ((k - 1) * width + t) d)) width) (range_with_len 1 count)))
+
+      cell : (i : ℕ) → i < count * width → get_or (map word (range_with_len 0 (count * width))) i d ≡ get_or xs i d
+      cell i l =
+          let positive = positive_width i count width l in
+          let in_row : i / width < count = (div-lt_iff_lt-mul positive).1 l in
+          let in_column : i % width < width = mod-lt i positive in
+          let here : (i / width + 1 - 1) * width + i % width ≡ i = ap (λ (q : ℕ). q * width + i % width) (omega arith) ∙ div-add-mod' i width in
+          get_or-map-range_with_len word 0 (count * width) i i d l (omega arith)
+          ∙ ap (λ (line : List W). g (get_or (drop 1 line) (i % width) e)) (get_or-map-range_with_len (cells_row head (λ k t. f (get_or xs ((k - 1) * width + t) d)) width) 1 count (i / width) (i / width + 1) [] in_row (omega arith))
+          ∙ ap g (get_or-map-range_with_len (λ t. f (get_or xs ((i / width + 1 - 1) * width + t) d)) 0 width (i % width) (i % width) e in_column (omega arith))
+          ∙ ap (λ (n : ℕ). g (f (get_or xs n d))) here
+          ∙ back (get_or xs i d) (all i d (omega (arith, l, full)))
 
 -- two kinds of lines, one behind the other, which a test tells apart
 pub joined_back : {A B L : Type 0} (test : L → Bool) (f : A → L) (g : B → L) → ((a : A) → test (f a) ≡ true) → ((b : B) → test (g b) ≡ false) → (xs : List A) (ys : List B) →

@@ -43,4 +43,3 @@ is_line (word ∷ words) = list_all is_word (word ∷ words)
 -- lines, of which each has a word
 abbrev pub are_lines : List (List (List ℕ)) → Bool
 are_lines lines = list_all is_line lines
-

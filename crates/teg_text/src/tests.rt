@@ -15,8 +15,14 @@ fn dates_are_words(rt: HostRuntime) -> Result<(), Fail> {
 #[test]
 fn dates_at_the_limits_are_words(rt: HostRuntime) -> Result<(), Fail> {
     for (date, word) in [
-        (Date::At(i128::MIN), "-170141183460469231731687303715884105728"),
-        (Date::At(i128::MAX), "170141183460469231731687303715884105727"),
+        (
+            Date::At(i128::MIN),
+            "-170141183460469231731687303715884105728",
+        ),
+        (
+            Date::At(i128::MAX),
+            "170141183460469231731687303715884105727",
+        ),
     ] {
         let mut text = String::new(rt.alloc());
         push_date(&mut text, date)?;
