@@ -2,8 +2,8 @@
 use Rattle.std.proofs.Common.{refl, ap, ◌∙◌, ℕ, pos, Result, Ok, Err, IfOk}
 use Rattle.dioid.specs.declared.dates.Date.TheVariants.{At}
 use Rattle.series_form.specs.declared.forms.SeriesRefused.{SeriesRefused}
-use Rattle.series_form.specs.Forms.{Form, value_at}
-use Rattle.series_form.specs.Canonical.{constant_is}
+use Rattle.series_laws.specs.Forms.{Form, value_at}
+use Rattle.series_laws.proofs.Canonical.{constant_is}
 use Rattle.series_form.specs.Answer.{AnswersOf, IsConstant}
 use Rattle.series_form.specs.declared.forms.SeriesRefused.TheVariants.{TooLong, TooGreat, OutOfMemory}
 use Rattle.teg_calc.specs.Trees.{Tree, unit, plus, times as times_tree, least, left}
