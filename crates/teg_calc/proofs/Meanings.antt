@@ -1,35 +1,30 @@
--- The series that an operation answers is what its tree means.
-use Rattle.std.proofs.Common.{refl, ap, ◌∙◌, ℕ, pos, Result, Ok, Err, IfOk}
-use Rattle.dioid.specs.declared.dates.Date.TheVariants.{At}
+-- The series that a tree's evaluation answers is what the tree means.
+use Rattle.std.proofs.Common.{◌≡◌, refl, ap, ◌∙◌, ℕ, pos, Result, Ok, Err, IfOk}
+use Rattle.dioid.specs.Dates.{move}
+use Rattle.dioid.specs.declared.dates.Date.{Date}
+use Rattle.dioid.specs.declared.dates.Date.TheVariants.{Early, At, Never}
 use Rattle.series_form.specs.declared.forms.SeriesRefused.{SeriesRefused}
-use Rattle.series_form.specs.Forms.{Form, value_at}
-use Rattle.series_form.specs.Canonical.{constant_is}
-use Rattle.series_form.specs.Answer.{AnswersOf, IsConstant}
-use Rattle.series_form.specs.declared.forms.SeriesRefused.TheVariants.{TooLong, TooGreat, OutOfMemory}
-use Rattle.teg_calc.specs.Trees.{Tree, unit, plus, times as times_tree, least, left}
-use Rattle.teg_calc.specs.Meaning.{Means, sum_answers, product_answers, least_answers, left_answers}
+use Rattle.series_form.specs.Answer.{IsConstant}
+use Rattle.series_laws.specs.Forms.{Form, value_at}
+use Rattle.series_laws.proofs.Canonical.{constant_is}
+use Rattle.teg_calc.specs.Trees.{Tree, mono, epsilon, unit, never, plus, times, star, least, left}
+use Rattle.teg_calc.specs.Meaning.{Means, Evaluates}
 
--- what the answer is of, the series is
-answer_is : (is : Form → Type 0) (need carried : ℕ) (P : Form → Type 0) (r : Result Form SeriesRefused) → AnswersOf is need carried r → ((f : Form) → is f → P f) → IfOk r P
-answer_is is need carried P (Ok f) h k = k f h.1
-answer_is is need carried P (Err e) h k = tt
+constant_means : (d : Date) → move (pos 0) d ≡ d → (s : Form) → IsConstant d (Ok s) → (k : ℕ) → value_at s k ≡ d
+constant_means d e s h k = ap (λ (z : Form). value_at z k) h.0 ∙ (constant_is d e).1 k
 
-pub sum_means : (a b : Tree) (f g : Form) (r : Result Form SeriesRefused) → Means a (value_at f) → Means b (value_at g) → sum_answers f g r → IfOk r (λ s. Means (plus a b) (value_at s))
-sum_means a b f g r h k e = answer_is _ _ _ (λ s. Means (plus a b) (value_at s)) r e
-    (λ s v. record { first = value_at f; second = value_at g; is_first = h; is_second = k; values = v })
+means_of : (t : Tree) (s : Form) → Evaluates t (Ok s) → Means t (value_at s)
+means_of (mono shift minus date) s h = h.1
+means_of epsilon s h = constant_means Early refl s h
+means_of unit s h = constant_means (At (pos 0)) refl s h
+means_of never s h = constant_means Never refl s h
+means_of (plus a b) s h = record { first = value_at h.left; second = value_at h.right; is_first = means_of a h.left h.is_left; is_second = means_of b h.right h.is_right; values = h.answer.1 }
+means_of (times a b) s h = record { first = value_at h.left; second = value_at h.right; is_first = means_of a h.left h.is_left; is_second = means_of b h.right h.is_right; values = h.answer.1 }
+means_of (star a) s h = record { operand = value_at h.form; is_operand = means_of a h.form h.is_form; values = h.answer.1 }
+means_of (least a b) s h = record { first = value_at h.left; second = value_at h.right; is_first = means_of a h.left h.is_left; is_second = means_of b h.right h.is_right; values = h.answer.1 }
+means_of (left a b) s h = record { first = value_at h.left; second = value_at h.right; is_first = means_of a h.left h.is_left; is_second = means_of b h.right h.is_right; values = h.answer.1 }
 
-pub product_means : (a b : Tree) (f g : Form) (r : Result Form SeriesRefused) → Means a (value_at f) → Means b (value_at g) → product_answers f g r → IfOk r (λ s. Means (times_tree a b) (value_at s))
-product_means a b f g r h k e = answer_is _ _ _ (λ s. Means (times_tree a b) (value_at s)) r e
-    (λ s v. record { first = value_at f; second = value_at g; is_first = h; is_second = k; values = v })
-
-pub least_means : (a b : Tree) (f g : Form) (r : Result Form SeriesRefused) → Means a (value_at f) → Means b (value_at g) → least_answers f g r → IfOk r (λ s. Means (least a b) (value_at s))
-least_means a b f g r h k e = answer_is _ _ _ (λ s. Means (least a b) (value_at s)) r e
-    (λ s v. record { first = value_at f; second = value_at g; is_first = h; is_second = k; values = v })
-
-pub left_means : (a b : Tree) (f g : Form) (r : Result Form SeriesRefused) → Means a (value_at f) → Means b (value_at g) → left_answers f g r → IfOk r (λ s. Means (left a b) (value_at s))
-left_means a b f g r h k e = answer_is _ _ _ (λ s. Means (left a b) (value_at s)) r e
-    (λ s v. record { first = value_at f; second = value_at g; is_first = h; is_second = k; values = v })
-
-pub unit_means : (r : Result Form SeriesRefused) → IsConstant (At (pos 0)) r → IfOk r (λ s. Means unit (value_at s))
-unit_means (Ok f) h = λ k. ap (λ (z : Form). value_at z k) h.0 ∙ (constant_is (At (pos 0)) refl).1 k
-unit_means (Err e) h = tt
+-- where the answer is a series
+pub if_means : (t : Tree) (r : Result Form SeriesRefused) → Evaluates t r → IfOk r (λ s. Means t (value_at s))
+if_means t (Ok s) h = means_of t s h
+if_means t (Err e) h = tt

@@ -3,7 +3,7 @@ use Rattle.std.proofs.Common.{◌≡◌, refl, ap, sym, ◌∙◌, ℕ, ℤ, Lis
 use Rattle.std.specs.List.{flat_map}
 use Rattle.std.specs.Fmt.{decimal, signed_decimal}
 use Rattle.dioid.specs.declared.dates.Date.{Date}
-use Rattle.series_form.specs.Forms.{form_with}
+use Rattle.series_laws.specs.Forms.{form_with}
 use Rattle.teg_text.specs.Lines.{further_then, written}
 use Rattle.teg_text.specs.Words.{date_word}
 use Rattle.teg_calc.specs.Printing.{series_line}

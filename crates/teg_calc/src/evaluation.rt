@@ -1,7 +1,7 @@
 //! The meaning of expressions.
 ghost use Rattle.std.specs.Prelude.{◌≡◌, ◌≤◌, ◌<◌, ◌^◌, IfOk};
 ghost use Rattle.std.specs.Int.RustNames.{unsigned_abs};
-ghost use Rattle.series_form.specs.Forms.{value_at};
+ghost use Rattle.series_laws.specs.Forms.{value_at};
 ghost use Rattle.series_form.specs.Bounds.{IsSeries};
 ghost use Rattle.teg_calc.specs.Trees.{HasShortNumbers, mono, node_count, tree_of};
 ghost use Rattle.teg_calc.specs.Meaning.{Evaluates, Means, signed_date};

@@ -4,8 +4,8 @@
 //! offset at which no expression goes on or a bracket is opened too deep. [`evaluate`] answers the
 //! canonical form of what the tree means, a function of every shift, or the first refusal of its
 //! operations. [`print`] writes a series as a line. The crate stands on `series_form` and
-//! `series_ops` for series, on `dioid` for dates, on `teg_text` for words and on `teg_net` for want
-//! of memory.
+//! `series_ops` for series, on `series_laws` for what they mean, on `dioid` for dates, on `teg_text`
+//! for words and on `teg_net` for want of memory.
 #![tactic(auto)]
 
 mod brackets;

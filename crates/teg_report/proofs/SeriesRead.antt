@@ -8,7 +8,7 @@ use Rattle.std.proofs.lemmas.List.{length-append, length-map}
 use Rattle.dioid.specs.declared.dates.Date.{Date}
 use Rattle.series_form.specs.declared.forms.SeriesRefused.{SeriesRefused}
 use Rattle.series_form.specs.declared.forms.SeriesRefused.TheVariants.{TooLong, TooGreat, OutOfMemory as NoRoom}
-use Rattle.series_form.specs.Forms.{Form as SeriesForm}
+use Rattle.series_laws.specs.Forms.{Form as SeriesForm}
 use Rattle.teg_calc.specs.declared.refusals.ParseRefused.{ParseRefused}
 use Rattle.teg_calc.specs.declared.refusals.ParseRefused.TheVariants.{Syntax, TooDeep, OutOfMemory as NoMemory}
 use Rattle.teg_calc.specs.Printing.{series_line}

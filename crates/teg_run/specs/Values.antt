@@ -3,7 +3,7 @@ use Rattle.std.specs.Prelude.{ℕ, ◌≡◌, ◌≢◌, ◌⊎◌, List, Ok, Er
 use Rattle.series_form.specs.declared.forms.SeriesRefused.{SeriesRefused}
 use Rattle.series_form.specs.declared.forms.SeriesRefused.TheVariants.{OutOfMemory as NoRoom}
 use Rattle.series_form.specs.Bounds.{IsSeries}
-use Rattle.series_form.specs.Forms.{Form, value_at}
+use Rattle.series_laws.specs.Forms.{Form, value_at}
 use Rattle.teg_calc.specs.declared.refusals.ParseRefused.{ParseRefused}
 use Rattle.teg_calc.specs.declared.refusals.ParseRefused.TheVariants.{OutOfMemory as NoMemory}
 use Rattle.teg_calc.specs.Meaning.{Evaluates, Means}
