@@ -4,10 +4,11 @@ use Rattle.teg_net.specs.Nets.{NetLists}
 use Rattle.teg_report.specs.declared.answer.Which.{Which}
 use Rattle.teg_report.specs.declared.answer.Which.TheVariants.{Net as NetFile}
 use Rattle.teg_report.specs.Answering.{answer_of, answer_in, AreOfOneNet, IsNamedBy}
-use Rattle.teg_report.specs.Answers.{Answer, Usage, Live, Listed, Form, Read, TooLarge, TokenFree, Fault}
+use Rattle.teg_report.specs.Answers.{Answer, Usage, Live, Listed, Form, NoCircuit, Cycle, Read, TooLarge, TokenFree, Fault}
 use Rattle.teg_report.specs.Kept.{IsTold}
 use Rattle.teg_report.specs.Reports.{lines_of, names_of, text_of}
 use Rattle.teg_report.proofs.IsRead.{IsRead, with_net}
+use Rattle.teg_report.proofs.Cycled.{cycle_read}
 use Rattle.teg_report.proofs.Listed.{list_read, circuit_read, form_read}
 use Rattle.teg_report.proofs.Refused.{refusal_read}
 use Rattle.teg_text.proofs.Back.{word32_back}
@@ -29,6 +30,8 @@ lines_read net names e (Live transitions places) h = record {
 }
 lines_read net names e (Listed table) h = with_net _ (λ names n. IsRead names (lines_of n (Listed table)) (Listed table)) net names e h.keeps_rules h.about (list_read table h.kept.0 h.kept.1)
 lines_read net names e (Form form) h = with_net _ (λ names n. IsRead names (lines_of n (Form form)) (Form form)) net names e h.keeps_rules h.about (form_read form h.kept)
+lines_read net names e NoCircuit h = record { words = refl; back = refl }
+lines_read net names e (Cycle answer rounds) h = with_net _ (λ names n. IsRead names (lines_of n (Cycle answer rounds)) (Cycle answer rounds)) net names e h.keeps_rules h.about (cycle_read answer rounds h.kept)
 lines_read net names e (Read refusal) h = refusal_read names refusal h.kept
 lines_read net names e (TooLarge file) h = too_large_read names (names_of net) file
 lines_read net names e (TokenFree circuit) h = with_net _ (λ names n. IsRead names (lines_of n (TokenFree circuit)) (TokenFree circuit)) net names e h.keeps_rules h.about (circuit_read circuit)

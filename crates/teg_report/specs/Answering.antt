@@ -1,13 +1,16 @@
 -- How an answer is read back from its text. No text rests on these definitions: all that they say is that there is such a function.
-use Rattle.std.specs.Prelude.{ℕ, Bool, ◌*◌, ◌≡◌, not, ◌&&◌, List, [], map, drop, length, codes, bytes_eq, Option, Some, None, if◌then◌else◌, ⊤}
+use Rattle.std.specs.Prelude.{ℕ, Bool, ◌*◌, ◌≡◌, not, ◌&&◌, ◌||◌, ◌==◌, false, List, [], ◌∷◌, map, drop, length, codes, bytes_eq, Option, Some, None, if◌then◌else◌, ⊤}
 use Rattle.std.specs.List.{range_with_len}
 use Rattle.teg_dates.specs.Tables.{TableDates}
 use Rattle.teg_form.specs.declared.form.Entry.{Entry}
 use Rattle.teg_form.specs.declared.form.StarEntry.{StarEntry}
 use Rattle.teg_form.specs.Forms.{FormLists}
+use Rattle.teg_net.specs.declared.answers.Potential.{Potential}
 use Rattle.teg_net.specs.declared.entries.PlaceId.{PlaceId}
 use Rattle.teg_net.specs.declared.entries.TransitionId.{TransitionId}
+use Rattle.teg_net.specs.declared.rounds.Choice.{Choice}
 use Rattle.teg_net.specs.Nets.{NetLists}
+use Rattle.teg_net.specs.Ratios.{Fraction}
 use Rattle.teg_reader.specs.declared.keys.Key.{Key}
 use Rattle.teg_reader.specs.declared.keys.Key.TheVariants.{Version, Transition as TransitionKey, Place as PlaceKey, Input as InputKey, Name, Role, From, To, Hold, Tokens, Dates, Every, Gap}
 use Rattle.teg_reader.specs.declared.refusals.ReadRefusal.{ReadRefusal}
@@ -16,9 +19,11 @@ use Rattle.teg_reader.specs.declared.refusals.Section.{Section}
 use Rattle.teg_reader.specs.declared.refusals.Section.TheVariants.{Top, Transition, Place, Input}
 use Rattle.teg_reader.specs.declared.refusals.Spot.{Spot}
 use Rattle.teg_report.specs.declared.answer.Which.TheVariants.{Net as NetFile}
-use Rattle.teg_report.specs.Answers.{Answer, Usage, Live, Listed, Form, Read, TooLarge, TokenFree, Fault}
-use Rattle.teg_text.specs.Reading.{lines_in, line_at, word, stands_at, number_in, is_numeral, date_in, label_in, index_in}
-use Rattle.teg_text.specs.Rows.{those, cell_in}
+use Rattle.teg_report.specs.Answers.{Answer, Usage, Live, Listed, Form, NoCircuit, Cycle, Read, TooLarge, TokenFree, Fault}
+use Rattle.teg_report.specs.Cycles.{PartLists, NoCircuitIn, BestOf, CycleLists, has_ratio}
+use Rattle.teg_report.specs.Rounds.{RoundLists}
+use Rattle.teg_text.specs.Reading.{lines_in, line_at, word, stands_at, number_in, is_numeral, signed_in, before_slash, behind_slash, date_in, label_in, index_in}
+use Rattle.teg_text.specs.Rows.{those, first_where, blocks_in, cell_in}
 
 -- the transition of this name
 abbrev pub transition_in : NetLists → List ℕ → TransitionId
@@ -51,6 +56,83 @@ is_star line = stands_at 0 line (codes "star")
 -- a standard form
 abbrev pub form_in : NetLists → List (List (List ℕ)) → FormLists
 form_in net lines = record { stars = map (star_in net) (those is_star (drop 1 lines)); entries = map (entry_in net) (those (λ line. not (is_star line)) (drop 1 lines)) }
+
+-- a ratio
+abbrev pub ratio_in : List ℕ → Fraction
+ratio_in word = record { time = number_in (before_slash word); tokens = number_in (behind_slash word) }
+
+-- a potential
+abbrev pub potential_in : NetLists → List (List ℕ) → Potential
+potential_in net line = record { transition = transition_in net (word 1 line); value = signed_in (word 2 line) }
+
+-- a part, from its block of lines
+abbrev pub part_in : NetLists → List (List (List ℕ)) → PartLists
+part_in net block =
+    if stands_at 2 (line_at 0 block) (codes "no") then NoCircuitIn
+    else BestOf (ratio_in (word 3 (line_at 0 block))) (map (place_in net) (drop 1 (line_at 1 block))) (map (potential_in net) (drop 2 block))
+
+-- the members of a part: the lines behind its first or its first two
+abbrev pub members_in : NetLists → List (List (List ℕ)) → List TransitionId
+members_in net block =
+    map (λ line. transition_in net (word 1 line)) (if stands_at 2 (line_at 0 block) (codes "no") then drop 1 block else drop 2 block)
+
+-- whether the transition of this number is among these
+abbrev pub is_member : ℕ → List TransitionId → Bool
+is_member t [] = false
+is_member t (m ∷ ms) = (m.index == t) || is_member t ms
+
+-- the first line of a part or of a round
+abbrev pub is_part_line : List (List ℕ) → Bool
+is_part_line line = stands_at 0 line (codes "part")
+
+-- the blocks of parts and rounds
+abbrev pub told_in : List (List (List ℕ)) → List (List (List (List ℕ)))
+told_in lines = (blocks_in is_part_line (drop 2 lines)).blocks
+
+-- whether the block is that of a part
+abbrev pub is_part : List (List (List ℕ)) → Bool
+is_part block = not (stands_at 2 (line_at 0 block) (codes "round"))
+
+-- whether the block is that of a first round
+abbrev pub is_first_round : List (List (List ℕ)) → Bool
+is_first_round block = number_in (word 3 (line_at 0 block)) == 1
+
+-- the blocks of the parts
+abbrev pub parts_in : List (List (List ℕ)) → List (List (List (List ℕ)))
+parts_in lines = those is_part (told_in lines)
+
+-- the blocks of the rounds, in a list for each part
+abbrev pub runs_in : List (List (List ℕ)) → List (List (List (List (List ℕ))))
+runs_in lines = (blocks_in is_first_round (those (λ block. not (is_part block)) (told_in lines))).blocks
+
+-- a choice
+abbrev pub choice_in : NetLists → List (List ℕ) → Choice
+choice_in net line = record { transition = transition_in net (word 1 line); place = place_in net (word 2 line); value = signed_in (word 3 line) }
+
+-- a round, from its block of lines
+abbrev pub round_in : NetLists → List (List (List ℕ)) → RoundLists
+round_in net block = record {
+  ratio = ratio_in (word 5 (line_at 0 block));
+  circuit = map (place_in net) (drop 1 (line_at 1 block));
+  choices = map (choice_in net) (drop 2 block);
+}
+
+-- the lists of rounds, if there are any
+abbrev pub some_runs : List (List RoundLists) → Option (List (List RoundLists))
+some_runs [] = None
+some_runs (rounds ∷ runs) = Some (rounds ∷ runs)
+
+-- the rounds of policy iteration
+abbrev pub rounds_in : NetLists → List (List (List ℕ)) → Option (List (List RoundLists))
+rounds_in net lines = some_runs (map (map (round_in net)) (runs_in lines))
+
+-- cycle times
+abbrev pub cycle_in : NetLists → List (List (List ℕ)) → CycleLists
+cycle_in net lines = record {
+  part_of = map (λ t. first_where (is_member t) (map (members_in net) (parts_in lines))) (range_with_len 0 (length net.transitions));
+  parts = map (part_in net) (parts_in lines);
+  best = Some (first_where (has_ratio (ratio_in (word 2 (line_at 0 lines)))) (map (part_in net) (parts_in lines)));
+}
 
 -- a key of the file
 abbrev pub key_in : List ℕ → Key
@@ -102,6 +184,8 @@ answer_of net lines =
     else if stands_at 0 (line_at 0 lines) (codes "live") then Live (number_in (word 1 (line_at 1 lines))) (number_in (word 1 (line_at 2 lines)))
     else if stands_at 0 (line_at 0 lines) (codes "dates") then Listed (table_in net lines)
     else if stands_at 0 (line_at 0 lines) (codes "form") then Form (form_in net lines)
+    else if stands_at 0 (line_at 0 lines) (codes "no") then NoCircuit
+    else if stands_at 0 (line_at 0 lines) (codes "cycle") then Cycle (cycle_in net lines) (rounds_in net lines)
     else if stands_at 0 (line_at 0 lines) (codes "fault:") then Fault NetFile
     else if stands_at 1 (line_at 0 lines) (codes "the") then TooLarge NetFile
     else if stands_at 1 (line_at 0 lines) (codes "token-free") then TokenFree (map (place_in net) (drop 3 (line_at 0 lines)))

@@ -1,8 +1,10 @@
 -- What the values of an answer keep by their types, and where an answer is told in the one way that it has.
-use Rattle.std.specs.Prelude.{ℕ, ◌<◌, ◌≡◌, ◌^◌, Option, IfSome, All, IsTrue, ⊤}
+use Rattle.std.specs.Prelude.{ℕ, ◌<◌, ◌≡◌, ◌^◌, List, length, Option, IfSome, All, IsTrue, ⊤}
+use Rattle.std.specs.Int.RustNames.{unsigned_abs}
 use Rattle.teg_dates.specs.Tables.{IsTable}
 use Rattle.teg_form.specs.declared.form.Entry.{Entry}
 use Rattle.teg_form.specs.declared.form.StarEntry.{StarEntry}
+use Rattle.teg_net.specs.declared.rounds.Choice.{Choice}
 use Rattle.teg_net.specs.Names.{is_name}
 use Rattle.teg_net.specs.Nets.{NetLists, IsNet}
 use Rattle.teg_reader.specs.Spots.{IsPlainSpot, HasPlainSpot}
@@ -10,8 +12,9 @@ use Rattle.teg_reader.specs.declared.refusals.ReadRefusal.{ReadRefusal}
 use Rattle.teg_reader.specs.declared.refusals.ReadRefusal.TheVariants.{NotToml, UnknownKey, WrongKind, MissingKey, BadName, Repeated, OutOfRange, NoTransitions, UnknownTransition, NotEventGraph, InputHasUpstream, BadInput, OutOfMemory}
 use Rattle.teg_reader.specs.declared.refusals.Section.TheVariants.{Top}
 use Rattle.teg_reader.specs.declared.refusals.Spot.{Spot}
-use Rattle.teg_report.specs.Answers.{Answer, Usage, Live, Listed, Form, Read, TooLarge, TokenFree, Fault}
+use Rattle.teg_report.specs.Answers.{Answer, Usage, Live, Listed, Form, NoCircuit, Cycle, Read, TooLarge, TokenFree, Fault}
 use Rattle.teg_report.specs.Reports.{IsAbout}
+use Rattle.teg_report.specs.Rounds.{RoundLists}
 use Rattle.teg_text.specs.Words.{AreBytes, IsDate}
 
 -- a number of 32 bits
@@ -51,12 +54,29 @@ IsStarKept e = IsWord64 e.time
 abbrev pub IsEntryKept : Entry → Type 0
 IsEntryKept e = IsWord32 e.tokens × IsWord64 e.time
 
+-- the potential of a choice
+abbrev pub IsChoiceKept : Choice → Type 0
+IsChoiceKept c = unsigned_abs c.value < 2 ^ 128
+
+-- the numbers of a round
+pub record IsRoundKept (r : RoundLists) : Type 0 where
+  pub time : IsWord64 r.ratio.time
+  pub tokens : IsWord64 r.ratio.tokens
+  pub choices : All IsChoiceKept r.choices
+
+-- the rounds of a part, and how many there are
+pub record IsRunKept (rounds : List RoundLists) : Type 0 where
+  pub count : IsWord64 (length rounds)
+  pub each : All IsRoundKept rounds
+
 -- what the values of an answer keep
 abbrev pub IsKept : Answer → Type 0
 IsKept Usage = ⊤
 IsKept (Live transitions places) = IsWord32 transitions × IsWord32 places
 IsKept (Listed table) = IsTable table × All IsDate table.dates
 IsKept (Form form) = All IsStarKept form.stars × All IsEntryKept form.entries
+IsKept NoCircuit = ⊤
+IsKept (Cycle answer rounds) = IfSome rounds (λ runs. All IsRunKept runs)
 IsKept (Read refusal) = IsRefusal refusal
 IsKept (TooLarge file) = ⊤
 IsKept (TokenFree circuit) = ⊤

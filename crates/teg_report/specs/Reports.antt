@@ -1,15 +1,17 @@
 -- The text of an answer, and what an answer about a net meets.
-use Rattle.std.specs.Prelude.{ℕ, ◌≡◌, ◌≢◌, List, [], ◌∷◌, Option, Some, None, IsSomeAnd, length, ⊤}
+use Rattle.std.specs.Prelude.{ℕ, ◌≡◌, ◌≢◌, List, [], ◌∷◌, ◌++◌, Option, Some, None, IsSomeAnd, length, ⊤}
 use Rattle.teg_dates.specs.Tables.{date_at}
 use Rattle.teg_net.specs.Circuits.{AreInRange}
 use Rattle.teg_net.specs.Nets.{NetLists}
 use Rattle.teg_reader.specs.declared.refusals.ReadRefusal.TheVariants.{OutOfMemory}
-use Rattle.teg_report.specs.Answers.{Answer, Usage, Live, Listed, Form, Read, TooLarge, TokenFree, Fault}
+use Rattle.teg_report.specs.Answers.{Answer, Usage, Live, Listed, Form, NoCircuit, Cycle, Read, TooLarge, TokenFree, Fault}
+use Rattle.teg_report.specs.Cycles.{IsCycleTold, cycle_lines}
+use Rattle.teg_report.specs.Rounds.{AreRoundsTold, runs_lines, told_runs}
 use Rattle.teg_report.specs.Forms.{IsFormWithin, form_lines}
 use Rattle.teg_text.specs.Lines.{written}
 use Rattle.teg_report.specs.Lists.{list_lines}
 use Rattle.teg_report.specs.Refusals.{read_line}
-use Rattle.teg_report.specs.Texts.{usage_lines, live_lines, too_large_line, read_fault_line, token_free_line}
+use Rattle.teg_report.specs.Texts.{usage_lines, live_lines, no_circuit_line, too_large_line, read_fault_line, token_free_line}
 
 -- the net whose names are told; no names where none is given
 abbrev pub names_of : Option NetLists → NetLists
@@ -22,6 +24,8 @@ lines_of net Usage = usage_lines
 lines_of net (Live transitions places) = live_lines transitions places
 lines_of net (Listed table) = list_lines net (date_at table) table.count
 lines_of net (Form form) = form_lines net form
+lines_of net NoCircuit = no_circuit_line ∷ []
+lines_of net (Cycle answer rounds) = cycle_lines net answer ++ runs_lines net (told_runs answer.parts rounds)
 lines_of net (Read refusal) = read_line refusal ∷ []
 lines_of net (TooLarge file) = too_large_line file ∷ []
 lines_of net (TokenFree circuit) = token_free_line net circuit ∷ []
@@ -37,6 +41,8 @@ IsAbout net Usage = ⊤
 IsAbout net (Live transitions places) = ⊤
 IsAbout net (Listed table) = IsSomeAnd net (λ n. table.width ≡ length n.transitions)
 IsAbout net (Form form) = IsSomeAnd net (λ n. IsFormWithin n form)
+IsAbout net NoCircuit = ⊤
+IsAbout net (Cycle answer rounds) = IsSomeAnd net (λ n. IsCycleTold n answer × AreRoundsTold n answer.parts rounds)
 IsAbout net (Read refusal) = refusal ≢ OutOfMemory
 IsAbout net (TooLarge file) = ⊤
 IsAbout net (TokenFree circuit) = IsSomeAnd net (λ n. AreInRange n circuit)

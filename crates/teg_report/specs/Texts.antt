@@ -10,7 +10,7 @@ use Rattle.teg_text.specs.Lines.{phrase}
 
 -- the commands that are built, each with what follows it
 abbrev pub command_forms : List (List ℕ)
-command_forms = codes "check NET" ∷ codes "list NET K" ∷ codes "form NET" ∷ []
+command_forms = codes "check NET" ∷ codes "list NET K" ∷ codes "form NET" ∷ codes "cycle NET [--rounds]" ∷ []
 
 -- a line of the usage but the first
 abbrev pub usage_line : List ℕ → List (List ℕ)
@@ -32,6 +32,10 @@ counted word count = word ∷ decimal count ∷ []
 -- that a net of so many transitions and places is live
 abbrev pub live_lines : ℕ → ℕ → List (List (List ℕ))
 live_lines transitions places = phrase (codes "live") ∷ counted (codes "transitions") transitions ∷ counted (codes "places") places ∷ []
+
+-- that a net has no circuit
+abbrev pub no_circuit_line : List (List ℕ)
+no_circuit_line = phrase (codes "no circuit")
 
 -- how texts speak of a file
 abbrev pub file_words : Which → List (List ℕ)

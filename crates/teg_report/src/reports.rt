@@ -8,7 +8,7 @@ ghost use Rattle.teg_report.specs.Meanings.{meant};
 ghost use Rattle.teg_report.specs.Reports.{IsAbout, text_of};
 
 use crate::answer::Answer;
-use crate::{forms, lists, refusals, texts};
+use crate::{cycles, forms, lists, refusals, texts};
 use std::alloc::Global;
 use teg_net::{Net, OutOfMemory};
 
@@ -29,13 +29,19 @@ fn text(alloc: Global, net: Option<&Net>, answer: &Answer<'_>) -> Result<Vec<u8>
         ) => texts::live(alloc, *transitions, *places),
         (Answer::List { table }, Some(net)) => lists::list(alloc, net, table),
         (Answer::Form { form }, Some(net)) => forms::form(alloc, net, form),
+        (Answer::NoCircuit, _) => texts::no_circuit(alloc),
+        (Answer::Cycle { answer, rounds }, Some(net)) => cycles::cycle(alloc, net, answer, *rounds),
         (Answer::Read { refusal }, _) => refusals::read(alloc, refusal),
         (Answer::TooLarge { file }, _) => texts::too_large(alloc, *file),
         (Answer::TokenFree { circuit }, Some(net)) => texts::token_free(alloc, net, circuit),
         (Answer::Fault { file }, _) => texts::fault(alloc, *file),
-        (Answer::List { .. } | Answer::Form { .. } | Answer::TokenFree { .. }, None) => {
-            unreachable!()
-        }
+        (
+            Answer::List { .. }
+            | Answer::Form { .. }
+            | Answer::Cycle { .. }
+            | Answer::TokenFree { .. },
+            None,
+        ) => unreachable!(),
     }
 }
 
@@ -51,9 +57,10 @@ fn know_rules(net: Option<&Net>)
 /// The bytes of an answer, one line feed after each line.
 ///
 /// The net is given wherever the text has a name that the answer does not hold itself: for `List`,
-/// `Form` and `TokenFree`. What the answer names is in the net: a table has a date for each of its
-/// transitions, and the ends of entries and the places of a circuit are among its own. A refusal of
-/// the reader is not its want of memory.
+/// `Form`, `Cycle` and `TokenFree`. What the answer names is in the net: a table has a date for each
+/// of its transitions, and the ends of entries, the places of a circuit, and the transitions and
+/// places of a round are among its own. Rounds are a list for each part with a circuit, and none of
+/// these lists is empty. A refusal of the reader is not its want of memory.
 ///
 /// `OutOfMemory` comes only where no memory is found. It takes time of the order of the text.
 pub fn report(alloc: Global, net: Option<&Net>, answer: &Answer<'_>) -> Result<Vec<u8>, OutOfMemory>

@@ -2,7 +2,7 @@
 ghost use Rattle.std.specs.Prelude.{◌≡◌, [], ◌∷◌, IfOk};
 ghost use Rattle.teg_net.specs.Circuits.{AreInRange};
 ghost use Rattle.teg_report.specs.Kept.{IsWord32};
-ghost use Rattle.teg_report.specs.Texts.{usage_lines, live_lines, too_large_line, read_fault_line, token_free_line};
+ghost use Rattle.teg_report.specs.Texts.{usage_lines, live_lines, no_circuit_line, too_large_line, read_fault_line, token_free_line};
 ghost use Rattle.teg_text.specs.Lines.{written};
 
 use crate::answer::Which;
@@ -23,7 +23,7 @@ pub(crate) fn usage(alloc: Global) -> Result<Vec<u8>, OutOfMemory>
 {
     bytes_of(
         alloc,
-        "usage: teg check NET\n       teg list NET K\n       teg form NET\n",
+        "usage: teg check NET\n       teg list NET K\n       teg form NET\n       teg cycle NET [--rounds]\n",
     )
 }
 
@@ -34,6 +34,13 @@ pub(crate) fn live(alloc: Global, transitions: u32, places: u32) -> Result<Vec<u
 {
     let text = format!(in alloc; "live\ntransitions {transitions}\nplaces {places}\n")?;
     Ok(text.into_bytes())
+}
+
+/// That a net has no circuit.
+pub(crate) fn no_circuit(alloc: Global) -> Result<Vec<u8>, OutOfMemory>
+    ensures { IfOk result (λ text. text.items ≡ written (no_circuit_line ∷ [])) }
+{
+    bytes_of(alloc, "no circuit\n")
 }
 
 /// The circuit for whose sake a net is not live.

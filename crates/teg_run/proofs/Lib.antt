@@ -1,4 +1,5 @@
 pub mod Answering
+pub mod CycleTold
 pub mod Faults
 pub mod Formed
 pub mod Growing
@@ -8,5 +9,6 @@ pub mod Promises
 pub mod ReadOrder
 pub mod Refusals
 pub mod Refusing
+pub mod Rounds
 pub mod Verdicts
 pub mod Ways

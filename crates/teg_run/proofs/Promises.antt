@@ -1,22 +1,24 @@
 -- The promises of the whole call, from how it runs.
-use Rattle.std.proofs.Common.{◌≡◌, ◌≢◌, ℕ, ◌⊎◌, ⊎_elim, inl, inr, List, [], ◌++◌, Option, Some, None, refl, sym, ap, subst, ◌∙◌}
+use Rattle.std.proofs.Common.{◌≡◌, ◌≢◌, ℕ, true, false, ◌⊎◌, ⊎_elim, inl, inr, List, [], ◌++◌, map, Option, Some, None, refl, sym, ap, subst, ◌∙◌}
 use Rattle.std.proofs.lemmas.List.{append_cancel_left}
 use Rattle.teg_net.specs.Nets.{NetLists}
 use Rattle.teg_outside.specs.Causes.{Rose}
 use Rattle.teg_outside.specs.Sinks.{BytesGrow}
 use Rattle.teg_outside.proofs.Counts.{rose_not_rested}
 use Rattle.teg_report.specs.declared.answer.Which.{Which}
+use Rattle.teg_report.specs.Meanings.{round_lists}
 use Rattle.teg_run.specs.declared.status.Status.{Status}
 use Rattle.teg_run.specs.declared.status.Status.TheVariants.{Done, Words, Text, Net, ReadFault, WriteFault, NoMemory}
 use Rattle.teg_run.specs.declared.status.Verdict.{Verdict}
 use Rattle.teg_run.specs.Calls.{Call}
 use Rattle.teg_run.specs.Endings.{Ending, Whole, Lost}
-use Rattle.teg_run.specs.Headline.{Ends, EndsLost, HasFault, Follows, ComesOnly, ReadsAreCalm, OverlongRose, WroteWhole, WrotePrefix, ReadsFirstOf, NamesLastRead, AllowsNet, Allows, EndsAsAllowed, Concerns, SaysOfNet, SaysLive, SaysLeastDates, SaysStandardForm, KeepsPromises}
-use Rattle.teg_run.specs.Requests.{NetCommand, CheckNet, ListNet, FormNet, Request, OfNet, request_of, files_of, asked_files}
+use Rattle.teg_run.specs.Headline.{Ends, EndsLost, HasFault, Follows, ComesOnly, ReadsAreCalm, OverlongRose, WroteWhole, WrotePrefix, ReadsFirstOf, NamesLastRead, AllowsNet, Allows, EndsAsAllowed, Concerns, SaysOfNet, SaysLive, SaysLeastDates, SaysStandardForm, SaysCycleTimes, SaysPolicyRuns, SaysNoCircuit, KeepsPromises}
+use Rattle.teg_run.specs.Requests.{NetCommand, CheckNet, ListNet, FormNet, CycleNet, Request, OfNet, request_of, files_of, asked_files}
 use Rattle.teg_run.specs.Runs.{Answered, CarriesOut, Finished, Runs}
 use Rattle.teg_run.specs.Says.{Asked, SaysNet, SaysOutcome}
 use Rattle.teg_run.specs.Statuses.{status_of}
-use Rattle.teg_run.specs.Texts.{usage, live_text, list_text, form_text, too_large_text, fault_text}
+use Rattle.teg_run.specs.Texts.{usage, live_text, list_text, form_text, cycle_text, no_circuit_text, runs_text, too_large_text, fault_text}
+use Rattle.teg_run.proofs.CycleTold.{no_circuit_said}
 use Rattle.teg_run.proofs.Faults.{IsFaultOf, text_is_fault, net_is_fault, comes_only, follows, way_is_said, overlong_way, fault_way}
 use Rattle.teg_run.proofs.LiveNets.{live_goes_on}
 use Rattle.teg_run.proofs.ReadOrder.{none_read, reads_first}
@@ -174,10 +176,35 @@ form_follows call runs net asks =
     ⊎_elim (λ (said : _). inl (said.2.1.0, said.2.1.1, done_with call said.0 said.1 (form_text net said.2.1.0) (ap status_of said.2.0) said.2.1.2 said.3))
     (λ (lost : _). inr lost) (says_of_net call runs FormNet net asks)
 
+cycle_follows : (call : Call) → Runs call → SaysCycleTimes call
+cycle_follows call runs net asks =
+    ⊎_elim (λ (said : _). inl (said.2.1.0, said.2.1.1, done_with call said.0 said.1 (cycle_text net said.2.1.0 None) (ap status_of said.2.0) said.2.1.2 said.3))
+    (λ (lost : _). inr lost) (says_of_net call runs (CycleNet false) net asks)
+
+rounds_follow : (call : Call) → Runs call → SaysPolicyRuns call
+rounds_follow call runs net asks =
+    ⊎_elim
+    (λ (said : _). inl (
+      said.2.1.0,
+      said.2.1.1,
+      said.2.1.2,
+      said.2.1.3,
+      done_with call said.0 said.1 (runs_text net said.2.1.0 said.2.1.1) (ap status_of said.2.0) said.2.1.4 said.3,
+    ))
+    (λ (lost : _). inr lost) (says_of_net call runs (CycleNet true) net asks)
+
+no_circuit_follows : (call : Call) → Runs call → SaysNoCircuit call
+no_circuit_follows call runs false net asks none =
+    ⊎_elim (λ (said : _). subst (λ (text : List ℕ). Ends call Done text) (no_circuit_said net said.0 None said.1 none) said.2) (λ (lost : _). inr lost) (cycle_follows call runs net asks)
+no_circuit_follows call runs true net asks none =
+    ⊎_elim (λ (said : _). subst (λ (text : List ℕ). Ends call Done text) (no_circuit_said net said.0 (Some (map (map round_lists) said.1)) said.2 none) said.4) (λ (lost : _). inr lost) (rounds_follow call runs net asks)
+
 allowed : (command : NetCommand) (net : NetLists) (verdict : Verdict) (text : List ℕ) → SaysNet command net verdict text → AllowsNet command verdict
 allowed CheckNet net verdict text h = h.0
 allowed (ListNet count) net verdict text h = h.0
 allowed FormNet net verdict text h = h.0
+allowed (CycleNet false) net verdict text h = h.0
+allowed (CycleNet true) net verdict text h = h.0
 
 ends_as_allowed : (call : Call) → Runs call → EndsAsAllowed call
 ends_as_allowed call runs files (OfNet command name) asks told reads writes accepts =
@@ -246,6 +273,9 @@ keeps_promises call runs =
       check = check_follows call runs;
       list = list_follows call runs;
       form = form_follows call runs;
+      cycle = cycle_follows call runs;
+      cycle_rounds = rounds_follow call runs;
+      no_circuit = no_circuit_follows call runs;
       written = λ other memory. wrote_whole call runs.0 other memory runs.1 runs.2;
       cut_off = λ e. (cut_off_with call runs.0 e runs.1 runs.2).1;
       unwritten = λ e. unwritten_with call runs.0 e runs.1 runs.2;

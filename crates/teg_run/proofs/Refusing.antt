@@ -18,7 +18,7 @@ refuses {A} P status (Ok t) said opening h e p =
 refuses {A} P status (Err x) said opening h e p = subst (λ (o : Option (Opening A)). IfSome o P) (sym h) tt
 
 -- places of a path are places of the net
-path_in_range : (net : NetLists) (a b : ℕ) (ps : List PlaceId) → IsPathBetween net a ps b → AreInRange net ps
+pub path_in_range : (net : NetLists) (a b : ℕ) (ps : List PlaceId) → IsPathBetween net a ps b → AreInRange net ps
 path_in_range net a b [] h = λ k d lt. omega arith
 path_in_range net a b (p ∷ ps) h = All-cons (λ (q : PlaceId). q.index < length net.places) p ps h.0 (path_in_range net (place_at net p).to.index b ps h.2)
 

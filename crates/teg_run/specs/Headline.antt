@@ -1,9 +1,12 @@
 -- What the whole call promises its caller, one promise at a time.
-use Rattle.std.specs.Prelude.{ℕ, ◌≡◌, ◌≢◌, ◌≤◌, ◌<◌, ◌⊎◌, List, [], ◌∷◌, ◌++◌, length, take, map, Some, None, Ok, Err, Result}
+use Rattle.std.specs.Prelude.{ℕ, ◌≡◌, ◌≢◌, ◌≤◌, ◌<◌, ◌⊎◌, Bool, true, false, List, [], ◌∷◌, ◌++◌, length, take, map, Some, None, Ok, Err, Result}
 use Rattle.dioid.specs.declared.dates.Date.{Date}
 use Rattle.teg_form.specs.Forms.{FormLists, IsFormOf}
 use Rattle.teg_model.specs.Datings.{IsLeastDating}
+use Rattle.teg_net.specs.declared.answers.CycleAnswer.{CycleAnswer}
 use Rattle.teg_net.specs.declared.entries.PlaceId.{PlaceId}
+use Rattle.teg_net.specs.declared.rounds.Round.{Round}
+use Rattle.teg_net.specs.GreatestRatios.{IsAnyPlace, HasNoCircuit}
 use Rattle.teg_net.specs.Nets.{NetLists}
 use Rattle.teg_net.specs.Circuits.{IsLive, IsTokenFree}
 use Rattle.teg_reader.specs.declared.refusals.ReadRefusal.{ReadRefusal}
@@ -20,14 +23,15 @@ use Rattle.teg_run.specs.declared.status.Status.TheVariants.{Done, Words, Text, 
 use Rattle.teg_run.specs.declared.status.Verdict.{Verdict}
 use Rattle.teg_run.specs.declared.status.Verdict.TheVariants.{Done as VerdictDone}
 use Rattle.teg_run.specs.Calls.{Call}
+use Rattle.teg_run.specs.CycleTimes.{IsCycleAnswer, AreRuns}
 use Rattle.teg_run.specs.Endings.{Whole, Lost}
 use Rattle.teg_run.specs.Limits.{most_bytes}
 use Rattle.teg_run.specs.Reads.{ReadsAll}
-use Rattle.teg_run.specs.Requests.{NetCommand, CheckNet, ListNet, FormNet, Request, OfNet, request_of, files_of, asked_files}
+use Rattle.teg_run.specs.Requests.{NetCommand, CheckNet, ListNet, FormNet, CycleNet, Request, OfNet, request_of, files_of, asked_files}
 use Rattle.teg_run.specs.Runs.{Finished, Runs}
 use Rattle.teg_run.specs.Says.{Asked, SaysNet}
 use Rattle.teg_run.specs.Statuses.{status_of}
-use Rattle.teg_run.specs.Texts.{usage, read_text, live_text, list_text, form_text, token_free_text, too_large_text, fault_text}
+use Rattle.teg_run.specs.Texts.{usage, read_text, live_text, list_text, form_text, cycle_text, no_circuit_text, runs_text, token_free_text, too_large_text, fault_text}
 
 -- ---- how a call ended
 
@@ -160,6 +164,7 @@ abbrev pub AllowsNet : NetCommand → Verdict → Type 0
 AllowsNet CheckNet verdict = verdict ≡ VerdictDone
 AllowsNet (ListNet count) verdict = verdict ≡ VerdictDone
 AllowsNet FormNet verdict = verdict ≡ VerdictDone
+AllowsNet (CycleNet rounds) verdict = verdict ≡ VerdictDone
 
 -- how a request may end, once its files are accepted
 abbrev pub Allows : Request → Verdict → Type 0
@@ -203,6 +208,25 @@ SaysStandardForm call =
     (net : NetLists) → Concerns call FormNet net →
     ((form : FormLists) × IsFormOf net form × Ends call Done (form_text net form)) ⊎ EndsLost call
 
+-- a live net is told with its cycle times, each attained by a circuit, unless memory ran out
+abbrev pub SaysCycleTimes : Call → Type 0
+SaysCycleTimes call =
+    (net : NetLists) → Concerns call (CycleNet false) net →
+    ((answer : CycleAnswer) × IsCycleAnswer net answer × Ends call Done (cycle_text net answer None)) ⊎ EndsLost call
+
+-- a live net is told with its cycle times and the policy runs that end in them, unless memory ran out
+abbrev pub SaysPolicyRuns : Call → Type 0
+SaysPolicyRuns call =
+    (net : NetLists) → Concerns call (CycleNet true) net →
+    ((answer : CycleAnswer) × (runs : List (List Round)) × IsCycleAnswer net answer × AreRuns net answer runs
+    × Ends call Done (runs_text net answer runs))
+    ⊎ EndsLost call
+
+-- that a live net has no circuit is told exactly where it has none, unless memory ran out
+abbrev pub SaysNoCircuit : Call → Type 0
+SaysNoCircuit call =
+    (rounds : Bool) (net : NetLists) → Concerns call (CycleNet rounds) net → HasNoCircuit net IsAnyPlace → Ends call Done no_circuit_text
+
 -- ---- the promises
 
 pub record KeepsPromises (call : Call) : Type 0 where
@@ -223,6 +247,9 @@ pub record KeepsPromises (call : Call) : Type 0 where
   pub check : SaysLive call
   pub list : SaysLeastDates call
   pub form : SaysStandardForm call
+  pub cycle : SaysCycleTimes call
+  pub cycle_rounds : SaysPolicyRuns call
+  pub no_circuit : SaysNoCircuit call
   -- What was written: the whole text, a first part before a fault, nothing for want of memory.
   pub written : call.status ≢ WriteFault → call.status ≢ NoMemory → WroteWhole call
   pub cut_off : call.status ≡ WriteFault → WrotePrefix call

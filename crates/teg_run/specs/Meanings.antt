@@ -1,6 +1,7 @@
 -- What values of the code mean.
-use Rattle.std.specs.Prelude.{ℕ, ◌≡◌, List, Option, Some, None, Result, Ok, Err}
+use Rattle.std.specs.Prelude.{ℕ, ◌≡◌, List, Option, Some, None, Result, Ok, Err, map}
 use Rattle.std.specs.Global.{Vec}
+use Rattle.teg_net.specs.declared.rounds.Round.{Round}
 use Rattle.teg_net.specs.declared.memory.OutOfMemory.{OutOfMemory}
 use Rattle.teg_run.specs.declared.ending.Ending.{Ending as CodedEnding}
 use Rattle.teg_run.specs.declared.ending.Ending.TheVariants.{Whole as CodedWhole, Lost as CodedLost}
@@ -8,24 +9,29 @@ use Rattle.teg_run.specs.declared.ending.Outcome.{Outcome}
 use Rattle.teg_run.specs.declared.opening.Opened.{Opened}
 use Rattle.teg_run.specs.declared.opening.Opened.TheVariants.{Accepted as OpenedAccepted, Refused as OpenedRefused, Lost as OpenedLost}
 use Rattle.teg_run.specs.declared.request.NetCommand.{NetCommand as CodedCommand}
-use Rattle.teg_run.specs.declared.request.NetCommand.TheVariants.{Check, Form, List as ListCommand}
+use Rattle.teg_run.specs.declared.request.NetCommand.TheVariants.{Check, Cycle, Form, List as ListCommand}
 use Rattle.teg_run.specs.declared.request.Request.{Request as CodedRequest}
 use Rattle.teg_run.specs.declared.request.Request.TheVariants.{OfNet as CodedOfNet}
 use Rattle.teg_run.specs.declared.status.Status.{Status}
 use Rattle.teg_run.specs.declared.status.Verdict.{Verdict}
 use Rattle.teg_run.specs.Endings.{Ending, Whole, Lost}
 use Rattle.teg_run.specs.Openings.{Opening, Accepted, Refused}
-use Rattle.teg_run.specs.Requests.{NetCommand, CheckNet, ListNet, FormNet, Request, OfNet}
+use Rattle.teg_run.specs.Requests.{NetCommand, CheckNet, ListNet, FormNet, CycleNet, Request, OfNet}
 
 -- the command on a net
 abbrev pub command_asked : CodedCommand → NetCommand
 command_asked Check = CheckNet
 command_asked (ListCommand count) = ListNet count
 command_asked Form = FormNet
+command_asked (Cycle rounds) = CycleNet rounds
 
 -- the request
 abbrev pub asked : CodedRequest → Request
 asked (CodedOfNet command net) = OfNet (command_asked command) net.now
+
+-- rounds, a list for each part
+abbrev pub rounds_in : List (Vec Round) → List (List Round)
+rounds_in runs = map (λ run. run.items) runs
 
 -- the ending of the work
 abbrev pub ended : CodedEnding → Ending

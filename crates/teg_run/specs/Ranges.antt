@@ -1,13 +1,14 @@
 -- The numbers that commands take.
 use Rattle.std.specs.Prelude.{◌≤◌}
 use Rattle.teg_dates.specs.Tables.{most_numbers}
-use Rattle.teg_run.specs.Requests.{NetCommand, CheckNet, ListNet, FormNet, Request, OfNet}
+use Rattle.teg_run.specs.Requests.{NetCommand, CheckNet, ListNet, FormNet, CycleNet, Request, OfNet}
 
 -- the numbers that the command takes keep their limits
 abbrev pub IsInRange : NetCommand → Type 0
 IsInRange CheckNet = Unit {0}
 IsInRange (ListNet count) = count ≤ most_numbers
 IsInRange FormNet = Unit {0}
+IsInRange (CycleNet rounds) = Unit {0}
 
 -- the numbers of the request keep their limits
 abbrev pub IsRequestInRange : Request → Type 0

@@ -12,6 +12,7 @@ pub data NetCommand : Type 0 where
   CheckNet : NetCommand
   ListNet : (count : ℕ) → NetCommand
   FormNet : NetCommand
+  CycleNet : (rounds : Bool) → NetCommand
 
 -- what words can ask for: a command on the net in the file of this name
 pub data Request : Type 0 where
@@ -32,13 +33,19 @@ abbrev pub form_asked : List (List ℕ) → Option (List ℕ) → Bool → Optio
 form_asked (net ∷ []) None false = Some (OfNet FormNet net)
 form_asked rest limit rounds = None
 
+-- `cycle NET`, and perhaps `--rounds`
+abbrev pub cycle_asked : List (List ℕ) → Option (List ℕ) → Bool → Option Request
+cycle_asked (net ∷ []) None rounds = Some (OfNet (CycleNet rounds) net)
+cycle_asked rest limit rounds = None
+
 -- the request of a command with what is given to it: nothing for a command that is not built
 abbrev pub asked_for : Given → Option Request
 asked_for given =
     if bytes_eq given.command (codes "check") then check_asked given.rest given.limit given.rounds
     else (if bytes_eq given.command (codes "list") then list_asked given.rest given.limit given.rounds
     else (if bytes_eq given.command (codes "form") then form_asked given.rest given.limit given.rounds
-    else None))
+    else (if bytes_eq given.command (codes "cycle") then cycle_asked given.rest given.limit given.rounds
+    else None)))
 
 -- the request that the words give, if they give one
 abbrev pub request_of : List (List ℕ) → Option Request

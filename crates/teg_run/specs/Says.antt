@@ -1,8 +1,10 @@
 -- What each command says, by what its reads gave.
-use Rattle.std.specs.Prelude.{ℕ, ◌≡◌, List, [], ◌∷◌, Option, Some, None, Result}
+use Rattle.std.specs.Prelude.{ℕ, ◌≡◌, Bool, true, false, List, [], ◌∷◌, Option, Some, None, Result}
 use Rattle.dioid.specs.declared.dates.Date.{Date}
 use Rattle.teg_form.specs.Forms.{FormLists, IsFormOf}
 use Rattle.teg_model.specs.Datings.{IsLeastDating}
+use Rattle.teg_net.specs.declared.answers.CycleAnswer.{CycleAnswer}
+use Rattle.teg_net.specs.declared.rounds.Round.{Round}
 use Rattle.teg_net.specs.Nets.{NetLists}
 use Rattle.teg_outside.specs.declared.shelf.ShelfFault.{ShelfFault}
 use Rattle.teg_outside.specs.declared.monitor.Firing.{Firing}
@@ -10,10 +12,11 @@ use Rattle.teg_run.specs.declared.status.Status.{Status}
 use Rattle.teg_run.specs.declared.status.Status.TheVariants.{Words}
 use Rattle.teg_run.specs.declared.status.Verdict.{Verdict}
 use Rattle.teg_run.specs.declared.status.Verdict.TheVariants.{Done as VerdictDone}
-use Rattle.teg_run.specs.Requests.{NetCommand, CheckNet, ListNet, FormNet, Request, OfNet}
+use Rattle.teg_run.specs.CycleTimes.{IsCycleAnswer, AreRuns}
+use Rattle.teg_run.specs.Requests.{NetCommand, CheckNet, ListNet, FormNet, CycleNet, Request, OfNet}
 use Rattle.teg_run.specs.Openings.{Opening, Accepted, Refused, OpensNet}
 use Rattle.teg_run.specs.Statuses.{status_of}
-use Rattle.teg_run.specs.Texts.{usage, live_text, list_text, form_text}
+use Rattle.teg_run.specs.Texts.{usage, live_text, list_text, form_text, cycle_text, runs_text}
 
 -- of a live net its size is said
 abbrev pub SaysCheck : NetLists → Verdict → List ℕ → Type 0
@@ -28,11 +31,24 @@ SaysList count net verdict text =
 abbrev pub SaysForm : NetLists → Verdict → List ℕ → Type 0
 SaysForm net verdict text = (verdict ≡ VerdictDone) × ((form : FormLists) × IsFormOf net form × (text ≡ form_text net form))
 
+-- of a live net the cycle times are said
+abbrev pub SaysCycle : NetLists → Verdict → List ℕ → Type 0
+SaysCycle net verdict text =
+    (verdict ≡ VerdictDone) × ((answer : CycleAnswer) × IsCycleAnswer net answer × (text ≡ cycle_text net answer None))
+
+-- of a live net the cycle times are said, and the rounds that led to them
+abbrev pub SaysRounds : NetLists → Verdict → List ℕ → Type 0
+SaysRounds net verdict text =
+    (verdict ≡ VerdictDone)
+    × ((answer : CycleAnswer) × (runs : List (List Round)) × IsCycleAnswer net answer × AreRuns net answer runs × (text ≡ runs_text net answer runs))
+
 -- what a command says of a live net
 abbrev pub SaysNet : NetCommand → NetLists → Verdict → List ℕ → Type 0
 SaysNet CheckNet = SaysCheck
 SaysNet (ListNet count) = SaysList count
 SaysNet FormNet = SaysForm
+SaysNet (CycleNet false) = SaysCycle
+SaysNet (CycleNet true) = SaysRounds
 
 -- a claim on what a command comes to, where it found memory
 abbrev pub Tells : (Verdict → List ℕ → Type 0) → Option (Verdict × List ℕ) → Type 0

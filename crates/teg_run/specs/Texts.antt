@@ -1,14 +1,18 @@
 -- The texts that the workbench writes, each that of an answer.
-use Rattle.std.specs.Prelude.{ℕ, List, Some, None, length}
+use Rattle.std.specs.Prelude.{ℕ, List, Option, Some, None, length, map}
 use Rattle.dioid.specs.declared.dates.Date.{Date}
 use Rattle.teg_form.specs.Forms.{FormLists}
+use Rattle.teg_net.specs.declared.answers.CycleAnswer.{CycleAnswer}
 use Rattle.teg_net.specs.declared.entries.PlaceId.{PlaceId}
+use Rattle.teg_net.specs.declared.rounds.Round.{Round}
 use Rattle.teg_net.specs.Nets.{NetLists}
 use Rattle.teg_reader.specs.declared.refusals.ReadRefusal.{ReadRefusal}
 use Rattle.teg_report.specs.declared.answer.Which.{Which}
-use Rattle.teg_report.specs.Answers.{Usage, Live, Form, Read, TooLarge, TokenFree, Fault}
+use Rattle.teg_report.specs.Answers.{Answer, Usage, Live, Form, NoCircuit, Cycle, Read, TooLarge, TokenFree, Fault}
 use Rattle.teg_report.specs.Lists.{list_lines}
+use Rattle.teg_report.specs.Meanings.{cycle_lists, round_lists}
 use Rattle.teg_report.specs.Reports.{text_of}
+use Rattle.teg_report.specs.Rounds.{RoundLists}
 use Rattle.teg_text.specs.Lines.{written}
 
 -- what is written where words are refused
@@ -26,6 +30,24 @@ list_text net x count = written (list_lines net x count)
 -- a standard form
 abbrev pub form_text : NetLists → FormLists → List ℕ
 form_text net form = text_of (Some net) (Form form)
+
+-- that a net has no circuit
+abbrev pub no_circuit_text : List ℕ
+no_circuit_text = text_of None NoCircuit
+
+-- what is told of the circuits of a net: that there are none where no part is the best, and otherwise the cycle times, with the rounds
+-- where they are given
+abbrev pub cycle_told : Option ℕ → CycleAnswer → Option (List (List RoundLists)) → Answer
+cycle_told None answer rounds = NoCircuit
+cycle_told (Some best) answer rounds = Cycle (cycle_lists answer) rounds
+
+-- the cycle times of a net, with the rounds where they are given
+abbrev pub cycle_text : NetLists → CycleAnswer → Option (List (List RoundLists)) → List ℕ
+cycle_text net answer rounds = text_of (Some net) (cycle_told answer.best answer rounds)
+
+-- the cycle times of a net and the runs of policy iteration that end in them
+abbrev pub runs_text : NetLists → CycleAnswer → List (List Round) → List ℕ
+runs_text net answer runs = cycle_text net answer (Some (map (map round_lists) runs))
 
 -- why the bytes of a file say no net
 abbrev pub read_text : ReadRefusal → List ℕ

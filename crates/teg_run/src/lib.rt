@@ -5,12 +5,14 @@
 //! and the sink before and after, the status). Its field `run` ties these in three parts: what the
 //! words ask for, what the reads gave and what answer they lead to, and how that answer was written.
 //! The other fields say what follows from it, one promise each.
-//! It stands on `teg_words`, `teg_net`, `teg_reader`, `teg_check`, `teg_dates`, `teg_form`, what
-//! `teg_model` and `dioid` say of dates, `teg_report` for the texts, and `teg_outside`.
+//! It stands on `teg_words`, `teg_net`, `teg_reader`, `teg_check`, `teg_dates`, `teg_form`,
+//! `teg_parts`, `teg_howard`, `teg_cycle`, what `teg_model` and `dioid` say of dates, `teg_report` for
+//! the texts, and `teg_outside`.
 #![tactic(auto)]
 
 mod call;
 mod carry_out;
+mod cycle_times;
 mod ending;
 mod fetching;
 mod live_net;

@@ -5,6 +5,7 @@ ghost use Rattle.teg_run.specs.Meanings.{command_asked, outcome_of};
 ghost use Rattle.teg_run.specs.Ranges.{IsInRange};
 ghost use Rattle.teg_run.specs.Says.{Tells, SaysCheck, SaysForm, SaysList, SaysNet};
 
+use crate::cycle_times::{tell_cycle, tell_rounds};
 use crate::ending::Outcome;
 use crate::live_net::LiveNet;
 use crate::request::NetCommand;
@@ -58,5 +59,7 @@ pub fn of_net(alloc: Global, command: NetCommand, net: &LiveNet) -> Result<Outco
         NetCommand::Check => tell_size(alloc, net),
         NetCommand::List { count } => tell_dates(alloc, net, count),
         NetCommand::Form => tell_form(alloc, net),
+        NetCommand::Cycle { rounds: false } => tell_cycle(alloc, net),
+        NetCommand::Cycle { rounds: true } => tell_rounds(alloc, net),
     }
 }

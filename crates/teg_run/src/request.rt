@@ -4,7 +4,7 @@ ghost use Rattle.std.specs.Option.{option_copied, option_map};
 ghost use Rattle.teg_words.specs.Meanings.{told, texts};
 ghost use Rattle.teg_words.specs.Numbers.{number_of};
 ghost use Rattle.teg_dates.specs.Tables.{most_numbers};
-ghost use Rattle.teg_run.specs.Requests.{asked_for, check_asked, form_asked, list_asked, request_of};
+ghost use Rattle.teg_run.specs.Requests.{asked_for, check_asked, cycle_asked, form_asked, list_asked, request_of};
 ghost use Rattle.teg_run.specs.Meanings.{asked};
 ghost use Rattle.teg_run.specs.Ranges.{IsRequestInRange};
 
@@ -24,6 +24,8 @@ pub enum NetCommand {
     List { count: u32 },
     /// The standard form.
     Form,
+    /// The cycle times, with the rounds of policy iteration or without.
+    Cycle { rounds: bool },
 }
 
 /// What the words ask for.
@@ -87,6 +89,20 @@ fn form_asked<'a>(rest: &[&'a str], limit: Option<&'a str>, rounds: bool) -> Opt
     }
 }
 
+// `cycle NET`, and perhaps `--rounds`
+fn cycle_asked<'a>(rest: &[&'a str], limit: Option<&'a str>, rounds: bool) -> Option<Request<'a>>
+    ensures value { option_map asked result ≡ cycle_asked (texts rest.now) (option_copied limit.entry) rounds }
+    ensures in_range { IfSome (option_map asked result) IsRequestInRange }
+{
+    match (rest, limit) {
+        ([net], None) => Some(Request::OfNet {
+            command: NetCommand::Cycle { rounds },
+            net,
+        }),
+        _ => None,
+    }
+}
+
 // The request of a command with what is given to it. A command that is not built is none.
 fn asked_for<'a>(given: &GivenWords<'a>) -> Option<Request<'a>>
     ensures value { option_map asked result ≡ asked_for (told given.now) }
@@ -97,6 +113,7 @@ fn asked_for<'a>(given: &GivenWords<'a>) -> Option<Request<'a>>
         "check" => check_asked(rest, given.limit, given.rounds),
         "list" => list_asked(rest, given.limit, given.rounds),
         "form" => form_asked(rest, given.limit, given.rounds),
+        "cycle" => cycle_asked(rest, given.limit, given.rounds),
         _ => None,
     }
 }

@@ -71,6 +71,23 @@ fn the_widest_net_has_its_dates(rt: HostRuntime) -> Result<(), Fail> {
 }
 
 #[test]
+fn the_widest_net_has_its_cycle_times(rt: HostRuntime) -> Result<(), Fail> {
+    let alloc = rt.alloc();
+    let net = ring(alloc, 400)?;
+    for words in [
+        ["cycle", "net"].as_slice(),
+        ["cycle", "net", "--rounds"].as_slice(),
+    ] {
+        let mut shelf = shelf_of(alloc, net.as_bytes(), Vec::new(alloc))?;
+        let mut out = sink_of(alloc, 1_000_000)?;
+        let status = call(alloc, words, &mut shelf, &mut out, Vec::new(alloc))?;
+        assert_eq!(rt; status, Status::Done);
+        assert!(rt; out.contents().starts_with(b"cycle time 400/1\ncircuit p0 "));
+    }
+    Ok(())
+}
+
+#[test]
 fn the_longest_list_is_told(rt: HostRuntime) -> Result<(), Fail> {
     let alloc = rt.alloc();
     let mut shelf = shelf_of(alloc, LOOP.as_bytes(), Vec::new(alloc))?;

@@ -37,10 +37,12 @@ impl Monitor for Counter {
 #[test]
 fn monitors_are_dropped_once_and_see_nothing(rt: HostRuntime) -> Result<(), Fail> {
     let alloc = rt.alloc();
-    let table: [&[&str]; 4] = [
+    let table: [&[&str]; 6] = [
         &["check", "net"],
         &["list", "net", "3"],
         &["form", "net"],
+        &["cycle", "net"],
+        &["cycle", "net", "--rounds"],
         &["check"],
     ];
     for words in table {

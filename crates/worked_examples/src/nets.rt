@@ -26,3 +26,19 @@ pub const ENDED_LIST: &str =
 /// Three machines in a line, each with a place of its own, and two cards between neighbours.
 pub const KANBAN: &str =
     "[[transition]]\nname = \"m1\"\n\n[[transition]]\nname = \"m2\"\n\n[[transition]]\nname = \"m3\"\n\n[[place]]\nname = \"s1\"\nfrom = \"m1\"\nto = \"m1\"\nhold = 4\ntokens = 1\n\n[[place]]\nname = \"s2\"\nfrom = \"m2\"\nto = \"m2\"\nhold = 6\ntokens = 1\n\n[[place]]\nname = \"s3\"\nfrom = \"m3\"\nto = \"m3\"\nhold = 5\ntokens = 1\n\n[[place]]\nname = \"f12\"\nfrom = \"m1\"\nto = \"m2\"\nhold = 4\n\n[[place]]\nname = \"f23\"\nfrom = \"m2\"\nto = \"m3\"\nhold = 6\n\n[[place]]\nname = \"c21\"\nfrom = \"m2\"\nto = \"m1\"\nhold = 0\ntokens = 2\n\n[[place]]\nname = \"c32\"\nfrom = \"m3\"\nto = \"m2\"\nhold = 0\ntokens = 2\n";
+
+/// The loop of two transitions with two tokens.
+pub const TWO_TOKENS: &str =
+    "[[transition]]\nname = \"a\"\n\n[[transition]]\nname = \"b\"\n\n[[place]]\nname = \"ab\"\nfrom = \"a\"\nto = \"b\"\nhold = 3\n\n[[place]]\nname = \"ba\"\nfrom = \"b\"\nto = \"a\"\nhold = 2\ntokens = 2\n";
+
+/// Two transitions, each with a place of its own: hold 4 and two tokens, hold 9 and three tokens.
+pub const TWO_LOOPS: &str =
+    "[[transition]]\nname = \"a\"\n\n[[transition]]\nname = \"b\"\n\n[[place]]\nname = \"aa\"\nfrom = \"a\"\nto = \"a\"\nhold = 4\ntokens = 2\n\n[[place]]\nname = \"bb\"\nfrom = \"b\"\nto = \"b\"\nhold = 9\ntokens = 3\n";
+
+/// A transition with two places of its own, hold 1 and hold 5.
+pub const TWO_PLACES: &str =
+    "[[transition]]\nname = \"a\"\n\n[[place]]\nname = \"x\"\nfrom = \"a\"\nto = \"a\"\nhold = 1\ntokens = 1\n\n[[place]]\nname = \"y\"\nfrom = \"a\"\nto = \"a\"\nhold = 5\ntokens = 1\n";
+
+/// A transition with a place of its own, and a loop with another by either of two places.
+pub const LOOP_AND_PAIR: &str =
+    "[[transition]]\nname = \"a\"\n\n[[transition]]\nname = \"b\"\n\n[[place]]\nname = \"x\"\nfrom = \"a\"\nto = \"a\"\nhold = 5\ntokens = 1\n\n[[place]]\nname = \"p\"\nfrom = \"a\"\nto = \"b\"\nhold = 1\n\n[[place]]\nname = \"q\"\nfrom = \"a\"\nto = \"b\"\nhold = 2\n\n[[place]]\nname = \"r\"\nfrom = \"b\"\nto = \"a\"\ntokens = 1\n";

@@ -1,18 +1,22 @@
 //! Cases whose answers were worked out by hand, as one table: the words, the net file, how the call
 //! ends, and what it writes.
 use crate::bench::{Row, answers};
-use crate::nets::{DEAD_LOOP, ENDED_LIST, KANBAN, LONGEST_HOLD, LOOP, ONE, WITH_INPUTS};
+use crate::nets::{
+    DEAD_LOOP, ENDED_LIST, KANBAN, LONGEST_HOLD, LOOP, LOOP_AND_PAIR, ONE, TWO_LOOPS, TWO_PLACES,
+    TWO_TOKENS, WITH_INPUTS,
+};
 use std::test::Fail;
 use teg_run::Status;
 
-const USAGE: &str = "usage: teg check NET\n       teg list NET K\n       teg form NET\n";
+const USAGE: &str =
+    "usage: teg check NET\n       teg list NET K\n       teg form NET\n       teg cycle NET [--rounds]\n";
 
 const LIVE: &str = "live\ntransitions 2\nplaces 2\n";
 
 const CHECK: [&str; 2] = ["check", "net"];
 
 /// Words that ask for nothing.
-const WORDS: [Row<'static>; 23] = [
+const WORDS: [Row<'static>; 25] = [
     (&[], LOOP, Status::Words, USAGE),
     (&["chek", "net"], LOOP, Status::Words, USAGE),
     (&["check"], LOOP, Status::Words, USAGE),
@@ -45,7 +49,14 @@ const WORDS: [Row<'static>; 23] = [
     (&["form"], LOOP, Status::Words, USAGE),
     (&["form", "net", "net"], LOOP, Status::Words, USAGE),
     (&["form", "net", "--rounds"], LOOP, Status::Words, USAGE),
-    (&["cycle", "net"], LOOP, Status::Words, USAGE),
+    (&["cycle"], LOOP, Status::Words, USAGE),
+    (&["cycle", "net", "net"], LOOP, Status::Words, USAGE),
+    (
+        &["cycle", "net", "--limit", "5"],
+        LOOP,
+        Status::Words,
+        USAGE,
+    ),
 ];
 
 /// Words that ask for something, and what they get.
@@ -165,6 +176,77 @@ const ANSWERS: [Row<'static>; 23] = [
     ),
 ];
 
+/// Cycle times, and the rounds that led to them.
+const CYCLES: [Row<'static>; 12] = [
+    (&["cycle", "net"], ONE, Status::Done, "no circuit\n"),
+    (
+        &["cycle", "net"],
+        LOOP,
+        Status::Done,
+        "cycle time 5/1\ncircuit ab ba\npart 1 ratio 5/1\ncircuit ab ba\npotential a 0\npotential b 3\n",
+    ),
+    (
+        &["cycle", "net"],
+        TWO_TOKENS,
+        Status::Done,
+        "cycle time 5/2\ncircuit ab ba\npart 1 ratio 5/2\ncircuit ab ba\npotential a 0\npotential b 6\n",
+    ),
+    (
+        &["cycle", "net"],
+        TWO_LOOPS,
+        Status::Done,
+        "cycle time 3/1\ncircuit bb\npart 1 ratio 2/1\ncircuit aa\npotential a 0\npart 2 ratio 3/1\ncircuit bb\npotential b 0\n",
+    ),
+    (
+        &["cycle", "net"],
+        KANBAN,
+        Status::Done,
+        "cycle time 6/1\ncircuit s2\npart 1 ratio 6/1\ncircuit s2\npotential m1 -12\npotential m2 0\npotential m3 6\n",
+    ),
+    (
+        &["cycle", "net"],
+        DEAD_LOOP,
+        Status::Net,
+        "refused: token-free circuit ab ba\n",
+    ),
+    (
+        &["cycle", "net", "--rounds"],
+        DEAD_LOOP,
+        Status::Net,
+        "refused: token-free circuit ab ba\n",
+    ),
+    (
+        &["cycle", "net"],
+        TWO_PLACES,
+        Status::Done,
+        "cycle time 5/1\ncircuit y\npart 1 ratio 5/1\ncircuit y\npotential a 0\n",
+    ),
+    (
+        &["cycle", "net", "--rounds"],
+        TWO_PLACES,
+        Status::Done,
+        "cycle time 5/1\ncircuit y\npart 1 ratio 5/1\ncircuit y\npotential a 0\npart 1 round 1 ratio 1/1\ncircuit x\nchoice a x 0\npart 1 round 2 ratio 5/1\ncircuit y\nchoice a y 0\n",
+    ),
+    (
+        &["cycle", "net", "--rounds"],
+        LOOP,
+        Status::Done,
+        "cycle time 5/1\ncircuit ab ba\npart 1 ratio 5/1\ncircuit ab ba\npotential a 0\npotential b 3\npart 1 round 1 ratio 5/1\ncircuit ab ba\nchoice a ba 0\nchoice b ab 3\n",
+    ),
+    (
+        &["cycle", "net", "--rounds"],
+        LOOP_AND_PAIR,
+        Status::Done,
+        "cycle time 5/1\ncircuit x\npart 1 ratio 5/1\ncircuit x\npotential a 0\npotential b 2\npart 1 round 1 ratio 5/1\ncircuit x\nchoice a x 0\nchoice b p 1\npart 1 round 2 ratio 5/1\ncircuit x\nchoice a x 0\nchoice b q 2\n",
+    ),
+    (
+        &["cycle", "net", "--rounds"],
+        ONE,
+        Status::Done,
+        "no circuit\n",
+    ),
+];
+
 /// Files that say no net. Many are the loop with one change.
 const REFUSED: [Row<'static>; 18] = [
     (
@@ -274,7 +356,7 @@ const REFUSED: [Row<'static>; 18] = [
 
 #[test]
 fn rows_are_answered(rt: HostRuntime) -> Result<(), Fail> {
-    let tables: [&[Row<'static>]; 3] = [&WORDS, &ANSWERS, &REFUSED];
+    let tables: [&[Row<'static>]; 4] = [&WORDS, &ANSWERS, &CYCLES, &REFUSED];
     for table in tables {
         for (words, net, status, text) in table {
             let answered = answers(rt.alloc(), words, net.as_bytes(), *status, text)?;

@@ -1,0 +1,119 @@
+-- The lines of cycle times, and what an answer on them meets that is told.
+use Rattle.std.specs.Prelude.{ℕ, Bool, false, ◌+◌, ◌<◌, ◌^◌, ◌≡◌, ◌==◌, ◌&&◌, List, [], ◌∷◌, ◌++◌, All, Option, Some, None, map, flat_map, length, slice_index_or, codes, if◌then◌else◌, ⊤}
+use Rattle.std.specs.Int.RustNames.{unsigned_abs}
+use Rattle.std.specs.Fmt.{decimal, signed_decimal}
+use Rattle.std.specs.List.{range_with_len}
+use Rattle.teg_net.specs.declared.answers.Potential.{Potential}
+use Rattle.teg_net.specs.declared.entries.PlaceId.{PlaceId}
+use Rattle.teg_net.specs.declared.entries.TransitionId.{TransitionId}
+use Rattle.teg_net.specs.Circuits.{AreInRange}
+use Rattle.teg_net.specs.Nets.{NetLists}
+use Rattle.teg_net.specs.Ratios.{Fraction}
+use Rattle.teg_report.specs.Forms.{name_of_transition}
+use Rattle.teg_report.specs.Texts.{name_of_place}
+use Rattle.teg_text.specs.Words.{ratio_word}
+
+-- what is told of a part: that no circuit lies in it, or its greatest ratio, a circuit and potentials
+pub data PartLists : Type 0 where
+  NoCircuitIn : PartLists
+  BestOf : (ratio : Fraction) (circuit : List PlaceId) (potentials : List Potential) → PartLists
+
+-- the part of each transition, what is told of each part, and the part that is told first
+pub record CycleLists : Type 0 where
+  pub part_of : List ℕ
+  pub parts : List PartLists
+  pub best : Option ℕ
+
+-- what is told of the part of this number
+abbrev pub part_at : List PartLists → ℕ → PartLists
+part_at parts n = slice_index_or parts n NoCircuitIn
+
+-- the transitions of a part, where those from number k on have these parts
+abbrev pub members_from : ℕ → List ℕ → ℕ → List TransitionId
+members_from k [] part = []
+members_from k (p ∷ ps) part = if p == part then record { index = k } ∷ members_from (k + 1) ps part else members_from (k + 1) ps part
+
+-- a circuit, by the names of its places in order
+abbrev pub circuit_line : NetLists → List PlaceId → List (List ℕ)
+circuit_line net circuit = codes "circuit" ∷ map (name_of_place net) circuit
+
+-- a transition of a part without a circuit
+abbrev pub member_line : NetLists → TransitionId → List (List ℕ)
+member_line net t = codes "member" ∷ name_of_transition net t ∷ []
+
+-- the potential of a transition
+abbrev pub potential_line : NetLists → Potential → List (List ℕ)
+potential_line net v = codes "potential" ∷ name_of_transition net v.transition ∷ signed_decimal v.value ∷ []
+
+-- the first line of a part with a circuit
+abbrev pub ratio_line : ℕ → Fraction → List (List ℕ)
+ratio_line n ratio = codes "part" ∷ decimal (n + 1) ∷ codes "ratio" ∷ ratio_word ratio.time ratio.tokens ∷ []
+
+-- the lines of a part, which is numbered from 1 on
+abbrev pub part_lines : NetLists → List ℕ → ℕ → PartLists → List (List (List ℕ))
+part_lines net part_of n NoCircuitIn =
+    (codes "part" ∷ decimal (n + 1) ∷ codes "no" ∷ codes "circuit" ∷ []) ∷ map (member_line net) (members_from 0 part_of n)
+part_lines net part_of n (BestOf ratio circuit potentials) =
+    ratio_line n ratio ∷ circuit_line net circuit ∷ map (potential_line net) potentials
+
+-- the ratio and the circuit of a part
+abbrev pub best_lines : NetLists → PartLists → List (List (List ℕ))
+best_lines net NoCircuitIn = []
+best_lines net (BestOf ratio circuit potentials) =
+    (codes "cycle" ∷ codes "time" ∷ ratio_word ratio.time ratio.tokens ∷ []) ∷ circuit_line net circuit ∷ []
+
+-- what is told of the part that is told first
+abbrev pub best_of : List PartLists → Option ℕ → PartLists
+best_of parts None = NoCircuitIn
+best_of parts (Some n) = part_at parts n
+
+-- the cycle time and a circuit that has it, and then the lines of each part
+abbrev pub cycle_lines : NetLists → CycleLists → List (List (List ℕ))
+cycle_lines net answer =
+    best_lines net (best_of answer.parts answer.best)
+    ++ flat_map (λ n. part_lines net answer.part_of n (part_at answer.parts n)) (range_with_len 0 (length answer.parts))
+
+-- the circuit that is told of a part, where one is, is in the net
+abbrev pub HasCircuitIn : NetLists → PartLists → Type 0
+HasCircuitIn net NoCircuitIn = ⊤
+HasCircuitIn net (BestOf ratio circuit potentials) = AreInRange net circuit
+
+-- a potential of a transition of the net
+pub record IsPotentialIn (net : NetLists) (v : Potential) : Type 0 where
+  pub transition : v.transition.index < length net.transitions
+  pub value : unsigned_abs v.value < 2 ^ 128
+
+-- a ratio, a circuit in the net, and a potential for each member in order
+pub record IsBestTold (net : NetLists) (members : List TransitionId) (ratio : Fraction) (circuit : List PlaceId) (potentials : List Potential) : Type 0 where
+  pub time : ratio.time < 2 ^ 64
+  pub tokens : ratio.tokens < 2 ^ 64
+  pub circuit_in : AreInRange net circuit
+  pub members_are : map (λ v. v.transition) potentials ≡ members
+  pub potentials_in : All (IsPotentialIn net) potentials
+
+-- what is told of a part whose members are these
+abbrev pub IsPartTold : NetLists → List TransitionId → PartLists → Type 0
+IsPartTold net members NoCircuitIn = ⊤
+IsPartTold net members (BestOf ratio circuit potentials) = IsBestTold net members ratio circuit potentials
+
+-- whether the part has this ratio
+abbrev pub has_ratio : Fraction → PartLists → Bool
+has_ratio r NoCircuitIn = false
+has_ratio r (BestOf ratio circuit potentials) = (ratio.time == r.time) && (ratio.tokens == r.tokens)
+
+-- what is told of a part is a ratio, and no part before it has this ratio
+abbrev pub IsFirstOf : List PartLists → ℕ → PartLists → Type 0
+IsFirstOf parts n NoCircuitIn = ⊥
+IsFirstOf parts n (BestOf ratio circuit potentials) = (m : ℕ) → m < n → has_ratio ratio (part_at parts m) ≡ false
+
+-- a part that is told first, since no part before it has its ratio
+abbrev pub HasFirst : List PartLists → Option ℕ → Type 0
+HasFirst parts None = ⊥
+HasFirst parts (Some n) = (n < length parts) × IsFirstOf parts n (part_at parts n)
+
+-- a part for each transition of the net, what is told of each part, and the part that is told first
+pub record IsCycleTold (net : NetLists) (answer : CycleLists) : Type 0 where
+  pub full : length answer.part_of ≡ length net.transitions
+  pub part_of_in : All (λ p. p < length answer.parts) answer.part_of
+  pub parts : (n : ℕ) → n < length answer.parts → IsPartTold net (members_from 0 answer.part_of n) (part_at answer.parts n)
+  pub best : HasFirst answer.parts answer.best

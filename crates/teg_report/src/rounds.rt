@@ -1,0 +1,119 @@
+//! The text of the rounds of policy iteration, behind that of cycle times: for each part with a
+//! circuit one block of lines a round.
+ghost use Rattle.std.specs.Prelude.{◌≡◌, ◌++◌, ◌<◌, ◌^◌, [], All, IfOk, map, string_bytes};
+ghost use Rattle.teg_report.specs.Kept.{IsChoiceKept, IsRoundKept, IsRunKept, IsWord64};
+ghost use Rattle.teg_report.specs.Meanings.{part_lists, round_lists, runs_lists};
+ghost use Rattle.teg_report.specs.Rounds.{AreRunsTold, IsChoiceIn, IsRoundIn, IsRunIn, choice_line, round_lines, run_lines, runs_from, runs_lines as runs_text, turn_line};
+ghost use Rattle.teg_text.specs.Lines.{line_then, written};
+
+use crate::cycles::push_circuit_line;
+use std::alloc::{AllocError, Global};
+use teg_net::{Choice, Net, PartAnswer, Ratio, Round};
+
+/// Appends the line of a choice.
+fn push_choice(text: &mut String, net: &Net, choice: &Choice) -> Result<(), AllocError>
+    requires { IsChoiceIn net.now choice.now }
+    ensures text { IfOk result (λ _. string_bytes text.new ≡
+        string_bytes text.old ++ line_then (choice_line net.now choice.now) []) }
+    ensures kept { IfOk result (λ _. IsChoiceKept choice.now) }
+{
+    let transition = net.transitions()[choice.transition.index as usize]
+        .name
+        .as_str();
+    let place = net.places()[choice.place.index as usize].name.as_str();
+    let value = choice.value;
+    write!(text, "choice {transition} {place} {value}\n")
+}
+
+/// Appends the lines of choices.
+#[tactic(auto, using(teg_text::proofs::Joining::written_map))]
+fn push_choices(text: &mut String, net: &Net, choices: &[Choice]) -> Result<(), AllocError>
+    requires { All (IsChoiceIn net.now) choices.now }
+    ensures text { IfOk result (λ _. string_bytes text.new ≡
+        string_bytes text.old ++ written (map (choice_line net.now) choices.now)) }
+    ensures kept { IfOk result (λ _. All IsChoiceKept choices.now) }
+{
+    for choice in choices {
+        push_choice(text, net, choice)?;
+    }
+    Ok(())
+}
+
+/// Appends the first line of a round.
+fn push_turn(text: &mut String, part: usize, turn: usize, ratio: &Ratio) -> Result<(), AllocError>
+    requires parts { part < 2 ^ 63 }
+    requires turns { turn < 2 ^ 63 }
+    ensures text { IfOk result (λ _. string_bytes text.new ≡
+        string_bytes text.old ++ line_then (turn_line part turn ratio.now) []) }
+    ensures time { IfOk result (λ _. IsWord64 ratio.now.time) }
+    ensures tokens { IfOk result (λ _. IsWord64 ratio.now.tokens) }
+{
+    let part_told = part + 1;
+    let turn_told = turn + 1;
+    let time = ratio.time();
+    let tokens = ratio.tokens();
+    write!(
+        text,
+        "part {part_told} round {turn_told} ratio {time}/{tokens}\n"
+    )
+}
+
+/// Appends the lines of a round.
+fn push_round(
+    text: &mut String,
+    net: &Net,
+    part: usize,
+    turn: usize,
+    round: &Round,
+) -> Result<(), AllocError>
+    requires parts { part < 2 ^ 63 }
+    requires turns { turn < 2 ^ 63 }
+    requires round { IsRoundIn net.now (round_lists round.now) }
+    ensures text { IfOk result (λ _. string_bytes text.new ≡
+        string_bytes text.old ++ written (round_lines net.now part turn (round_lists round.now))) }
+    ensures kept { IfOk result (λ _. IsRoundKept (round_lists round.now)) }
+{
+    push_turn(text, part, turn, &round.ratio)?;
+    push_circuit_line(text, net, &round.circuit)?;
+    push_choices(text, net, &round.choices)?;
+    Ok(())
+}
+
+/// Appends the lines of the rounds of a part.
+fn push_run(text: &mut String, net: &Net, part: usize, rounds: &[Round]) -> Result<(), AllocError>
+    requires parts { part < 2 ^ 63 }
+    requires rounds { IsRunIn net.now (map round_lists rounds.now) }
+    ensures text { IfOk result (λ _. string_bytes text.new ≡
+        string_bytes text.old ++ written (run_lines net.now (record { part = part; rounds = map round_lists rounds.now }))) }
+    ensures kept { IfOk result (λ _. IsRunKept (map round_lists rounds.now)) }
+{
+    for turn in 0..rounds.len() {
+        push_round(text, net, part, turn, &rounds[turn])?;
+    }
+    Ok(())
+}
+
+/// Appends the lines of all rounds, of which each part with a circuit has a list.
+pub(crate) fn push_runs(
+    text: &mut String,
+    net: &Net,
+    parts: &[PartAnswer],
+    runs: &[Vec<Round>],
+) -> Result<(), AllocError>
+    requires { AreRunsTold net.now (map part_lists parts.now) (runs_lists runs.now) }
+    ensures text { IfOk result (λ _. string_bytes text.new ≡
+        string_bytes text.old ++ written (runs_text net.now (runs_from 0 (map part_lists parts.now) (runs_lists runs.now)))) }
+    ensures kept { IfOk result (λ _. All IsRunKept (runs_lists runs.now)) }
+{
+    let mut told = 0;
+    for number in 0..parts.len() {
+        match &parts[number] {
+            PartAnswer::NoCircuit => {}
+            PartAnswer::Best { .. } => {
+                push_run(text, net, number, &runs[told])?;
+                told += 1;
+            }
+        }
+    }
+    Ok(())
+}
