@@ -1,0 +1,73 @@
+//! The meaning of expressions.
+ghost use Rattle.std.specs.Prelude.{◌≡◌, ◌≤◌, ◌<◌, ◌^◌, IfOk};
+ghost use Rattle.std.specs.Int.RustNames.{unsigned_abs};
+ghost use Rattle.series_laws.specs.Forms.{value_at};
+ghost use Rattle.series_form.specs.Bounds.{IsSeries};
+ghost use Rattle.teg_calc.specs.Trees.{HasShortNumbers, mono, node_count, tree_of};
+ghost use Rattle.teg_calc.specs.Meaning.{Evaluates, Means, signed_date};
+
+use crate::expressions::Expr;
+use dioid::Date;
+use series_form::{Series, SeriesRefused, least, sum};
+use series_ops::{left, product, star};
+use std::alloc::Global;
+
+/// The series that an expression means (chapter 5), by its operands from left to right and then its
+/// operator; or the first refusal in this order.
+pub fn evaluate(alloc: Global, expr: &Expr) -> Result<Series, SeriesRefused>
+    requires nodes { node_count (tree_of expr.now) ≤ 4096 }
+    requires numbers { HasShortNumbers (tree_of expr.now) }
+    ensures answer { Evaluates (tree_of expr.now) result }
+    ensures meaning { IfOk result (λ series. Means (tree_of expr.now) (value_at series)) }
+    ensures series { IfOk result IsSeries }
+{
+    match expr {
+        Expr::Mono { shift, minus, date } => monomial(alloc, *shift, *minus, *date),
+        Expr::Epsilon => Series::constant(alloc, Date::Early),
+        Expr::Unit => Series::constant(alloc, Date::At(0)),
+        Expr::Never => Series::constant(alloc, Date::Never),
+        Expr::Plus(first, second) => {
+            let first = evaluate(alloc, first)?;
+            let second = evaluate(alloc, second)?;
+            sum(alloc, &first, &second)
+        }
+        Expr::Times(first, second) => {
+            let first = evaluate(alloc, first)?;
+            let second = evaluate(alloc, second)?;
+            product(alloc, &first, &second)
+        }
+        Expr::Star(operand) => {
+            let operand = evaluate(alloc, operand)?;
+            star(alloc, &operand)
+        }
+        Expr::Least(first, second) => {
+            let first = evaluate(alloc, first)?;
+            let second = evaluate(alloc, second)?;
+            least(alloc, &first, &second)
+        }
+        Expr::Left(by, of) => {
+            let by = evaluate(alloc, by)?;
+            let of = evaluate(alloc, of)?;
+            left(alloc, &by, &of)
+        }
+    }
+}
+
+/// The monomial of a shift and a date with its sign.
+fn monomial(alloc: Global, shift: u64, minus: bool, date: u64) -> Result<Series, SeriesRefused>
+    requires shift { shift < 10 ^ 19 }
+    requires date { date < 10 ^ 19 }
+    ensures answer { Evaluates (mono shift minus date) result }
+    ensures meaning { IfOk result (λ series. Means (mono shift minus date) (value_at series)) }
+{
+    let date = signed(minus, date);
+    Series::monomial(alloc, shift, date)
+}
+
+/// A date with its sign.
+fn signed(minus: bool, date: u64) -> i128
+    ensures value { result ≡ signed_date minus date }
+    ensures size { unsigned_abs result ≡ date }
+{
+    if minus { -(date as i128) } else { date as i128 }
+}

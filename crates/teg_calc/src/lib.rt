@@ -1,0 +1,29 @@
+//! The series calculator: expressions of periodic series, read from a text, evaluated and printed.
+//!
+//! [`parse`] answers the tree of a text exactly where the grammar has one, and otherwise the first
+//! offset at which no expression goes on or a bracket is opened too deep. [`evaluate`] answers the
+//! canonical form of what the tree means, a function of every shift, or the first refusal of its
+//! operations. [`print`] writes a series as a line. The crate stands on `series_form` and
+//! `series_ops` for series, on `series_laws` for what they mean, on `dioid` for dates, on `teg_text`
+//! for words and on `teg_net` for want of memory.
+#![tactic(auto)]
+
+mod brackets;
+mod bytes;
+mod evaluation;
+mod expressions;
+mod laws;
+mod parsing;
+mod printing;
+mod readers;
+mod refusals;
+#[cfg(test)]
+mod tests;
+mod tokens;
+
+pub use evaluation::evaluate;
+pub use expressions::Expr;
+pub use laws::trees_have_one_answer;
+pub use parsing::parse;
+pub use printing::print;
+pub use refusals::ParseRefused;

@@ -1,0 +1,502 @@
+//! A reader of expressions, byte by byte: the open brackets, and where the next byte stands.
+ghost use Rattle.std.specs.Prelude.{◌≡◌, ◌≢◌, IfSome, length};
+ghost use Rattle.teg_calc.specs.Trees.{tree_of};
+ghost use Rattle.teg_calc.specs.Readers.{Finishes, Goes, GoesOn, HasFewDigits, IsAt, Reaches, StandsWell, behind_step, close_step, comma_step, date_on, factor_of, factored, finish, gone_on, nested, operand_step, operator_by, operator_step, stand_of, start, state, state_of, step, tree_in, within, within_step};
+
+use crate::brackets::{Bracket, Call, closed, joined, multiplied, opened, takes_comma};
+use crate::bytes::{Sign, digit_of, sign_of};
+use crate::expressions::Expr;
+use crate::refusals::Stop;
+use crate::tokens::{Part, Word, begun_by, letters};
+use std::alloc::Global;
+
+/// Where the next byte stands.
+#[derive(Drop)]
+pub(crate) enum Place {
+    /// Where an operand begins.
+    Operand,
+    /// Inside a token or behind it.
+    Within(Part),
+    /// Behind this term.
+    Operator(Expr),
+}
+
+/// What was read so far: the outer open brackets, the innermost one, and where the next byte stands.
+#[derive(Drop)]
+pub(crate) struct Reader {
+    pub(crate) outer: Vec<Bracket>,
+    pub(crate) inner: Bracket,
+    pub(crate) place: Place,
+}
+
+impl Reader {
+    /// Before the first byte.
+    pub(crate) fn new(alloc: Global) -> Reader
+        ensures { state_of result ≡ start }
+    {
+        Reader {
+            outer: Vec::new(alloc),
+            inner: opened(Call::Text),
+            place: Place::Operand,
+        }
+    }
+
+    /// The reader after one more byte.
+    pub(crate) fn after(self, alloc: Global, byte: u8) -> Result<Reader, Stop>
+        requires { StandsWell (stand_of self.place) }
+        ensures { GoesOn (step (state_of self) byte) (length self.outer.items) byte result }
+    {
+        let Reader {
+            outer,
+            inner,
+            place,
+        } = self;
+        match place {
+            Place::Operand => operand(outer, inner, byte),
+            Place::Within(part) => within(alloc, outer, inner, part, byte),
+            Place::Operator(term) => operator(alloc, outer, inner, term, byte),
+        }
+    }
+
+    /// The tree of what was read; Unexpected where that is no whole expression.
+    pub(crate) fn finish(self, alloc: Global) -> Result<Expr, Stop>
+        ensures { Finishes (finish (state_of self)) result }
+    {
+        let Reader {
+            outer,
+            inner,
+            place,
+        } = self;
+        if !outer.is_empty() {
+            return Err(Stop::Unexpected);
+        }
+        let Bracket {
+            call: _,
+            first: _,
+            sum,
+            product,
+        } = inner;
+        match place {
+            Place::Operator(term) => Ok(joined(alloc, sum, term)?),
+            Place::Within(part) => match factor_of(part) {
+                Some(factor) => {
+                    let term = multiplied(alloc, product, factor)?;
+                    Ok(joined(alloc, sum, term)?)
+                }
+                None => Err(Stop::Unexpected),
+            },
+            Place::Operand => Err(Stop::Unexpected),
+        }
+    }
+}
+
+/// The brackets once one more is opened.
+fn nested(mut outer: Vec<Bracket>, inner: Bracket, call: Call) -> Result<Reader, Stop>
+    ensures { Goes (λ o i _. Some (nested o i call)) outer.items inner 40 result }
+{
+    if outer.len() >= 64 {
+        return Err(Stop::TooDeep);
+    }
+    match outer.push(inner) {
+        Ok(()) => Ok(Reader {
+            outer,
+            inner: opened(call),
+            place: Place::Operand,
+        }),
+        Err(_) => Err(Stop::OutOfMemory),
+    }
+}
+
+/// One byte more, where an operand begins.
+fn operand(outer: Vec<Bracket>, inner: Bracket, byte: u8) -> Result<Reader, Stop>
+    ensures { Goes operand_step outer.items inner byte result }
+{
+    match sign_of(byte) {
+        Sign::Blank => Ok(Reader {
+            outer,
+            inner,
+            place: Place::Operand,
+        }),
+        Sign::Open => nested(outer, inner, Call::Group),
+        _ => match begun_by(byte) {
+            Some(part) => Ok(Reader {
+                outer,
+                inner,
+                place: Place::Within(part),
+            }),
+            None => Err(Stop::Unexpected),
+        },
+    }
+}
+
+/// Behind one more factor.
+fn factored(
+    alloc: Global,
+    outer: Vec<Bracket>,
+    inner: Bracket,
+    factor: Expr,
+) -> Result<Reader, Stop>
+    ensures { Reaches (λ o i. Some (factored o i (tree_of factor))) outer.items inner result }
+{
+    let Bracket {
+        call,
+        first,
+        sum,
+        product,
+    } = inner;
+    let term = multiplied(alloc, product, factor)?;
+    Ok(Reader {
+        outer,
+        inner: Bracket {
+            call,
+            first,
+            sum,
+            product: None,
+        },
+        place: Place::Operator(term),
+    })
+}
+
+/// The innermost bracket closed behind a term.
+fn close(alloc: Global, mut outer: Vec<Bracket>, inner: Bracket, term: Expr) -> Result<Reader, Stop>
+    ensures { Reaches (λ o i. close_step o i (tree_of term)) outer.items inner result }
+{
+    let Bracket {
+        call,
+        first,
+        sum,
+        product: _,
+    } = inner;
+    let last = joined(alloc, sum, term)?;
+    match closed(alloc, call, first, last)? {
+        None => Err(Stop::Unexpected),
+        Some(factor) => match outer.pop() {
+            None => Err(Stop::Unexpected),
+            Some(inner) => factored(alloc, outer, inner, factor),
+        },
+    }
+}
+
+/// One byte more behind a term.
+fn operator(
+    alloc: Global,
+    outer: Vec<Bracket>,
+    inner: Bracket,
+    term: Expr,
+    byte: u8,
+) -> Result<Reader, Stop>
+    ensures { Goes (λ o i b. operator_step o i (tree_of term) b) outer.items inner byte result }
+{
+    match sign_of(byte) {
+        Sign::Blank => Ok(Reader {
+            outer,
+            inner,
+            place: Place::Operator(term),
+        }),
+        Sign::Plus => summed(alloc, outer, inner, term),
+        Sign::Dot => Ok(before_factor(outer, inner, term)),
+        Sign::Comma => comma(alloc, outer, inner, term),
+        Sign::Close => close(alloc, outer, inner, term),
+        _ => Err(Stop::Unexpected),
+    }
+}
+
+/// Behind a term and a `+`.
+fn summed(alloc: Global, outer: Vec<Bracket>, inner: Bracket, term: Expr) -> Result<Reader, Stop>
+    ensures { Reaches (λ o i. operator_by Sign.Plus o i (tree_of term)) outer.items inner result }
+{
+    let Bracket {
+        call,
+        first,
+        sum,
+        product: _,
+    } = inner;
+    let sum = joined(alloc, sum, term)?;
+    Ok(Reader {
+        outer,
+        inner: Bracket {
+            call,
+            first,
+            sum: Some(sum),
+            product: None,
+        },
+        place: Place::Operand,
+    })
+}
+
+/// Behind a term and a `.`.
+fn before_factor(outer: Vec<Bracket>, inner: Bracket, term: Expr) -> Reader
+    ensures { IsAt (λ o i. operator_by Sign.Dot o i (tree_of term)) outer.items inner result }
+{
+    let Bracket {
+        call,
+        first,
+        sum,
+        product: _,
+    } = inner;
+    Reader {
+        outer,
+        inner: Bracket {
+            call,
+            first,
+            sum,
+            product: Some(term),
+        },
+        place: Place::Operand,
+    }
+}
+
+/// Behind the first operand of a call and a comma.
+fn comma(alloc: Global, outer: Vec<Bracket>, inner: Bracket, term: Expr) -> Result<Reader, Stop>
+    ensures { Reaches (λ o i. comma_step o i (tree_of term)) outer.items inner result }
+{
+    let Bracket {
+        call,
+        first,
+        sum,
+        product: _,
+    } = inner;
+    if !takes_comma(call, &first) {
+        return Err(Stop::Unexpected);
+    }
+    let first = joined(alloc, sum, term)?;
+    Ok(Reader {
+        outer,
+        inner: Bracket {
+            call,
+            first: Some(first),
+            sum: None,
+            product: None,
+        },
+        place: Place::Operand,
+    })
+}
+
+/// The factor that a token is, where it may end there.
+fn factor_of(part: Part) -> Option<Expr>
+    ensures { tree_in result ≡ factor_of part }
+{
+    match part {
+        Part::Unit => Some(Expr::Unit),
+        Part::Date {
+            shift,
+            minus,
+            count,
+            value,
+        } => {
+            if count == 0 {
+                None
+            } else {
+                Some(Expr::Mono {
+                    shift,
+                    minus,
+                    date: value,
+                })
+            }
+        }
+        _ => None,
+    }
+}
+
+/// One byte more in a token or behind it.
+fn within(
+    alloc: Global,
+    outer: Vec<Bracket>,
+    inner: Bracket,
+    part: Part,
+    byte: u8,
+) -> Result<Reader, Stop>
+    requires { HasFewDigits part }
+    ensures { Goes (within_step part) outer.items inner byte result }
+{
+    match part {
+        Part::Letters { word, read } => letter(alloc, outer, inner, word, read, byte),
+        Part::Name { call } => named(outer, inner, call, byte),
+        _ => match gone_on(part, byte) {
+            Some(part) => Ok(Reader {
+                outer,
+                inner,
+                place: Place::Within(part),
+            }),
+            None => match factor_of(part) {
+                Some(factor) => behind(alloc, outer, inner, factor, byte),
+                None => Err(Stop::Unexpected),
+            },
+        },
+    }
+}
+
+/// One byte more behind a factor that ends before it.
+fn behind(
+    alloc: Global,
+    outer: Vec<Bracket>,
+    inner: Bracket,
+    factor: Expr,
+    byte: u8,
+) -> Result<Reader, Stop>
+    ensures { Goes (λ o i b. behind_step o i (Some (tree_of factor)) b) outer.items inner byte result }
+{
+    let Bracket {
+        call,
+        first,
+        sum,
+        product,
+    } = inner;
+    let term = multiplied(alloc, product, factor)?;
+    operator(
+        alloc,
+        outer,
+        Bracket {
+            call,
+            first,
+            sum,
+            product: None,
+        },
+        term,
+        byte,
+    )
+}
+
+/// A token with one byte more, where it goes on by that byte.
+fn gone_on(part: Part, byte: u8) -> Option<Part>
+    requires { HasFewDigits part }
+    ensures value { result ≡ gone_on part byte }
+    ensures short { IfSome result HasFewDigits }
+    ensures opens_none { IfSome result (λ _. byte ≢ 40) }
+{
+    match part {
+        Part::Unit => {
+            if byte == b'p' {
+                Some(Part::Letters {
+                    word: Word::Eps,
+                    read: 2,
+                })
+            } else {
+                None
+            }
+        }
+        Part::Shift { count, value } => shift_on(count, value, byte),
+        Part::Delta { shift } => {
+            if byte == b'-' {
+                Some(Part::Date {
+                    shift,
+                    minus: true,
+                    count: 0,
+                    value: 0,
+                })
+            } else {
+                date_on(shift, false, 0, 0, byte)
+            }
+        }
+        Part::Date {
+            shift,
+            minus,
+            count,
+            value,
+        } => date_on(shift, minus, count, value, byte),
+        _ => None,
+    }
+}
+
+/// The shift of a monomial with one byte more.
+fn shift_on(count: u8, value: u64, byte: u8) -> Option<Part>
+    requires { HasFewDigits (Part.Shift count value) }
+    ensures value { result ≡ gone_on (Part.Shift count value) byte }
+    ensures short { IfSome result HasFewDigits }
+    ensures opens_none { IfSome result (λ _. byte ≢ 40) }
+{
+    if byte == b'd' {
+        return if count == 0 {
+            None
+        } else {
+            Some(Part::Delta { shift: value })
+        };
+    }
+    if count >= 19 {
+        return None;
+    }
+    match digit_of(byte) {
+        Some(digit) => Some(Part::Shift {
+            count: count + 1,
+            value: value * 10 + digit,
+        }),
+        None => None,
+    }
+}
+
+/// The date of a monomial with one byte more.
+fn date_on(shift: u64, minus: bool, count: u8, value: u64, byte: u8) -> Option<Part>
+    requires { HasFewDigits (Part.Date shift minus count value) }
+    ensures value { result ≡ date_on shift minus count value byte }
+    ensures short { IfSome result HasFewDigits }
+    ensures opens_none { IfSome result (λ _. byte ≢ 40) }
+{
+    if count >= 19 {
+        return None;
+    }
+    match digit_of(byte) {
+        Some(digit) => Some(Part::Date {
+            shift,
+            minus,
+            count: count + 1,
+            value: value * 10 + digit,
+        }),
+        None => None,
+    }
+}
+
+/// One byte more in a word.
+fn letter(
+    alloc: Global,
+    outer: Vec<Bracket>,
+    inner: Bracket,
+    word: Word,
+    read: usize,
+    byte: u8,
+) -> Result<Reader, Stop>
+    ensures { Goes (within_step (Part.Letters word read)) outer.items inner byte result }
+{
+    let letters = letters(word);
+    if read >= letters.len() || letters[read] != byte {
+        return Err(Stop::Unexpected);
+    }
+    if read + 1 < letters.len() {
+        return Ok(Reader {
+            outer,
+            inner,
+            place: Place::Within(Part::Letters {
+                word,
+                read: read + 1,
+            }),
+        });
+    }
+    match word {
+        Word::Eps => factored(alloc, outer, inner, Expr::Epsilon),
+        Word::Never => factored(alloc, outer, inner, Expr::Never),
+        Word::Star => Ok(before_bracket(outer, inner, Call::Star)),
+        Word::Min => Ok(before_bracket(outer, inner, Call::Least)),
+        Word::Left => Ok(before_bracket(outer, inner, Call::Left)),
+    }
+}
+
+/// Behind the name of a call.
+fn before_bracket(outer: Vec<Bracket>, inner: Bracket, call: Call) -> Reader
+    ensures { IsAt (λ o i. Some (state o i (within (Part.Name call)))) outer.items inner result }
+{
+    Reader {
+        outer,
+        inner,
+        place: Place::Within(Part::Name { call }),
+    }
+}
+
+/// One byte more behind the name of a call.
+fn named(outer: Vec<Bracket>, inner: Bracket, call: Call, byte: u8) -> Result<Reader, Stop>
+    ensures { Goes (within_step (Part.Name call)) outer.items inner byte result }
+{
+    match sign_of(byte) {
+        Sign::Blank => Ok(before_bracket(outer, inner, call)),
+        Sign::Open => nested(outer, inner, call),
+        _ => Err(Stop::Unexpected),
+    }
+}
