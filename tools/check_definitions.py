@@ -17,6 +17,8 @@ from pathlib import Path
 TOP = Path(__file__).resolve().parent.parent
 WORD = re.compile(r"[^\W\d][\w'\-]*")
 DEFINED = re.compile(r"^ *(?:pub )?(abbrev|unfoldable|record|data) (?:pub )?([^\W\d][\w'\-]*)(.*)$")
+MUTUAL = re.compile(r"^(?:abbrev |unfoldable )?mutual$")
+IN_MUTUAL = re.compile(r"^  (pub )([^\W\d][\w'\-]*)( :.*)$")
 LAW = re.compile(r"^ {0,2}(?:pub )?([^\W\d][\w'\-]*) :(.*)$")
 
 
@@ -40,16 +42,19 @@ class Specs:
 
     def read(self, crate, file, text):
         self.imports[crate, file] = imports_of(text)
-        above, at, is_data = [], None, False
+        above, at, is_data, block = [], None, False, None
         for line in text.splitlines():
             bare = line.strip()
             if bare.startswith("-- ") and "----" not in bare:
                 above.append(bare[3:])
                 continue
-            defined, law = DEFINED.match(line), LAW.match(line)
+            if line and not line.startswith(" "):
+                block = " ".join(above) if MUTUAL.match(line) else None
+            defined = None if MUTUAL.match(line) else DEFINED.match(line) or (block is not None and IN_MUTUAL.match(line))
+            law = LAW.match(line)
             if defined:
                 at, is_data = (crate, file, defined[2]), defined[1] == "data"
-                self.words[at], self.body[at] = " ".join(above), defined[3]
+                self.words[at], self.body[at] = " ".join(above) or block or "", defined[3]
             elif law and not (at and line.startswith("  ") and (is_data or bare.startswith("pub "))):
                 at = None
             elif at:

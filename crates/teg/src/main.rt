@@ -48,14 +48,14 @@ fn run<S: Shelf, W: Sink>(
 ) -> ExitCode
     ensures { (status : Status)
         × KeepsPromises (record {
-            words = map string_bytes words.now;
-            lines = λ firings. map (λ m. line_text m firings) monitors.items;
-            shelf_before = S.state shelf.old;
-            shelf_after = S.state shelf.new;
-            sink_before = W.state out.old;
-            sink_after = W.state out.new;
-            status = status;
-          })
+          words = map string_bytes words.now;
+          lines = λ firings. map (λ m. line_text m firings) monitors.items;
+          shelf_before = S.state shelf.old;
+          shelf_after = S.state shelf.new;
+          sink_before = W.state out.old;
+          sink_after = W.state out.new;
+          status = status;
+        })
         × (exit_status result ≡ code_of status) }
 {
     let status = workbench(alloc, words, shelf, out, monitors);

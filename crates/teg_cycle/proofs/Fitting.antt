@@ -1,6 +1,6 @@
 -- The conditions of a certificate as they are checked are those of a certificate.
-use Rattle.std.proofs.Common.{ℕ, ◌+◌, ◌<◌, ◌≤◌, ◌≡◌, List, Option, Some, None, length, get_or, sym, ap, subst, ◌∙◌, arith}
-use Rattle.std.specs.Prelude.{All, AllPairs, Any, Contains, map}
+use Rattle.std.proofs.Common.{ℕ, ◌<◌, ◌≤◌, ◌≡◌, List, Some, length, get_or, sym, ap, subst, ◌∙◌, arith}
+use Rattle.std.specs.Prelude.{Contains}
 use Rattle.std.proofs.lemmas.List.{get_or-map, length-map, get_or_default}
 use Rattle.teg_net.specs.declared.entries.PlaceId.{PlaceId}
 use Rattle.teg_net.specs.declared.answers.Potential.{Potential}
@@ -10,11 +10,11 @@ use Rattle.teg_net.specs.declared.answers.CycleAnswer.{CycleAnswer}
 use Rattle.teg_net.specs.Nets.{NetLists}
 use Rattle.teg_net.specs.Ratios.{Fraction, IsLowestTerms}
 use Rattle.teg_net.specs.Parts.{IsMember, ListsMembers}
-use Rattle.teg_net.specs.GreatestRatios.{ratio_in, ratio_at}
+use Rattle.teg_net.specs.GreatestRatios.{ratio_in}
 use Rattle.teg_net.specs.PartAnswers.{transitions_of}
 use Rattle.teg_net.specs.Certificates.{IsBestCertificate, IsPartCertificate, IsCertificate}
 use Rattle.teg_cycle.specs.BestParts.{HaveTokens}
-use Rattle.teg_cycle.specs.Checks.{AreNumbersOf, IsRatioWithin, HasRatio, IsTold, TellsMembers, FitsPotentials, FitsBest, ArePartCertificates, FitsLists}
+use Rattle.teg_cycle.specs.Checks.{IsTold, TellsMembers, FitsBest, ArePartCertificates, FitsLists}
 use Rattle.teg_cycle.proofs.Deciding.{none_told}
 use Rattle.teg_cycle.proofs.FirstBest.{told_in}
 

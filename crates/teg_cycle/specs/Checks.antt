@@ -1,5 +1,5 @@
 -- Working definitions of the check of a certificate.
-use Rattle.std.specs.Prelude.{ℕ, ℤ, pos, ◌*◌, ◌<◌, ◌≤◌, ◌≡◌, ◌+ℤ◌, ◌-ℤ◌, ◌≤ℤ◌, List, Option, length, All, AllPairs, Any, slice_index, slice_index_or}
+use Rattle.std.specs.Prelude.{ℕ, pos, ◌*◌, ◌<◌, ◌≤◌, ◌≡◌, ◌+ℤ◌, ◌-ℤ◌, ◌≤ℤ◌, List, Option, length, All, AllPairs, Any, slice_index, slice_index_or}
 use Rattle.teg_net.specs.declared.entries.PlaceId.{PlaceId}
 use Rattle.teg_net.specs.declared.entries.Place.{Place}
 use Rattle.teg_net.specs.declared.answers.Potential.{Potential}
@@ -7,7 +7,7 @@ use Rattle.teg_net.specs.declared.answers.PartAnswer.{PartAnswer}
 use Rattle.teg_net.specs.declared.answers.PartAnswer.TheVariants.{NoCircuit}
 use Rattle.teg_net.specs.Limits.{greatest_ratio, greatest_potential}
 use Rattle.teg_net.specs.Nets.{NetLists}
-use Rattle.teg_net.specs.Ratios.{Fraction, IsLowestTerms}
+use Rattle.teg_net.specs.Ratios.{Fraction}
 use Rattle.teg_net.specs.Circuits.{IsCircuit, time_of, tokens_of}
 use Rattle.teg_net.specs.Parts.{IsMember, IsPlaceOfPart}
 use Rattle.teg_net.specs.ReducedTimes.{IsWithin}

@@ -1,5 +1,5 @@
 //! Whether an answer is a certificate: a short check of the answer and the net alone.
-ghost use Rattle.std.specs.Prelude.{◌≡◌, ◌↔◌, ◌<◌, ◌≤◌, ◌*◌, ℕ, All, IsTrue, length, slice_index};
+ghost use Rattle.std.specs.Prelude.{◌≡◌, ◌↔◌, ◌<◌, ◌≤◌, ◌*◌, All, IsTrue, length, slice_index};
 ghost use Rattle.teg_net.specs.Ratios.{IsLowestTerms};
 ghost use Rattle.teg_net.specs.Circuits.{IsCircuit, time_of, tokens_of};
 ghost use Rattle.teg_net.specs.GreatestRatios.{IsFirstGreatest};

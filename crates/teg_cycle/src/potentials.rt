@@ -1,5 +1,5 @@
 //! Whether the potentials of a part are those of a certificate.
-ghost use Rattle.std.specs.Prelude.{◌≡◌, ◌↔◌, ◌<◌, ◌≤◌, ◌*◌, ◌+ℤ◌, ◌-ℤ◌, ◌≤ℤ◌, ℕ, ℤ, pos, All, AllPairs, IsTrue, length, slice_index};
+ghost use Rattle.std.specs.Prelude.{◌≡◌, ◌↔◌, ◌<◌, ◌≤◌, ◌*◌, ◌+ℤ◌, ◌-ℤ◌, ◌≤ℤ◌, ℕ, ℤ, pos, All, AllPairs, IsTrue, length};
 ghost use Rattle.teg_net.specs.Limits.{greatest_hold, most_tokens, greatest_potential};
 ghost use Rattle.teg_net.specs.Parts.{IsMember};
 ghost use Rattle.teg_net.specs.ReducedTimes.{IsWithin};

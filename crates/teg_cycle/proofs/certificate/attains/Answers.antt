@@ -1,5 +1,3 @@
-use Rattle.std.proofs.Common.{ℕ, ◌≡◌, ◌<◌, ◌≤◌, arith}
-use Rattle.teg_net.specs.Circuits.{time_of, tokens_of}
 use Rattle.teg_net.proofs.PathLaws.{IsPathBetween-in_range}
 use Rattle.teg_cycle.proofs.Short.{circuit_sums}
 use Rattle.teg_cycle.proofs.certificate.attains.Goals as goal

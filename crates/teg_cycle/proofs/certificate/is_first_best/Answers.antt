@@ -1,4 +1,4 @@
-use Rattle.std.proofs.Common.{sym, subst}
+use Rattle.std.proofs.Common.{subst}
 use Rattle.teg_net.specs.GreatestRatios.{IsFirstGreatest}
 use Rattle.teg_cycle.proofs.FirstBest.{one_first}
 use Rattle.teg_cycle.proofs.certificate.is_first_best.Goals as goal

@@ -1,4 +1,4 @@
-use Rattle.std.proofs.Common.{ℕ, ◌≡◌, ◌<◌, ◌≤◌, true, false, length, get_or, refl, arith}
+use Rattle.std.proofs.Common.{◌≡◌, ◌<◌, true, false, length, get_or, refl, arith}
 use Rattle.std.proofs.lemmas.Bool.{false≢true, iff_false}
 use Rattle.std.proofs.lemmas.List.{get_or_read}
 use Rattle.teg_net.specs.declared.answers.PartAnswer.TheVariants.{NoCircuit}

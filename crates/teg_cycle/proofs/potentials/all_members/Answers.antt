@@ -1,4 +1,4 @@
-use Rattle.std.proofs.Common.{ℕ, ◌≡◌, ◌<◌, ◌≤◌, true, false, length, refl, arith}
+use Rattle.std.proofs.Common.{◌≡◌, true, false, refl, arith}
 use Rattle.std.proofs.lemmas.Bool.{false≢true, iff_false}
 use Rattle.teg_net.specs.Parts.{IsMember}
 use Rattle.teg_cycle.specs.Checks.{IsTold}

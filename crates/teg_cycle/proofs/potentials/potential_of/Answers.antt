@@ -1,4 +1,4 @@
-use Rattle.std.proofs.Common.{ℕ, ◌≡◌, ◌<◌, ◌≤◌, length, get_or, sym, ◌∙◌, arith}
+use Rattle.std.proofs.Common.{get_or, sym, ◌∙◌, arith}
 use Rattle.teg_cycle.proofs.Deciding.{none_told, potential_found, potential_missing, read_within}
 use Rattle.teg_cycle.proofs.potentials.potential_of.Goals as goal
 
