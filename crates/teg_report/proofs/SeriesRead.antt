@@ -1,16 +1,18 @@
 -- Series and their refusals are read back from their lines.
-use Rattle.std.proofs.Common.{◌≡◌, ℕ, zero, suc, ◌+◌, ◌-◌, ◌<◌, ◌≤◌, ◌^◌, true, List, [], ◌∷◌, ◌++◌, All, map, take, drop, length, get_or, refl, ap, sym, ◌∙◌, arith, codes}
+use Rattle.std.proofs.Common.{◌≡◌, ℕ, zero, suc, ◌+◌, ◌-◌, ◌<◌, ◌≤◌, ◌^◌, true, List, [], ◌∷◌, ◌++◌, All, map, take, drop, length, get_or, refl, ap, sym, subst, ◌∙◌, arith, codes}
 use Rattle.std.specs.Fmt.{decimal, signed_decimal}
 use Rattle.std.specs.List.{list_all}
 use Rattle.std.specs.Prelude.{⊤}
 use Rattle.std.proofs.lemmas.Bool.{and_from}
-use Rattle.std.proofs.lemmas.List.{length-append, length-map}
+use Rattle.std.proofs.lemmas.List.{get_or_default, length-append}
 use Rattle.dioid.specs.declared.dates.Date.{Date}
+use Rattle.dioid.specs.declared.dates.Date.TheVariants.{Early, At, Never}
+use Rattle.series_form.specs.Bounds.{IsSeries, IsSmallDate}
 use Rattle.series_form.specs.declared.forms.SeriesRefused.{SeriesRefused}
 use Rattle.series_form.specs.declared.forms.SeriesRefused.TheVariants.{TooLong, TooGreat, OutOfMemory as NoRoom}
 use Rattle.series_laws.specs.Forms.{Form as SeriesForm}
 use Rattle.teg_calc.specs.declared.refusals.ParseRefused.{ParseRefused}
-use Rattle.teg_calc.specs.declared.refusals.ParseRefused.TheVariants.{Syntax, TooDeep, OutOfMemory as NoMemory}
+use Rattle.teg_calc.specs.declared.refusals.ParseRefused.TheVariants.{Syntax, TooDeep, OutOfMemory as NoText}
 use Rattle.teg_calc.specs.Printing.{series_line}
 use Rattle.teg_net.specs.Nets.{NetLists}
 use Rattle.teg_report.specs.Answering.{series_in}
@@ -67,9 +69,22 @@ series_read names f h = record {
 pub parse_read : (names : NetLists) (refusal : ParseRefused) → IsParseKept refusal → IsRead names (parse_line refusal ∷ []) (Parse refusal)
 parse_read names (Syntax at) h = record { words = rw (decimal_is_word at) refl; back = rw (word32_back at h) refl }
 parse_read names (TooDeep at) h = record { words = rw (decimal_is_word at) refl; back = rw (word32_back at h) refl }
-parse_read names NoMemory h = absurd h
+parse_read names NoText h = absurd h
 
 pub series_refused_read : (names : NetLists) (refusal : SeriesRefused) → IsSeriesRefusalKept refusal → IsRead names (series_refused_line refusal ∷ []) (Series refusal)
 series_refused_read names (TooLong need) h = record { words = rw (decimal_is_word need) refl; back = rw (number_back need (omega (arith, h))) refl }
 series_refused_read names (TooGreat value) h = record { words = rw (signed_is_word value) refl; back = rw (signed_back value h) refl }
 series_refused_read names NoRoom h = absurd h
+
+-- what the numbers of a series keep
+small_is_date : (d : Date) → IsSmallDate d → IsDate d
+small_is_date Early h = tt
+small_is_date (At t) h = omega (arith, h)
+small_is_date Never h = tt
+
+pub series_kept : (f : SeriesForm) → IsSeries f → IsSeriesKept f
+series_kept f h = record {
+  values = λ i d l. subst IsDate (get_or_default f.values i Early d l) (small_is_date (get_or f.values i Early) (h.small.values i));
+  period = omega (arith, h.canonical.form.period_fits, h.short);
+  step = omega (arith, h.small.step);
+}

@@ -8,7 +8,7 @@ use Rattle.series_form.specs.declared.forms.SeriesRefused.{SeriesRefused}
 use Rattle.series_form.specs.declared.forms.SeriesRefused.TheVariants.{TooLong, TooGreat, OutOfMemory as NoRoom}
 use Rattle.series_laws.specs.Forms.{Form as SeriesForm}
 use Rattle.teg_calc.specs.declared.refusals.ParseRefused.{ParseRefused}
-use Rattle.teg_calc.specs.declared.refusals.ParseRefused.TheVariants.{Syntax, TooDeep, OutOfMemory as NoMemory}
+use Rattle.teg_calc.specs.declared.refusals.ParseRefused.TheVariants.{Syntax, TooDeep, OutOfMemory as NoText}
 use Rattle.teg_net.specs.declared.rounds.Choice.{Choice}
 use Rattle.teg_net.specs.Names.{is_name}
 use Rattle.teg_net.specs.Nets.{NetLists, IsNet}
@@ -84,7 +84,7 @@ pub record IsSeriesKept (series : SeriesForm) : Type 0 where
 abbrev pub IsParseKept : ParseRefused → Type 0
 IsParseKept (Syntax at) = IsWord32 at
 IsParseKept (TooDeep at) = IsWord32 at
-IsParseKept NoMemory = ⊥
+IsParseKept NoText = ⊥
 
 -- what a refusal of an operation keeps; it is not its want of memory
 abbrev pub IsSeriesRefusalKept : SeriesRefused → Type 0

@@ -4,7 +4,7 @@ use Rattle.teg_dates.specs.Tables.{date_at}
 use Rattle.teg_net.specs.Circuits.{AreInRange}
 use Rattle.teg_net.specs.Nets.{NetLists}
 use Rattle.series_form.specs.declared.forms.SeriesRefused.TheVariants.{OutOfMemory as NoRoom}
-use Rattle.teg_calc.specs.declared.refusals.ParseRefused.TheVariants.{OutOfMemory as NoMemory}
+use Rattle.teg_calc.specs.declared.refusals.ParseRefused.TheVariants.{OutOfMemory as NoText}
 use Rattle.teg_calc.specs.Printing.{series_line}
 use Rattle.teg_reader.specs.declared.refusals.ReadRefusal.TheVariants.{OutOfMemory}
 use Rattle.teg_report.specs.Series.{parse_line, series_refused_line}
@@ -54,6 +54,6 @@ IsAbout net (Calc series) = ⊤
 IsAbout net (Read refusal) = refusal ≢ OutOfMemory
 IsAbout net (TooLarge file) = ⊤
 IsAbout net (TokenFree circuit) = IsSomeAnd net (λ n. AreInRange n circuit)
-IsAbout net (Parse refusal) = refusal ≢ NoMemory
+IsAbout net (Parse refusal) = refusal ≢ NoText
 IsAbout net (Series refusal) = refusal ≢ NoRoom
 IsAbout net (Fault file) = ⊤

@@ -51,3 +51,9 @@ came_to says files state (Some outcome) h = ([], refl, (refl, (outcome.0, refl, 
 pub closed_with : (says : Verdict → List ℕ → Type 0) (files : List (Which × List ℕ)) (state : ShelfState) (outcome : Option (Verdict × List ℕ)) (ending : Ending) →
     ending ≡ ending_of outcome → Tells says outcome → Answered (SaysOutcome says) files state state ending
 closed_with says files state outcome ending e h = subst (λ (x : Ending). Answered (SaysOutcome says) files state state x) (sym e) (came_to says files state outcome h)
+
+-- what is told is told of weaker claims too
+pub tells_weaker : (says claims : Verdict → List ℕ → Type 0) (outcome : Option (Verdict × List ℕ)) →
+    ((verdict : Verdict) (text : List ℕ) → says verdict text → claims verdict text) → Tells says outcome → Tells claims outcome
+tells_weaker says claims None weaker h = tt
+tells_weaker says claims (Some outcome) weaker h = weaker outcome.0 outcome.1 h

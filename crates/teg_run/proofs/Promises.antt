@@ -10,14 +10,16 @@ use Rattle.teg_report.specs.Meanings.{round_lists}
 use Rattle.teg_run.specs.declared.status.Status.{Status}
 use Rattle.teg_run.specs.declared.status.Status.TheVariants.{Done, Words, Text, Net, ReadFault, WriteFault, NoMemory}
 use Rattle.teg_run.specs.declared.status.Verdict.{Verdict}
+use Rattle.teg_run.specs.declared.status.Verdict.TheVariants.{Done as VerdictDone, Calc as VerdictCalc}
 use Rattle.teg_run.specs.Calls.{Call}
 use Rattle.teg_run.specs.Endings.{Ending, Whole, Lost}
-use Rattle.teg_run.specs.Headline.{Ends, EndsLost, HasFault, Follows, ComesOnly, ReadsAreCalm, WritesAreCalm, OverlongRose, WroteWhole, WrotePrefix, ReadsFirstOf, NamesLastRead, AllowsNet, AllowsValue, Allows, EndsAsAllowed, Concerns, SaysOfNet, SaysLive, SaysLeastDates, SaysStandardForm, SaysCycleTimes, SaysPolicyRuns, SaysNoCircuit, SaysValues, KeepsPromises}
+use Rattle.teg_run.specs.Headline.{Ends, EndsLost, HasFault, Follows, ComesOnly, ReadsAreCalm, WritesAreCalm, OverlongRose, WroteWhole, WrotePrefix, ReadsFirstOf, NamesLastRead, AllowsNet, Allows, EndsAsAllowed, Concerns, SaysOfNet, SaysLive, SaysLeastDates, SaysStandardForm, SaysCycleTimes, SaysPolicyRuns, SaysNoCircuit, SaysValues, KeepsPromises}
 use Rattle.teg_run.specs.Requests.{NetCommand, CheckNet, ListNet, FormNet, CycleNet, Request, OfNet, ValueOf, request_of, files_of, asked_files}
 use Rattle.teg_run.specs.Runs.{Answered, CarriesOut, Finished, Runs}
-use Rattle.teg_run.specs.Says.{Asked, SaysNet, SaysOutcome, SaysValue}
+use Rattle.teg_run.specs.Says.{Asked, SaysNet, SaysOutcome}
+use Rattle.teg_run.specs.Values.{SaysValue}
 use Rattle.teg_run.specs.Statuses.{status_of}
-use Rattle.teg_run.specs.Texts.{usage, live_text, list_text, form_text, cycle_text, no_circuit_text, runs_text, series_text, too_large_text, fault_text}
+use Rattle.teg_run.specs.Texts.{usage, live_text, list_text, form_text, cycle_text, no_circuit_text, runs_text, series_text, parse_text, series_refused_text, too_large_text, fault_text}
 use Rattle.teg_run.proofs.CycleTold.{no_circuit_said}
 use Rattle.teg_run.proofs.Faults.{IsFaultOf, text_is_fault, net_is_fault, comes_only, follows, way_is_said, overlong_way, fault_way}
 use Rattle.teg_run.proofs.LiveNets.{live_goes_on}
@@ -219,17 +221,20 @@ says_of_value : (call : Call) → Runs call → (text : List ℕ) → request_of
 says_of_value call runs text asks =
     let h = subst (λ (asked : Option Request). CarriesOut asked call) asks runs in value_said call text h.0 h.1 h.2
 
+-- an ending with this verdict and the text that is wanted
+ends_with : (call : Call) (verdict wanted : Verdict) (told text : List ℕ) → verdict ≡ wanted → told ≡ text → Ends call (status_of verdict) told → Ends call (status_of wanted) text
+ends_with call verdict wanted told text e t h =
+    subst (λ (v : Verdict). Ends call (status_of v) text) e (subst (λ (l : List ℕ). Ends call (status_of verdict) l) t h)
+
 value_follows : (call : Call) → Runs call → SaysValues call
 value_follows call runs text asks =
     ⊎_elim
     (λ (said : _). ⊎_elim
-    (λ (done : _). inl (done.1.0, done.1.1, done_with call said.0 said.1 (series_text done.1.0) (ap status_of done.0) done.1.2 said.3))
-    (λ (refused : _). inr (inl (said.1, refused.1, subst (λ (s : Status). Ends call s said.1) (ap status_of refused.0) said.3))) said.2)
-    (λ (lost : _). inr (inr lost)) (says_of_value call runs text asks)
-
-value_allowed : (text : List ℕ) (verdict : Verdict) (told : List ℕ) → SaysValue text verdict told → AllowsValue text verdict
-value_allowed text verdict told said =
-    ⊎_elim (λ (done : _). subst (AllowsValue text) (sym done.0) (done.1.0, done.1.1)) (λ (refused : _). subst (AllowsValue text) (sym refused.0) (told, refused.1)) said
+    (λ (read : _). ⊎_elim
+    (λ (valued : _). inl (read.0, valued.1.0, read.1, valued.1.1, ends_with call said.0 VerdictDone said.1 (series_text valued.1.0) valued.0 valued.1.2 said.3))
+    (λ (refused : _). inr (inl (read.0, refused.0, read.1, refused.1, refused.2.1, ends_with call said.0 VerdictCalc said.1 (series_refused_text refused.0) refused.2.0 refused.2.2 said.3))) read.2)
+    (λ (fault : _). inr (inr (inl (fault.0, fault.1, fault.2.1, ends_with call said.0 VerdictCalc said.1 (parse_text fault.0) fault.2.0 fault.2.2 said.3)))) said.2)
+    (λ (lost : _). inr (inr (inr lost))) (says_of_value call runs text asks)
 
 ended_as : (request : Request) (call : Call) → WritesAreCalm call →
     ((verdict : Verdict) × (text : List ℕ) × Allows request verdict × Ends call (status_of verdict) text) ⊎ EndsLost call →
@@ -249,7 +254,7 @@ ends_as_allowed call runs files (OfNet command name) asks told reads writes acce
     (says_of_net call runs command accepts.0 (record { name = name; files = files; asks = asks; told = told; calm = reads; opens = accepts.1 })))
 ends_as_allowed call runs files (ValueOf text) asks told reads writes accepts =
     ended_as (ValueOf text) call writes
-    (⊎_elim (λ (said : _). inl (said.0, said.1, value_allowed text said.0 said.1 said.2, said.3)) (λ (lost : _). inr lost) (says_of_value call runs text asks))
+    (⊎_elim (λ (said : _). inl (said.0, said.1, (said.1, said.2), said.3)) (λ (lost : _). inr lost) (says_of_value call runs text asks))
 
 -- ---- what was written and read
 

@@ -16,7 +16,8 @@ use Rattle.teg_run.specs.Limits.{most_bytes}
 use Rattle.teg_run.specs.Openings.{Opening, Accepted, Refused, OpensNet, OpensDocument, read_status}
 use Rattle.teg_run.specs.Reads.{ReadsAll}
 use Rattle.teg_run.specs.Requests.{Request, OfNet, ValueOf, files_of}
-use Rattle.teg_run.specs.Says.{Says, SaysFile, SaysNet, SaysOpening, SaysOutcome, SaysValue}
+use Rattle.teg_run.specs.Says.{Says, SaysFile, SaysNet, SaysOpening, SaysOutcome}
+use Rattle.teg_run.specs.Values.{SaysValue}
 use Rattle.teg_run.specs.Texts.{read_text}
 use Rattle.teg_run.proofs.ReadOrder.{none_left}
 use Rattle.teg_run.proofs.Refusals.{Accepts, Refusal, Unread, Overlong, NoToml, NoNet, NotLive}

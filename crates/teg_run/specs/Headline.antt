@@ -1,7 +1,14 @@
 -- What the whole call promises its caller, one promise at a time.
 use Rattle.std.specs.Prelude.{ℕ, ◌≡◌, ◌≢◌, ◌≤◌, ◌<◌, ◌⊎◌, Bool, true, false, List, [], ◌∷◌, ◌++◌, length, take, map, Some, None, Ok, Err, Result, ⊤}
 use Rattle.dioid.specs.declared.dates.Date.{Date}
+use Rattle.series_form.specs.declared.forms.SeriesRefused.{SeriesRefused}
+use Rattle.series_form.specs.declared.forms.SeriesRefused.TheVariants.{OutOfMemory as NoRoom}
 use Rattle.series_laws.specs.Forms.{Form}
+use Rattle.teg_calc.specs.declared.refusals.ParseRefused.{ParseRefused}
+use Rattle.teg_calc.specs.declared.refusals.ParseRefused.TheVariants.{OutOfMemory as NoText}
+use Rattle.teg_calc.specs.Meaning.{Evaluates}
+use Rattle.teg_calc.specs.Reading.{IsParsed, IsParseOf}
+use Rattle.teg_calc.specs.Trees.{Tree}
 use Rattle.teg_form.specs.Forms.{FormLists, IsFormOf}
 use Rattle.teg_model.specs.Datings.{IsLeastDating}
 use Rattle.teg_net.specs.declared.answers.CycleAnswer.{CycleAnswer}
@@ -22,7 +29,7 @@ use Rattle.teg_report.specs.declared.answer.Which.TheVariants.{Net as NetFile}
 use Rattle.teg_run.specs.declared.status.Status.{Status}
 use Rattle.teg_run.specs.declared.status.Status.TheVariants.{Done, Words, Text, Net, Calc, ReadFault, WriteFault, NoMemory}
 use Rattle.teg_run.specs.declared.status.Verdict.{Verdict}
-use Rattle.teg_run.specs.declared.status.Verdict.TheVariants.{Done as VerdictDone, Calc as VerdictCalc}
+use Rattle.teg_run.specs.declared.status.Verdict.TheVariants.{Done as VerdictDone}
 use Rattle.teg_run.specs.Calls.{Call}
 use Rattle.teg_run.specs.CycleTimes.{IsCycleAnswer, AreRuns}
 use Rattle.teg_run.specs.Endings.{Whole, Lost}
@@ -32,8 +39,8 @@ use Rattle.teg_run.specs.Requests.{NetCommand, CheckNet, ListNet, FormNet, Cycle
 use Rattle.teg_run.specs.Runs.{Finished, Runs}
 use Rattle.teg_run.specs.Says.{Asked, SaysNet}
 use Rattle.teg_run.specs.Statuses.{status_of}
-use Rattle.teg_run.specs.Values.{IsValueOf, TellsRefusal}
-use Rattle.teg_run.specs.Texts.{usage, read_text, live_text, list_text, form_text, cycle_text, no_circuit_text, runs_text, series_text, token_free_text, too_large_text, fault_text}
+use Rattle.teg_run.specs.Values.{IsSeriesOf, SaysValue}
+use Rattle.teg_run.specs.Texts.{usage, read_text, live_text, list_text, form_text, cycle_text, no_circuit_text, runs_text, series_text, parse_text, series_refused_text, token_free_text, too_large_text, fault_text}
 
 -- ---- how a call ended
 
@@ -169,10 +176,9 @@ AllowsNet (ListNet count) verdict = verdict ≡ VerdictDone
 AllowsNet FormNet verdict = verdict ≡ VerdictDone
 AllowsNet (CycleNet rounds) verdict = verdict ≡ VerdictDone
 
--- how the value of an expression may end: with its refusal exactly where it is refused
+-- how an expression may end: with a refusal only where it has one
 abbrev pub AllowsValue : List ℕ → Verdict → Type 0
-AllowsValue text VerdictDone = (form : Form) × IsValueOf text form
-AllowsValue text VerdictCalc = (told : List ℕ) × TellsRefusal text told
+AllowsValue text verdict = (told : List ℕ) × SaysValue text verdict told
 
 -- how a request may end, once its files are accepted
 abbrev pub Allows : Request → Verdict → Type 0
@@ -236,12 +242,24 @@ abbrev pub SaysNoCircuit : Call → Type 0
 SaysNoCircuit call =
     (rounds : Bool) (net : NetLists) → Concerns call (CycleNet rounds) net → HasNoCircuit net IsAnyPlace → Ends call Done no_circuit_text
 
--- the canonical form of what an expression means is told, or its refusal, unless memory ran out
+-- the canonical form of what an expression means is told
+abbrev pub IsValued : Call → List ℕ → Type 0
+IsValued call text = (tree : Tree) × (form : Form) × IsParsed text tree × IsSeriesOf tree form × Ends call Done (series_text form)
+
+-- the first refusal of the operations of an expression is told
+abbrev pub IsUnvalued : Call → List ℕ → Type 0
+IsUnvalued call text =
+    (tree : Tree) × (refusal : SeriesRefused) × IsParsed text tree × Evaluates tree (Err refusal) × (refusal ≢ NoRoom)
+    × Ends call Calc (series_refused_text refusal)
+
+-- where the text is no expression, or too deep, is told
+abbrev pub IsUnread : Call → List ℕ → Type 0
+IsUnread call text = (refusal : ParseRefused) × IsParseOf text (Err refusal) × (refusal ≢ NoText) × Ends call Calc (parse_text refusal)
+
+-- an expression is told with the canonical form of what it means, or with its refusal, unless memory ran out
 abbrev pub SaysValues : Call → Type 0
 SaysValues call =
-    (text : List ℕ) → request_of call.words ≡ Some (ValueOf text) →
-    ((form : Form) × IsValueOf text form × Ends call Done (series_text form))
-    ⊎ (((told : List ℕ) × TellsRefusal text told × Ends call Calc told) ⊎ EndsLost call)
+    (text : List ℕ) → request_of call.words ≡ Some (ValueOf text) → IsValued call text ⊎ (IsUnvalued call text ⊎ (IsUnread call text ⊎ EndsLost call))
 
 -- ---- the promises
 

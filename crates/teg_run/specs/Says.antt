@@ -1,5 +1,5 @@
 -- What each command says, by what its reads gave.
-use Rattle.std.specs.Prelude.{ℕ, ◌≡◌, ◌⊎◌, Bool, true, false, List, [], ◌∷◌, Option, Some, None, Result}
+use Rattle.std.specs.Prelude.{ℕ, ◌≡◌, Bool, true, false, List, [], ◌∷◌, Option, Some, None, Result}
 use Rattle.dioid.specs.declared.dates.Date.{Date}
 use Rattle.teg_form.specs.Forms.{FormLists, IsFormOf}
 use Rattle.teg_model.specs.Datings.{IsLeastDating}
@@ -11,12 +11,12 @@ use Rattle.teg_outside.specs.declared.monitor.Firing.{Firing}
 use Rattle.teg_run.specs.declared.status.Status.{Status}
 use Rattle.teg_run.specs.declared.status.Status.TheVariants.{Words}
 use Rattle.teg_run.specs.declared.status.Verdict.{Verdict}
-use Rattle.teg_run.specs.declared.status.Verdict.TheVariants.{Done as VerdictDone, Calc as VerdictCalc}
+use Rattle.teg_run.specs.declared.status.Verdict.TheVariants.{Done as VerdictDone}
 use Rattle.teg_run.specs.CycleTimes.{IsCycleAnswer, AreRuns}
 use Rattle.teg_run.specs.Requests.{NetCommand, CheckNet, ListNet, FormNet, CycleNet, Request, OfNet, ValueOf}
 use Rattle.teg_run.specs.Openings.{Opening, Accepted, Refused, OpensNet}
 use Rattle.teg_run.specs.Statuses.{status_of}
-use Rattle.teg_run.specs.Values.{TellsValue, TellsRefusal}
+use Rattle.teg_run.specs.Values.{SaysValue}
 use Rattle.teg_run.specs.Texts.{usage, live_text, list_text, form_text, cycle_text, runs_text}
 
 -- of a live net its size is said
@@ -50,10 +50,6 @@ SaysNet (ListNet count) = SaysList count
 SaysNet FormNet = SaysForm
 SaysNet (CycleNet false) = SaysCycle
 SaysNet (CycleNet true) = SaysRounds
-
--- of an expression its value is said, or its refusal
-abbrev pub SaysValue : List ℕ → Verdict → List ℕ → Type 0
-SaysValue text verdict told = ((verdict ≡ VerdictDone) × TellsValue text told) ⊎ ((verdict ≡ VerdictCalc) × TellsRefusal text told)
 
 -- a claim on what a command comes to, where it found memory
 abbrev pub Tells : (Verdict → List ℕ → Type 0) → Option (Verdict × List ℕ) → Type 0

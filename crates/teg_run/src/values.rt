@@ -1,10 +1,11 @@
 //! The values of expressions.
-ghost use Rattle.std.specs.Prelude.{◌≡◌, ◌≤◌, ◌^◌, ◌<◌, length};
+ghost use Rattle.std.specs.Prelude.{◌≤◌, length};
 ghost use Rattle.teg_calc.specs.Reading.{IsParsed};
 ghost use Rattle.teg_calc.specs.Trees.{HasShortNumbers, node_count, tree_of};
 ghost use Rattle.teg_run.specs.Limits.{most_expression};
 ghost use Rattle.teg_run.specs.Meanings.{outcome_of};
-ghost use Rattle.teg_run.specs.Says.{Tells, SaysValue};
+ghost use Rattle.teg_run.specs.Says.{Tells};
+ghost use Rattle.teg_run.specs.Values.{RefusesParse, RefusesSeries, SaysSeries, SaysValue};
 
 use crate::ending::Outcome;
 use crate::status::Verdict;
@@ -14,26 +15,47 @@ use teg_calc::{Expr, ParseRefused, evaluate, parse};
 use teg_net::OutOfMemory;
 use teg_report::{Answer, report};
 
+// Why a text is no expression.
+fn refuse_text(alloc: Global, refusal: &ParseRefused) -> Result<Outcome, OutOfMemory>
+    ensures { Tells (RefusesParse refusal.now) (outcome_of result) }
+{
+    match refusal {
+        ParseRefused::OutOfMemory => Err(OutOfMemory),
+        ParseRefused::Syntax { .. } | ParseRefused::TooDeep { .. } => {
+            let text = report(alloc, None, &Answer::Parse { refusal })?;
+            let verdict = Verdict::Calc;
+            Ok(Outcome { verdict, text })
+        }
+    }
+}
+
+// Why an operation has no series.
+fn refuse_series(alloc: Global, refusal: &SeriesRefused) -> Result<Outcome, OutOfMemory>
+    ensures { Tells (RefusesSeries refusal.now) (outcome_of result) }
+{
+    match refusal {
+        SeriesRefused::OutOfMemory => Err(OutOfMemory),
+        SeriesRefused::TooLong { .. } | SeriesRefused::TooGreat { .. } => {
+            let text = report(alloc, None, &Answer::Series { refusal })?;
+            let verdict = Verdict::Calc;
+            Ok(Outcome { verdict, text })
+        }
+    }
+}
+
 // The value of an expression that was read.
-fn tell_series(alloc: Global, text: &str, expr: &Expr) -> Result<Outcome, OutOfMemory>
-    requires parsed { IsParsed text.now (tree_of expr.now) }
+fn tell_series(alloc: Global, expr: &Expr) -> Result<Outcome, OutOfMemory>
     requires nodes { node_count (tree_of expr.now) ≤ 4096 }
     requires numbers { HasShortNumbers (tree_of expr.now) }
-    ensures { Tells (SaysValue text.now) (outcome_of result) }
+    ensures { Tells (SaysSeries (tree_of expr.now)) (outcome_of result) }
 {
-    let _text = text;
     match evaluate(alloc, expr) {
         Ok(series) => {
             let text = report(alloc, None, &Answer::Calc { series: &series })?;
             let verdict = Verdict::Done;
             Ok(Outcome { verdict, text })
         }
-        Err(SeriesRefused::OutOfMemory) => Err(OutOfMemory),
-        Err(refusal) => {
-            let text = report(alloc, None, &Answer::Series { refusal: &refusal })?;
-            let verdict = Verdict::Calc;
-            Ok(Outcome { verdict, text })
-        }
+        Err(refusal) => refuse_series(alloc, &refusal),
     }
 }
 
@@ -43,12 +65,7 @@ pub fn tell_value(alloc: Global, text: &str) -> Result<Outcome, OutOfMemory>
     ensures { Tells (SaysValue text.now) (outcome_of result) }
 {
     match parse(alloc, text.as_bytes()) {
-        Ok(expr) => tell_series(alloc, text, &expr),
-        Err(ParseRefused::OutOfMemory) => Err(OutOfMemory),
-        Err(refusal) => {
-            let text = report(alloc, None, &Answer::Parse { refusal: &refusal })?;
-            let verdict = Verdict::Calc;
-            Ok(Outcome { verdict, text })
-        }
+        Ok(expr) => tell_series(alloc, &expr),
+        Err(refusal) => refuse_text(alloc, &refusal),
     }
 }
