@@ -7,3 +7,8 @@ pub mod ReadyDates
 pub mod Inputs
 pub mod Walks
 pub mod Ratios
+pub mod Parts
+pub mod ReducedTimes
+pub mod GreatestRatios
+pub mod PartAnswers
+pub mod Certificates

@@ -32,3 +32,11 @@ most_every = 1000
 -- a firing number that is asked or walked to
 abbrev pub greatest_number : ℕ
 greatest_number = 1000000000000000000
+
+-- the time and the tokens of a ratio in an answer that is checked
+abbrev pub greatest_ratio : ℕ
+greatest_ratio = 1000000000000
+
+-- the magnitude of a potential in an answer that is checked
+abbrev pub greatest_potential : ℕ
+greatest_potential = 1000000000000000000

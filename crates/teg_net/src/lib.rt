@@ -4,6 +4,7 @@
 //! This crate stands on std alone; what speaks of dates stands in crates above it.
 #![tactic(auto)]
 
+mod answers;
 mod circuits;
 mod copies;
 mod entries;
@@ -16,10 +17,12 @@ mod net;
 mod paths;
 mod ratios;
 mod ready;
+mod rounds;
 #[cfg(test)]
 mod tests;
 mod walks;
 
+pub use answers::{CycleAnswer, PartAnswer, Potential};
 pub use circuits::Circuit;
 pub use entries::{Again, DateList, InputList, Place, PlaceId, Role, Transition, TransitionId};
 pub use labels::Label;
@@ -28,4 +31,5 @@ pub use names::{Name, NameRefused};
 pub use net::Net;
 pub use paths::{is_circuit, is_path, time_of, tokens_of};
 pub use ratios::Ratio;
+pub use rounds::{Choice, Round};
 pub use walks::{Step, Walk, is_walk, walk_end, walk_time};
