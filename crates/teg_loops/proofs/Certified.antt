@@ -7,7 +7,6 @@ use Rattle.std.proofs.lemmas.List.{get_or_past}
 use Rattle.std.proofs.lemmas.List.Sums.{sum_by-cons}
 use Rattle.std.proofs.Math.Nat.{mul-le-mul_left, mul-le-mul_right, le_of_mul-le-mul_left}
 use Rattle.teg_net.specs.declared.entries.PlaceId.{PlaceId}
-use Rattle.teg_net.specs.declared.answers.Potential.{Potential}
 use Rattle.teg_net.specs.declared.answers.PartAnswer.{PartAnswer}
 use Rattle.teg_net.specs.declared.answers.PartAnswer.TheVariants.{NoCircuit, Best}
 use Rattle.teg_net.specs.declared.answers.CycleAnswer.{CycleAnswer}
@@ -18,27 +17,18 @@ use Rattle.teg_net.specs.Parts.{to_of, IsPlaceOfPart}
 use Rattle.teg_net.specs.ReducedTimes.{reduced_time, reduced_time_of}
 use Rattle.teg_net.specs.GreatestRatios.{IsGreatestRatio, IsAnyPlace, HasNoCircuit, ratio_in, ratio_at, IsFirstGreatest, IsFirstGreatestAt, IsCycleTime}
 use Rattle.teg_net.specs.Certificates.{potential_at, ArePotentials, IsPartCertificate, IsCertificate}
+use Rattle.teg_loops.specs.Told.{ratio_of, potentials_of}
 use Rattle.teg_loops.specs.Laws.{HaveTokens, CertificatesShowCycleTimes}
 
 -- ---- what a part's answer tells
 
--- the ratio, where one is told
-abbrev pub rate_of : PartAnswer → Fraction
-rate_of NoCircuit = record { time = 0; tokens = 1 }
-rate_of (Best ratio circuit potentials) = ratio
-
--- the potentials
-abbrev pub values_of : PartAnswer → List Potential
-values_of NoCircuit = []
-values_of (Best ratio circuit potentials) = potentials.items
-
 -- at the part's ratio no place of the part lifts its end above the potential there
-pub place_keeps : (net : NetLists) (part_of : List ℕ) (k : ℕ) (q : PartAnswer) → IsPartCertificate net part_of k q → ArePotentials net part_of k (rate_of q) (values_of q)
+pub place_keeps : (net : NetLists) (part_of : List ℕ) (k : ℕ) (q : PartAnswer) → IsPartCertificate net part_of k q → ArePotentials net part_of k (ratio_of q) (potentials_of q)
 place_keeps net part_of k NoCircuit h p inside = absurd (h p inside)
 place_keeps net part_of k (Best ratio circuit potentials) h p inside = h.potentials p inside
 
 -- a part in which some place lies tells a ratio
-pub ratio_told : (net : NetLists) (part_of : List ℕ) (k : ℕ) (q : PartAnswer) → IsPartCertificate net part_of k q → (p : PlaceId) → IsPlaceOfPart net part_of k p → ratio_in q ≡ Some (rate_of q)
+pub ratio_told : (net : NetLists) (part_of : List ℕ) (k : ℕ) (q : PartAnswer) → IsPartCertificate net part_of k q → (p : PlaceId) → IsPlaceOfPart net part_of k p → ratio_in q ≡ Some (ratio_of q)
 ratio_told net part_of k NoCircuit h p inside = absurd (h p inside)
 ratio_told net part_of k (Best ratio circuit potentials) h p inside = refl
 
@@ -140,20 +130,20 @@ module _ (net : NetLists) (ok : IsNet net) (answer : CycleAnswer) (h : IsCertifi
   start_below p ps a b path = subst (λ (z : ℕ). z < length net.transitions) path.1 (rules_of p path.0).from_in
 
   -- a closed path is at most its part's ratio
-  own_ratio : (p : PlaceId) (ps : List PlaceId) (a : ℕ) → IsPathBetween net a (p ∷ ps) a
-      → (rate_of (told_of (slice_index parts a))).tokens * time_of net (p ∷ ps) ≤ (rate_of (told_of (slice_index parts a))).time * tokens_of net (p ∷ ps)
-  own_ratio p ps a path =
+  own_at_most : (p : PlaceId) (ps : List PlaceId) (a : ℕ) → IsPathBetween net a (p ∷ ps) a
+      → (ratio_of (told_of (slice_index parts a))).tokens * time_of net (p ∷ ps) ≤ (ratio_of (told_of (slice_index parts a))).time * tokens_of net (p ∷ ps)
+  own_at_most p ps a path =
       let k : ℕ = slice_index parts a in
       let q : PartAnswer = told_of k in
       let inside = closed_inside p ps a path in
       let keeps = place_keeps net parts k q (certified k (part_below a (start_below p ps a a path))) in
-      let sum = path_keeps net (rate_of q).time (rate_of q).tokens (potential_at (values_of q)) (p ∷ ps) a a (λ i d l. keeps (get_or (p ∷ ps) i d) (inside i d l)) path in
-      let is = reduced_is net (rate_of q).time (rate_of q).tokens (p ∷ ps) in
-      low ((rate_of q).tokens * time_of net (p ∷ ps)) ((rate_of q).time * tokens_of net (p ∷ ps)) (reduced_time_of net (rate_of q).time (rate_of q).tokens (p ∷ ps)) (potential_at (values_of q) a) sum is where
+      let sum = path_keeps net (ratio_of q).time (ratio_of q).tokens (potential_at (potentials_of q)) (p ∷ ps) a a (λ i d l. keeps (get_or (p ∷ ps) i d) (inside i d l)) path in
+      let is = reduced_is net (ratio_of q).time (ratio_of q).tokens (p ∷ ps) in
+      low ((ratio_of q).tokens * time_of net (p ∷ ps)) ((ratio_of q).time * tokens_of net (p ∷ ps)) (reduced_time_of net (ratio_of q).time (ratio_of q).tokens (p ∷ ps)) (potential_at (potentials_of q) a) sum is where
         low : (t k : ℕ) (w v : ℤ) → (w +ℤ v) ≤ℤ v → (w +ℤ pos k) ≡ pos t → t ≤ k
         low t k w v e f = omega (arith, ints, e, f)
 
-  own_told : (p : PlaceId) (ps : List PlaceId) (a : ℕ) → IsPathBetween net a (p ∷ ps) a → ratio_at answer.parts.items (slice_index parts a) ≡ Some (rate_of (told_of (slice_index parts a)))
+  own_told : (p : PlaceId) (ps : List PlaceId) (a : ℕ) → IsPathBetween net a (p ∷ ps) a → ratio_at answer.parts.items (slice_index parts a) ≡ Some (ratio_of (told_of (slice_index parts a)))
   own_told p ps a path =
       let k : ℕ = slice_index parts a in
       ratio_told net parts k (told_of k) (certified k (part_below a (start_below p ps a a path))) p (closed_inside p ps a path 0 p (omega arith))
@@ -175,7 +165,7 @@ module _ (net : NetLists) (ok : IsNet net) (answer : CycleAnswer) (h : IsCertifi
 
     closed : (ps : List PlaceId) (a : ℕ) → 0 < length ps → IsPathBetween net a ps a → ⊥
     closed [] a l path = absurd (omega arith)
-    closed (p ∷ ps) a l path = apart (rate_of (told_of (slice_index parts a))) (ratio_at answer.parts.items (slice_index parts a)) (none (slice_index parts a)) (own_told p ps a path)
+    closed (p ∷ ps) a l path = apart (ratio_of (told_of (slice_index parts a))) (ratio_at answer.parts.items (slice_index parts a)) (none (slice_index parts a)) (own_told p ps a path)
 
   -- the first greatest ratio told is the greatest
   shown_best : HaveTokens answer.parts.items → (k : ℕ) (r : Fraction) → IsFirstGreatestAt answer.parts.items k r → IsGreatestRatio net IsAnyPlace r
@@ -188,9 +178,9 @@ module _ (net : NetLists) (ok : IsNet net) (answer : CycleAnswer) (h : IsCertifi
     closed [] a l path = absurd (omega arith)
     closed (p ∷ ps) a l path =
         let k : ℕ = slice_index parts a in
-        let q : Fraction = rate_of (told_of k) in
+        let q : Fraction = ratio_of (told_of k) in
         let told = own_told p ps a path in
-        at_most_greater (time_of net (p ∷ ps)) (tokens_of net (p ∷ ps)) q r (tokens k q told) (first.greatest k q told) (own_ratio p ps a path)
+        at_most_greater (time_of net (p ∷ ps)) (tokens_of net (p ∷ ps)) q r (tokens k q told) (first.greatest k q told) (own_at_most p ps a path)
 
   shown : HaveTokens answer.parts.items → (best : Option ℕ) → IsFirstGreatest answer.parts.items best → IsCycleTime net answer.parts.items best
   shown tokens None first = shown_none first

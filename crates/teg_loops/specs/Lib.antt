@@ -1,4 +1,5 @@
 pub mod Loops
 pub mod Shortening
 pub mod Rounds
+pub mod Told
 pub mod Laws

@@ -1,0 +1,5 @@
+pub mod Slacks
+pub mod Gaps
+pub mod Laws
+pub mod Losses
+pub mod Searches
