@@ -3,3 +3,4 @@ pub mod Gaps
 pub mod Laws
 pub mod Losses
 pub mod Searches
+pub mod Told

@@ -5,10 +5,12 @@ use Rattle.teg_net.specs.declared.entries.Place.{Place}
 use Rattle.teg_net.specs.declared.answers.PartAnswer.{PartAnswer}
 use Rattle.teg_net.specs.declared.answers.PartAnswer.TheVariants.{NoCircuit}
 use Rattle.teg_net.specs.declared.answers.CycleAnswer.{CycleAnswer}
+use Rattle.teg_net.specs.Limits.{greatest_potential}
 use Rattle.teg_net.specs.Nets.{NetLists}
 use Rattle.teg_net.specs.Ratios.{Fraction}
 use Rattle.teg_net.specs.Circuits.{place_at, from_of}
 use Rattle.teg_net.specs.Parts.{to_of}
+use Rattle.teg_net.specs.ReducedTimes.{IsWithin}
 use Rattle.teg_net.specs.Certificates.{potential_at}
 use Rattle.teg_loops.specs.Told.{ratio_of, potentials_of}
 use Rattle.teg_critical.specs.declared.losses.Loss.{Loss}
@@ -25,9 +27,17 @@ most_loss = 10000000000000000000000000000000
 abbrev pub count_of : Fraction → Place → ℤ
 count_of r p = pos (r.tokens * p.hold) -ℤ pos (r.time * p.tokens)
 
--- by so much what the place counts, from this potential on, stays below that potential
-abbrev pub IsLost : Fraction → Place → ℤ → ℤ → ℕ → Type 0
-IsLost own p start above lost = ((pos lost +ℤ count_of own p) +ℤ start) ≡ above
+-- by so much what is counted, from this potential on, stays below that potential
+abbrev pub IsLost : ℤ → ℤ → ℤ → ℕ → Type 0
+IsLost count start above lost = ((pos lost +ℤ count) +ℤ start) ≡ above
+
+-- it does, by no more than the most, and the potentials keep their limit
+pub record CanLose (count start above : ℤ) : Type 0 where
+  pub lost : ℕ
+  pub is : IsLost count start above lost
+  pub small : lost ≤ most_lost
+  pub start_in : IsWithin greatest_potential start
+  pub above_in : IsWithin greatest_potential above
 
 -- the same at the greatest ratio, times the tokens of the part's own ratio
 abbrev pub loss_at_best : Fraction → Fraction → ℕ → ℕ → ℕ
@@ -39,7 +49,7 @@ pub record IsLossOf (best own : Fraction) (start above : ℤ) (p : Place) (l : L
   pub some : 1 ≤ own.tokens
   pub below : own.time * best.tokens ≤ best.time * own.tokens
   pub lost : ℕ
-  pub is_lost : IsLost own p start above lost
+  pub is_lost : IsLost (count_of own p) start above lost
   pub amount : l.amount ≡ loss_at_best best own lost p.tokens
   pub small : l.amount ≤ most_loss
 
@@ -71,6 +81,10 @@ loss_at losses p = slice_index_or losses p.index None
 pub record AreLosses (net : NetLists) (answer : CycleAnswer) (best : Fraction) (losses : List (Option Loss)) : Type 0 where
   pub count : length losses ≡ length net.places
   pub each : (p : PlaceId) → p.index < length net.places → IsPlaceLoss net answer best p (loss_at losses p)
+
+-- no loss told passes the most
+abbrev pub AreKeptSmall : List (Option Loss) → Type 0
+AreKeptSmall losses = (p : PlaceId) (l : Loss) → loss_at losses p ≡ Some l → l.amount ≤ most_loss
 
 -- the gap that is told by a loss of the whole round, times the scale
 pub record LeavesGap (total scale : ℕ) : Type 0 where

@@ -1,12 +1,14 @@
 -- Least sums of losses along paths, from one transition on, and how they are searched (Dijkstra's algorithm).
-use Rattle.std.specs.Prelude.{ℕ, ◌+◌, ◌*◌, ◌<◌, ◌≤◌, ◌≡◌, ◌≢◌, ◌⊎◌, Bool, true, false, List, [], length, All, Any, IsSome, Option, Some, None, sum_by, slice_index_or, if◌then◌else◌, ⊤}
+use Rattle.std.specs.Prelude.{ℕ, ◌+◌, ◌*◌, ◌<◌, ◌≤◌, ◌≡◌, ◌≢◌, ◌⊎◌, Bool, true, false, List, [], length, All, Any, IsSome, Option, Some, None, sum_by, slice_index_or, nat_lt, if◌then◌else◌}
 use Rattle.teg_net.specs.declared.entries.PlaceId.{PlaceId}
+use Rattle.teg_net.specs.declared.entries.Place.{Place}
 use Rattle.teg_net.specs.Limits.{most_transitions}
 use Rattle.teg_net.specs.Nets.{NetLists}
 use Rattle.teg_net.specs.Circuits.{from_of, IsPathBetween}
 use Rattle.teg_net.specs.Parts.{to_of}
 use Rattle.teg_critical.specs.declared.losses.Loss.{Loss}
 use Rattle.teg_critical.specs.declared.searches.Step.{Step}
+use Rattle.teg_critical.specs.declared.searches.Near.{Near}
 use Rattle.teg_critical.specs.Losses.{most_loss, loss_at}
 
 -- the amount of a loss, 0 where there is none
@@ -48,6 +50,13 @@ pub record IsStepBy (net : NetLists) (losses : List (Option Loss)) (t : ℕ) (p 
   pub told : IsSome (loss_at losses p)
   pub loss : amount_in (loss_at losses p) ≡ s.loss
 
+-- the same of a place by itself, and of what it is told
+pub record IsStepOf (p : Place) (told : Option Loss) (t : ℕ) (s : Step) : Type 0 where
+  pub from : p.from.index ≡ t
+  pub to : p.to.index ≡ s.to
+  pub some : IsSome told
+  pub loss : amount_in told ≡ s.loss
+
 -- the steps from a transition: each is by a place, and each place with a loss that leaves it has one
 pub record AreStepsFrom (net : NetLists) (losses : List (Option Loss)) (t : ℕ) (steps : List Step) : Type 0 where
   pub sound : All (λ s. (p : PlaceId) × IsStepBy net losses t p s) steps
@@ -87,12 +96,18 @@ pub record IsSearching (net : NetLists) (losses : List (Option Loss)) (start : �
       → IsWithin (told_at least (to_of net p)) (d + amount_in (loss_at losses p))
   pub small : (t d : ℕ) → told_at least t ≡ Some d → d + unsettled settled * most_loss ≤ length settled * most_loss
 
+-- the nearer of two, where the second is told a loss
+abbrev pub nearer_of : Option Near → ℕ → Option ℕ → Option Near
+nearer_of nearest at None = nearest
+nearer_of None at (Some d) = Some (record { at = at; loss = d })
+nearer_of (Some near) at (Some d) = if nat_lt d near.loss then Some (record { at = at; loss = d }) else Some near
+
 -- the unsettled transition of least loss
-pub record IsNearest (least : List (Option ℕ)) (settled : List Bool) (t : ℕ) : Type 0 where
-  pub in_range : t < length settled
-  pub open_ : is_settled settled t ≡ false
-  pub told : IsSome (told_at least t)
-  pub least : (u d : ℕ) → is_settled settled u ≡ false → told_at least u ≡ Some d → IsWithin (told_at least t) d
+pub record IsNearest (least : List (Option ℕ)) (settled : List Bool) (near : Near) : Type 0 where
+  pub in_range : near.at < length settled
+  pub open_ : is_settled settled near.at ≡ false
+  pub told : told_at least near.at ≡ Some near.loss
+  pub no_nearer : (u d : ℕ) → is_settled settled u ≡ false → told_at least u ≡ Some d → near.loss ≤ d
 
 -- no unsettled transition is told a loss
 abbrev pub IsOver : List (Option ℕ) → List Bool → Type 0

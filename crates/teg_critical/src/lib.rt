@@ -14,8 +14,6 @@ mod laws;
 mod losses;
 mod searches;
 mod slacks;
-#[cfg(test)]
-mod tests;
 
 pub use each_place::critical;
 pub use laws::{gaps_tell_slacks, slacks_are_of_the_net, slacks_are_one};

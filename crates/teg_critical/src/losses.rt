@@ -1,11 +1,9 @@
 //! What places lose against the net's greatest ratio: by the potentials of the answer no place
 //! gains, so that the best path back is one that loses least (chapter 3).
-ghost use Rattle.std.specs.Prelude.{◌≡◌, ◌≤◌, ◌<◌, ◌*◌, ◌+ℤ◌, ◌≤ℤ◌, length, IfOk};
-ghost use Rattle.teg_net.specs.Limits.{greatest_hold, most_tokens, greatest_ratio, greatest_potential};
-ghost use Rattle.teg_net.specs.Nets.{IsPlaceOf};
-ghost use Rattle.teg_net.specs.ReducedTimes.{IsWithin};
+ghost use Rattle.std.specs.Prelude.{◌≡◌, ◌≤◌, ◌<◌, ◌*◌, length, IfOk};
+ghost use Rattle.teg_net.specs.Limits.{greatest_hold, most_tokens};
 ghost use Rattle.teg_net.specs.Certificates.{potential_at, IsCertificate};
-ghost use Rattle.teg_critical.specs.Losses.{most_lost, most_loss, count_of, IsLost, loss_at_best, IsPlaceLoss, AreLosses};
+ghost use Rattle.teg_critical.specs.Losses.{most_lost, most_loss, count_of, IsLost, CanLose, loss_at_best, IsPlaceLoss, AreLosses};
 ghost use Rattle.teg_critical.specs.Told.{IsSmallRatio, IsBestOf};
 
 use std::alloc::{AllocError, Global};
@@ -30,23 +28,30 @@ fn potential_of(potentials: &[Potential], transition: TransitionId) -> i128
     0
 }
 
-/// What a place loses at its part's ratio, between the potentials of its ends.
-fn lost_between(own: Ratio, place: &Place, start: i128, end: i128) -> u128
-    requires ratio { IsSmallRatio own }
+/// What a place counts at a ratio: the ratio's tokens times its hold, less the ratio's time times
+/// its tokens.
+fn count_at(ratio: Ratio, place: &Place) -> i128
+    requires ratio { IsSmallRatio ratio }
     requires hold { place.now.hold ≤ greatest_hold }
     requires tokens { place.now.tokens ≤ most_tokens }
-    requires start { IsWithin greatest_potential start }
-    requires end { IsWithin greatest_potential end }
-    requires keeps { (count_of own place.now +ℤ start) ≤ℤ end }
-    ensures lost { IsLost own place.now start end result }
-    ensures small { result ≤ most_lost }
+    ensures { result ≡ count_of ratio place.now }
 {
-    let gain = i128::from(own.tokens()) * i128::from(place.hold);
-    let cost = i128::from(own.time()) * i128::from(place.tokens);
-    (end - start - (gain - cost)) as u128
+    let gain = i128::from(ratio.tokens()) * i128::from(place.hold);
+    let cost = i128::from(ratio.time()) * i128::from(place.tokens);
+    gain - cost
 }
 
-/// The same at the greatest ratio, times the tokens of the part's.
+/// By how much a count, from one potential on, stays below another.
+fn lost_between(count: i128, start: i128, end: i128) -> u128
+    requires { CanLose count start end }
+    ensures lost { IsLost count start end result }
+    ensures small { result ≤ most_lost }
+{
+    (end - start - count) as u128
+}
+
+/// What a place loses at the greatest ratio, times the tokens of its part's, where it loses so much
+/// at that.
 fn loss_against(best: Ratio, own: Ratio, lost: u128, tokens: u32) -> u128
     requires best { IsSmallRatio best }
     requires own { IsSmallRatio own }
@@ -76,11 +81,13 @@ fn loss_of(net: &Net, answer: &CycleAnswer, best: Ratio, place: PlaceId) -> Opti
     match &answer.parts[part as usize] {
         PartAnswer::NoCircuit => None,
         PartAnswer::Best {
-            ratio, potentials, ..
+            ratio,
+            potentials,
+            ..
         } => {
             let start = potential_of(potentials, place.from);
             let end = potential_of(potentials, place.to);
-            let lost = lost_between(*ratio, place, start, end);
+            let lost = lost_between(count_at(*ratio, place), start, end);
             Some(Loss {
                 amount: loss_against(best, *ratio, lost, place.tokens),
                 scale: ratio.tokens(),

@@ -1,19 +1,26 @@
 //! The least that paths lose from one transition on, to each transition (Dijkstra's algorithm): of
 //! the transitions that are not settled the nearest is settled, and its steps are taken.
-ghost use Rattle.std.specs.Prelude.{◌≡◌, ◌≤◌, ◌<◌, ◌*◌, ◌+◌, List, length, All, IfOk, IfNone, IfSome, slice_index_or};
+ghost use Rattle.std.specs.Prelude.{◌≡◌, ◌≤◌, ◌<◌, ◌*◌, ℕ, length, All, IfOk, IfNone, IfSome, IsTrue, None, Some, false};
 ghost use Rattle.teg_net.specs.Limits.{most_transitions};
 ghost use Rattle.teg_critical.specs.Losses.{most_loss, AreKeptSmall};
-ghost use Rattle.teg_critical.specs.Searches.{AreStepsFrom, AreSteps, IsNearest, IsOver, IsRelaxed, IsWithin, told_at, AreLeastLosses};
+ghost use Rattle.teg_critical.specs.Searches.{IsStepOf, AreStepsFrom, AreSteps, nearer_of, IsNearest, IsOver, IsWithin, IsRelaxed, AreLeastLosses};
 
 use crate::losses::Loss;
 use std::alloc::{AllocError, Global};
 use std::marker::Model;
-use teg_net::Net;
+use teg_net::{Net, Place};
 
 /// A place as the search takes it: the transition at which it ends, and what it loses.
 #[derive(Clone, Copy, Debug, PartialEq, Eq)]
 pub(crate) struct Step {
     pub(crate) to: usize,
+    pub(crate) loss: u128,
+}
+
+/// A transition, and what is told of it.
+#[derive(Clone, Copy, Debug, PartialEq, Eq)]
+pub(crate) struct Near {
+    pub(crate) at: usize,
     pub(crate) loss: u128,
 }
 
@@ -48,6 +55,21 @@ impl Steps {
     }
 }
 
+/// The step that a place is from this transition, if it leaves it and is told a loss.
+fn step_by(place: &Place, told: Option<Loss>, from: usize) -> Option<Step>
+    ensures none { IfNone result (place.now.from.index ≡ from → told ≡ None) }
+    ensures step { IfSome result (IsStepOf place.now told from) }
+{
+    let loss = told?;
+    if place.from.index as usize != from {
+        return None;
+    }
+    Some(Step {
+        to: place.to.index as usize,
+        loss: loss.amount,
+    })
+}
+
 /// The steps from a transition: the places that leave it and are told a loss.
 fn steps_from(
     alloc: Global,
@@ -61,13 +83,8 @@ fn steps_from(
 {
     let mut steps = Vec::new(alloc);
     for (index, place) in net.places().iter().enumerate() {
-        if place.from.index as usize == from
-            && let Some(loss) = losses[index]
-        {
-            steps.push(Step {
-                to: place.to.index as usize,
-                loss: loss.amount,
-            })?;
+        if let Some(step) = step_by(place, losses[index], from) {
+            steps.push(step)?;
         }
     }
     Ok(steps)
@@ -91,23 +108,47 @@ pub(crate) fn all_steps(
     Ok(all)
 }
 
+/// The nearer of the nearest so far and a further transition, if that is told a loss.
+fn nearer(nearest: Option<Near>, at: usize, told: Option<u128>) -> Option<Near>
+    ensures { result ≡ nearer_of nearest at told }
+{
+    match (nearest, told) {
+        (_, None) => nearest,
+        (None, Some(loss)) => Some(Near { at, loss }),
+        (Some(near), Some(loss)) => {
+            if loss < near.loss {
+                Some(Near { at, loss })
+            } else {
+                Some(near)
+            }
+        }
+    }
+}
+
 /// The unsettled transition of least loss.
-fn nearest(least: &[Option<u128>], settled: &[bool]) -> Option<usize>
+fn nearest(least: &[Option<u128>], settled: &[bool]) -> Option<Near>
     requires { length least.now ≡ length settled.now }
     ensures over { IfNone result (IsOver least.now settled.now) }
     ensures nearest { IfSome result (IsNearest least.now settled.now) }
 {
-    let mut nearest: Option<usize> = None;
-    let mut lowest = 0;
+    let mut nearest = None;
     for (at, is_settled) in settled.iter().enumerate() {
-        if let (false, Some(loss)) = (*is_settled, least[at]) {
-            if nearest.is_none() || loss < lowest {
-                nearest = Some(at);
-                lowest = loss;
-            }
+        if !*is_settled {
+            nearest = nearer(nearest, at, least[at]);
         }
     }
     nearest
+}
+
+/// Whether nothing is told yet, or more than is offered.
+fn is_less(offered: u128, told: Option<u128>) -> bool
+    ensures less { IsTrue result → (d : ℕ) → told ≡ Some d → offered ≤ d }
+    ensures not_less { result ≡ false → IsWithin told offered }
+{
+    match told {
+        None => true,
+        Some(told) => offered < told,
+    }
 }
 
 /// Takes the steps from this loss on: what they offer is told where it is less.
@@ -119,11 +160,7 @@ fn relax(steps: &[Step], base: u128, least: &mut [Option<u128>])
 {
     for step in steps {
         let offered = base + step.loss;
-        let is_less = match least[step.to] {
-            None => true,
-            Some(told) => offered < told,
-        };
-        if is_less {
+        if is_less(offered, least[step.to]) {
             least[step.to] = Some(offered);
         }
     }
@@ -146,10 +183,9 @@ pub(crate) fn least_losses(
     let mut least = vec![in alloc; None; count]?;
     let mut settled = vec![in alloc; false; count]?;
     least[start] = Some(0);
-    'search: while let Some(at) = nearest(&least, &settled) {
-        let base = least[at].unwrap();
-        settled[at] = true;
-        relax(steps[at].as_slice(), base, &mut least);
+    'search: while let Some(near) = nearest(&least, &settled) {
+        settled[near.at] = true;
+        relax(steps[near.at].as_slice(), near.loss, &mut least);
     }
     Ok(least)
 }

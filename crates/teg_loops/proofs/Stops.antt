@@ -51,4 +51,3 @@ first_met net (p ∷ ps) a b h = h.1
 pub last_met : (net : NetLists) (ps : List PlaceId) (b : ℕ) → get_or (met net b ps) (length ps) 0 ≡ b
 last_met net [] b = refl
 last_met net (p ∷ ps) b = last_met net ps b
-

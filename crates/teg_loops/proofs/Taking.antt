@@ -106,4 +106,3 @@ closed_on net alpha beta each (suc fuel) ps a l h some =
 pub closed_keeps : (net : NetLists) (alpha beta : ℕ) → ((ps : List PlaceId) → IsCircuit net ps → Keeps net alpha beta ps)
     → (ps : List PlaceId) (a : ℕ) → IsPathBetween net a ps a → 0 < length ps → Keeps net alpha beta ps
 closed_keeps net alpha beta each ps a h some = closed_on net alpha beta each (suc (length ps)) ps a (omega arith) h some
-

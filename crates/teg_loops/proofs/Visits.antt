@@ -96,4 +96,3 @@ rounds_sum f ps (suc r) =
     let two = rounds_sum f ps r in
     let three : suc r * sum_by f ps ≡ sum_by f ps + r * sum_by f ps = omega arith in
     omega arith
-

@@ -1,0 +1,293 @@
+-- Steps listed place by place, the nearest transition looked for, and steps taken one by one.
+use Rattle.std.proofs.Common.{ℕ, zero, suc, ◌+◌, ◌*◌, ◌<◌, ◌≤◌, ◌≡◌, ◌≢◌, Bool, true, false, cond, List, [], ◌∷◌, ◌++◌, length, get_or, set, Option, Some, None, refl, sym, ap, subst, ◌∙◌, arith, ⊎_elim, ◌⊎◌, inl, inr}
+use Rattle.std.specs.Prelude.{All, Any, IsSome, nat_lt}
+use Rattle.std.proofs.lemmas.Bool.Decides.{nat_tests}
+use Rattle.std.proofs.lemmas.Bool.{cases_lt, cases_eq}
+use Rattle.std.proofs.lemmas.List.{length-append, length-set, get_or_append_left, get_or-append-add, get_or-set_same, get_or-set_other, get_or_default, get_or_past}
+use Rattle.teg_net.specs.declared.entries.PlaceId.{PlaceId}
+use Rattle.teg_net.specs.Nets.{NetLists}
+use Rattle.teg_net.specs.Circuits.{from_of}
+use Rattle.teg_net.specs.Parts.{to_of}
+use Rattle.teg_critical.specs.declared.losses.Loss.{Loss}
+use Rattle.teg_critical.specs.declared.searches.Step.{Step}
+use Rattle.teg_critical.specs.declared.searches.Near.{Near}
+use Rattle.teg_critical.specs.Losses.{most_loss, loss_at}
+use Rattle.teg_critical.specs.Searches.{amount_in, told_at, IsStepBy, AreStepsFrom, AreSteps, IsWithin, is_settled, nearer_of, IsNearest, IsOver, IsRelaxed}
+use Rattle.teg_critical.proofs.Searching.{within_more, within_some, IsTold, within_told, none_some, same_some}
+
+-- ---- the steps from a transition
+
+abbrev IsStep : NetLists → List (Option Loss) → PlaceId → Step → Type 0
+IsStep net losses p s = (s.to ≡ to_of net p) × (s.loss ≡ amount_in (loss_at losses p))
+
+-- the places below k are listed
+pub record StepsUpTo (net : NetLists) (losses : List (Option Loss)) (t : ℕ) (steps : List Step) (k : ℕ) : Type 0 where
+  pub sound : All (λ s. (p : PlaceId) × IsStepBy net losses t p s) steps
+  pub complete : (p : PlaceId) → p.index < k → from_of net p ≡ t → IsSome (loss_at losses p) → Any (λ s. IsStep net losses p s) steps
+  pub ends : All (λ s. s.to < length net.transitions) steps
+  pub small : All (λ s. s.loss ≤ most_loss) steps
+
+one_more : {X : Type 0} (P : X → Type 0) (xs : List X) (x : X) → All P xs → P x → All P (xs ++ (x ∷ []))
+one_more P xs x all here i d l = ⊎_elim
+    (λ (m : i < length xs). subst P (sym (get_or_append_left xs (x ∷ []) d i m)) (all i d m))
+    (λ (m : length xs ≤ i).
+    let long = length-append xs (x ∷ []) in
+    let is : i ≡ length xs + 0 = omega arith in
+    let read : get_or (xs ++ (x ∷ [])) i d ≡ x = ap (λ (z : ℕ). get_or (xs ++ (x ∷ [])) z d) is ∙ get_or-append-add xs (x ∷ []) 0 d in
+    subst P (sym read) here)
+    (cases_lt i (length xs))
+
+still_any : {X : Type 0} (P : X → Type 0) (xs : List X) (x : X) → Any P xs → Any P (xs ++ (x ∷ []))
+still_any P xs x any =
+    let long = length-append xs (x ∷ []) in
+    let low = any.2 in
+    (any.0, any.1, omega arith, get_or_append_left xs (x ∷ []) any.1 any.0 any.2 ∙ any.3, any.4)
+
+last_any : {X : Type 0} (P : X → Type 0) (xs : List X) (x : X) → P x → Any P (xs ++ (x ∷ []))
+last_any P xs x here = let long = length-append xs (x ∷ []) in (length xs + 0, x, omega arith, get_or-append-add xs (x ∷ []) 0 x, here)
+
+pub steps_begin : (net : NetLists) (losses : List (Option Loss)) (t : ℕ) → StepsUpTo net losses t [] 0
+steps_begin net losses t = record {
+  sound = λ i d l. absurd (omega arith);
+  complete = λ p l. absurd (omega arith);
+  ends = λ i d l. absurd (omega arith);
+  small = λ i d l. absurd (omega arith);
+}
+
+-- a place that is no step
+pub steps_past : (net : NetLists) (losses : List (Option Loss)) (t : ℕ) (steps : List Step) (k : ℕ) → StepsUpTo net losses t steps k
+    → ((p : PlaceId) → p.index ≡ k → from_of net p ≡ t → IsSome (loss_at losses p) → ⊥) → StepsUpTo net losses t steps (k + 1)
+steps_past net losses t steps k h none = record {
+  sound = h.sound;
+  complete = λ p l e f. ⊎_elim
+      (λ (m : p.index < k). h.complete p m e f)
+      (λ (m : k ≤ p.index). absurd (none p (omega arith) e f))
+      (cases_lt p.index k);
+  ends = h.ends;
+  small = h.small;
+}
+
+-- a place that is one
+pub steps_more : (net : NetLists) (losses : List (Option Loss)) (t : ℕ) (steps : List Step) (k : ℕ) (s : Step) → StepsUpTo net losses t steps k
+    → IsStepBy net losses t (record { index = k }) s → s.to < length net.transitions → s.loss ≤ most_loss → StepsUpTo net losses t (steps ++ (s ∷ [])) (k + 1)
+steps_more net losses t steps k s h by end_in low = record {
+  sound = one_more (λ x. (p : PlaceId) × IsStepBy net losses t p x) steps s h.sound (record { index = k }, by);
+  complete = λ p l e f. ⊎_elim
+      (λ (m : p.index < k). still_any (IsStep net losses p) steps s (h.complete p m e f))
+      (λ (m : k ≤ p.index).
+      let same : record { index = k } ≡ p = ap (λ (z : ℕ). record { index = z }) (let is : k ≡ p.index = omega arith in is) in
+      let is : IsStepBy net losses t p s = subst (λ (z : PlaceId). IsStepBy net losses t z s) same by in
+      last_any (IsStep net losses p) steps s (sym is.to, sym is.loss))
+      (cases_lt p.index k);
+  ends = one_more (λ x. x.to < length net.transitions) steps s h.ends end_in;
+  small = one_more (λ x. x.loss ≤ most_loss) steps s h.small low;
+}
+
+pub steps_end : (net : NetLists) (losses : List (Option Loss)) (t : ℕ) (steps : List Step) → StepsUpTo net losses t steps (length net.places) → AreStepsFrom net losses t steps
+steps_end net losses t steps h = record { sound = h.sound; complete = h.complete; ends = h.ends; small = h.small }
+
+-- ---- the steps from each transition
+
+pub record AllStepsUpTo (net : NetLists) (losses : List (Option Loss)) (steps : List (List Step)) (k : ℕ) : Type 0 where
+  pub count : length steps ≡ k
+  pub each : (t : ℕ) → t < k → AreStepsFrom net losses t (get_or steps t [])
+
+pub all_more : (net : NetLists) (losses : List (Option Loss)) (steps : List (List Step)) (k : ℕ) (own : List Step) → AllStepsUpTo net losses steps k → AreStepsFrom net losses k own → AllStepsUpTo net losses (steps ++ (own ∷ [])) (k + 1)
+all_more net losses steps k own h here =
+    let count = h.count in
+    record {
+      count = length-append steps (own ∷ []) ∙ (let one : length steps + 1 ≡ k + 1 = omega arith in one);
+      each = λ t l. ⊎_elim
+          (λ (m : t < k). subst (AreStepsFrom net losses t) (sym (get_or_append_left steps (own ∷ []) [] t (omega arith))) (h.each t m))
+          (λ (m : k ≤ t).
+          let is : t ≡ length steps + 0 = omega arith in
+          let same : k ≡ t = omega arith in
+          let read : get_or (steps ++ (own ∷ [])) t [] ≡ own = ap (λ (z : ℕ). get_or (steps ++ (own ∷ [])) z []) is ∙ get_or-append-add steps (own ∷ []) 0 [] in
+          subst (AreStepsFrom net losses t) (sym read) (subst (λ (z : ℕ). AreStepsFrom net losses z own) same here))
+          (cases_lt t k);
+    }
+
+-- ---- the nearest transition
+
+-- the nearest of the unsettled transitions below k
+pub record NearestUpTo (least : List (Option ℕ)) (settled : List Bool) (k : ℕ) (nearest : Option Near) : Type 0 where
+  pub none : nearest ≡ None → (u : ℕ) → u < k → is_settled settled u ≡ false → told_at least u ≡ None
+  pub some : (near : Near) → nearest ≡ Some near → (near.at < k) × (is_settled settled near.at ≡ false) × (told_at least near.at ≡ Some near.loss)
+  pub no_nearer : (near : Near) (u d : ℕ) → nearest ≡ Some near → u < k → is_settled settled u ≡ false → told_at least u ≡ Some d → near.loss ≤ d
+
+in_list : (settled : List Bool) (u : ℕ) → is_settled settled u ≡ false → u < length settled
+in_list settled u e = ⊎_elim (λ (l : u < length settled). l) (λ (l : length settled ≤ u). absurd (clash (is_settled settled u) (get_or_past settled u true l) e)) (cases_lt u (length settled)) where
+  clash : (b : Bool) → b ≡ true → b ≡ false → ⊥
+  clash b f g = cc
+
+pub nearest_over : (least : List (Option ℕ)) (settled : List Bool) → NearestUpTo least settled (length settled) None → IsOver least settled
+nearest_over least settled h u e = h.none refl u (in_list settled u e) e
+
+pub nearest_is : (least : List (Option ℕ)) (settled : List Bool) (near : Near) → NearestUpTo least settled (length settled) (Some near) → IsNearest least settled near
+nearest_is least settled near h =
+    let own = h.some near refl in
+    record { in_range = own.0; open_ = own.1; told = own.2; no_nearer = λ u d e f. h.no_nearer near u d refl (in_list settled u e) e f }
+
+-- what the search for the nearest has found, by cases
+abbrev pub IsFound : List (Option ℕ) → List Bool → Option Near → Type 0
+IsFound least settled None = IsOver least settled
+IsFound least settled (Some near) = IsNearest least settled near
+
+pub nearest_found : (least : List (Option ℕ)) (settled : List Bool) (nearest : Option Near) → NearestUpTo least settled (length settled) nearest → IsFound least settled nearest
+nearest_found least settled None h = nearest_over least settled h
+nearest_found least settled (Some near) h = nearest_is least settled near h
+
+some_none : (near : Near) → Some near ≡ None → ⊥
+some_none near e = cc
+
+none_near : (near : Near) → None ≡ Some near → ⊥
+none_near near e = cc
+
+same_near : (near other : Near) → Some near ≡ Some other → near ≡ other
+same_near near other e = cc
+
+pub nearest_begin : (least : List (Option ℕ)) (settled : List Bool) → NearestUpTo least settled 0 None
+nearest_begin least settled = record { none = λ e u l. absurd (omega arith); some = λ near e. absurd (none_near near e); no_nearer = λ near u d e l. absurd (omega arith) }
+
+-- a transition that is settled, or is told nothing, or no less than the nearest so far
+pub nearest_past : (least : List (Option ℕ)) (settled : List Bool) (k : ℕ) (nearest : Option Near) → NearestUpTo least settled k nearest
+    → (is_settled settled k ≡ false → (told_at least k ≡ None) ⊎ ((near : Near) × (nearest ≡ Some near) × (d : ℕ) × (told_at least k ≡ Some d) × (near.loss ≤ d))) → NearestUpTo least settled (k + 1) nearest
+nearest_past least settled k nearest h at_k = record {
+  none = λ e u l f. ⊎_elim
+      (λ (m : u < k). h.none e u m f)
+      (λ (m : k ≤ u).
+      let same : u ≡ k = omega arith in
+      ⊎_elim
+      (λ (n : told_at least k ≡ None). ap (told_at least) same ∙ n)
+      (λ n. absurd (some_none n.0 (sym n.1 ∙ e)))
+      (at_k (ap (is_settled settled) (sym same) ∙ f)))
+      (cases_lt u k);
+  some = λ near e. (let own = h.some near e in let low = own.0 in (omega arith, own.1, own.2));
+  no_nearer = λ near u d e l f g. ⊎_elim
+      (λ (m : u < k). h.no_nearer near u d e m f g)
+      (λ (m : k ≤ u).
+      let same : u ≡ k = omega arith in
+      let there : told_at least k ≡ Some d = ap (told_at least) (sym same) ∙ g in
+      ⊎_elim
+      (λ (n : told_at least k ≡ None). absurd (none_some (told_at least k) d n there))
+      (λ n.
+      let near_is : n.0 ≡ near = same_near n.0 near (sym n.1 ∙ e) in
+      let d_is : n.2 ≡ d = same_some (told_at least k) n.2 d n.3 there in
+      let low : n.0.loss ≤ n.2 = n.4 in
+      subst (λ (z : Near). z.loss ≤ d) near_is (omega arith))
+      (at_k (ap (is_settled settled) (sym same) ∙ f)))
+      (cases_lt u k);
+}
+
+-- a nearer one
+pub nearest_more : (least : List (Option ℕ)) (settled : List Bool) (k : ℕ) (nearest : Option Near) (d : ℕ) → NearestUpTo least settled k nearest
+    → is_settled settled k ≡ false → told_at least k ≡ Some d → (nearest ≡ None) ⊎ ((near : Near) × (nearest ≡ Some near) × (d ≤ near.loss)) → NearestUpTo least settled (k + 1) (Some (record { at = k; loss = d }))
+nearest_more least settled k nearest d h open_k told less = record {
+  none = λ e. absurd (some_none (record { at = k; loss = d }) e);
+  some = λ near e. by_same near (same_near (record { at = k; loss = d }) near e);
+  no_nearer = λ near u x e l f g.
+      let same : record { at = k; loss = d } ≡ near = same_near (record { at = k; loss = d }) near e in
+      subst (λ (z : Near). z.loss ≤ x) same (⊎_elim
+      (λ (m : u < k). lower u x m f g)
+      (λ (m : k ≤ u).
+      let at_is : u ≡ k = omega arith in
+      let is : d ≡ x = same_some (told_at least k) d x told (ap (told_at least) (sym at_is) ∙ g) in
+      omega arith)
+      (cases_lt u k));
+} where
+  by_same : (near : Near) → record { at = k; loss = d } ≡ near → (near.at < k + 1) × (is_settled settled near.at ≡ false) × (told_at least near.at ≡ Some near.loss)
+  by_same near e =
+      let at_is : k ≡ near.at = ap (λ (z : Near). z.at) e in
+      let loss_is : d ≡ near.loss = ap (λ (z : Near). z.loss) e in
+      (omega arith, ap (is_settled settled) (sym at_is) ∙ open_k, ap (told_at least) (sym at_is) ∙ told ∙ ap (λ (z : ℕ). Some z) loss_is)
+
+  lower : (u x : ℕ) → u < k → is_settled settled u ≡ false → told_at least u ≡ Some x → d ≤ x
+  lower u x m f g = ⊎_elim
+      (λ (n : nearest ≡ None). absurd (none_some (told_at least u) x (h.none n u m f) g))
+      (λ n. let low = h.no_nearer n.0 u x n.1 m f g in let high : d ≤ n.0.loss = n.2 in omega arith)
+      less
+
+-- one more transition is looked at
+pub nearest_next : (least : List (Option ℕ)) (settled : List Bool) (k : ℕ) (nearest : Option Near) → NearestUpTo least settled k nearest → is_settled settled k ≡ false
+    → (told : Option ℕ) → told_at least k ≡ told → NearestUpTo least settled (k + 1) (nearer_of nearest k told)
+nearest_next least settled k nearest h open_k None e = nearest_past least settled k nearest h (λ f. inl e)
+nearest_next least settled k None h open_k (Some d) e = nearest_more least settled k None d h open_k e (inl refl)
+nearest_next least settled k (Some near) h open_k (Some d) e = by_test (nat_lt d near.loss) refl where
+  less_is : nat_lt d near.loss ≡ true → d < near.loss
+  less_is f = grind (arith, nat_tests)
+
+  more_is : nat_lt d near.loss ≡ false → near.loss ≤ d
+  more_is f = grind (arith, nat_tests)
+
+  by_test : (b : Bool) → nat_lt d near.loss ≡ b → NearestUpTo least settled (k + 1) (cond b (Some (record { at = k; loss = d })) (Some near))
+  by_test true f = nearest_more least settled k (Some near) d h open_k e (inr (near, refl, (let low = less_is f in omega arith)))
+  by_test false f = nearest_past least settled k (Some near) h (λ g. inr (near, refl, d, e, more_is f))
+
+-- ---- steps taken
+
+-- the first k steps are taken
+pub record RelaxedUpTo (steps : List Step) (base k : ℕ) (old new : List (Option ℕ)) : Type 0 where
+  pub count : length new ≡ length old
+  pub offered : (i : ℕ) (d : Step) → i < k → i < length steps → IsWithin (told_at new (get_or steps i d).to) (base + (get_or steps i d).loss)
+  pub lowered : (t x : ℕ) → IsWithin (told_at old t) x → IsWithin (told_at new t) x
+  pub by_step : (t d : ℕ) → told_at new t ≡ Some d → (told_at old t ≡ Some d) ⊎ Any (λ s. (s.to ≡ t) × (base + s.loss ≡ d)) steps
+
+pub relaxed_begin : (steps : List Step) (base : ℕ) (old : List (Option ℕ)) → RelaxedUpTo steps base 0 old old
+relaxed_begin steps base old = record { count = refl; offered = λ i d l. absurd (omega arith); lowered = λ t x h. h; by_step = λ t d e. inl e }
+
+pub relaxed_end : (steps : List Step) (base : ℕ) (old new : List (Option ℕ)) → RelaxedUpTo steps base (length steps) old new → IsRelaxed steps base old new
+relaxed_end steps base old new h = record { count = h.count; offered = λ i d l. h.offered i d l l; lowered = h.lowered; by_step = h.by_step }
+
+-- a step that offers no less
+pub relaxed_past : (steps : List Step) (base k : ℕ) (old new : List (Option ℕ)) (s : Step) → RelaxedUpTo steps base k old new → k < length steps → get_or steps k s ≡ s
+    → IsWithin (told_at new s.to) (base + s.loss) → RelaxedUpTo steps base (k + 1) old new
+relaxed_past steps base k old new s h l is there = record {
+  count = h.count;
+  offered = λ i d m n. ⊎_elim
+      (λ (low : i < k). h.offered i d low n)
+      (λ (high : k ≤ i).
+      let same : i ≡ k = omega arith in
+      let read : get_or steps i d ≡ s = ap (λ (z : ℕ). get_or steps z d) same ∙ get_or_default steps k d s l ∙ is in
+      subst (λ (z : Step). IsWithin (told_at new z.to) (base + z.loss)) (sym read) there)
+      (cases_lt i k);
+  lowered = h.lowered;
+  by_step = h.by_step;
+}
+
+-- what is offered is told
+abbrev pub offer_told : List (Option ℕ) → Step → ℕ → List (Option ℕ)
+offer_told new s offer = set new s.to (Some offer)
+
+-- a step that offers less
+pub relaxed_more : (steps : List Step) (base k : ℕ) (old new : List (Option ℕ)) (s : Step) → RelaxedUpTo steps base k old new → k < length steps → get_or steps k s ≡ s → s.to < length new
+    → ((d : ℕ) → told_at new s.to ≡ Some d → base + s.loss ≤ d) → RelaxedUpTo steps base (k + 1) old (offer_told new s (base + s.loss))
+relaxed_more steps base k old new s h l is end_in less = record {
+  count = length-set new s.to (Some (base + s.loss)) ∙ h.count;
+  offered = λ i d m n. ⊎_elim
+      (λ (low : i < k). fewer (get_or steps i d).to (base + (get_or steps i d).loss) (h.offered i d low n))
+      (λ (high : k ≤ i).
+      let same : i ≡ k = omega arith in
+      let read : get_or steps i d ≡ s = ap (λ (z : ℕ). get_or steps z d) same ∙ get_or_default steps k d s l ∙ is in
+      subst (λ (z : Step). IsWithin (told_at (offer_told new s (base + s.loss)) z.to) (base + z.loss)) (sym read) (within_some (told_at (offer_told new s (base + s.loss)) s.to) (base + s.loss) here))
+      (cases_lt i k);
+  lowered = λ t x w. fewer t x (h.lowered t x w);
+  by_step = λ t d e. ⊎_elim
+      (λ (same : s.to ≡ t). inr (k, s, l, is, (same, same_some (told_at (offer_told new s (base + s.loss)) s.to) (base + s.loss) d here (ap (told_at (offer_told new s (base + s.loss))) same ∙ e))))
+      (λ (ne : s.to ≢ t). h.by_step t d (sym (other t (λ f. ne (sym f))) ∙ e))
+      (cases_eq s.to t);
+} where
+  here : told_at (offer_told new s (base + s.loss)) s.to ≡ Some (base + s.loss)
+  here = get_or-set_same new s.to (Some (base + s.loss)) None end_in
+
+  other : (t : ℕ) → t ≢ s.to → told_at (offer_told new s (base + s.loss)) t ≡ told_at new t
+  other t ne = get_or-set_other new s.to t (Some (base + s.loss)) None ne
+
+  fewer : (t x : ℕ) → IsWithin (told_at new t) x → IsWithin (told_at (offer_told new s (base + s.loss)) t) x
+  fewer t x w = ⊎_elim
+      (λ (same : t ≡ s.to).
+      let was : IsTold (told_at new t) x = within_told (told_at new t) x w in
+      let low = was.low in
+      let least = less was.number (ap (told_at new) (sym same) ∙ was.is) in
+      within_more (told_at (offer_told new s (base + s.loss)) t) (base + s.loss) x (within_some (told_at (offer_told new s (base + s.loss)) t) (base + s.loss) (ap (told_at (offer_told new s (base + s.loss))) same ∙ here)) (omega arith))
+      (λ (ne : t ≢ s.to). subst (λ (z : Option ℕ). IsWithin z x) (sym (other t ne)) w)
+      (cases_eq t s.to)
