@@ -1,6 +1,7 @@
 pub mod Raised
 pub mod GapLaws
 pub mod SameRatio
+pub mod Certified
 pub mod Rounds
 pub mod Searching
 pub mod Settling

@@ -22,9 +22,8 @@ use Rattle.teg_net.specs.Parts.{to_of, IsPlaceOfPart}
 use Rattle.teg_net.specs.ReducedTimes.{IsWithin}
 use Rattle.teg_net.specs.GreatestRatios.{ratio_in, ratio_at, IsFirstGreatest, IsFirstGreatestAt}
 use Rattle.teg_net.specs.Certificates.{potential_at, IsBestCertificate, IsPartCertificate, IsCertificate}
-use Rattle.teg_loops.specs.Told.{ratio_of, potentials_of}
 use Rattle.teg_critical.specs.declared.losses.Loss.{Loss}
-use Rattle.teg_critical.specs.Losses.{most_lost, most_loss, count_of, IsLost, CanLose, loss_at_best, IsLossOf, IsLossIn, part_at, part_of, IsPlaceLoss}
+use Rattle.teg_critical.specs.Losses.{most_lost, most_loss, count_of, IsLost, CanLose, loss_at_best, ratio_of, potentials_of, IsLossOf, IsLossIn, part_at, part_of, IsPlaceLoss}
 use Rattle.teg_critical.specs.Told.{IsSmallRatio, IsBestOf}
 use Rattle.teg_critical.proofs.Listed.{potential_within}
 

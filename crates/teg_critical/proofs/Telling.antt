@@ -19,7 +19,7 @@ use Rattle.teg_loops.proofs.Straight.{straight_short}
 use Rattle.teg_loops.proofs.Taking.{sum_most}
 use Rattle.teg_loops.proofs.Splitting.{split}
 use Rattle.teg_loops.proofs.Through.{IsThrough, through, closes}
-use Rattle.teg_loops.proofs.Certified.{parts_rise, path_inside}
+use Rattle.teg_critical.proofs.Certified.{parts_rise, path_inside}
 use Rattle.teg_critical.specs.declared.losses.Loss.{Loss}
 use Rattle.teg_critical.specs.declared.slacks.Slack.{Slack}
 use Rattle.teg_critical.specs.declared.slacks.Slack.TheVariants.{NoCircuit, Critical, Rise}

@@ -1,9 +1,10 @@
 -- What places lose against the greatest ratio, by the potentials of their parts (chapter 3).
-use Rattle.std.specs.Prelude.{ℕ, ℤ, pos, ◌+ℤ◌, ◌-ℤ◌, ◌+◌, ◌-◌, ◌*◌, ◌<◌, ◌≤◌, ◌≡◌, ◌≢◌, List, length, Option, Some, None, slice_index, slice_index_or}
+use Rattle.std.specs.Prelude.{ℕ, ℤ, pos, ◌+ℤ◌, ◌-ℤ◌, ◌+◌, ◌-◌, ◌*◌, ◌<◌, ◌≤◌, ◌≡◌, ◌≢◌, List, [], length, Option, Some, None, slice_index, slice_index_or}
 use Rattle.teg_net.specs.declared.entries.PlaceId.{PlaceId}
 use Rattle.teg_net.specs.declared.entries.Place.{Place}
+use Rattle.teg_net.specs.declared.answers.Potential.{Potential}
 use Rattle.teg_net.specs.declared.answers.PartAnswer.{PartAnswer}
-use Rattle.teg_net.specs.declared.answers.PartAnswer.TheVariants.{NoCircuit}
+use Rattle.teg_net.specs.declared.answers.PartAnswer.TheVariants.{NoCircuit, Best}
 use Rattle.teg_net.specs.declared.answers.CycleAnswer.{CycleAnswer}
 use Rattle.teg_net.specs.Limits.{greatest_potential}
 use Rattle.teg_net.specs.Nets.{NetLists}
@@ -12,7 +13,6 @@ use Rattle.teg_net.specs.Circuits.{place_at, from_of}
 use Rattle.teg_net.specs.Parts.{to_of}
 use Rattle.teg_net.specs.ReducedTimes.{IsWithin}
 use Rattle.teg_net.specs.Certificates.{potential_at}
-use Rattle.teg_loops.specs.Told.{ratio_of, potentials_of}
 use Rattle.teg_critical.specs.declared.losses.Loss.{Loss}
 
 -- the most that a place loses at its part's ratio
@@ -42,6 +42,16 @@ pub record CanLose (count start above : ℤ) : Type 0 where
 -- the same at the greatest ratio, times the tokens of the part's own ratio
 abbrev pub loss_at_best : Fraction → Fraction → ℕ → ℕ → ℕ
 loss_at_best best own lost tokens = best.tokens * lost + (best.time * own.tokens - own.time * best.tokens) * tokens
+
+-- the ratio that the answer of a part tells; nothing over one token where it tells none
+abbrev pub ratio_of : PartAnswer → Fraction
+ratio_of NoCircuit = record { time = 0; tokens = 1 }
+ratio_of (Best ratio circuit potentials) = ratio
+
+-- the potentials that it tells; none where it tells no ratio
+abbrev pub potentials_of : PartAnswer → List Potential
+potentials_of NoCircuit = []
+potentials_of (Best ratio circuit potentials) = potentials.items
 
 -- the loss of a place in a part with this ratio, between these potentials of its ends
 pub record IsLossOf (best own : Fraction) (start above : ℤ) (p : Place) (l : Loss) : Type 0 where

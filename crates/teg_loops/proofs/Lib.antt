@@ -6,4 +6,3 @@ pub mod Through
 pub mod Pigeons
 pub mod Again
 pub mod Visits
-pub mod Certified

@@ -1,15 +1,9 @@
--- What holds of paths and circuits: paths split into straight ones and circuits (chapter 2), and what shows the greatest
--- ratio over all circuits (chapter 3).
-use Rattle.std.specs.Prelude.{ℕ, ◌*◌, ◌<◌, ◌≤◌, ◌≡◌, ◌↔◌, List, length, Contains, Some}
+-- What holds of paths and circuits: paths split into straight ones and circuits (chapters 2 and 3).
+use Rattle.std.specs.Prelude.{ℕ, ◌*◌, ◌<◌, ◌≤◌, ◌↔◌, List, length, Contains}
 use Rattle.teg_net.specs.declared.entries.PlaceId.{PlaceId}
-use Rattle.teg_net.specs.declared.answers.PartAnswer.{PartAnswer}
-use Rattle.teg_net.specs.declared.answers.CycleAnswer.{CycleAnswer}
-use Rattle.teg_net.specs.Nets.{NetLists, IsNet}
-use Rattle.teg_net.specs.Ratios.{Fraction}
+use Rattle.teg_net.specs.Nets.{NetLists}
 use Rattle.teg_net.specs.Circuits.{from_of, IsPathBetween, IsCircuit}
 use Rattle.teg_net.specs.Parts.{to_of, Reaches}
-use Rattle.teg_net.specs.GreatestRatios.{ratio_at, IsCycleTime}
-use Rattle.teg_net.specs.Certificates.{IsCertificate}
 use Rattle.teg_loops.specs.Loops.{EndsBelow, IsStraight, HasLoop, IsSplit}
 use Rattle.teg_loops.specs.Shortening.{NoCircuitGains, WeighsAtMost}
 use Rattle.teg_loops.specs.Rounds.{HasRound}
@@ -37,11 +31,3 @@ LongPathsComeRound = (net : NetLists) (n m : ℕ) (ps : List PlaceId) (a b : ℕ
 abbrev pub CircuitsPassWherePathsLeadBack : Type 0
 CircuitsPassWherePathsLeadBack = (net : NetLists) (p : PlaceId) → p.index < length net.places
     → ((ps : List PlaceId) × IsCircuit net ps × Contains ps p) ↔ Reaches net (to_of net p) (from_of net p)
-
--- the ratios that the parts tell are over some tokens
-abbrev pub HaveTokens : List PartAnswer → Type 0
-HaveTokens answers = (k : ℕ) (r : Fraction) → ratio_at answers k ≡ Some r → 1 ≤ r.tokens
-
--- a certificate tells the greatest ratio over all circuits, or that there is none
-abbrev pub CertificatesShowCycleTimes : Type 0
-CertificatesShowCycleTimes = (net : NetLists) (answer : CycleAnswer) → IsNet net → HaveTokens answer.parts.items → IsCertificate net answer → IsCycleTime net answer.parts.items answer.best

@@ -1,5 +1,5 @@
 //! The laws of loops. Each is a function that does nothing when it runs: its contract is the law.
-ghost use Rattle.teg_loops.specs.Laws.{LongPathsHaveLoops, PathsSplit, PathsCanBeShortened, LongPathsComeRound, CircuitsPassWherePathsLeadBack, CertificatesShowCycleTimes};
+ghost use Rattle.teg_loops.specs.Laws.{LongPathsHaveLoops, PathsSplit, PathsCanBeShortened, LongPathsComeRound, CircuitsPassWherePathsLeadBack};
 
 /// A path of at least as many places as there are transitions has a loop: a circuit stands in it
 /// (chapter 2).
@@ -28,10 +28,4 @@ pub fn long_paths_come_round()
 /// A circuit passes a place exactly where a path leads back from its end to its start (chapter 2).
 pub fn circuits_pass_where_paths_lead_back()
     ensures { CircuitsPassWherePathsLeadBack }
-{}
-
-/// What a certificate tells is so: its best ratio is the greatest of holding time to tokens over
-/// all circuits, and where it tells none there is no circuit (chapters 2 and 3).
-pub fn certificates_show_cycle_times()
-    ensures { CertificatesShowCycleTimes }
 {}

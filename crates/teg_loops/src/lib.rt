@@ -9,6 +9,6 @@
 mod laws;
 
 pub use laws::{
-    certificates_show_cycle_times, circuits_pass_where_paths_lead_back, long_paths_come_round,
-    long_paths_have_loops, paths_can_be_shortened, paths_split,
+    circuits_pass_where_paths_lead_back, long_paths_come_round, long_paths_have_loops,
+    paths_can_be_shortened, paths_split,
 };

@@ -8,7 +8,7 @@ use Rattle.teg_net.specs.declared.answers.PartAnswer.TheVariants.{NoCircuit, Bes
 use Rattle.teg_net.specs.declared.answers.CycleAnswer.{CycleAnswer}
 use Rattle.teg_net.specs.Limits.{greatest_ratio, greatest_potential}
 use Rattle.teg_net.specs.Nets.{NetLists}
-use Rattle.teg_net.specs.Ratios.{Fraction}
+use Rattle.teg_net.specs.Ratios.{Fraction, IsLowestTerms}
 use Rattle.teg_net.specs.Circuits.{from_of, IsCircuit, time_of, tokens_of}
 use Rattle.teg_net.specs.Parts.{to_of, IsPlaceOfPart, ListsMembers}
 use Rattle.teg_net.specs.ReducedTimes.{reduced_time, IsWithin}
@@ -25,10 +25,12 @@ abbrev pub ArePotentials : NetLists → List ℕ → ℕ → Fraction → List P
 ArePotentials net part_of part r vs =
     (p : PlaceId) → IsPlaceOfPart net part_of part p → (reduced_time net r.time r.tokens p +ℤ potential_at vs (from_of net p)) ≤ℤ potential_at vs (to_of net p)
 
--- a ratio of a circuit in the part, and potentials of its members that no place exceeds, within limits
+-- a ratio of a circuit in the part, and potentials of its members that no place exceeds, within limits; each ratio is in
+-- lowest terms
 pub record IsBestCertificate (net : NetLists) (part_of : List ℕ) (part : ℕ) (r : Fraction) (c : List PlaceId) (vs : List Potential) : Type 0 where
   pub time_in : r.time ≤ greatest_ratio
   pub tokens_in : r.tokens ≤ greatest_ratio
+  pub terms : IsLowestTerms r
   pub circuit : IsCircuit net c
   pub inside : All (IsPlaceOfPart net part_of part) c
   pub attains : time_of net c * r.tokens ≡ r.time * tokens_of net c

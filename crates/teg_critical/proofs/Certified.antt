@@ -1,4 +1,4 @@
--- A circuit lies in one part, and none of a part with potentials is above the part's ratio.
+-- What a certificate says of paths: those that end in the part where they begin stay there.
 use Rattle.std.proofs.Common.{ℕ, ℤ, pos, ◌+◌, ◌*◌, ◌<◌, ◌≤◌, ◌≡◌, ◌+ℤ◌, ◌-ℤ◌, List, [], ◌∷◌, length, get_or, zero, suc, Option, Some, None, refl, sym, ap, subst, ◌∙◌, arith, ⊎_elim}
 use Rattle.std.specs.Prelude.{◌≤ℤ◌, All, slice_index, slice_index_or}
 use Rattle.std.proofs.lemmas.Bool.{cases_lt}
@@ -17,29 +17,12 @@ use Rattle.teg_net.specs.Parts.{to_of, IsPlaceOfPart}
 use Rattle.teg_net.specs.ReducedTimes.{reduced_time, reduced_time_of}
 use Rattle.teg_net.specs.GreatestRatios.{IsGreatestRatio, IsAnyPlace, HasNoCircuit, ratio_in, ratio_at, IsFirstGreatest, IsFirstGreatestAt, IsCycleTime}
 use Rattle.teg_net.specs.Certificates.{potential_at, ArePotentials, IsPartCertificate, IsCertificate}
-use Rattle.teg_loops.specs.Told.{ratio_of, potentials_of}
-use Rattle.teg_loops.specs.Laws.{HaveTokens, CertificatesShowCycleTimes}
-
--- ---- what a part's answer tells
-
--- at the part's ratio no place of the part lifts its end above the potential there
-pub place_keeps : (net : NetLists) (part_of : List ℕ) (k : ℕ) (q : PartAnswer) → IsPartCertificate net part_of k q → ArePotentials net part_of k (ratio_of q) (potentials_of q)
-place_keeps net part_of k NoCircuit h p inside = absurd (h p inside)
-place_keeps net part_of k (Best ratio circuit potentials) h p inside = h.potentials p inside
+use Rattle.teg_critical.specs.Losses.{ratio_of, potentials_of}
 
 -- a part in which some place lies tells a ratio
 pub ratio_told : (net : NetLists) (part_of : List ℕ) (k : ℕ) (q : PartAnswer) → IsPartCertificate net part_of k q → (p : PlaceId) → IsPlaceOfPart net part_of k p → ratio_in q ≡ Some (ratio_of q)
 ratio_told net part_of k NoCircuit h p inside = absurd (h p inside)
 ratio_told net part_of k (Best ratio circuit potentials) h p inside = refl
-
--- a circuit that has the told ratio
-attained : (net : NetLists) (part_of : List ℕ) (k : ℕ) (q : PartAnswer) (r : Fraction) → IsPartCertificate net part_of k q → ratio_in q ≡ Some r → (ps : List PlaceId) × IsCircuit net ps × (time_of net ps * r.tokens ≡ r.time * tokens_of net ps)
-attained net part_of k NoCircuit r h e = absurd (none_told e) where
-  none_told : None ≡ Some r → ⊥
-  none_told e = cc
-attained net part_of k (Best ratio circuit potentials) r h e =
-    let same : ratio ≡ r = cc in
-    (circuit.places.items, h.circuit, subst (λ (z : Fraction). time_of net circuit.places.items * z.tokens ≡ z.time * tokens_of net circuit.places.items) same h.attains)
 
 -- ---- sums along paths
 
@@ -51,30 +34,6 @@ reduced_is net a b (p ∷ ps) =
     let time : b * time_of net (p ∷ ps) ≡ b * (place_at net p).hold + b * time_of net ps = rw (sum_by-cons (λ q. (place_at net q).hold) p ps) (grind arith) in
     let tokens : a * tokens_of net (p ∷ ps) ≡ a * (place_at net p).tokens + a * tokens_of net ps = rw (sum_by-cons (λ q. (place_at net q).tokens) p ps) (grind arith) in
     rw (time, tokens) (omega (arith, ints, rest))
-
-standing : (x y : ℤ) → x ≡ y → (pos 0 +ℤ x) ≤ℤ y
-standing x y e = omega (arith, ints)
-
--- what no place exceeds, no path exceeds
-pub path_keeps :
-    (net : NetLists) (a b : ℕ) (v : ℕ → ℤ) (ps : List PlaceId) (s t : ℕ) → All (λ p. (reduced_time net a b p +ℤ v (from_of net p)) ≤ℤ v (to_of net p)) ps → IsPathBetween net s ps t
-    → (reduced_time_of net a b ps +ℤ v s) ≤ℤ v t
-path_keeps net a b v [] s t h l = standing (v s) (v t) (ap v l)
-path_keeps net a b v (p ∷ ps) s t h l =
-    let here = h 0 p (omega arith) in
-    let rest = path_keeps net a b v ps (to_of net p) t (λ i d m. h (suc i) d (omega arith)) l.2 in
-    let from : v (from_of net p) ≡ v s = ap v l.1 in
-    omega (arith, ints, here, rest, from)
-
--- what is at most a ratio is at most a greater one
-pub at_most_greater : (t k : ℕ) (q r : Fraction) → 1 ≤ q.tokens → q.time * r.tokens ≤ r.time * q.tokens → q.tokens * t ≤ q.time * k → t * r.tokens ≤ r.time * k
-at_most_greater t k q r some below own =
-    let one : r.tokens * (q.tokens * t) ≤ r.tokens * (q.time * k) = mul-le-mul_left {m = q.tokens * t} {n = q.time * k} r.tokens own in
-    let two : (q.time * r.tokens) * k ≤ (r.time * q.tokens) * k = mul-le-mul_right {m = q.time * r.tokens} {n = r.time * q.tokens} k below in
-    let three : r.tokens * (q.tokens * t) ≡ q.tokens * (t * r.tokens) = grind arith in
-    let four : r.tokens * (q.time * k) ≡ (q.time * r.tokens) * k = grind arith in
-    let five : (r.time * q.tokens) * k ≡ q.tokens * (r.time * k) = grind arith in
-    le_of_mul-le-mul_left {m = t * r.tokens} {n = r.time * k} {k = q.tokens} (omega arith) (omega arith)
 
 module _ (net : NetLists) (ok : IsNet net) (answer : CycleAnswer) (h : IsCertificate net answer) where
   abbrev parts : List ℕ
@@ -129,62 +88,17 @@ module _ (net : NetLists) (ok : IsNet net) (answer : CycleAnswer) (h : IsCertifi
   start_below : (p : PlaceId) (ps : List PlaceId) (a b : ℕ) → IsPathBetween net a (p ∷ ps) b → a < length net.transitions
   start_below p ps a b path = subst (λ (z : ℕ). z < length net.transitions) path.1 (rules_of p path.0).from_in
 
-  -- a closed path is at most its part's ratio
-  own_at_most : (p : PlaceId) (ps : List PlaceId) (a : ℕ) → IsPathBetween net a (p ∷ ps) a
-      → (ratio_of (told_of (slice_index parts a))).tokens * time_of net (p ∷ ps) ≤ (ratio_of (told_of (slice_index parts a))).time * tokens_of net (p ∷ ps)
-  own_at_most p ps a path =
-      let k : ℕ = slice_index parts a in
-      let q : PartAnswer = told_of k in
-      let inside = closed_inside p ps a path in
-      let keeps = place_keeps net parts k q (certified k (part_below a (start_below p ps a a path))) in
-      let sum = path_keeps net (ratio_of q).time (ratio_of q).tokens (potential_at (potentials_of q)) (p ∷ ps) a a (λ i d l. keeps (get_or (p ∷ ps) i d) (inside i d l)) path in
-      let is = reduced_is net (ratio_of q).time (ratio_of q).tokens (p ∷ ps) in
-      low ((ratio_of q).tokens * time_of net (p ∷ ps)) ((ratio_of q).time * tokens_of net (p ∷ ps)) (reduced_time_of net (ratio_of q).time (ratio_of q).tokens (p ∷ ps)) (potential_at (potentials_of q) a) sum is where
-        low : (t k : ℕ) (w v : ℤ) → (w +ℤ v) ≤ℤ v → (w +ℤ pos k) ≡ pos t → t ≤ k
-        low t k w v e f = omega (arith, ints, e, f)
-
   own_told : (p : PlaceId) (ps : List PlaceId) (a : ℕ) → IsPathBetween net a (p ∷ ps) a → ratio_at answer.parts.items (slice_index parts a) ≡ Some (ratio_of (told_of (slice_index parts a)))
   own_told p ps a path =
       let k : ℕ = slice_index parts a in
       ratio_told net parts k (told_of k) (certified k (part_below a (start_below p ps a a path))) p (closed_inside p ps a path 0 p (omega arith))
 
-  -- the ratio at k is told by a circuit
-  best_attained : (k : ℕ) (r : Fraction) → ratio_at answer.parts.items k ≡ Some r → (ps : List PlaceId) × IsCircuit net ps × (time_of net ps * r.tokens ≡ r.time * tokens_of net ps)
-  best_attained k r e = ⊎_elim
-      (λ (l : k < length answer.parts.items). attained net parts k (told_of k) r (certified k l) e)
-      (λ (l : length answer.parts.items ≤ k). absurd (let past : told_of k ≡ NoCircuit = get_or_past answer.parts.items k NoCircuit l in none r (sym (ap ratio_in past) ∙ e)))
-      (cases_lt k (length answer.parts.items)) where
-        none : (r : Fraction) → ratio_in NoCircuit ≡ Some r → ⊥
-        none r e = cc
-
-  -- no ratio told: no circuit
-  shown_none : ((j : ℕ) → ratio_at answer.parts.items j ≡ None) → HasNoCircuit net IsAnyPlace
-  shown_none none ps c all = closed ps c.closed.0 c.not_empty c.closed.1 where
+  -- where no part tells a ratio there is no circuit
+  pub no_circuit : ((j : ℕ) → ratio_at answer.parts.items j ≡ None) → HasNoCircuit net IsAnyPlace
+  no_circuit none ps c all = closed ps c.closed.0 c.not_empty c.closed.1 where
     apart : (r : Fraction) (o : Option Fraction) → o ≡ None → o ≡ Some r → ⊥
     apart r o e f = cc
 
     closed : (ps : List PlaceId) (a : ℕ) → 0 < length ps → IsPathBetween net a ps a → ⊥
     closed [] a l path = absurd (omega arith)
     closed (p ∷ ps) a l path = apart (ratio_of (told_of (slice_index parts a))) (ratio_at answer.parts.items (slice_index parts a)) (none (slice_index parts a)) (own_told p ps a path)
-
-  -- the first greatest ratio told is the greatest
-  shown_best : HaveTokens answer.parts.items → (k : ℕ) (r : Fraction) → IsFirstGreatestAt answer.parts.items k r → IsGreatestRatio net IsAnyPlace r
-  shown_best tokens k r first = record {
-    some = tokens k r first.here;
-    attained = (let c = best_attained k r first.here in (c.0, c.1, λ i d l. tt, c.2));
-    greatest = λ ps c all. closed ps c.closed.0 c.not_empty c.closed.1;
-  } where
-    closed : (ps : List PlaceId) (a : ℕ) → 0 < length ps → IsPathBetween net a ps a → time_of net ps * r.tokens ≤ r.time * tokens_of net ps
-    closed [] a l path = absurd (omega arith)
-    closed (p ∷ ps) a l path =
-        let k : ℕ = slice_index parts a in
-        let q : Fraction = ratio_of (told_of k) in
-        let told = own_told p ps a path in
-        at_most_greater (time_of net (p ∷ ps)) (tokens_of net (p ∷ ps)) q r (tokens k q told) (first.greatest k q told) (own_at_most p ps a path)
-
-  shown : HaveTokens answer.parts.items → (best : Option ℕ) → IsFirstGreatest answer.parts.items best → IsCycleTime net answer.parts.items best
-  shown tokens None first = shown_none first
-  shown tokens (Some k) first = (first.0, first.1.here, shown_best tokens k first.0 first.1)
-
-pub certificates_show : CertificatesShowCycleTimes
-certificates_show net answer ok tokens h = shown net ok answer h tokens answer.best h.best

@@ -1,0 +1,101 @@
+-- The first part of greatest ratio.
+use Rattle.std.proofs.Common.{ℕ, zero, suc, ◌+◌, ◌*◌, ◌<◌, ◌≤◌, ◌≡◌, List, Option, Some, None, length, get_or, refl, sym, ap, subst, ◌∙◌, arith, inl, inr, ⊎_elim}
+use Rattle.std.specs.Prelude.{◌⊎◌}
+use Rattle.std.proofs.lemmas.Bool.{cases_lt, cases_eq}
+use Rattle.std.proofs.lemmas.List.{get_or_past}
+use Rattle.teg_net.specs.Ratios.{Fraction}
+use Rattle.teg_net.specs.declared.answers.PartAnswer.{PartAnswer}
+use Rattle.teg_net.specs.declared.answers.PartAnswer.TheVariants.{NoCircuit, Best}
+use Rattle.teg_net.specs.GreatestRatios.{ratio_in, ratio_at, IsFirstGreatest, IsFirstGreatestAt}
+use Rattle.teg_cycle.specs.declared.best_parts.BestPart.{BestPart}
+use Rattle.teg_cycle.specs.BestParts.{IsFirstBelow, IsBestBelow, IsRatioAbove, HaveTokens}
+use Rattle.teg_howard.proofs.Ratios.{ratio_trans, ratio_trans_less}
+
+-- past the end no ratio is told
+pub told_in : (answers : List PartAnswer) (j : ℕ) (q : Fraction) → ratio_at answers j ≡ Some q → j < length answers
+told_in answers j q e =
+    ⊎_elim
+    (λ (l : j < length answers). l)
+    (λ (l : length answers ≤ j). let w : ratio_at answers j ≡ None = ap ratio_in (get_or_past answers j NoCircuit l) in let f : ⊥ = cc in absurd f)
+    (cases_lt j (length answers))
+
+module _ (answers : List PartAnswer) (i : ℕ) where
+  step_cases : (j : ℕ) → j < i + 1 → (j < i) ⊎ (j ≡ i)
+  step_cases j l = ⊎_elim (λ (q : j < i). inl q) (λ (q : i ≤ j). inr (omega arith)) (cases_lt j i)
+
+  pub part_skip : (best : Option BestPart) → IsBestBelow answers i best → ratio_at answers i ≡ None → IsBestBelow answers (i + 1) best
+  part_skip None h e = λ j l. ⊎_elim (λ (q : j < i). h j q) (λ (q : j ≡ i). ap (ratio_at answers) q ∙ e) (step_cases j l)
+  part_skip (Some b) h e =
+      let k = h.below in
+      record {
+        below = omega arith;
+        here = h.here;
+        first = h.first;
+        greatest = λ j r l s. ⊎_elim (λ (q : j < i). h.greatest j r q s) (λ (q : j ≡ i). let w = ap (ratio_at answers) q in let f : ⊥ = cc in absurd f) (step_cases j l);
+      }
+
+  pub part_keep : (best : Option BestPart) (r : Fraction) → IsBestBelow answers i best → ratio_at answers i ≡ Some r → (IsRatioAbove r best → ⊥) → IsBestBelow answers (i + 1) best
+  part_keep None r h e low = absurd (low tt)
+  part_keep (Some b) r h e low =
+      let k = h.below in
+      let le : r.time * b.ratio.tokens ≤ b.ratio.time * r.tokens = ⊎_elim (λ (q : b.ratio.time * r.tokens < r.time * b.ratio.tokens). absurd (low q)) (λ (q : r.time * b.ratio.tokens ≤ b.ratio.time * r.tokens). q) (cases_lt (b.ratio.time * r.tokens) (r.time * b.ratio.tokens)) in
+      record {
+        below = omega arith;
+        here = h.here;
+        first = h.first;
+        greatest = λ j q l s.
+            ⊎_elim
+            (λ (z : j < i). h.greatest j q z s)
+            (λ (z : j ≡ i). let w = ap (ratio_at answers) z in let is : r ≡ q = cc in subst (λ x. x.time * b.ratio.tokens ≤ b.ratio.time * x.tokens) is le)
+            (step_cases j l);
+      }
+
+  pub part_take : (best : Option BestPart) (r : Fraction) → HaveTokens answers → IsBestBelow answers i best → ratio_at answers i ≡ Some r → IsRatioAbove r best → IsFirstBelow answers (i + 1) i r
+  part_take None r some h e above = record {
+    below = omega arith;
+    here = e;
+    greatest = λ j q l s. ⊎_elim (λ (z : j < i). let w = h j z in let f : ⊥ = cc in absurd f) (λ (z : j ≡ i). let w = ap (ratio_at answers) z in let is : r ≡ q = cc in subst (λ x. x.time * r.tokens ≤ r.time * x.tokens) is (omega arith)) (step_cases j l);
+    first = λ j q l s. let w = h j l in let f : ⊥ = cc in absurd f;
+  }
+  part_take (Some b) r some h e above =
+      let less = λ (j : ℕ) (q : Fraction) (l : j < i) (s : ratio_at answers j ≡ Some q).
+      ratio_trans_less q.time q.tokens b.ratio.time b.ratio.tokens r.time r.tokens (let t = some b.part b.ratio h.here in omega arith) (let t = some j q s in omega arith) (h.greatest j q l s) above in
+      record {
+        below = omega arith;
+        here = e;
+        greatest = λ j q l s. ⊎_elim (λ (z : j < i). let m = less j q z s in omega arith) (λ (z : j ≡ i). let w = ap (ratio_at answers) z in let is : r ≡ q = cc in subst (λ x. x.time * r.tokens ≤ r.time * x.tokens) is (omega arith)) (step_cases j l);
+        first = λ j q l s. less j q l s;
+      }
+
+pub best_all : (answers : List PartAnswer) (n k : ℕ) (r : Fraction) → length answers ≤ n → IsFirstBelow answers n k r → IsFirstGreatest answers (Some k)
+best_all answers n k r l h = (r, record { here = h.here; greatest = λ j q s. h.greatest j q (let m = told_in answers j q s in omega arith) s; first = h.first })
+
+cases_told : (o : Option Fraction) → (o ≡ None) ⊎ ((q : Fraction) × (o ≡ Some q))
+cases_told None = inl refl
+cases_told (Some q) = inr (q, refl)
+
+pub none_all : (answers : List PartAnswer) (n : ℕ) → length answers ≤ n → IsBestBelow answers n None → IsFirstGreatest answers None
+none_all answers n l h = λ j.
+    ⊎_elim
+    (λ (e : ratio_at answers j ≡ None). e)
+    (λ (e : (q : Fraction) × (ratio_at answers j ≡ Some q)). h j (let m = told_in answers j e.0 e.1 in omega arith))
+    (cases_told (ratio_at answers j))
+
+-- the first part of greatest ratio is one
+pub one_first : (answers : List PartAnswer) (a b : Option ℕ) → IsFirstGreatest answers a → IsFirstGreatest answers b → a ≡ b
+one_first answers None None h k = refl
+one_first answers None (Some b) h k = let w = h b in let v = k.1.here in let f : ⊥ = cc in absurd f
+one_first answers (Some a) None h k = let w = k a in let v = h.1.here in let f : ⊥ = cc in absurd f
+one_first answers (Some a) (Some b) h k =
+    let up = h.1.greatest b k.0 k.1.here in
+    let down = k.1.greatest a h.0 h.1.here in
+    let same : a ≡ b =
+    ⊎_elim
+    (λ (l : a < b). let s = k.1.first a h.0 l h.1.here in absurd (omega arith))
+    (λ (l : b ≤ a).
+    ⊎_elim
+    (λ (m : b < a). let s = h.1.first b k.0 m k.1.here in absurd (omega arith))
+    (λ (m : a ≤ b). let r : a ≡ b = omega arith in r)
+    (cases_lt b a))
+    (cases_lt a b) in
+    ap (λ x. Some x) same

@@ -1,0 +1,3 @@
+pub mod FirstBest
+pub mod Telling
+pub mod Certified

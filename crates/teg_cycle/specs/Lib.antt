@@ -1,0 +1,3 @@
+pub mod LastRounds
+pub mod BestParts
+pub mod Laws

@@ -1,0 +1,11 @@
+//! What a certificate shows, as a law. It is a function that does nothing when it runs: its contract
+//! is the law.
+ghost use Rattle.teg_cycle.specs.Laws.{CertificatesTellOfNets, CertificatesTellOfParts};
+
+/// In a live net, where an answer is a certificate, the ratio of the best part is the greatest over
+/// all circuits of the net, and that of each part the greatest over its circuits; no part is named
+/// exactly where there is no circuit (chapters 2 and 3). Nothing else is asked of the answer.
+pub fn certificates_tell()
+    ensures nets { CertificatesTellOfNets }
+    ensures parts { CertificatesTellOfParts }
+{}

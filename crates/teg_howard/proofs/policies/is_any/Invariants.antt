@@ -1,0 +1,6 @@
+use Rattle.std.proofs.Common.{ℕ, ◌<◌}
+use Rattle.teg_howard.specs.Found.{IsMarked}
+use Rattle.teg_howard.proofs.policies.is_any.Given as goal
+
+abbrev pub invariant-loop-is_marked : goal.invariant-loop-is_marked
+invariant-loop-is_marked l = (t : ℕ) → t < l.is_marked-index → IsMarked l.marked t → ⊥

@@ -1,0 +1,82 @@
+use Rattle.std.proofs.Common.{ℕ, List, Option, Some, None, ◌≡◌, ◌<◌, ◌≤◌, ◌+◌, Bool, length, get_or, true, sym, ap, subst, ◌∙◌, arith, refl}
+use Rattle.std.specs.Prelude.{IfSome, IfNone, All}
+use Rattle.teg_net.specs.declared.entries.PlaceId.{PlaceId}
+use Rattle.std.proofs.lemmas.Bool.{iff_false}
+use Rattle.teg_howard.specs.declared.policy_circuits.Found.{Found}
+use Rattle.teg_net.specs.Parts.{IsMember}
+use Rattle.teg_howard.specs.Policies.{IsPolicy, IsPolicyCircuit, Policy}
+use Rattle.teg_howard.specs.Found.{given, IsFoundAt, IsAbove, IsBestFound}
+use Rattle.teg_net.specs.Nets.{NetLists, IsNet}
+use Rattle.teg_net.specs.Circuits.{IsLive, AreInRange}
+use Rattle.teg_howard.proofs.Best.{Passes, BestTo, best_skip, skip_outside, skip_none, skip_other, best_stay, best_take, best_all, none_all, found_circuit}
+use Rattle.teg_howard.proofs.policy_circuits.best_circuit.Goals.{then-parts-start+in_ok-circuit+in-Some+then-passes+then-is_greater, in-Some-2, in-None-2, then-parts-start+in_ok-circuit+in-Some+else-passes, else-passes-via-then-passes+else-is_greater, else-passes-via-else-passes, then-parts-start+in_ok-circuit+in_default, else-parts-start}
+use Rattle.teg_howard.proofs.policy_circuits.best_circuit.Goals as goal
+
+pub loop-start-preserved : goal.loop-start-preserved
+loop-start-preserved c =
+    let net = c.args.net.now in
+    let parts = c.args.parts.now in
+    let part = c.args.part in
+    let π = given c.args.policy.now in
+    let marked = c.args.marked.now in
+    let i = c.loop-start.start in
+    let r = c.requires in
+    let h : BestTo net parts part π marked i c.loop-start.best = c.loop-start.invariant in
+    elim c.if-parts-start.branch [
+      | then-parts-start+in_ok-circuit+in-Some+then-passes+then-is_greater w ↦
+          let f = w.in-Some.circuit in
+          let member : IsMember parts part i = record { in_range = c.loop-start-test.true; here = w.if-parts-start.true } in
+          let found : IsFoundAt net π i f = rw w.in-Some.is at w.in_ok-circuit.ensures.some in
+          let through : Passes net marked f.places.items = rw w.deref.ensures.value at (w.passes.ensures.0 w.if-passes.true) in
+          rw w.best-is (best_take net parts part π marked r.policy r.kept r.live r.parts i f c.loop-start.best member found through h (w.is_greater.ensures.0 w.if-is_greater.true))
+      | then-parts-start+in_ok-circuit+in-Some+else-passes w ↦
+          let f = w.in-Some.circuit in
+          let member : IsMember parts part i = record { in_range = c.loop-start-test.true; here = w.if-parts-start.true } in
+          let found : IsFoundAt net π i f = rw w.in-Some.is at w.in_ok-circuit.ensures.some in
+          rw w.best-is
+          (elim w.else-passes.branch [
+            | else-passes-via-then-passes+else-is_greater v ↦
+                best_stay net parts part π marked r.policy r.kept r.live r.parts i f c.loop-start.best member found h (iff_false v.is_greater.ensures v.if-is_greater.false)
+            | else-passes-via-else-passes v ↦
+                best_skip net parts part π marked r.policy r.kept r.live r.parts i c.loop-start.best h
+                (skip_other net parts part π marked r.policy r.kept r.live r.parts i f member found (rw w.deref.ensures.value at (iff_false w.passes.ensures v.if-passes.false)))
+          ])
+      | then-parts-start+in_ok-circuit+in_default w ↦
+          let none = rw w.in_default.is at w.in_ok-circuit.ensures.none in
+          rw w.best-is
+          (best_skip net parts part π marked r.policy r.kept r.live r.parts i c.loop-start.best h
+          (skip_none net parts part π marked r.policy r.kept r.live r.parts i (λ k l m. none k l (omega (arith, r.parts, r.count)))))
+      | else-parts-start w ↦
+          rw w.best-is
+          (best_skip net parts part π marked r.policy r.kept r.live r.parts i c.loop-start.best h
+          (skip_outside net parts part π marked r.policy r.kept r.live r.parts i (λ m. w.if-parts-start.false m.here)))
+    ]
+
+pub passes-requires-clause-in_range : goal.passes-requires-clause-in_range
+passes-requires-clause-in_range c =
+    let net = c.args.net.now in
+    let member : IsMember c.args.parts.now c.args.part c.loop-start.start = record { in_range = c.loop-start-test.true; here = c.if-parts-start.true } in
+    let r = c.requires in
+    let found : IsFoundAt net (given c.args.policy.now) c.loop-start.start c.in-Some.circuit = rw c.in-Some.is at c.in_ok-circuit.ensures.some in
+    rw c.deref.ensures.value
+    (λ k d l. ((found_circuit net c.args.parts.now c.args.part (given c.args.policy.now) c.args.marked.now r.policy r.kept r.live r.parts c.loop-start.start c.in-Some.circuit member found).inside k d l).in_range)
+
+best_some : (net : NetLists) (parts : List ℕ) (part : ℕ) (π : Policy) (marked : List Bool) (ok : IsPolicy net parts part π) (kept : IsNet net) (live : IsLive net) (count : length parts ≡ length net.transitions) (n : ℕ) (best : Option Found)
+    → length parts ≤ n → BestTo net parts part π marked n best → IfSome best (λ f. IsBestFound net parts part π marked f)
+best_some net parts part π marked ok kept live count n None l b = tt
+best_some net parts part π marked ok kept live count n (Some f) l b = best_all net parts part π marked ok kept live count n f l b
+
+pub returns-clause-some : goal.returns-clause-some
+returns-clause-some c =
+    let r = c.requires in
+    best_some c.args.net.now c.args.parts.now c.args.part (given c.args.policy.now) c.args.marked.now r.policy r.kept r.live r.parts c.loop-start.start c.loop-start.best (omega arith) c.loop-start.invariant
+
+best_none : (net : NetLists) (parts : List ℕ) (part : ℕ) (π : Policy) (marked : List Bool) (ok : IsPolicy net parts part π) (kept : IsNet net) (live : IsLive net) (count : length parts ≡ length net.transitions) (n : ℕ) (best : Option Found)
+    → length parts ≤ n → BestTo net parts part π marked n best → IfNone best ((d : List PlaceId) → IsPolicyCircuit net parts part π d → Passes net marked d → ⊥)
+best_none net parts part π marked ok kept live count n None l b = none_all net parts part π marked ok kept live count n l b
+best_none net parts part π marked ok kept live count n (Some f) l b = tt
+
+pub returns-clause-none : goal.returns-clause-none
+returns-clause-none c =
+    let r = c.requires in
+    best_none c.args.net.now c.args.parts.now c.args.part (given c.args.policy.now) c.args.marked.now r.policy r.kept r.live r.parts c.loop-start.start c.loop-start.best (omega arith) c.loop-start.invariant

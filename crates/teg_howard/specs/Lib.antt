@@ -1,0 +1,6 @@
+pub mod Policies
+pub mod Rounds
+pub mod Runs
+pub mod Laws
+pub mod Found
+pub mod Standing

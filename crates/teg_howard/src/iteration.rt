@@ -1,0 +1,133 @@
+//! The rounds of a part, from the first to the one that no place improves.
+ghost use Rattle.std.specs.Prelude.{◌≡◌, ◌≢◌, ◌+◌, ◌-◌, ◌*◌, ◌/◌, ◌<◌, ◌≤◌, ◌↔◌, ◌⊎◌, ◌≤ℤ◌, ◌<ℤ◌, ◌+ℤ◌, ◌-ℤ◌, pos, ℕ, ℤ, List, Bool, true, false, length, All, Any, IsTrue, IfOk, IfErr, IfSome, IfNone, map, slice_index, slice_index_or, Option, Some, None};
+ghost use Rattle.teg_net.specs.declared.entries.PlaceId.{PlaceId};
+ghost use Rattle.teg_net.specs.PartAnswers.{IsPartAnswer};
+ghost use Rattle.teg_howard.specs.Rounds.{IsFirstRound, IsPolicyRun};
+ghost use Rattle.teg_howard.specs.Runs.{potential_of, IsAnswerOf, IsAnswerOfLast, KeepsLimits, AllRise};
+ghost use Rattle.teg_howard.specs.Found.{AreLowest};
+ghost use Rattle.teg_howard.specs.Standing.{Standing, HasCircuit, GoesOn, IsLast};
+
+use crate::policies::{improve, is_any, lowest_places};
+use crate::policy_circuits::best_circuit;
+use crate::settling::{Stand, settle};
+use std::alloc::{AllocError, Global};
+use teg_net::{Choice, Circuit, Net, PartAnswer, PlaceId, Potential, Ratio, Round};
+
+/// The first round: each member takes its lowest numbered place.
+fn first_stand(
+    alloc: Global,
+    net: &Net,
+    parts: &[u32],
+    part: u32,
+    policy: &mut [PlaceId],
+) -> Result<Stand, AllocError>
+    requires circuit { HasCircuit net.now parts.now part }
+    requires lowest { AreLowest net.now parts.now part policy.old }
+    ensures standing { IfOk result (λ st. Standing net.now parts.now part policy.new st) }
+    ensures first { IfOk result (λ st. IsFirstRound net.now parts.now part st.round) }
+{
+    let everywhere = vec![in alloc; true; parts.len()]?;
+    let found = best_circuit(alloc, net, parts, part, policy, &everywhere)?.unwrap();
+    let ratio = Ratio::of(found.time, found.tokens);
+    settle(alloc, net, parts, part, policy, ratio, found.places)
+}
+
+/// The round that follows, unless no place improves.
+fn next_stand(
+    alloc: Global,
+    net: &Net,
+    parts: &[u32],
+    part: u32,
+    stand: &Stand,
+    policy: &mut [PlaceId],
+) -> Result<Option<Stand>, AllocError>
+    requires circuit { HasCircuit net.now parts.now part }
+    requires standing { Standing net.now parts.now part policy.old stand.now }
+    ensures some { IfOk result (λ o. IfSome o (λ next. GoesOn net.now parts.now part policy.new stand.now next)) }
+    ensures none { IfOk result (λ o. IfNone o (IsLast net.now parts.now part stand.now.round)) }
+{
+    let changed = improve(
+        alloc,
+        net,
+        parts,
+        part,
+        stand.round.ratio,
+        &stand.values,
+        policy,
+    )?;
+    if !is_any(&changed) {
+        return Ok(None);
+    }
+    match best_circuit(alloc, net, parts, part, policy, &changed)? {
+        Some(found) => {
+            let ratio = Ratio::of(found.time, found.tokens);
+            let next = settle(alloc, net, parts, part, policy, ratio, found.places)?;
+            Ok(Some(next))
+        }
+        None => {
+            let circuit = stand.round.circuit.places.clone()?;
+            let next = settle(alloc, net, parts, part, policy, stand.round.ratio, circuit)?;
+            Ok(Some(next))
+        }
+    }
+}
+
+/// The potentials of the choices.
+fn potentials_of(alloc: Global, choices: &[Choice]) -> Result<Vec<Potential>, AllocError>
+    ensures { IfOk result (λ ps. ps.items ≡ map potential_of choices.now) }
+{
+    choices
+        .iter()
+        .map(|choice| Potential {
+            transition: choice.transition,
+            value: choice.value,
+        })
+        .collect(alloc)
+}
+
+/// The answer that a round gives.
+fn answer_of(alloc: Global, round: &Round) -> Result<PartAnswer, AllocError>
+    ensures { IfOk result (λ answer. IsAnswerOf round.now answer) }
+{
+    let places = round.circuit.places.clone()?;
+    let potentials = potentials_of(alloc, &round.choices)?;
+    Ok(PartAnswer::Best {
+        ratio: round.ratio,
+        circuit: Circuit { places },
+        potentials,
+    })
+}
+
+/// The policy run of a part, and the answer that its last round gives.
+pub(crate) fn policy_run(
+    alloc: Global,
+    net: &Net,
+    parts: &[u32],
+    part: u32,
+) -> Result<(PartAnswer, Vec<Round>), AllocError>
+    requires { HasCircuit net.now parts.now part }
+    ensures run { IfOk result (λ w. IsPolicyRun net.now parts.now part w.1.items) }
+    ensures best { IfOk result (λ w. IsPartAnswer net.now parts.now part w.0) }
+    ensures answer { IfOk result (λ w. IsAnswerOfLast w.1.items w.0) }
+    ensures limits { IfOk result (λ w. KeepsLimits w.0) }
+    ensures rises { IfOk result (λ w. AllRise w.1.items) }
+{
+    let mut policy = lowest_places(alloc, net, parts, part)?;
+    let mut stand = first_stand(alloc, net, parts, part, &mut policy)?;
+    let mut rounds = Vec::new(alloc);
+    'rounds: while let Some(next) = next_stand(alloc, net, parts, part, &stand, &mut policy)? {
+        let Stand {
+            round,
+            values: _values,
+        } = stand;
+        rounds.push(round)?;
+        stand = next;
+    }
+    let Stand {
+        round,
+        values: _values,
+    } = stand;
+    let answer = answer_of(alloc, &round)?;
+    rounds.push(round)?;
+    Ok((answer, rounds))
+}

@@ -1,0 +1,18 @@
+//! The greatest ratio of a part of a net, by policy iteration (Howard's algorithm, chapter 3).
+//!
+//! [`howard`] gives the rounds of the part and the answer of the last: its greatest ratio of
+//! holding time to tokens, a circuit that has it, and potentials. The rounds are a policy run
+//! (`IsPolicyRun`), and the answer tells what `IsPartAnswer` says of circuits and paths alone.
+//! The crate stands on `teg_net`, `teg_check` and `teg_parts`.
+#![tactic(auto)]
+
+mod inside;
+mod iteration;
+mod laws;
+mod part_answers;
+mod policies;
+mod policy_circuits;
+mod settling;
+
+pub use laws::policy_runs_are_one;
+pub use part_answers::howard;

@@ -1,0 +1,43 @@
+//! Policy iteration on one part of a net, as one call.
+ghost use Rattle.std.specs.Prelude.{◌≡◌, IfOk};
+ghost use Rattle.teg_net.specs.PartAnswers.{IsPartAnswer};
+ghost use Rattle.teg_check.specs.Ranks.{IsRanking};
+ghost use Rattle.teg_parts.specs.Partitions.{AreParts};
+ghost use Rattle.teg_howard.specs.Rounds.{IsPolicyRun};
+ghost use Rattle.teg_howard.specs.Runs.{HasInnerPlace, IsAnswerOfLast, KeepsLimits, AllRise};
+
+use crate::inside::part_numbers;
+use crate::iteration::policy_run;
+use std::alloc::Global;
+use teg_check::Live;
+use teg_net::{Net, OutOfMemory, PartAnswer, Round};
+use teg_parts::Parts;
+
+/// The greatest ratio of a part that has a circuit, by policy iteration (Howard's algorithm,
+/// chapter 3), and the rounds that led to it.
+///
+/// The rounds are the policy run of the part: each follows from the one before, no place improves
+/// the last, and in each step the pair of ratio and sum of potentials rises. A part has one policy
+/// run only. The answer has the last round's ratio, circuit and potentials. Values stand for the
+/// net. It answers `OutOfMemory` only where no memory is found.
+pub fn howard(
+    alloc: Global,
+    net: &Net,
+    live: &Live,
+    parts: &Parts,
+    part: u32,
+) -> Result<(PartAnswer, Vec<Round>), OutOfMemory>
+    requires live { IsRanking net.now live.now }
+    requires parts { AreParts net.now parts.now }
+    requires circuit { HasInnerPlace net.now parts.now.part_of part }
+    ensures run { IfOk result (λ w. IsPolicyRun net.now parts.now.part_of part w.1.items) }
+    ensures best { IfOk result (λ w. IsPartAnswer net.now parts.now.part_of part w.0) }
+    ensures answer { IfOk result (λ w. IsAnswerOfLast w.1.items w.0) }
+    ensures limits { IfOk result (λ w. KeepsLimits w.0) }
+    ensures rises { IfOk result (λ w. AllRise w.1.items) }
+{
+    let _ranks = live;
+    let part_of = part_numbers(alloc, net, parts)?;
+    let run = policy_run(alloc, net, &part_of, part)?;
+    Ok(run)
+}

@@ -1,0 +1,121 @@
+//! The circuits of a policy, and the best of them.
+ghost use Rattle.std.specs.Prelude.{◌≡◌, ◌≢◌, ◌+◌, ◌-◌, ◌*◌, ◌/◌, ◌<◌, ◌≤◌, ◌↔◌, ◌⊎◌, ◌≤ℤ◌, ◌<ℤ◌, ◌+ℤ◌, ◌-ℤ◌, pos, ℕ, ℤ, List, Bool, true, false, length, All, Any, IsTrue, IfOk, IfErr, IfSome, IfNone, map, slice_index, slice_index_or, Option, Some, None};
+ghost use Rattle.teg_net.specs.Nets.{IsNet, IsPlaceOf};
+ghost use Rattle.teg_net.specs.Circuits.{IsLive, IsCircuit, AreInRange};
+ghost use Rattle.teg_net.specs.Parts.{IsMember, IsPlaceOfPart, to_of};
+ghost use Rattle.teg_howard.specs.Policies.{IsPolicy, IsPolicyCircuit, step_back};
+ghost use Rattle.teg_net.specs.declared.entries.PlaceId.{PlaceId};
+ghost use Rattle.teg_howard.specs.Found.{given, IsOnPolicy, IsFoundAt, IsMarked, IsAbove, AreSmall, IsBestFound, GoesBelow};
+
+use std::alloc::{AllocError, Global};
+use teg_net::{Net, PlaceId};
+
+/// A circuit of a policy, with its sums.
+#[derive(Debug, Drop)]
+pub(crate) struct Found {
+    pub(crate) places: Vec<PlaceId>,
+    pub(crate) time: u64,
+    pub(crate) tokens: u64,
+}
+
+/// The policy's circuit that passes `start`, beginning there. None where there is no such circuit, or
+/// it passes a lower numbered transition, from which it is found.
+fn circuit_through(
+    alloc: Global,
+    net: &Net,
+    policy: &[PlaceId],
+    start: usize,
+) -> Result<Option<Found>, AllocError>
+    requires count { length policy.now ≡ length net.now.transitions }
+    requires starts { start < length policy.now }
+    requires on_policy { IsOnPolicy net.now (given policy.now) start }
+    requires in_range { All (λ p. p.index < length net.now.places) policy.now }
+    ensures some { IfOk result (λ found. IfSome found (λ f. IsFoundAt net.now (given policy.now) start f)) }
+    ensures none { IfOk result (λ found. IfNone found (GoesBelow net.now (given policy.now) start (length policy.now))) }
+{
+    let places = net.places();
+    let mut back = Vec::new(alloc);
+    let mut time = 0;
+    let mut tokens = 0;
+    let mut at = start;
+    'walk: for _step in 0..policy.len() {
+        let id = policy[at];
+        let place = &places[id.index as usize];
+        back.push(id)?;
+        time += place.hold;
+        tokens += place.tokens as u64;
+        at = place.from.index as usize;
+        if at == start {
+            back.reverse();
+            return Ok(Some(Found {
+                places: back,
+                time,
+                tokens,
+            }));
+        }
+        if at < start {
+            return Ok(None);
+        }
+    }
+    Ok(None)
+}
+
+/// Whether a place of the circuit ends at a marked transition.
+fn passes(net: &Net, circuit: &[PlaceId], marked: &[bool]) -> bool
+    requires in_range { AreInRange net.now circuit.now }
+    requires count { length marked.now ≡ length net.now.transitions }
+    ensures { IsTrue result ↔ Any (λ p. IsMarked marked.now (to_of net.now p)) circuit.now }
+{
+    let places = net.places();
+    for id in circuit {
+        if marked[places[id.index as usize].to.index as usize] {
+            return true;
+        }
+    }
+    false
+}
+
+/// Whether the circuit has a greater ratio than the best so far.
+fn is_greater(circuit: &Found, best: &Option<Found>) -> bool
+    requires small { AreSmall (Some circuit.now) }
+    requires best_small { AreSmall best.now }
+    ensures { IsTrue result ↔ IsAbove circuit.now best.now }
+{
+    match best {
+        None => true,
+        Some(best) => circuit.time * best.tokens > best.time * circuit.tokens,
+    }
+}
+
+/// The policy's circuit of greatest ratio among those that pass a marked member, among equals
+/// the one with the lowest numbered transition.
+pub(crate) fn best_circuit(
+    alloc: Global,
+    net: &Net,
+    parts: &[u32],
+    part: u32,
+    policy: &[PlaceId],
+    marked: &[bool],
+) -> Result<Option<Found>, AllocError>
+    requires kept { IsNet net.now }
+    requires live { IsLive net.now }
+    requires parts { length parts.now ≡ length net.now.transitions }
+    requires count { length policy.now ≡ length parts.now }
+    requires count_marked { length marked.now ≡ length parts.now }
+    requires policy { IsPolicy net.now parts.now part (given policy.now) }
+    requires in_range { All (λ p. p.index < length net.now.places) policy.now }
+    ensures some { IfOk result (λ found. IfSome found (λ f. IsBestFound net.now parts.now part (given policy.now) marked.now f)) }
+    ensures none { IfOk result (λ found. IfNone found ((d : List PlaceId) → IsPolicyCircuit net.now parts.now part (given policy.now) d → Any (λ p. IsMarked marked.now (to_of net.now p)) d → ⊥)) }
+{
+    let mut best = None;
+    for start in 0..parts.len() {
+        if parts[start] == part {
+            if let Some(circuit) = circuit_through(alloc, net, policy, start)? {
+                if passes(net, &circuit.places, marked) && is_greater(&circuit, &best) {
+                    best = Some(circuit);
+                }
+            }
+        }
+    }
+    Ok(best)
+}

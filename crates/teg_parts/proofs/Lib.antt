@@ -1,0 +1,9 @@
+pub mod Marks
+pub mod Steps
+pub mod Entering
+pub mod Closing
+pub mod Linking
+pub mod Components
+pub mod Ordering
+pub mod NumberingSteps
+pub mod Inside

@@ -1,0 +1,235 @@
+-- The loops of the numbering.
+use Rattle.std.proofs.Common.{ℕ, zero, suc, ◌+◌, ◌-◌, ◌<◌, ◌≤◌, ◌≡◌, ◌≢◌, List, [], ◌∷◌, Option, Some, None, Bool, true, false, cond, is_none, count_by, length, get_or, set, refl, sym, ap, subst, ◌∙◌, arith, inl, inr, ⊎_elim}
+use Rattle.std.specs.Prelude.{◌⊎◌}
+use Rattle.std.proofs.lemmas.Bool.{cases_eq, cases_lt, cases_Bool}
+use Rattle.std.proofs.lemmas.List.{get_or-set_same, get_or-set_other, length-set, get_or_past, get_or-replicate, length-replicate}
+use Rattle.std.proofs.lemmas.List.Sums.{sum_by-set}
+use lib.ListN.{replicate}
+use Rattle.teg_net.specs.declared.entries.PlaceId.{PlaceId}
+use Rattle.teg_net.specs.Nets.{NetLists}
+use Rattle.teg_net.specs.Circuits.{from_of}
+use Rattle.teg_net.specs.Parts.{to_of, IsMember, IsPlaceOfPart}
+use Rattle.teg_parts.specs.Searches.{AreComponents}
+use Rattle.teg_parts.specs.Numbers.{component_at, number_of, without, Blocks, AreBlocked, IsFree, IsFirstFree, IsGiven, IsOpenFor, IsFirstOpen, AreInnerMarks}
+
+same_id : (p q : PlaceId) → p.index ≡ q.index → p ≡ q
+same_id p q e = ap (λ i. let r : PlaceId = record { index = i } in r) e
+
+flag_past : (n c : ℕ) → get_or (replicate n false) c false ≡ false
+flag_past n c =
+    ⊎_elim
+    (λ (l : c < n). get_or-replicate n c false false l)
+    (λ (l : n ≤ c). get_or_past (replicate n false) c false (omega (arith, length-replicate n false)))
+    (cases_lt c n)
+
+false_not_true : (b : Bool) → b ≡ false → b ≡ true → ⊥
+false_not_true b e f = cc
+
+flag_in : (flags : List Bool) (c : ℕ) → get_or flags c false ≡ true → c < length flags
+flag_in flags c e =
+    ⊎_elim
+    (λ (l : c < length flags). l)
+    (λ (l : length flags ≤ c). absurd (false_not_true (get_or flags c false) (get_or_past flags c false l) e))
+    (cases_lt c (length flags))
+
+set_flag : (flags : List Bool) (u c : ℕ) → u < length flags → get_or flags c false ≡ true → get_or (set flags u true) c false ≡ true
+set_flag flags u c l e =
+    ⊎_elim
+    (λ (q : c ≡ u). ap (λ x. get_or (set flags u true) x false) q ∙ get_or-set_same flags u true false l)
+    (λ (q : c ≢ u). get_or-set_other flags u c true false q ∙ e)
+    (cases_eq c u)
+
+set_flag_before : (flags : List Bool) (u c : ℕ) → get_or (set flags u true) c false ≡ true → (c ≡ u) ⊎ (get_or flags c false ≡ true)
+set_flag_before flags u c e =
+    ⊎_elim
+    (λ (q : c ≡ u). inl q)
+    (λ (q : c ≢ u). inr (sym (get_or-set_other flags u c true false q) ∙ e))
+    (cases_eq c u)
+
+-- ---- which components are blocked
+pub record BlockedTo (net : NetLists) (components : List ℕ) (numbers : List (Option ℕ)) (blocked : List Bool) (i : ℕ) : Type 0 where
+  pub count : length blocked ≡ length components
+  pub sound : (c : ℕ) → get_or blocked c false ≡ true → (p : PlaceId) × Blocks net components numbers c p
+  pub complete : (c : ℕ) (p : PlaceId) → p.index < i → Blocks net components numbers c p → get_or blocked c false ≡ true
+
+module _ (net : NetLists) (components : List ℕ) (numbers : List (Option ℕ)) where
+  pub blocked_none : (blocked : List Bool) → blocked ≡ replicate (length components) false → BlockedTo net components numbers blocked 0
+  blocked_none blocked e = record {
+    count = ap length e ∙ length-replicate (length components) false;
+    sound = λ c t. absurd (false_not_true (get_or blocked c false) (ap (λ x. get_or x c false) e ∙ flag_past (length components) c) t);
+    complete = λ c p l b. absurd (omega arith);
+  }
+
+  pub blocked_more : (blocked : List Bool) (p : PlaceId) → BlockedTo net components numbers blocked p.index → component_at components (to_of net p) < length components → Blocks net components numbers (component_at components (to_of net p)) p
+      → BlockedTo net components numbers (set blocked (component_at components (to_of net p)) true) (p.index + 1)
+  blocked_more blocked p h l b =
+      let u : ℕ = component_at components (to_of net p) in
+      let in' : u < length blocked = let c = h.count in omega arith in
+      record {
+        count = length-set blocked u true ∙ h.count;
+        sound = λ c t.
+            ⊎_elim
+            (λ (q : c ≡ u). (p, subst (λ x. Blocks net components numbers x p) (sym q) b))
+            (λ (q : get_or blocked c false ≡ true). h.sound c q)
+            (set_flag_before blocked u c t);
+        complete = λ c q m k.
+            ⊎_elim
+            (λ (s : q.index < p.index). set_flag blocked u c in' (h.complete c q s k))
+            (λ (s : p.index ≤ q.index).
+            let same : q ≡ p = same_id q p (omega arith) in
+            let at : c ≡ u = sym k.enters ∙ ap (λ x. component_at components (to_of net x)) same in
+            ap (λ x. get_or (set blocked u true) x false) at ∙ get_or-set_same blocked u true false in')
+            (cases_lt q.index p.index);
+      }
+
+  pub blocked_skip : (blocked : List Bool) (p : PlaceId) → BlockedTo net components numbers blocked p.index → (Blocks net components numbers (component_at components (to_of net p)) p → ⊥) → BlockedTo net components numbers blocked (p.index + 1)
+  blocked_skip blocked p h none = record {
+    count = h.count;
+    sound = h.sound;
+    complete = λ c q m k.
+        ⊎_elim
+        (λ (s : q.index < p.index). h.complete c q s k)
+        (λ (s : p.index ≤ q.index).
+        let same : q ≡ p = same_id q p (omega arith) in
+        let here : Blocks net components numbers c p = subst (Blocks net components numbers c) same k in
+        absurd (none (subst (λ x. Blocks net components numbers x p) (sym here.enters) here)))
+        (cases_lt q.index p.index);
+  }
+
+  pub blocked_all : (blocked : List Bool) (n : ℕ) → length net.places ≤ n → BlockedTo net components numbers blocked n → AreBlocked net components numbers blocked
+  blocked_all blocked n l h = record { count = h.count; sound = h.sound; complete = λ c p b. let i = b.in_range in h.complete c p (omega arith) b }
+
+  -- a transition is open for a number exactly where it is free
+  pub open_is_free : (blocked : List Bool) (t : ℕ) → AreBlocked net components numbers blocked → IsOpenFor components numbers blocked t → IsFree net components numbers t
+  open_is_free blocked t h o = record { in_range = o.in_range; unnumbered = o.unnumbered; unblocked = λ p b. false_not_true (get_or blocked (component_at components t) false) o.unmarked (h.complete (component_at components t) p b) }
+
+  pub free_is_open : (blocked : List Bool) (t : ℕ) → AreBlocked net components numbers blocked → IsFree net components numbers t → IsOpenFor components numbers blocked t
+  free_is_open blocked t h f = record {
+    in_range = f.in_range;
+    unnumbered = f.unnumbered;
+    unmarked =
+        ⊎_elim
+        (λ (b : get_or blocked (component_at components t) false ≡ true). let w = h.sound (component_at components t) b in absurd (f.unblocked w.0 w.1))
+        (λ (b : get_or blocked (component_at components t) false ≡ false). b)
+        (cases_Bool (get_or blocked (component_at components t) false));
+  }
+
+  pub first_is_free : (blocked : List Bool) (t : ℕ) → AreBlocked net components numbers blocked → IsFirstOpen components numbers blocked t → IsFirstFree net components numbers t
+  first_is_free blocked t h o = record { free = open_is_free blocked t h o.is_open; first = λ u l f. o.first u l (free_is_open blocked u h f) }
+
+-- ---- a number is given
+pub record GivenTo (components : List ℕ) (old now : List (Option ℕ)) (component number i : ℕ) : Type 0 where
+  pub count : length now ≡ length components
+  pub given : (t : ℕ) → t < i → component_at components t ≡ component → number_of now t ≡ Some number
+  pub kept : (t : ℕ) → component_at components t ≢ component → number_of now t ≡ number_of old t
+  pub waiting : (t : ℕ) → i ≤ t → number_of now t ≡ number_of old t
+  pub no_more : without now ≤ without old
+  pub fewer : (t : ℕ) → t < i → component_at components t ≡ component → number_of old t ≡ None → without now + 1 ≤ without old
+
+pub given_none : (components : List ℕ) (old : List (Option ℕ)) (component number : ℕ) → length old ≡ length components → GivenTo components old old component number 0
+given_none components old component number e = record {
+  count = e;
+  given = λ t l s. absurd (omega arith);
+  kept = λ t n. refl;
+  waiting = λ t l. refl;
+  no_more = omega arith;
+  fewer = λ t l s n. absurd (omega arith);
+}
+
+pub given_skip : (components : List ℕ) (old now : List (Option ℕ)) (component number i : ℕ) → GivenTo components old now component number i → component_at components i ≢ component → GivenTo components old now component number (i + 1)
+given_skip components old now component number i h n =
+    let below = λ (t : ℕ) (l : t < i + 1) (s : component_at components t ≡ component).
+    let r : t < i = ⊎_elim (λ (q : t < i). q) (λ (q : i ≤ t). let e : t ≡ i = omega arith in absurd (n (ap (component_at components) (sym e) ∙ s))) (cases_lt t i) in r in
+    record {
+      count = h.count;
+      given = λ t l s. h.given t (below t l s) s;
+      kept = h.kept;
+      waiting = λ t l. h.waiting t (omega arith);
+      no_more = h.no_more;
+      fewer = λ t l s e. h.fewer t (below t l s) s e;
+    }
+
+pub given_more : (components : List ℕ) (old now : List (Option ℕ)) (component number i : ℕ) → GivenTo components old now component number i → i < length components → component_at components i ≡ component
+    → GivenTo components old (set now i (Some number)) component number (i + 1)
+given_more components old now component number i h l e =
+    let in' : i < length now = let c = h.count in omega arith in
+    let here : number_of (set now i (Some number)) i ≡ Some number = get_or-set_same now i (Some number) None in' in
+    let there = λ (t : ℕ) (n : t ≢ i). get_or-set_other now i t (Some number) None n in
+    let s = sum_by-set (λ (o : Option ℕ). cond (is_none o) 1 0) now i (Some number) None in' in
+    record {
+      count = length-set now i (Some number) ∙ h.count;
+      given = λ t m q.
+          ⊎_elim
+          (λ (z : t ≡ i). ap (number_of (set now i (Some number))) z ∙ here)
+          (λ (z : t ≢ i). there t z ∙ h.given t (omega arith) q)
+          (cases_eq t i);
+      kept = λ t n. let z : t ≢ i = λ (q : t ≡ i). n (ap (component_at components) q ∙ e) in there t z ∙ h.kept t n;
+      waiting = λ t m. let z : t ≢ i = omega arith in there t z ∙ h.waiting t (omega arith);
+      no_more = let m = h.no_more in omega (arith, s);
+      fewer = λ t m q n.
+          ⊎_elim
+          (λ (z : t ≡ i).
+          let at : number_of now i ≡ None = h.waiting i (omega arith) ∙ (ap (number_of old) (sym z) ∙ n) in
+          let one : cond (is_none (number_of now i)) 1 0 ≡ 1 = ap (λ (x : Option ℕ). let r : ℕ = cond (is_none x) 1 0 in r) at in
+          let m = h.no_more in
+          omega (arith, s, one))
+          (λ (z : t ≢ i). let f = h.fewer t (omega arith) q n in omega (arith, s))
+          (cases_eq t i);
+    }
+
+pub given_all : (components : List ℕ) (old now : List (Option ℕ)) (component number i : ℕ) → GivenTo components old now component number i → length components ≤ i → IsGiven components old now component number
+given_all components old now component number i h l = record {
+  given = λ t m e. h.given t (omega arith) e;
+  kept = h.kept;
+  fewer = λ t m e n. h.fewer t (omega arith) e n;
+}
+
+-- ---- the marks of the parts
+pub record MarkedTo (net : NetLists) (part_of : List ℕ) (count : ℕ) (inner : List Bool) (i : ℕ) : Type 0 where
+  pub long : length inner ≡ count
+  pub sound : (k : ℕ) → get_or inner k false ≡ true → (q : PlaceId) × IsPlaceOfPart net part_of k q
+  pub complete : (k : ℕ) (q : PlaceId) → q.index < i → IsPlaceOfPart net part_of k q → get_or inner k false ≡ true
+
+module _ (net : NetLists) (part_of : List ℕ) (count : ℕ) where
+  pub marked_none : (inner : List Bool) → inner ≡ replicate count false → MarkedTo net part_of count inner 0
+  marked_none inner e = record {
+    long = ap length e ∙ length-replicate count false;
+    sound = λ k t. absurd (false_not_true (get_or inner k false) (ap (λ x. get_or x k false) e ∙ flag_past count k) t);
+    complete = λ k q l b. absurd (omega arith);
+  }
+
+  pub marked_more : (inner : List Bool) (p : PlaceId) (part : ℕ) → MarkedTo net part_of count inner p.index → part < count → IsPlaceOfPart net part_of part p → MarkedTo net part_of count (set inner part true) (p.index + 1)
+  marked_more inner p part h l b =
+      let in' : part < length inner = let c = h.long in omega arith in
+      record {
+        long = length-set inner part true ∙ h.long;
+        sound = λ k t.
+            ⊎_elim
+            (λ (q : k ≡ part). (p, subst (λ x. IsPlaceOfPart net part_of x p) (sym q) b))
+            (λ (q : get_or inner k false ≡ true). h.sound k q)
+            (set_flag_before inner part k t);
+        complete = λ k q m i.
+            ⊎_elim
+            (λ (s : q.index < p.index). set_flag inner part k in' (h.complete k q s i))
+            (λ (s : p.index ≤ q.index).
+            let same : q ≡ p = same_id q p (omega arith) in
+            let at : k ≡ part = sym i.from_member.here ∙ (ap (λ x. get_or part_of (from_of net x) 0) same ∙ b.from_member.here) in
+            ap (λ x. get_or (set inner part true) x false) at ∙ get_or-set_same inner part true false in')
+            (cases_lt q.index p.index);
+      }
+
+  pub marked_skip : (inner : List Bool) (p : PlaceId) → MarkedTo net part_of count inner p.index → (get_or part_of (from_of net p) 0 ≢ get_or part_of (to_of net p) 0) → MarkedTo net part_of count inner (p.index + 1)
+  marked_skip inner p h n = record {
+    long = h.long;
+    sound = h.sound;
+    complete = λ k q m i.
+        ⊎_elim
+        (λ (s : q.index < p.index). h.complete k q s i)
+        (λ (s : p.index ≤ q.index).
+        let same : q ≡ p = same_id q p (omega arith) in
+        absurd (n (ap (λ x. get_or part_of (from_of net x) 0) (sym same) ∙ (i.from_member.here ∙ (sym i.to_member.here ∙ ap (λ x. get_or part_of (to_of net x) 0) same)))))
+        (cases_lt q.index p.index);
+  }
+
+  pub marked_all : (inner : List Bool) (n : ℕ) → length net.places ≤ n → MarkedTo net part_of count inner n → AreInnerMarks net part_of inner
+  marked_all inner n l h = record { sound = h.sound; complete = λ k q i. let r = i.in_range in h.complete k q (omega arith) i }

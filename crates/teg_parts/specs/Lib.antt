@@ -1,0 +1,5 @@
+pub mod Partitions
+pub mod PlacesFrom
+pub mod Searches
+pub mod Numbers
+pub mod Laws

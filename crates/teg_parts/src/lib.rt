@@ -1,0 +1,17 @@
+//! The strong parts of a timed event graph.
+//!
+//! Two transitions have one part exactly where each reaches the other by a path. A [`Parts`] is
+//! seen by contracts as its lists; it stands for a net where `AreParts` ties the two, which is what
+//! calls above ask. [`split`] finds the parts by one walk over the places. The crate stands on `teg_net` alone.
+#![tactic(auto)]
+
+mod laws;
+mod numbering;
+mod parts;
+mod places_from;
+mod search;
+mod strong_parts;
+
+pub use laws::circuits_lie_in_one_part;
+pub use parts::Parts;
+pub use strong_parts::split;
