@@ -4,17 +4,24 @@ use Rattle.std.specs.Prelude.{All}
 use Rattle.std.proofs.lemmas.Bool.{cases_lt, cases_eq}
 use Rattle.std.proofs.lemmas.List.{length-set, get_or-set_same, get_or-set_other}
 use Rattle.teg_net.specs.declared.entries.PlaceId.{PlaceId}
+use Rattle.teg_net.specs.declared.answers.CycleAnswer.{CycleAnswer}
 use Rattle.teg_net.specs.Nets.{NetLists, IsNet, IsPlaceOf}
 use Rattle.teg_net.specs.Ratios.{Fraction}
-use Rattle.teg_net.specs.Circuits.{no_place, place_at, from_of}
+use Rattle.teg_net.specs.Circuits.{no_place, place_at, from_of, IsLive}
 use Rattle.teg_net.specs.Parts.{to_of}
+use Rattle.teg_net.specs.GreatestRatios.{IsGreatestRatio, IsAnyPlace, HasNoCircuit, IsFirstGreatest}
+use Rattle.teg_net.specs.Certificates.{IsCertificate}
 use Rattle.teg_critical.specs.declared.losses.Loss.{Loss}
 use Rattle.teg_critical.specs.declared.slacks.Slack.{Slack}
 use Rattle.teg_critical.specs.declared.slacks.Slack.TheVariants.{NoCircuit}
 use Rattle.teg_critical.specs.Slacks.{IsOnCircuit, IsSlackOf, AreSlacks}
-use Rattle.teg_critical.specs.Losses.{loss_at}
+use Rattle.teg_critical.specs.Losses.{loss_at, AreLosses}
 use Rattle.teg_critical.specs.Searches.{IsLeastLoss, told_at, AreLeastLosses}
-use Rattle.teg_critical.specs.Told.{CanTell, IsSlackOfGap, slack_at, AreToldUpTo}
+use Rattle.teg_critical.specs.Told.{IsBestOf, CanTell, IsSlackOfGap, slack_at, AreToldUpTo}
+use Rattle.teg_critical.proofs.Certified.{no_circuit}
+use Rattle.teg_critical.proofs.LossFacts.{IsToldBy, best_told}
+use Rattle.teg_critical.proofs.Rounds.{greatest}
+use Rattle.teg_critical.proofs.SameRatio.{of_the_net}
 use Rattle.teg_critical.proofs.Reading.{same_id}
 use Rattle.teg_critical.proofs.Telling.{none_of, none_back, tells_slack}
 
@@ -124,3 +131,30 @@ module _ (net : NetLists) (ok : IsNet net) (r : Fraction) (losses : List (Option
   pub slack_is : (p : PlaceId) → p.index < length net.places → to_of net p ≡ e → (loss : Loss) → loss_at losses p ≡ Some loss → (rest : ℕ) → told_at back (from_of net p) ≡ Some rest
       → (s : Slack) → IsSlackOfGap (loss.amount + rest) loss.scale r s → IsSlackOf net r p s
   slack_is p l m loss f rest g s h = tells_slack net ok r losses can p l loss f rest (back_is p l m rest g) s h
+
+-- ---- the losses of a certified answer
+
+pub can_tell : (net : NetLists) → IsNet net → (answer : CycleAnswer) → (h : IsCertificate net answer) → IsLive net → (best : Fraction) → IsBestOf answer best → (losses : List (Option Loss)) → AreLosses net answer best losses → CanTell net best losses
+can_tell net ok answer h live best b losses lost =
+    let told : IsToldBy net best = best_told net answer h best b in
+    record {
+      answer = answer;
+      certificate = h;
+      lost = lost;
+      live = live;
+      greatest = greatest net ok answer h best losses lost told.some told.places told.circuit told.attains;
+      small = told.small;
+    }
+
+-- ---- the slacks of the net, for each way to write its ratio
+
+pub each_way : (net : NetLists) → IsLive net → (best : Fraction) → IsGreatestRatio net IsAnyPlace best → (slacks : List Slack) → AreSlacks net best slacks
+    → (r : Fraction) → IsGreatestRatio net IsAnyPlace r → AreSlacks net r slacks
+each_way net live best top slacks h r other = record { each = h.each; told = λ p l. of_the_net net live best r top other p l (slack_at slacks p) (h.told p l) }
+
+pub no_ratio : {P : Type 0} (net : NetLists) (r : Fraction) → IsGreatestRatio net IsAnyPlace r → HasNoCircuit net IsAnyPlace → P
+no_ratio net r top none = absurd (none top.attained.0 top.attained.1 top.attained.2)
+
+-- an answer that names no best part is that of a net without circuits
+pub unnamed : (net : NetLists) → IsNet net → (answer : CycleAnswer) → IsCertificate net answer → answer.best ≡ None → HasNoCircuit net IsAnyPlace
+unnamed net ok answer h e = no_circuit net ok answer h (subst (IsFirstGreatest answer.parts.items) e h.best)

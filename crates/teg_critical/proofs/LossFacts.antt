@@ -6,7 +6,7 @@ use Rattle.std.proofs.Math.IntN.{nat_abs}
 use Rattle.std.proofs.Math.Nat.{mul-le-mul_left, mul-le-mul_right}
 use Rattle.std.proofs.lemmas.Bool.{cases_lt}
 use Rattle.std.proofs.lemmas.Int.{ints}
-use Rattle.std.proofs.lemmas.List.{get_or_past}
+use Rattle.std.proofs.lemmas.List.{get_or_past, get_or_read}
 use Rattle.teg_net.specs.declared.entries.PlaceId.{PlaceId}
 use Rattle.teg_net.specs.declared.entries.Place.{Place}
 use Rattle.teg_net.specs.declared.answers.Potential.{Potential}
@@ -36,16 +36,23 @@ gap_of x y h =
 lost_low : (n gain cost : ℕ) (s t : ℤ) → ((pos n +ℤ (pos gain -ℤ pos cost)) +ℤ s) ≡ t → IsWithin greatest_potential s → IsWithin greatest_potential t → cost ≤ 1000000000000000 → n ≤ most_lost
 lost_low n gain cost s t e f g l = omega (arith, ints, e, f.low, g.high, l)
 
--- a told ratio keeps its limits, and a circuit of the part has it
+-- a ratio within the limits that some circuit has
+pub record IsToldBy (net : NetLists) (r : Fraction) : Type 0 where
+  pub small : IsSmallRatio r
+  pub some : 1 ≤ r.tokens
+  pub places : List PlaceId
+  pub circuit : IsCircuit net places
+  pub attains : time_of net places * r.tokens ≡ r.time * tokens_of net places
+
+-- a told ratio is such a ratio
 told_facts : (net : NetLists) (part_of : List ℕ) (k : ℕ) (q : PartAnswer) (r : Fraction) → IsPartCertificate net part_of k q → ratio_in q ≡ Some r
-    → IsSmallRatio r × ((ps : List PlaceId) × IsCircuit net ps × (time_of net ps * r.tokens ≡ r.time * tokens_of net ps))
+    → IsToldBy net r
 told_facts net part_of k NoCircuit r h e = absurd (none_told r e) where
   none_told : (r : Fraction) → None ≡ Some r → ⊥
   none_told r e = cc
 told_facts net part_of k (Best ratio circuit potentials) r h e =
     let same : ratio ≡ r = cc in
-    subst (λ (z : Fraction). IsSmallRatio z × ((ps : List PlaceId) × IsCircuit net ps × (time_of net ps * z.tokens ≡ z.time * tokens_of net ps))) same
-    (record { time = h.time_in; tokens = h.tokens_in }, (circuit.places.items, h.circuit, h.attains))
+    subst (IsToldBy net) same (record { small = record { time = h.time_in; tokens = h.tokens_in }; some = h.terms.some; places = circuit.places.items; circuit = h.circuit; attains = h.attains })
 
 module _ (net : NetLists) (answer : CycleAnswer) (h : IsCertificate net answer) (best : Fraction) (b : IsBestOf answer best) where
   part_in : b.part < length answer.parts.items
@@ -56,13 +63,9 @@ module _ (net : NetLists) (answer : CycleAnswer) (h : IsCertificate net answer) 
         none : (r : Fraction) → ratio_in NoCircuit ≡ Some r → ⊥
         none r e = cc
 
-  -- the best ratio keeps its limits
-  pub small_best : IsSmallRatio best
-  small_best = (told_facts net answer.part_of.items b.part (part_at answer b.part) best (h.parts b.part part_in) b.told).0
-
-  -- and some circuit has it
-  pub best_circuit : (ps : List PlaceId) × IsCircuit net ps × (time_of net ps * best.tokens ≡ best.time * tokens_of net ps)
-  best_circuit = (told_facts net answer.part_of.items b.part (part_at answer b.part) best (h.parts b.part part_in) b.told).1
+  -- the best ratio is such a ratio
+  pub best_told : IsToldBy net best
+  best_told = told_facts net answer.part_of.items b.part (part_at answer b.part) best (h.parts b.part part_in) b.told
 
   -- no part tells a greater one
   pub below_best : (k : ℕ) (r : Fraction) → ratio_at answer.parts.items k ≡ Some r → r.time * best.tokens ≤ best.time * r.tokens
@@ -72,6 +75,21 @@ module _ (net : NetLists) (answer : CycleAnswer) (h : IsCertificate net answer) 
       subst (λ (z : Fraction). r.time * z.tokens ≤ z.time * r.tokens) same (first.1.greatest k r e) where
         same_told : (o : Option Fraction) (x y : Fraction) → o ≡ Some x → o ≡ Some y → x ≡ y
         same_told o x y f g = (let z : Some x ≡ Some y = sym f ∙ g in cc)
+
+  -- the part of a place, and its answer, as they are read
+  pub read_part : IsNet net → (p : PlaceId) → p.index < length net.places → (q : Place) → q ≡ place_at net p → (k : ℕ) → k ≡ get_or answer.part_of.items q.from.index k → (to : ℕ) → to ≡ get_or answer.part_of.items q.to.index to → to ≡ k
+      → (read : PartAnswer) → read ≡ get_or answer.parts.items k read → (k ≡ part_of answer q.from.index) × (part_of answer q.to.index ≡ k) × (read ≡ part_at answer k)
+  read_part ok p l q q_is k k_read to to_read same read is =
+      let rules : IsPlaceOf net q = subst (IsPlaceOf net) (sym q_is) (ok.each_place p.index no_place l) in
+      let count = h.count in
+      let from_in = rules.from_in in
+      let to_in = rules.to_in in
+      let from_low : q.from.index < length answer.part_of.items = omega arith in
+      let to_low : q.to.index < length answer.part_of.items = omega arith in
+      let k_is : k ≡ part_of answer q.from.index = get_or_read answer.part_of.items q.from.index k from_low k_read 0 in
+      let to_is : to ≡ part_of answer q.to.index = get_or_read answer.part_of.items q.to.index to to_low to_read 0 in
+      let below : part_of answer q.from.index < length answer.parts.items = h.below q.from.index 0 from_low in
+      (k_is, sym to_is ∙ same, get_or_read answer.parts.items k read (omega arith) is NoCircuit)
 
   -- a place with both ends in part k, whose answer tells a ratio
   module _ (ok : IsNet net) (p : PlaceId) (l : p.index < length net.places) (q : Place) (q_is : q ≡ place_at net p) (k : ℕ) (k_is : k ≡ part_of answer q.from.index) (to_is : part_of answer q.to.index ≡ k)
@@ -124,10 +142,10 @@ module _ (net : NetLists) (answer : CycleAnswer) (h : IsCertificate net answer) 
           grouped n w s t e = omega (arith, ints, e)
 
     -- what the place is told is its loss
-    pub is_loss : (lost : ℕ) → IsLost (count_of r q) (potential_at vs q.from.index) (potential_at vs q.to.index) lost → (loss : Loss) → loss.amount ≡ loss_at_best best r lost q.tokens → loss.scale ≡ r.tokens → loss.amount ≤ most_loss → 1 ≤ r.tokens
+    pub is_loss : (lost : ℕ) → IsLost (count_of r q) (potential_at vs q.from.index) (potential_at vs q.to.index) lost → (loss : Loss) → loss.amount ≡ loss_at_best best r lost q.tokens → loss.scale ≡ r.tokens → loss.amount ≤ most_loss
         → IsPlaceLoss net answer best p (Some loss)
-    is_loss lost is loss amount scale small some =
-        let one : IsLossOf best r (potential_at vs q.from.index) (potential_at vs q.to.index) q loss = record { scale = scale; some = some; below = below_own; lost = lost; is_lost = is; amount = amount; small = small } in
+    is_loss lost is loss amount scale small =
+        let one : IsLossOf best r (potential_at vs q.from.index) (potential_at vs q.to.index) q loss = record { scale = scale; some = facts.terms.some; below = below_own; lost = lost; is_lost = is; amount = amount; small = small } in
         let P : Fraction → List Potential → Place → Type 0 = λ f us z. IsLossOf best f (potential_at us z.from.index) (potential_at us z.to.index) z loss in
         let two : P (ratio_of told) vs q = subst (λ (f : Fraction). P f vs q) (sym ratio_is) one in
         let three : P (ratio_of told) (potentials_of told) q = subst (λ (us : List Potential). P (ratio_of told) us q) (sym potentials_is) two in

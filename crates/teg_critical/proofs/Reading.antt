@@ -1,5 +1,6 @@
 -- Entries read from lists.
-use Rattle.std.proofs.Common.{ℕ, List, ◌<◌, ◌≡◌, length, get_or, sym, ap, ◌∙◌}
+use Rattle.std.proofs.Common.{ℕ, List, ◌++◌, ◌<◌, ◌≡◌, length, get_or, take, drop, ap, subst, ◌∙◌}
+use Rattle.std.proofs.Math.Seq.{take-append_seam}
 use Rattle.std.proofs.lemmas.List.{get_or_read}
 use Rattle.teg_net.specs.declared.entries.Place.{Place}
 use Rattle.teg_net.specs.declared.entries.PlaceId.{PlaceId}
@@ -16,3 +17,7 @@ read_place net xs p q e l is = read xs net.places p.index q no_place e l is
 
 pub same_id : (p q : PlaceId) → p.index ≡ q.index → p ≡ q
 same_id p q e = ap (λ (z : ℕ). record { index = z }) e
+
+-- what is written back into a list of that length
+pub written_back : {X : Type 0} (new old : List X) (n : ℕ) → length new ≡ n → take n (new ++ drop (length new) old) ≡ new
+written_back new old n e = subst (λ m. take m (new ++ drop (length new) old) ≡ new) e (take-append_seam new (drop (length new) old))

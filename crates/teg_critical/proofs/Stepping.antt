@@ -1,18 +1,20 @@
 -- Steps listed place by place, the nearest transition looked for, and steps taken one by one.
 use Rattle.std.proofs.Common.{ℕ, zero, suc, ◌+◌, ◌*◌, ◌<◌, ◌≤◌, ◌≡◌, ◌≢◌, Bool, true, false, cond, List, [], ◌∷◌, ◌++◌, length, get_or, set, Option, Some, None, refl, sym, ap, subst, ◌∙◌, arith, ⊎_elim, ◌⊎◌, inl, inr}
-use Rattle.std.specs.Prelude.{All, Any, IsSome, nat_lt}
+use Rattle.std.specs.Prelude.{All, Any, IsSome, IfSome, nat_lt}
+use Rattle.std.specs.Option.{is_some}
 use Rattle.std.proofs.lemmas.Bool.Decides.{nat_tests}
 use Rattle.std.proofs.lemmas.Bool.{cases_lt, cases_eq}
-use Rattle.std.proofs.lemmas.List.{length-append, length-set, get_or_append_left, get_or-append-add, get_or-set_same, get_or-set_other, get_or_default, get_or_past}
+use Rattle.std.proofs.lemmas.List.{length-append, length-set, get_or_append_left, get_or-append-add, get_or-set_same, get_or-set_other, get_or_default, get_or_past, get_or_read}
 use Rattle.teg_net.specs.declared.entries.PlaceId.{PlaceId}
-use Rattle.teg_net.specs.Nets.{NetLists}
-use Rattle.teg_net.specs.Circuits.{from_of}
+use Rattle.teg_net.specs.declared.entries.Place.{Place}
+use Rattle.teg_net.specs.Nets.{NetLists, IsNet, IsPlaceOf}
+use Rattle.teg_net.specs.Circuits.{no_place, place_at, from_of}
 use Rattle.teg_net.specs.Parts.{to_of}
 use Rattle.teg_critical.specs.declared.losses.Loss.{Loss}
 use Rattle.teg_critical.specs.declared.searches.Step.{Step}
 use Rattle.teg_critical.specs.declared.searches.Near.{Near}
-use Rattle.teg_critical.specs.Losses.{most_loss, loss_at}
-use Rattle.teg_critical.specs.Searches.{amount_in, told_at, IsStepBy, AreStepsFrom, AreSteps, IsWithin, is_settled, nearer_of, IsNearest, IsOver, IsRelaxed}
+use Rattle.teg_critical.specs.Losses.{most_loss, loss_at, AreKeptSmall}
+use Rattle.teg_critical.specs.Searches.{amount_in, told_at, IsStepBy, IsStepOf, AreStepsFrom, AreSteps, IsWithin, is_settled, nearer_of, IsNearest, IsOver, IsRelaxed}
 use Rattle.teg_critical.proofs.Searching.{within_more, within_some, IsTold, within_told, none_some, same_some}
 
 -- ---- the steps from a transition
@@ -83,6 +85,43 @@ steps_more net losses t steps k s h by end_in low = record {
   small = one_more (λ x. x.loss ≤ most_loss) steps s h.small low;
 }
 
+-- an amount is no more than the most
+kept_amount : (losses : List (Option Loss)) (p : PlaceId) → AreKeptSmall losses → amount_in (loss_at losses p) ≤ most_loss
+kept_amount losses p small = by_told (loss_at losses p) refl where
+  by_told : (o : Option Loss) → loss_at losses p ≡ o → amount_in o ≤ most_loss
+  by_told None e = omega arith
+  by_told (Some l) e = small p l e
+
+-- the place of this number is a step
+pub steps_place : (net : NetLists) (losses : List (Option Loss)) (t : ℕ) (steps : List Step) (k : ℕ) (q : Place) (told : Option Loss) (s : Step) → IsNet net → AreKeptSmall losses → StepsUpTo net losses t steps k → k < length net.places
+    → q ≡ place_at net (record { index = k }) → told ≡ loss_at losses (record { index = k }) → IsStepOf q told t s → StepsUpTo net losses t (steps ++ (s ∷ [])) (k + 1)
+steps_place net losses t steps k q told s ok small h l q_is told_is is =
+    let p : PlaceId = record { index = k } in
+    let rules : IsPlaceOf net (place_at net p) = ok.each_place k no_place l in
+    let to_is : to_of net p ≡ s.to = ap (λ (z : Place). z.to.index) (sym q_is) ∙ is.to in
+    let loss_is : amount_in (loss_at losses p) ≡ s.loss = ap amount_in (sym told_is) ∙ is.loss in
+    let by : IsStepBy net losses t p s = record {
+      in_range = l;
+      from = ap (λ (z : Place). z.from.index) (sym q_is) ∙ is.from;
+      to = to_is;
+      told = subst (λ (z : Option Loss). IsSome z) told_is is.some;
+      loss = loss_is;
+    } in
+    let to_in = rules.to_in in
+    let most = kept_amount losses p small in
+    steps_more net losses t steps k s h by (omega arith) (omega arith)
+
+-- the place of this number is none
+pub steps_skip : (net : NetLists) (losses : List (Option Loss)) (t : ℕ) (steps : List Step) (k : ℕ) (q : Place) (told : Option Loss) → StepsUpTo net losses t steps k
+    → q ≡ place_at net (record { index = k }) → told ≡ loss_at losses (record { index = k }) → (q.from.index ≡ t → told ≡ None) → StepsUpTo net losses t steps (k + 1)
+steps_skip net losses t steps k q told h q_is told_is none = steps_past net losses t steps k h (λ p e from some.
+    let same : p ≡ record { index = k } = ap (λ (z : ℕ). record { index = z }) e in
+    let there : q.from.index ≡ t = ap (λ (z : Place). z.from.index) q_is ∙ ap (from_of net) (sym same) ∙ from in
+    let nothing : loss_at losses p ≡ None = ap (loss_at losses) same ∙ sym told_is ∙ none there in
+    not_both (loss_at losses p) nothing some) where
+      not_both : (o : Option Loss) → o ≡ None → IsSome o → ⊥
+      not_both o e f = (let g : is_some {T = Loss} None ≡ true = sym (ap (is_some {T = Loss}) e) ∙ f in cc)
+
 pub steps_end : (net : NetLists) (losses : List (Option Loss)) (t : ℕ) (steps : List Step) → StepsUpTo net losses t steps (length net.places) → AreStepsFrom net losses t steps
 steps_end net losses t steps h = record { sound = h.sound; complete = h.complete; ends = h.ends; small = h.small }
 
@@ -106,6 +145,13 @@ all_more net losses steps k own h here =
           subst (AreStepsFrom net losses t) (sym read) (subst (λ (z : ℕ). AreStepsFrom net losses z own) same here))
           (cases_lt t k);
     }
+
+pub all_end : (net : NetLists) (losses : List (Option Loss)) (steps : List (List Step)) → AllStepsUpTo net losses steps (length net.transitions) → AreSteps net losses steps
+all_end net losses steps h = record { count = h.count; each = h.each }
+
+-- the steps that are read for one transition
+pub own_steps : (net : NetLists) (losses : List (Option Loss)) (steps : List (List Step)) (t : ℕ) (own : List Step) → AreSteps net losses steps → t < length net.transitions → own ≡ get_or steps t own → AreStepsFrom net losses t own
+own_steps net losses steps t own h l is = subst (AreStepsFrom net losses t) (sym (get_or_read steps t own (let count = h.count in omega arith) is [])) (h.each t l)
 
 -- ---- the nearest transition
 
@@ -136,6 +182,10 @@ IsFound least settled (Some near) = IsNearest least settled near
 pub nearest_found : (least : List (Option ℕ)) (settled : List Bool) (nearest : Option Near) → NearestUpTo least settled (length settled) nearest → IsFound least settled nearest
 nearest_found least settled None h = nearest_over least settled h
 nearest_found least settled (Some near) h = nearest_is least settled near h
+
+pub some_found : (least : List (Option ℕ)) (settled : List Bool) (nearest : Option Near) → IsFound least settled nearest → IfSome nearest (IsNearest least settled)
+some_found least settled None h = tt
+some_found least settled (Some near) h = h
 
 some_none : (near : Near) → Some near ≡ None → ⊥
 some_none near e = cc

@@ -1,6 +1,7 @@
 //! The slack of each place, by what the best path back from its end to its start lacks.
 ghost use Rattle.std.specs.Prelude.{◌≡◌, ◌<◌, ◌≤◌, ◌+◌, length, All, IfOk, IfNone, IfSome, None};
 ghost use Rattle.teg_net.specs.Ratios.{Fraction};
+ghost use Rattle.teg_net.specs.Nets.{IsNet};
 ghost use Rattle.teg_net.specs.Circuits.{IsLive};
 ghost use Rattle.teg_net.specs.Parts.{to_of};
 ghost use Rattle.teg_net.specs.GreatestRatios.{IsGreatestRatio, IsAnyPlace, HasNoCircuit};
@@ -109,6 +110,7 @@ fn slacks_at(
 fn no_slacks(alloc: Global, net: &Net) -> Result<Vec<Slack>, AllocError>
     ensures each { IfOk result (λ slacks. length slacks.items ≡ length net.now.places) }
     ensures none { IfOk result (λ slacks. All (λ s. s ≡ NoCircuit) slacks.items) }
+    ensures rules { IfOk result (λ _. IsNet net.now) }
 {
     vec![in alloc; Slack::NoCircuit; net.places().len()]
 }
@@ -142,9 +144,8 @@ pub fn critical(alloc: Global, net: &Net, answer: &CycleAnswer) -> Result<Slacks
     ensures slacks { IfOk result (λ slacks. (r : Fraction) → IsGreatestRatio net.now IsAnyPlace r → AreSlacks net.now r slacks) }
     ensures none { IfOk result (λ slacks. HasNoCircuit net.now IsAnyPlace → All (λ s. s ≡ NoCircuit) slacks) }
 {
-    let slacks = match best_ratio(net, answer) {
-        Some(best) => slacks_at(alloc, net, answer, best)?,
-        None => no_slacks(alloc, net)?,
-    };
-    Ok(Slacks::new(slacks))
+    match best_ratio(net, answer) {
+        Some(best) => Ok(Slacks::new(slacks_at(alloc, net, answer, best)?)),
+        None => Ok(Slacks::new(no_slacks(alloc, net)?)),
+    }
 }
