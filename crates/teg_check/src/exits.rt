@@ -4,7 +4,7 @@ ghost use Rattle.teg_net.specs.Circuits.{IsCircuit, tokens_of};
 ghost use Rattle.teg_check.specs.Exits.{IsUnranked, AreExits, EachUnrankedHasExit, ExitsGoOn};
 
 use std::alloc::{AllocError, Global};
-use teg_net::{Net, Place, PlaceId};
+use teg_net::{Net, PlaceId};
 
 /// For each transition a place without tokens to a transition that has no rank, where there is one.
 pub(crate) fn exits_to_unranked(

@@ -74,12 +74,6 @@ turned_circuit net xs k l c = record {
 pub turned_sum : (f : PlaceId → ℕ) (xs : List PlaceId) (k : ℕ) → sum_by f (turned xs k) ≡ sum_by f xs
 turned_sum f xs k = omega (arith, sum_by-append f (drop k xs) (take k xs), sum_by-take-drop f xs k)
 
--- what holds of each place holds of each after the turn
-pub turned_all : (P : PlaceId → Type 0) (xs : List PlaceId) (k : ℕ) → k ≤ length xs → All P xs → All P (turned xs k)
-turned_all P xs k l h i d m =
-    let a = source xs k i l (omega (arith, length-turned xs k l)) in
-    subst P (sym (a.same d)) (h a.at d a.within)
-
 -- a list of places of which none leaves a lower transition than the place at 0
 begins_lowest : (net : NetLists) (ps : List PlaceId) → ((i : ℕ) (d : PlaceId) → i < length ps → from_of net (get_or ps 0 no_id) ≤ from_of net (get_or ps i d)) → BeginsLowest net ps
 begins_lowest net [] h = tt

@@ -1,7 +1,8 @@
-//! Timed event graphs: their entries, names and rules, and what paths and circuits of them are.
+//! Timed event graphs: their entries, names and rules, from when their inputs and initial tokens
+//! are there, and what paths, circuits and walks of them are.
 //!
 //! A [`Net`] is seen by contracts as its three lists (`NetLists`), which keep the rules of `IsNet`.
-//! This crate stands on std alone; what speaks of dates stands in crates above it.
+//! This crate stands on std alone; what speaks of dates of firings stands in crates above it.
 #![tactic(auto)]
 
 mod answers;

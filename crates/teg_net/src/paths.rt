@@ -1,5 +1,5 @@
 //! Paths and circuits of a net: which lists of places they are, and their sums (chapter 2).
-ghost use Rattle.std.specs.Prelude.{◌≡◌, ◌↔◌, ◌<◌, ℕ, List, [], length, IsTrue, IfNone, IfSome, Any, AllPairs, ◌≢◌};
+ghost use Rattle.std.specs.Prelude.{◌≡◌, ◌↔◌, ◌<◌, ℕ, [], IsTrue, IfNone, IfSome, Any, AllPairs, ◌≢◌};
 ghost use Rattle.teg_net.specs.Paths.{IsStartOf};
 ghost use Rattle.teg_net.specs.Circuits.{IsPathBetween, IsPath, IsCircuit, AreInRange, from_of, time_of, tokens_of};
 

@@ -1,5 +1,5 @@
 //! From when the initial tokens of places are ready, and the start that they give a firing.
-ghost use Rattle.std.specs.Prelude.{◌≡◌, ◌<◌, ◌≤◌, All, length};
+ghost use Rattle.std.specs.Prelude.{◌≡◌, ◌<◌, ◌≤◌, length};
 ghost use Rattle.teg_net.specs.Circuits.{place_at};
 ghost use Rattle.teg_net.specs.Limits.{greatest_date};
 ghost use Rattle.teg_net.specs.ReadyDates.{ready_date, ready_for, start_date, IsStartDate};

@@ -1,6 +1,7 @@
 //! What files are answered. The refusals are compared as `Debug` writes them.
-use crate::read_net;
+use crate::{ReadRefusal, read_net};
 use std::alloc::Global;
+use std::test::Fail;
 
 /// Whether the file is answered so; an accepted file is answered `accepted`.
 fn is_answered(alloc: Global, file: &str, wanted: &str) -> bool {
@@ -23,7 +24,7 @@ fn first_other_answer(alloc: Global, files: &[(&str, &str)]) -> usize {
     files.len()
 }
 
-const KEYS: [(&str, &str); 20] = [
+const KEYS: [(&str, &str); 21] = [
     (
         "x = 1\n",
         "UnknownKey { spot: Spot { section: Top, position: 0 }, key: Label { text: \"x\" } }",
@@ -43,6 +44,10 @@ const KEYS: [(&str, &str); 20] = [
     (
         "transition = [{name = \"a\", role = \"input\"}]\ninput = [{transition = \"a\", dates = [], name = \"a\"}]\n",
         "UnknownKey { spot: Spot { section: Input, position: 1 }, key: Label { text: \"name\" } }",
+    ),
+    (
+        "transition = [{name = \"a\"}]\nplace = [{name = \"p\", from = \"a\", to = \"a\", tokens = 1, ready = [0]}]\n",
+        "UnknownKey { spot: Spot { section: Place, position: 1 }, key: Label { text: \"ready\" } }",
     ),
     (
         "[[transition]]\n",
@@ -370,6 +375,63 @@ fn roles_and_lists_are_kept(rt: HostRuntime) {
 
 #[test]
 fn bytes_that_are_no_text_are_not_read(rt: HostRuntime) {
-    assert!(rt; read_net(rt.alloc(), b"\xFF").is_err());
-    assert!(rt; read_net(rt.alloc(), b"\xEF\xBB\xBF[[transition]]\nname = \"a\"\n").is_ok());
+    let refused = read_net(rt.alloc(), b"\xFF");
+    assert!(rt; matches!(&refused, Err(ReadRefusal::NotToml)));
+    let marked = read_net(rt.alloc(), b"\xEF\xBB\xBF[[transition]]\nname = \"a\"\n");
+    assert!(rt; matches!(&marked, Ok(_)));
+}
+
+/// A file of 60,000 transitions. Their names fall on one place of a table that hashes as the
+/// library does, whose seed is fixed.
+fn colliding(alloc: Global) -> Result<String, Fail> {
+    let mut file = String::from_str(alloc, "transition = [")?;
+    for number in 0u32..60_000 {
+        let entry = format!(in alloc; "{{name = \"XF3E0KQkNt315cBfdPh%_$U6{number:08}\"}}, ")?;
+        file.push_str(entry.as_str())?;
+    }
+    file.push_str("]\n")?;
+    Ok(file)
+}
+
+#[test]
+fn names_that_collide_are_too_many(rt: HostRuntime) -> Result<(), Fail> {
+    let file = colliding(rt.alloc())?;
+    let wanted = "OutOfRange { spot: Spot { section: Top, position: 0 }, key: Transition }";
+    assert!(rt; is_answered(rt.alloc(), file.as_str(), wanted));
+    Ok(())
+}
+
+/// A file of 400 transitions and 4,000 places, each number and name at its limit.
+fn widest(alloc: Global) -> Result<String, Fail> {
+    let mut file = String::from_str(alloc, "transition = [")?;
+    for number in 0u32..400 {
+        let entry = format!(in alloc; "{{name = \"{number:064}\"}}, ")?;
+        file.push_str(entry.as_str())?;
+    }
+    file.push_str("]\nplace = [")?;
+    for number in 0u32..4_000 {
+        let end = number % 400;
+        let entry = format!(in alloc;
+            "{{name = \"{number:064}\", from = \"{end:064}\", to = \"{end:064}\", hold = 1000000000, tokens = 1000}}, "
+        )?;
+        file.push_str(entry.as_str())?;
+    }
+    file.push_str("]\n")?;
+    Ok(file)
+}
+
+#[test]
+fn a_net_at_its_limits_is_read_and_copied(rt: HostRuntime) -> Result<(), Fail> {
+    let file = widest(rt.alloc())?;
+    let Ok(net) = read_net(rt.alloc(), file.as_bytes()) else {
+        panic!(rt; "it is a net");
+    };
+    let copy = net.without_inputs(rt.alloc())?;
+    assert!(rt; copy.transitions().len() == 400 && copy.places().len() == 4000);
+    let last = "0000000000000000000000000000000000000000000000000000000000003999";
+    assert!(rt;
+        copy.find_place(last)
+            .is_some_and(|place| place.index == 3999)
+    );
+    Ok(())
 }

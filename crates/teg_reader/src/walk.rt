@@ -1,7 +1,7 @@
 //! One pass over the tree.
 ghost use Rattle.std.specs.Prelude.{◌≡◌, ◌+◌, map};
 ghost use Rattle.toml.specs.View.{view};
-ghost use Rattle.teg_reader.specs.Walks.{Look, Finds, finding, first_finding, spot_at};
+ghost use Rattle.teg_reader.specs.Walks.{Look, Finds, finding, first_finding};
 
 use crate::keys::Key;
 use crate::refusals::{ReadRefusal, Section, Spot};
