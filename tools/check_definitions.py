@@ -1,5 +1,5 @@
 #!/usr/bin/env python3
-"""Whether docs/DEFINITIONS.md lists each definition that a public contract rests on, and no other.
+"""Tells whether docs/DEFINITIONS*.md list each definition that a public contract rests on, and no other.
 
     tools/check_definitions.py [--draft]
 
@@ -17,6 +17,8 @@ from pathlib import Path
 TOP = Path(__file__).resolve().parent.parent
 WORD = re.compile(r"[^\W\d][\w'\-]*")
 DEFINED = re.compile(r"^ *(?:pub )?(abbrev|unfoldable|record|data) (?:pub )?([^\W\d][\w'\-]*)(.*)$")
+MUTUAL = re.compile(r"^(?:abbrev |unfoldable )?mutual$")
+IN_MUTUAL = re.compile(r"^  (pub )([^\W\d][\w'\-]*)( :.*)$")
 LAW = re.compile(r"^ {0,2}(?:pub )?([^\W\d][\w'\-]*) :(.*)$")
 
 
@@ -40,16 +42,19 @@ class Specs:
 
     def read(self, crate, file, text):
         self.imports[crate, file] = imports_of(text)
-        above, at, is_data = [], None, False
+        above, at, is_data, block = [], None, False, None
         for line in text.splitlines():
             bare = line.strip()
             if bare.startswith("-- ") and "----" not in bare:
                 above.append(bare[3:])
                 continue
-            defined, law = DEFINED.match(line), LAW.match(line)
+            if line and not line.startswith(" "):
+                block = " ".join(above) if MUTUAL.match(line) else None
+            defined = None if MUTUAL.match(line) else DEFINED.match(line) or (block is not None and IN_MUTUAL.match(line))
+            law = LAW.match(line)
             if defined:
                 at, is_data = (crate, file, defined[2]), defined[1] == "data"
-                self.words[at], self.body[at] = " ".join(above), defined[3]
+                self.words[at], self.body[at] = " ".join(above) or block or "", defined[3]
             elif law and not (at and line.startswith("  ") and (is_data or bare.startswith("pub "))):
                 at = None
             elif at:
@@ -118,9 +123,9 @@ def public_text(crate, text):
 
 
 def listed():
-    """The rows of the document: for each crate and name the files that its rows give."""
+    """The rows of the documents: for each crate and name the files that its rows give."""
     found, crates = {}, []
-    for line in (TOP / "docs/DEFINITIONS.md").read_text().splitlines():
+    for line in "".join(path.read_text() for path in sorted(TOP.glob("docs/DEFINITIONS*.md"))).splitlines():
         if line.startswith("#"):
             crates = re.findall(r"`(\w+)`", line)
         elif line.startswith("| `"):

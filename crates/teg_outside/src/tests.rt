@@ -1,6 +1,6 @@
 //! A monitor of the tests' own, any shelf at a file beyond the limit, files and output.
 ghost use Rattle.std.specs.Prelude.{◌||◌, nat_lt, length, codes, if◌then◌else◌};
-ghost use Rattle.teg_outside.specs.Shelves.{ShelfState, LongIsTooLarge, replied};
+ghost use Rattle.teg_outside.specs.Shelves.{LongIsTooLarge, replied};
 
 use crate::{Firing, Monitor, OutOfMemory, Shelf, ShelfFault};
 use std::alloc::Global;

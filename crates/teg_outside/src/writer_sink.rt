@@ -1,7 +1,6 @@
 //! The real output.
 ghost use Rattle.std.specs.Prelude.{◌≡◌, ◌≤◌, ◌<◌, None, length, take, IfSome};
 ghost use Rattle.std.specs.Io.KnownBytes.{Appends};
-ghost use Rattle.teg_outside.specs.Sinks.{SinkState};
 
 use crate::{Sink, SinkFault};
 use std::io::Write;
@@ -60,7 +59,33 @@ impl<W: Write> Sink for WriterSink<W> {
 #[cfg(test)]
 mod tests {
     use super::*;
-    use std::io::Cursor;
+    use std::io::{Cursor, Result as Written};
+
+    /// A writer that takes all it is given, and counts its flushes.
+    #[derive(Drop)]
+    struct FlushCount {
+        flushes: u64,
+    }
+
+    impl Write for FlushCount {
+        fn write(&mut self, piece: &[u8]) -> Written<usize> {
+            Ok(piece.len())
+        }
+
+        fn flush(&mut self) -> Written<()> {
+            self.flushes = self.flushes.saturating_add(1);
+            Ok(())
+        }
+    }
+
+    #[test]
+    fn each_write_is_flushed(rt: HostRuntime) {
+        let mut sink = WriterSink::new(FlushCount { flushes: 0 });
+        assert_eq!(rt; sink.write(b"abc"), Ok(3));
+        assert_eq!(rt; sink.write(b""), Ok(0));
+        assert_eq!(rt; sink.write(b"d"), Ok(1));
+        assert_eq!(rt; sink.inner.flushes, 2);
+    }
 
     #[test]
     fn a_writer_of_memory_takes_what_is_written(rt: HostRuntime) {
