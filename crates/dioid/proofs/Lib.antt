@@ -1,1 +1,3 @@
+pub mod AtMost
 pub mod DateOrder
+pub mod Moves

@@ -1,5 +1,5 @@
 -- Dates, the complete max-plus dioid: minus infinity, the whole numbers, plus infinity (chapters 3 and 4).
-use Rattle.std.specs.Prelude.{◌≡◌, ℕ, pos, negsuc, zero, suc, ◌+ℤ◌, ◌-ℤ◌, ◌≤ℤ◌, FitsSigned, Result, Ok, Err, ⊤}
+use Rattle.std.specs.Prelude.{◌≡◌, ℕ, ℤ, pos, negsuc, zero, suc, ◌+ℤ◌, ◌-ℤ◌, ◌≤ℤ◌, FitsSigned, Result, Ok, Err, ⊤}
 use Rattle.std.specs.Int.{int_max, int_min, w128}
 use Rattle.dioid.specs.declared.dates.Date.{Date}
 use Rattle.dioid.specs.declared.dates.Date.TheVariants.{Early, At, Never}
@@ -36,6 +36,12 @@ abbrev pub delayed : ℕ → Date → Date
 delayed h Early = Early
 delayed h (At s) = At (s +ℤ pos h)
 delayed h Never = Never
+
+-- the date moved by a whole number; Early and Never stay
+abbrev pub move : ℤ → Date → Date
+move x Early = Early
+move x (At s) = At (s +ℤ x)
+move x Never = Never
 
 -- the product of two dates: they are added, Early absorbs all and Never all else
 abbrev pub date_product : Date → Date → Date

@@ -4,6 +4,10 @@ use Rattle.dioid.specs.Dates.{IsAtMostDate, later_of}
 use Rattle.dioid.specs.Laws.{IsAtMost}
 use Rattle.dioid.specs.declared.dates.Date.{Date}
 
+-- a is at most b, as a fact from which both dates can be read
+pub record Le (a b : Date) : Type 0 where
+  pub holds : IsAtMostDate a b
+
 -- x is the greater of a and b: one of the two, and each is at most x
 pub record IsGreaterOf (a b x : Date) : Type 0 where
   pub one : (x ≡ a) ⊎ (x ≡ b)

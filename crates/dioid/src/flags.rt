@@ -18,7 +18,7 @@ impl Dioid for Flag {
     ghost use Rattle.std.specs.Prelude.{false, ⊤};
     ghost use Rattle.dioid.specs.declared.flags.Flag.TheVariants.{No, Yes};
     ghost use Rattle.dioid.specs.Flags.{flag_or, flag_and};
-    ghost use Rattle.dioid.specs.FlagLaws.{flags_closed, flag_laws};
+    ghost use Rattle.dioid.specs.Proved.FlagLaws.{flags_closed, flag_laws};
 
     const TAKES_MEMORY: bool = false;
 
@@ -76,7 +76,7 @@ impl Dioid for Flag {
 impl Kleene for Flag {
     ghost use Rattle.std.specs.Prelude.{⊤};
     ghost use Rattle.dioid.specs.declared.flags.Flag.TheVariants.{Yes};
-    ghost use Rattle.dioid.specs.FlagLaws.{flag_star_laws};
+    ghost use Rattle.dioid.specs.Proved.FlagLaws.{flag_star_laws};
 
     ghost star = { λ _. Yes };
 
@@ -92,7 +92,7 @@ impl Kleene for Flag {
 impl Residuated for Flag {
     ghost use Rattle.std.specs.Prelude.{⊤};
     ghost use Rattle.dioid.specs.Flags.{flag_and, flag_left};
-    ghost use Rattle.dioid.specs.FlagLaws.{flag_residual_laws};
+    ghost use Rattle.dioid.specs.Proved.FlagLaws.{flag_residual_laws};
 
     ghost left = { flag_left };
 

@@ -9,7 +9,7 @@ impl Dioid for Date {
     ghost use Rattle.std.specs.Prelude.{false, pos, ⊤};
     ghost use Rattle.dioid.specs.declared.dates.Date.TheVariants.{Early, At};
     ghost use Rattle.dioid.specs.Dates.{later_of, date_product, DateProductFits};
-    ghost use Rattle.dioid.specs.DateLaws.{dates_closed, date_laws};
+    ghost use Rattle.dioid.specs.Proved.DateLaws.{dates_closed, date_laws};
 
     const TAKES_MEMORY: bool = false;
 
@@ -61,7 +61,7 @@ impl Dioid for Date {
 impl Kleene for Date {
     ghost use Rattle.std.specs.Prelude.{⊤};
     ghost use Rattle.dioid.specs.Dates.{date_star};
-    ghost use Rattle.dioid.specs.DateLaws.{date_star_laws};
+    ghost use Rattle.dioid.specs.Proved.DateLaws.{date_star_laws};
 
     ghost star = { date_star };
 
@@ -81,7 +81,7 @@ impl Kleene for Date {
 impl Residuated for Date {
     ghost use Rattle.std.specs.Prelude.{⊤};
     ghost use Rattle.dioid.specs.Dates.{date_left, DateLeftFits, earlier_of};
-    ghost use Rattle.dioid.specs.DateLaws.{date_residual_laws};
+    ghost use Rattle.dioid.specs.Proved.DateLaws.{date_residual_laws};
 
     ghost left = { date_left };
 

@@ -1,7 +1,7 @@
 //! Matrices of flags and of dates through the bounds, and what is refused.
 use crate::{Matrix, MatrixRefused};
 use dioid::{Date, Dioid, Flag, Kleene, Residuated};
-use std::alloc::Global;
+use std::alloc::{AllocError, Global};
 use std::test::Fail;
 
 /// Whether these are the entries of the matrix, by rows.
@@ -170,5 +170,59 @@ fn operations_that_do_not_fit(rt: HostRuntime) -> Result<(), Fail> {
         column: 0,
     });
     assert_eq!(rt; square.solve_least(alloc, &column).err(), middle);
+    Ok(())
+}
+
+/// The flag `Yes` so many times.
+fn many(alloc: Global, count: usize) -> Result<Vec<Flag>, AllocError> {
+    let mut entries = Vec::new(alloc);
+    for _place in 0..count {
+        entries.push(Flag::Yes)?;
+    }
+    Ok(entries)
+}
+
+/// Whether each entry is `Yes`.
+fn is_full(matrix: &Matrix<Flag>) -> bool {
+    for row in 0..matrix.rows() {
+        for column in 0..matrix.columns() {
+            if *matrix.entry(row, column) == Flag::No {
+                return false;
+            }
+        }
+    }
+    true
+}
+
+#[test]
+fn matrices_of_the_greatest_sizes(rt: HostRuntime) -> Result<(), Fail> {
+    let alloc = rt.alloc();
+    let column = Matrix::new(4096, 1, many(alloc, 4096)?);
+    let column = column.ok().ok_or("column")?;
+    let row = Matrix::new(1, 4096, many(alloc, 4096)?).ok().ok_or("row")?;
+    let sum = column.plus(alloc, &column).ok().ok_or("plus")?;
+    assert_eq!(rt; (sum.rows(), is_full(&sum)), (4096, true));
+    let inner = row.times(alloc, &column).ok().ok_or("inner")?;
+    assert_eq!(rt; (inner.rows(), is_full(&inner)), (1, true));
+    let outer = column.times(alloc, &row).ok().ok_or("outer")?;
+    assert_eq!(rt; (outer.columns(), is_full(&outer)), (4096, true));
+    let rest = column.left_residual(alloc, &column);
+    let rest = rest.ok().ok_or("residual")?;
+    assert_eq!(rt; (rest.rows(), is_full(&rest)), (1, true));
+    Ok(())
+}
+
+#[test]
+fn stars_of_long_rows(rt: HostRuntime) -> Result<(), Fail> {
+    let alloc = rt.alloc();
+    let square = Matrix::new(100, 100, many(alloc, 10_000)?);
+    let square = square.ok().ok_or("square")?;
+    let right = Matrix::new(100, 1, many(alloc, 100)?);
+    let right = right.ok().ok_or("right")?;
+    let star = square.star(alloc).ok().ok_or("star")?;
+    assert_eq!(rt; (star.rows(), is_full(&star)), (100, true));
+    let least = square.solve_least(alloc, &right);
+    let least = least.ok().ok_or("least")?;
+    assert_eq!(rt; (least.rows(), is_full(&least)), (100, true));
     Ok(())
 }

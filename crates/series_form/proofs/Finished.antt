@@ -1,25 +1,29 @@
 -- How an operation ends: by the first values of its function, and the value after them.
-use Rattle.std.proofs.Common.{◌≡◌, refl, ap, arith, ℕ, ℤ, pos, zero, suc, ◌+◌, ◌*◌, ◌-◌, ◌/◌, ◌%◌, ◌≤◌, ◌<◌, sym, ◌∙◌, subst, ⊎_elim, ◌⊎◌, List, [], ◌∷◌, ◌++◌, length, get_or, true, false, ltb, Result, Ok, Err}
+use Rattle.std.proofs.Common.{◌≡◌, refl, ap, arith, ℕ, ℤ, pos, zero, suc, ◌+◌, ◌*◌, ◌-◌, ◌/◌, ◌%◌, ◌≤◌, ◌<◌, sym, ◌∙◌, subst, ⊎_elim, ◌⊎◌, List, [], ◌∷◌, ◌++◌, length, get_or, false, ltb, Result, Ok, Err}
 use Rattle.std.specs.Int.RustNames.{unsigned_abs}
-use Rattle.std.proofs.lemmas.Int.{ints, unsigned_abs-mul}
+use Rattle.std.proofs.lemmas.Int.{unsigned_abs-mul}
 use Rattle.std.proofs.lemmas.Bool.{cases_lt}
 use Rattle.std.proofs.lemmas.Nat.{mul-le}
 use Rattle.std.proofs.Math.ListN.{get_or-eq_default}
 use Rattle.std.proofs.lemmas.Bool.Decides.{nat_tests}
 use Rattle.dioid.specs.declared.dates.Date.{Date}
 use Rattle.dioid.specs.declared.dates.Date.TheVariants.{Early, At, Never}
-use Rattle.series_form.specs.declared.plans.Plan.{Plan}
+use Rattle.series_laws.specs.declared.plans.Plan.{Plan}
 use Rattle.series_form.specs.declared.forms.SeriesRefused.{SeriesRefused}
 use Rattle.series_form.specs.declared.forms.SeriesRefused.TheVariants.{TooLong, TooGreat, OutOfMemory}
-use Rattle.series_form.specs.Order.{move, le_is, le_trans, early_le}
-use Rattle.series_form.specs.Periodic.{Rising, times}
-use Rattle.series_form.specs.Forms.{Form, form_with, size_of, start_of, value_at, gap, table, HasValues, IsCanonical, monomial_at}
-use Rattle.series_form.specs.Canonical.{table_at, table_length, value_in, form_values, step_is_gap, one_canonical, constant_is}
+use Rattle.dioid.specs.Dates.{move}
+use Rattle.dioid.proofs.AtMost.{le_is, le_trans, early_le}
+use Rattle.series_laws.specs.Periodic.{Rising, times}
+use Rattle.series_laws.specs.Forms.{Form, form_with, size_of, start_of, value_at, gap, table, HasValues, IsCanonical, monomial_at}
+use Rattle.series_laws.proofs.FormValues.{table_at, table_length, value_in, form_values, step_is_gap}
+use Rattle.series_laws.proofs.Canonical.{one_canonical, constant_is}
 use Rattle.series_form.specs.Bounds.{IsUpTo, IsSmallDate, IsModerateDate, IsModerate, HasSmallNumbers, IsSeries}
 use Rattle.series_form.specs.Answer.{IsFirstGreatValue, IsGreatStep, AnswersOf, IsShortest, IsBeginning, form_before, Answers}
-use Rattle.series_form.specs.Needs.{plan, need_of}
-use Rattle.series_form.specs.Sums.{Serves}
+use Rattle.series_laws.specs.Needs.{plan, need_of}
+use Rattle.series_laws.proofs.Sums.{Serves}
 use Rattle.series_form.proofs.Numbers.{abs_sum, abs_difference, times_product, div_below}
+use Rattle.series_laws.proofs.Shifts.{monomial_below, monomial_from}
+use Rattle.dioid.proofs.Moves.{move_zero}
 
 -- ---- bounds
 
@@ -114,7 +118,7 @@ module _ (s : ℕ → Date) (r : Plan) (l : List Date) (next : Date) (h : IsTabl
   pub tabled_begins : need_of r ≤ 20000 → IsBeginning l r.turn next
   tabled_begins short =
       let e : length l ≡ r.from + r.turn = tabled_length in
-      record { positive = h.serves.turns; fits = omega arith; short = omega arith; moderate = tabled_moderate; moderate_next = tabled_next; rising = tabled_rises }
+      record { positive = h.serves.turns; fits = omega arith; short = omega arith; moderate = tabled_moderate; moderate_next = tabled_next; rising = tabled_rises; goes_on = tabled_values (length l) ∙ ap s tabled_length ∙ sym h.next_is }
 
   -- the answer of a call that ends by the table
   pub tabled_answer : (is : Form → Type 0) (x : Result Form SeriesRefused) → ((f : Form) → HasValues f s → is f) → need_of r ≤ 20000 → IsShortest (value_at (form_before l r.turn next)) x → AnswersOf is (need_of r) (need_of r) x
@@ -138,26 +142,15 @@ model_answer s f is need carried (Err OutOfMemory) cf same has h = tt
 
 -- ---- constants and monomials
 
-stays : (d : Date) → move (pos 0) d ≡ d
-stays Early = refl
-stays (At t) = ap At (omega (arith, ints))
-stays Never = refl
-
 pub constant_series : (d : Date) → IsSmallDate d → IsSeries (form_with (d ∷ []) 1 (pos 0))
 constant_series d h = record {
-  canonical = (constant_is d (stays d)).0;
+  canonical = (constant_is d (move_zero d)).0;
   short = omega arith;
   small = record { values = values; step = omega arith };
 } where
   values : (k : ℕ) → IsSmallDate (get_or (d ∷ []) k Early)
   values zero = h
   values (suc k) = tt
-
-pub monomial_below : (n : ℕ) (t : ℤ) (k : ℕ) → k < n → monomial_at n t k ≡ Early
-monomial_below n t k w = let e : ltb k n ≡ true = grind (arith, nat_tests) in rw e refl
-
-pub monomial_from : (n : ℕ) (t : ℤ) (k : ℕ) → n ≤ k → monomial_at n t k ≡ At t
-monomial_from n t k w = let e : ltb k n ≡ false = grind (arith, nat_tests) in rw e refl
 
 pub monomial_tabled : (n : ℕ) (t : ℤ) (l : List Date) → unsigned_abs t < 10000000000000000000 → l ≡ table (monomial_at n t) (n + 1) → IsTabled (monomial_at n t) (plan n 1) l (At t)
 monomial_tabled n t l small e = record {
@@ -170,7 +163,7 @@ monomial_tabled n t l small e = record {
   serves = record {
     turns = omega arith;
     step = pos 0;
-    repeats = record { at = λ k w. monomial_from n t (k + 1) (omega arith) ∙ sym (stays (At t)) ∙ ap (move (pos 0)) (sym (monomial_from n t k w)) };
+    repeats = record { at = λ k w. monomial_from n t (k + 1) (omega arith) ∙ sym (move_zero (At t)) ∙ ap (move (pos 0)) (sym (monomial_from n t k w)) };
   };
   values = e;
   next_is = sym (monomial_from n t (n + 1) (omega arith));

@@ -1,7 +1,6 @@
+pub mod Finished
+pub mod FirstPart
 pub mod Numbers
+pub mod PointwiseTables
 pub mod Same
 pub mod Steps
-pub mod FirstPart
-pub mod Finished
-pub mod PointwiseTables
-pub mod FormLaws

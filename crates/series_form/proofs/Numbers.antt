@@ -1,17 +1,16 @@
 -- Numbers that fit.
-use Rattle.std.proofs.Common.{◌≡◌, ap, arith, ℕ, ℤ, pos, negsuc, zero, suc, ◌+◌, ◌*◌, ◌/◌, ◌%◌, ◌≤◌, ◌<◌, ◌+ℤ◌, ◌-ℤ◌, ◌*ℤ◌, sym, ◌∙◌, FitsSigned, to_z, of_z}
+use Rattle.std.proofs.Common.{◌≡◌, ap, arith, ℕ, ℤ, pos, negsuc, zero, suc, ◌+◌, ◌*◌, ◌/◌, ◌%◌, ◌≤◌, ◌<◌, ◌+ℤ◌, ◌-ℤ◌, ◌*ℤ◌, sym, ◌∙◌, FitsSigned, to_z, of_z, get_or}
 use Rattle.std.specs.Prelude.{◌≤ℤ◌}
 use Rattle.std.specs.Int.{w128}
 use Rattle.std.specs.Int.RustNames.{unsigned_abs}
 use Rattle.std.proofs.lemmas.Int.{ints, to_z-of_z, to_z_pos, fits_signed_from_abs, unsigned_abs-mul}
 use Rattle.std.proofs.lemmas.Nat.{mul-le, div-add-mod'}
 use Rattle.std.proofs.Math.Nat.{le-mul_of_pos_right}
-use Rattle.std.proofs.Common.{get_or}
-use Rattle.series_form.specs.Forms.{Form}
+use Rattle.series_laws.specs.Forms.{Form}
 use Rattle.series_form.specs.Bounds.{IsSmallDate, IsWithin, IsModerateDate, HasSmallNumbers, IsModerate}
 use Rattle.dioid.specs.declared.dates.Date.{Date}
 use Rattle.dioid.specs.declared.dates.Date.TheVariants.{Early, At, Never}
-use Rattle.series_form.specs.Periodic.{times}
+use Rattle.series_laws.specs.Periodic.{times}
 
 pub times_product : (m : ℕ) (x : ℤ) → times m x ≡ pos m *ℤ x
 times_product zero x = omega (arith, ints)
@@ -94,18 +93,6 @@ pub small_date_moderate : (d : Date) → IsSmallDate d → IsModerateDate d
 small_date_moderate Early h = tt
 small_date_moderate (At t) h = let k : unsigned_abs t ≤ 1000000000000000000 = h in omega arith
 small_date_moderate Never h = tt
-
-pub small_moderate : (f : Form) → HasSmallNumbers f → IsModerate f
-small_moderate f h = record { values = λ k. small_date_moderate (get_or f.values k Early) (h.values k); step = let k : unsigned_abs f.step ≤ 1000000000000000000 = h.step in omega arith }
-
-pub small_reach : (m : ℕ) (x : ℤ) → m ≤ 1000000000000000000 → unsigned_abs x ≤ 1000000000000000000 → m * unsigned_abs x ≤ 10000000000000000000000000000000000000
-small_reach m x h k = let e : m * unsigned_abs x ≤ 1000000000000000000 * 1000000000000000000 = mul-le m (unsigned_abs x) 1000000000000000000 1000000000000000000 h k in omega arith
-
-pub moderate_reach : (m : ℕ) (x : ℤ) → m ≤ 1000000 → unsigned_abs x ≤ 1000000000000000000000000000 → m * unsigned_abs x ≤ 10000000000000000000000000000000000000
-moderate_reach m x h k = let e : m * unsigned_abs x ≤ 1000000 * 1000000000000000000000000000 = mul-le m (unsigned_abs x) 1000000 1000000000000000000000000000 h k in omega arith
-
-pub fewer_reach : (m n : ℕ) (x : ℤ) → m ≤ n → n * unsigned_abs x ≤ 10000000000000000000000000000000000000 → m * unsigned_abs x ≤ 10000000000000000000000000000000000000
-fewer_reach m n x h k = let e : m * unsigned_abs x ≤ n * unsigned_abs x = mul-le m (unsigned_abs x) n (unsigned_abs x) h (omega arith) in omega arith
 
 pub div_below : (k n : ℕ) → 0 < n → k / n ≤ k
 div_below k n h =

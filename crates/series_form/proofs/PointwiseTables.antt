@@ -6,12 +6,12 @@ use Rattle.std.proofs.lemmas.Int.{ints, clamps}
 use Rattle.dioid.specs.Dates.{later_of, earlier_of}
 use Rattle.dioid.specs.declared.dates.Date.{Date}
 use Rattle.dioid.specs.declared.dates.Date.TheVariants.{Early, At, Never}
-use Rattle.series_form.specs.declared.plans.Plan.{Plan}
-use Rattle.series_form.specs.Forms.{Form, value_at, table}
+use Rattle.series_laws.specs.declared.plans.Plan.{Plan}
+use Rattle.series_laws.specs.Forms.{Form, value_at, table}
 use Rattle.series_form.specs.Bounds.{IsUpTo, IsSeries}
-use Rattle.series_form.specs.Pointwise.{sum_at, least_at}
-use Rattle.series_form.specs.Needs.{need_of, sum_plan, least_plan}
-use Rattle.series_form.specs.Sums.{Serves, sum_rises, least_rises, sum_serves, least_serves}
+use Rattle.series_laws.specs.Pointwise.{sum_at, least_at}
+use Rattle.series_laws.specs.Needs.{need_of, sum_plan, least_plan}
+use Rattle.series_laws.proofs.Sums.{Serves, sum_rises, least_rises, sum_serves, least_serves}
 use Rattle.series_form.proofs.Finished.{IsTabled, value_up_to, up_to_more}
 
 pub max_up_to : (s t : ℤ) (m : ℕ) → unsigned_abs s ≤ m → unsigned_abs t ≤ m → unsigned_abs (int_max s t) ≤ m

@@ -2,9 +2,9 @@
 use Rattle.std.proofs.Common.{◌≡◌, ap, sym, ◌∙◌, ℤ, ℕ, arith, ◌-◌, ◌+◌, ◌<◌, ◌≤◌, ⊎_elim, Bool, true, false}
 use Rattle.std.proofs.lemmas.Bool.{cases_lt}
 use Rattle.dioid.specs.declared.dates.Date.{Date}
-use Rattle.series_form.specs.Forms.{moves, repeats_test, least_start_of, first_of, gap}
-use Rattle.series_form.specs.Order.{move}
-use Rattle.series_form.specs.Canonical.{first_next, first_found, first_le, first_holds, test_sound, test_complete, eqb_sound, eqb_complete}
+use Rattle.series_laws.specs.Forms.{moves, repeats_test, least_start_of, first_of, gap}
+use Rattle.dioid.specs.Dates.{move}
+use Rattle.series_laws.proofs.FormValues.{first_next, first_found, first_le, first_holds, test_sound, test_complete, eqb_sound, eqb_complete}
 
 abbrev pub starts : (ℕ → Date) → ℕ → ℤ → ℕ → ℕ → Bool
 starts f n x p q = repeats_test f n x q (p - q)

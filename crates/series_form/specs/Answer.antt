@@ -5,9 +5,9 @@ use Rattle.dioid.specs.declared.dates.Date.{Date}
 use Rattle.dioid.specs.declared.dates.Date.TheVariants.{Early, At}
 use Rattle.series_form.specs.declared.forms.SeriesRefused.{SeriesRefused}
 use Rattle.series_form.specs.declared.forms.SeriesRefused.TheVariants.{TooLong, TooGreat, OutOfMemory}
-use Rattle.series_form.specs.Forms.{Form, form_with, value_at, gap, HasValues, IsCanonical}
+use Rattle.series_laws.specs.Forms.{Form, form_with, value_at, gap, HasValues, IsCanonical}
 use Rattle.series_form.specs.Bounds.{IsSmallDate, IsModerateDate, IsModerate, HasSmallNumbers, IsSeries}
-use Rattle.series_form.specs.Periodic.{Rising}
+use Rattle.series_laws.specs.Periodic.{Rising}
 
 -- v is the first value that is too great
 pub record IsFirstGreatValue (f : Form) (v : ℤ) : Type 0 where
@@ -55,7 +55,8 @@ IsConstant date (Err OutOfMemory) = Unit {0}
 abbrev pub form_before : List Date → ℕ → Date → Form
 form_before l n next = form_with l n (gap (get_or l (length l - n) Early) next)
 
--- a list whose last n values are a period, and the value after it, as `shortest` takes them
+-- a list whose last n values are a period, and the value after it, as `shortest` takes them: with the step that the two
+-- give, the function never falls and has the value after the list
 pub record IsBeginning (l : List Date) (n : ℕ) (next : Date) : Type 0 where
   pub positive : 0 < n
   pub fits : n ≤ length l
@@ -63,6 +64,7 @@ pub record IsBeginning (l : List Date) (n : ℕ) (next : Date) : Type 0 where
   pub moderate : IsModerate (form_before l n next)
   pub moderate_next : IsModerateDate next
   pub rising : Rising (value_at (form_before l n next))
+  pub goes_on : value_at (form_before l n next) (length l) ≡ next
 
 -- ---- the model
 

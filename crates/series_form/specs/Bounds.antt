@@ -3,7 +3,7 @@ use Rattle.std.specs.Prelude.{◌≤◌, ◌+◌, ℕ, get_or}
 use Rattle.std.specs.Int.RustNames.{unsigned_abs}
 use Rattle.dioid.specs.declared.dates.Date.{Date}
 use Rattle.dioid.specs.declared.dates.Date.TheVariants.{Early, At, Never}
-use Rattle.series_form.specs.Forms.{Form, size_of, IsCanonical}
+use Rattle.series_laws.specs.Forms.{Form, size_of, IsCanonical}
 
 -- a number has a magnitude of at most n
 abbrev pub IsUpTo : ℕ → Date → Type 0

@@ -1,11 +1,3 @@
-pub mod Order
-pub mod Periodic
-pub mod Pointwise
-pub mod Forms
-pub mod Bounds
-pub mod Canonical
 pub mod Answer
+pub mod Bounds
 pub mod Shapes
-pub mod Needs
-pub mod Sums
-pub mod Laws

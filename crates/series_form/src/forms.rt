@@ -1,6 +1,6 @@
 //! Series, and the calls that make and read them.
 ghost use Rattle.std.specs.Prelude.{◌≡◌, ◌≤◌, ◌<◌, ◌+◌, ℕ, [], ◌∷◌, IfOk};
-ghost use Rattle.series_form.specs.Forms.{table, monomial_at};
+ghost use Rattle.series_laws.specs.Forms.{table, monomial_at};
 
 use crate::shorten::shortest;
 use crate::values::{same_parts, value_of};
@@ -31,7 +31,7 @@ pub enum SeriesRefused {
 }
 
 impl Model for Series {
-    ghost use Rattle.series_form.specs.Forms.{Form};
+    ghost use Rattle.series_laws.specs.Forms.{Form};
     ghost use Rattle.series_form.specs.Bounds.{IsSeries};
 
     ghost Value = { Form };
@@ -44,7 +44,7 @@ impl Model for Series {
 impl Series {
     ghost use Rattle.std.specs.Prelude.{◌≡◌, ◌≤◌, ◌<◌, ◌+◌, ◌↔◌, ℕ, IsTrue, IfOk};
     ghost use Rattle.std.specs.Int.RustNames.{unsigned_abs};
-    ghost use Rattle.series_form.specs.Forms.{value_at, HasValues, monomial_at};
+    ghost use Rattle.series_laws.specs.Forms.{value_at, HasValues, monomial_at};
     ghost use Rattle.series_form.specs.Bounds.{IsSmallDate, IsSeries};
     ghost use Rattle.series_form.specs.Answer.{AnswersOf, IsConstant};
 

@@ -1,11 +1,11 @@
 //! Periodic series: functions from shifts to dates that never fall and go on by a step from some
 //! shift on, kept as a list of values, a period and a step in the one canonical form. The contract
 //! of each operation is that of the functions: the result has their values at every shift, and the
-//! refusals come exactly where the need or a number is too great. Stands on `dioid` alone.
+//! refusals come exactly where the need or a number is too great. Stands on `series_laws` for the
+//! definitions and their laws, and on `dioid`.
 #![tactic(auto)]
 
 mod forms;
-mod laws;
 mod plans;
 mod pointwise;
 mod shorten;
@@ -14,9 +14,7 @@ mod tests;
 mod values;
 
 pub use forms::{Series, SeriesRefused};
-pub use laws::forms_are_lawful;
-pub use plans::{
-    Plan, Slopes, common_period, compare_slopes, gain_over, gains_for, lead_gain, start, tail,
-};
+pub use plans::{common_period, compare_slopes, gain_over, gains_for, lead_gain, start, tail};
 pub use pointwise::{common_start, later_at, least, plan_of_sum, sum, sum_values};
+pub use series_laws::{Plan, Slopes, forms_are_lawful};
 pub use shorten::{Shape, canonical_part, shortest};

@@ -1,28 +1,14 @@
 //! Periods, starts and slopes of two series, and what they gain.
-ghost use Rattle.std.specs.Prelude.{◌≡◌, ◌≤◌, ◌<◌, ◌+◌, ◌-◌, ◌*◌, ◌/◌, ℕ, pos, ◌<ℤ◌, ◌-ℤ◌, max};
+ghost use Rattle.std.specs.Prelude.{◌≡◌, ◌≤◌, ◌<◌, ◌+◌, ◌-◌, ◌*◌, ◌/◌, pos, ◌<ℤ◌, ◌-ℤ◌};
 ghost use Rattle.std.specs.Int.RustNames.{unsigned_abs};
-ghost use Rattle.series_form.specs.Periodic.{times};
-ghost use Rattle.series_form.specs.Forms.{size_of, start_of, value_at, gap};
-ghost use Rattle.series_form.specs.Bounds.{IsSeries, IsUpTo};
-ghost use Rattle.series_form.specs.Needs.{common, ceiling, period_with, rise_of, fall_of, tail_of, slopes_of, by_sign, greatest_int, later_start, lead_of, crossing};
+ghost use Rattle.series_laws.specs.Periodic.{times};
+ghost use Rattle.series_laws.specs.Forms.{start_of};
+ghost use Rattle.series_form.specs.Bounds.{IsSeries};
+ghost use Rattle.series_laws.specs.Needs.{common, ceiling, period_with, rise_of, fall_of, tail_of, slopes_of, by_sign};
 
 use crate::forms::Series;
 use dioid::Date;
-
-/// From where the result of an operation repeats, and by how many shifts. The sum is the need.
-#[derive(Clone, Copy, Debug, PartialEq, Eq)]
-pub struct Plan {
-    pub from: u128,
-    pub turn: usize,
-}
-
-/// Which of two series has the greater slope, the step over the period.
-#[derive(Clone, Copy, Debug, PartialEq, Eq)]
-pub enum Slopes {
-    Equal,
-    First,
-    Second,
-}
+use series_laws::Slopes;
 
 /// The least common multiple.
 fn common_multiple(first: usize, second: usize) -> usize

@@ -1,21 +1,20 @@
 //! The sum and the minimum of two series, shift by shift.
-ghost use Rattle.std.specs.Prelude.{◌≡◌, ◌≤◌, ◌<◌, ◌+◌, ◌-◌, ◌*◌, ◌-ℤ◌, ◌<ℤ◌, ℕ, IfOk, pos};
+ghost use Rattle.std.specs.Prelude.{◌≡◌, ◌≤◌, ◌<◌, ◌+◌, ◌-◌, ◌*◌, ◌-ℤ◌, ◌<ℤ◌, IfOk, pos};
 ghost use Rattle.std.specs.Int.{int_max};
 ghost use Rattle.std.specs.Int.RustNames.{unsigned_abs};
-ghost use Rattle.series_form.specs.declared.plans.Slopes.TheVariants.{First};
-ghost use Rattle.series_form.specs.Forms.{value_at, gap, table, HasValues};
+ghost use Rattle.series_laws.specs.declared.plans.Slopes.TheVariants.{First};
+ghost use Rattle.series_laws.specs.Forms.{value_at, gap, table, HasValues};
 ghost use Rattle.series_form.specs.Bounds.{IsSeries};
 ghost use Rattle.series_form.specs.Answer.{AnswersOf, Answers};
-ghost use Rattle.series_form.specs.Pointwise.{sum_at, least_at};
-ghost use Rattle.series_form.specs.Needs.{need_of, greatest_int, later_start, crossing, slopes_of, periods_behind, period_with, rise_of, fall_of, sum_plan, least_plan, form_sum, form_least};
+ghost use Rattle.series_laws.specs.Pointwise.{sum_at, least_at};
+ghost use Rattle.series_laws.specs.Needs.{need_of, greatest_int, later_start, crossing, slopes_of, periods_behind, period_with, rise_of, fall_of, sum_plan, least_plan, form_sum, form_least};
 
 use crate::forms::{Series, SeriesRefused};
-use crate::plans::{
-    Plan, Slopes, common_period, compare_slopes, gains_for, lead_gain, start, tail,
-};
+use crate::plans::{common_period, compare_slopes, gains_for, lead_gain, start, tail};
 use crate::shorten::shortest;
 use crate::values::gap_of;
 use dioid::Date;
+use series_laws::{Plan, Slopes};
 use std::alloc::{AllocError, Global};
 
 /// The greater of the two shifts from which the series repeat.

@@ -1,9 +1,9 @@
 //! The canonical form of a list of values: the least period, and with it the least length.
-ghost use Rattle.std.specs.Prelude.{◌≡◌, ◌≤◌, ◌<◌, ◌+◌, ◌-◌, ℕ, length, MatchBool, MatchResult};
+ghost use Rattle.std.specs.Prelude.{◌≡◌, ◌≤◌, ◌<◌, ◌+◌, ◌-◌, length, MatchBool, MatchResult};
 ghost use Rattle.std.specs.Int.RustNames.{unsigned_abs};
-ghost use Rattle.series_form.specs.Forms.{value_at, form_with, moves, repeats_test, gap, least_period_of, least_start_of};
+ghost use Rattle.series_laws.specs.Forms.{value_at, form_with, moves, repeats_test, least_period_of, least_start_of};
 ghost use Rattle.series_form.specs.Bounds.{IsModerate, IsModerateDate};
-ghost use Rattle.series_form.specs.Periodic.{Rising};
+ghost use Rattle.series_laws.specs.Periodic.{Rising};
 ghost use Rattle.series_form.specs.Answer.{IsNumberCheck, IsBeginning, IsShortest, form_before};
 ghost use Rattle.series_form.specs.Shapes.{IsPart, IsCanonicalPart, IsShape, IsTooGreat};
 

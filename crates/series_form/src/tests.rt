@@ -1,6 +1,7 @@
 //! Series whose values are plain to see, and what is refused.
 use crate::{Series, SeriesRefused, least, sum};
 use dioid::Date;
+use std::test::Fail;
 
 /// Whether the answer is the series with these values, period and step.
 fn is_series(
@@ -46,25 +47,44 @@ fn monomials_and_constants(rt: HostRuntime) {
 }
 
 #[test]
-fn values_far_out(rt: HostRuntime) {
-    if let Ok(late) = Series::monomial(rt.alloc(), 2, 7) {
-        assert_eq!(rt; late.at(1), Date::Early);
-        assert_eq!(rt; late.at(1_000_000_000_000_000_000), Date::At(7));
-        assert!(rt; late.equals(&late));
-    }
+fn values_far_out(rt: HostRuntime) -> Result<(), Fail> {
+    let late = Series::monomial(rt.alloc(), 2, 7).ok().ok_or("late")?;
+    assert_eq!(rt; late.at(1), Date::Early);
+    assert_eq!(rt; late.at(1_000_000_000_000_000_000), Date::At(7));
+    assert!(rt; late.equals(&late));
+    Ok(())
 }
 
 #[test]
-fn the_greater_and_the_lesser(rt: HostRuntime) {
+fn the_greater_and_the_lesser(rt: HostRuntime) -> Result<(), Fail> {
     let alloc = rt.alloc();
-    if let (Ok(first), Ok(second)) = (
-        Series::monomial(alloc, 0, 5),
-        Series::monomial(alloc, 1, 7),
-    ) {
-        let both = sum(alloc, &first, &second);
-        assert!(rt; is_series(&both, &[Date::At(5), Date::At(7)], 1, 0));
-        let less = least(alloc, &first, &second);
-        assert!(rt; is_series(&less, &[Date::Early, Date::At(5)], 1, 0));
-        assert!(rt; !first.equals(&second));
-    }
+    let first = Series::monomial(alloc, 0, 5).ok().ok_or("first")?;
+    let second = Series::monomial(alloc, 1, 7).ok().ok_or("second")?;
+    let both = sum(alloc, &first, &second);
+    assert!(rt; is_series(&both, &[Date::At(5), Date::At(7)], 1, 0));
+    let less = least(alloc, &first, &second);
+    assert!(rt; is_series(&less, &[Date::Early, Date::At(5)], 1, 0));
+    assert!(rt; !first.equals(&second));
+    Ok(())
+}
+
+#[test]
+fn lists_of_20_000(rt: HostRuntime) -> Result<(), Fail> {
+    let alloc = rt.alloc();
+    let late = Series::monomial(alloc, 19_999, 7).ok().ok_or("late")?;
+    let low = Series::monomial(alloc, 0, 5).ok().ok_or("low")?;
+    assert_eq!(rt; late.values().len(), 20_000);
+    let copy = late.duplicate(alloc).ok().ok_or("duplicate")?;
+    assert!(rt; copy.equals(&late));
+    let both = sum(alloc, &late, &low).ok().ok_or("sum")?;
+    assert_eq!(rt;
+        (both.at(19_998), both.at(19_999)),
+        (Date::At(5), Date::At(7))
+    );
+    let less = least(alloc, &late, &low).ok().ok_or("least")?;
+    assert_eq!(rt;
+        (less.at(19_998), less.at(19_999)),
+        (Date::Early, Date::At(5))
+    );
+    Ok(())
 }

@@ -1,11 +1,11 @@
 //! Values of a form, far out too.
-ghost use Rattle.std.specs.Prelude.{◌≡◌, ◌≤◌, ◌<◌, ◌↔◌, ◌*◌, ℕ, IsTrue, length};
+ghost use Rattle.std.specs.Prelude.{◌≡◌, ◌≤◌, ◌<◌, ◌↔◌, ◌*◌, IsTrue, length};
 ghost use Rattle.std.specs.Int.RustNames.{unsigned_abs};
 ghost use Rattle.dioid.specs.declared.dates.Date.{Date};
-ghost use Rattle.series_form.specs.Forms.{Form, value_at, form_with, date_eqb, gap};
+ghost use Rattle.series_laws.specs.Forms.{value_at, form_with, date_eqb, gap};
 ghost use Rattle.series_form.specs.Bounds.{IsModerate, IsModerateDate, IsWithin};
-ghost use Rattle.series_form.specs.Order.{move};
-ghost use Rattle.series_form.specs.Periodic.{times};
+ghost use Rattle.dioid.specs.Dates.{move};
+ghost use Rattle.series_laws.specs.Periodic.{times};
 
 use dioid::Date;
 

@@ -6,19 +6,21 @@ use Rattle.std.proofs.Math.ListN.{get_or-eq_default}
 use Rattle.dioid.specs.Dates.{date_product}
 use Rattle.dioid.specs.declared.dates.Date.{Date}
 use Rattle.dioid.specs.declared.dates.Date.TheVariants.{Early, At, Never}
-use Rattle.series_form.specs.declared.plans.Plan.{Plan}
-use Rattle.series_form.specs.Order.{Le, le_is, le_trans, le_antisym}
-use Rattle.series_form.specs.Periodic.{Rising}
-use Rattle.series_form.specs.Forms.{Form, value_at, table}
-use Rattle.series_form.specs.Canonical.{table_at, table_length, same_lists}
+use Rattle.series_laws.specs.declared.plans.Plan.{Plan}
+use Rattle.dioid.specs.Order.{Le}
+use Rattle.dioid.proofs.AtMost.{le_is, le_trans, le_antisym}
+use Rattle.series_laws.specs.Periodic.{Rising}
+use Rattle.series_laws.specs.Forms.{Form, value_at, table}
+use Rattle.series_laws.proofs.FormValues.{table_at, table_length, same_lists}
 use Rattle.series_form.specs.Bounds.{IsUpTo, IsSeries}
-use Rattle.series_form.specs.Needs.{need_of}
-use Rattle.series_form.specs.Sums.{Serves}
+use Rattle.series_laws.specs.Needs.{need_of}
+use Rattle.series_laws.proofs.Sums.{Serves}
 use Rattle.series_form.proofs.Numbers.{abs_sum}
 use Rattle.series_form.proofs.Finished.{IsTabled, up_to_more}
 use Rattle.series_form.proofs.PointwiseTables.{later_up_to, listed_up_to}
 use Rattle.series_ops.specs.Listed.{listed, AreUpTo, all_but_last, last_of}
-use Rattle.series_ops.specs.Product.{product_at, greatest, le_product, product_at_le}
+use Rattle.series_laws.specs.Product.{product_at, greatest}
+use Rattle.series_laws.proofs.ProductsRepeat.{le_product, product_at_le}
 
 pub table_same : (f g : ℕ → Date) (n : ℕ) → ((k : ℕ) → k < n → f k ≡ g k) → table f n ≡ table g n
 table_same f g zero h = refl

@@ -8,23 +8,26 @@ use Rattle.std.proofs.lemmas.Bool.{cases_lt}
 use Rattle.std.proofs.lemmas.Bool.Decides.{nat_tests}
 use Rattle.std.proofs.lemmas.List.{get_or_push, get_or_append_left, length-append}
 use Rattle.std.proofs.Math.ListN.{get_or-eq_default}
-use Rattle.dioid.specs.Dates.{earlier_of, date_left}
+use Rattle.dioid.specs.Dates.{earlier_of, date_left, move}
 use Rattle.dioid.specs.declared.dates.Date.{Date}
 use Rattle.dioid.specs.declared.dates.Date.TheVariants.{Early, At, Never}
-use Rattle.series_form.specs.Order.{Le, move, le_is, le_trans, le_antisym, le_earlier, earlier_le_left, earlier_le_right}
-use Rattle.series_form.specs.Periodic.{Repeats, by_steps, repeats_from}
-use Rattle.series_form.specs.Forms.{Form, size_of, start_of, value_at, table, IsForm}
-use Rattle.series_form.specs.Canonical.{value_in, table_length}
+use Rattle.dioid.specs.Order.{Le}
+use Rattle.dioid.proofs.AtMost.{le_is, le_trans, le_antisym, le_earlier, earlier_le_left, earlier_le_right}
+use Rattle.series_laws.specs.Periodic.{Repeats}
+use Rattle.series_laws.proofs.Repeating.{by_steps, repeats_from}
+use Rattle.series_laws.specs.Forms.{Form, size_of, start_of, value_at, table, IsForm}
+use Rattle.series_laws.proofs.FormValues.{value_in, table_length}
 use Rattle.series_form.specs.Bounds.{IsUpTo, IsSeries}
-use Rattle.series_form.specs.Needs.{period_with}
-use Rattle.series_form.specs.Sums.{common_positive, form_repeats_own}
+use Rattle.series_laws.specs.Needs.{period_with}
+use Rattle.series_laws.proofs.Sums.{common_positive, form_repeats_own}
 use Rattle.series_form.proofs.Numbers.{abs_difference, small_fits}
 use Rattle.series_form.proofs.Finished.{up_to_more}
 use Rattle.series_form.proofs.PointwiseTables.{earlier_up_to}
 use Rattle.series_ops.specs.Listed.{AreUpTo, part_listed, left_listed, star_left_listed, AreStarLeft, IsStarLeft}
-use Rattle.series_ops.specs.Residual.{IsLeftAt, least_of, least_of_le, le_least_of, left_repeats}
-use Rattle.series_ops.specs.Needs.{offsets_of, left_over, left_at, OffsetsDecide}
-use Rattle.series_ops.specs.Lefts.{left_is, left_mono}
+use Rattle.series_laws.specs.Residual.{IsLeftAt, least_of}
+use Rattle.series_laws.proofs.ResidualsRepeat.{least_of_le, le_least_of, left_repeats}
+use Rattle.series_laws.specs.ProductNeeds.{offsets_of, left_over, left_at, OffsetsDecide}
+use Rattle.series_laws.proofs.Lefts.{left_is, left_mono}
 use Rattle.series_ops.proofs.FirstValues.{listed_is, all_up_to}
 use Rattle.series_ops.proofs.LeftValues.{least_same, late_left, gentle_left, over_up_to}
 

@@ -3,21 +3,23 @@ use Rattle.std.proofs.Common.{◌≡◌, refl, ap, arith, ℕ, zero, suc, ◌+�
 use Rattle.dioid.specs.Dates.{date_left}
 use Rattle.dioid.specs.declared.dates.Date.{Date}
 use Rattle.dioid.specs.declared.dates.Date.TheVariants.{Early, At, Never}
-use Rattle.series_form.specs.declared.plans.Plan.{Plan}
-use Rattle.series_form.specs.declared.plans.Slopes.{Slopes}
-use Rattle.series_form.specs.declared.plans.Slopes.TheVariants.{Equal, First, Second}
-use Rattle.series_form.specs.Order.{Le, le_is, le_trans, le_antisym}
-use Rattle.series_form.specs.Forms.{Form, size_of, value_at, table, IsForm, HasValues}
+use Rattle.series_laws.specs.declared.plans.Plan.{Plan}
+use Rattle.series_laws.specs.declared.plans.Slopes.{Slopes}
+use Rattle.series_laws.specs.declared.plans.Slopes.TheVariants.{Equal, First, Second}
+use Rattle.dioid.specs.Order.{Le}
+use Rattle.dioid.proofs.AtMost.{le_is, le_trans, le_antisym}
+use Rattle.series_laws.specs.Forms.{Form, size_of, value_at, table, IsForm, HasValues}
 use Rattle.series_form.specs.Bounds.{IsUpTo, IsSeries}
-use Rattle.series_form.specs.Needs.{need_of, tail_of, slopes_of, slopes_by, common, period_with, rise_of, fall_of}
-use Rattle.series_form.specs.Sums.{Serves}
+use Rattle.series_laws.specs.Needs.{need_of, tail_of, slopes_of, slopes_by, common, period_with, rise_of, fall_of}
+use Rattle.series_laws.proofs.Sums.{Serves}
 use Rattle.series_form.proofs.Numbers.{abs_difference}
 use Rattle.series_form.proofs.Finished.{IsTabled, up_to_more, value_up_to}
 use Rattle.series_form.proofs.PointwiseTables.{earlier_up_to}
 use Rattle.series_ops.specs.Listed.{AreUpTo, all_but_last, last_of}
-use Rattle.series_ops.specs.Residual.{IsLeftAt, least_of, least_of_le, le_least_of, one_greatest}
-use Rattle.series_ops.specs.Needs.{offsets_of, left_over, left_by_slopes, left_by, left_at, left_plan, left_plan_by, left_plan_by_slopes, long_left}
-use Rattle.series_ops.specs.Lefts.{left_is, left_rises, left_serves}
+use Rattle.series_laws.specs.Residual.{IsLeftAt, least_of}
+use Rattle.series_laws.proofs.ResidualsRepeat.{least_of_le, le_least_of}
+use Rattle.series_laws.specs.ProductNeeds.{offsets_of, left_over, left_by_slopes, left_by, left_at, left_plan, left_plan_by, left_plan_by_slopes, long_left}
+use Rattle.series_laws.proofs.Lefts.{left_is, left_rises, left_serves}
 use Rattle.series_ops.proofs.FirstValues.{listed_tabled, all_up_to}
 
 -- ---- lists of two series
@@ -129,6 +131,3 @@ left_tabled f g r l sf sg e short items = listed_tabled (left_at f g) r l
 -- the values of the code's residual are the residuals of the definition, and no others are
 pub has_residuals : (f g r : Form) → IsForm f → IsForm g → HasValues r (left_at f g) → (k : ℕ) → IsLeftAt (value_at f) (value_at g) k (value_at r k)
 has_residuals f g r isf isg h k = subst (λ (z : Date). IsLeftAt (value_at f) (value_at g) k z) (sym (h k)) (left_is f g isf isg k)
-
-pub residuals_only : (f g r : Form) → IsForm f → IsForm g → ((k : ℕ) → IsLeftAt (value_at f) (value_at g) k (value_at r k)) → HasValues r (left_at f g)
-residuals_only f g r isf isg h k = one_greatest (λ i. date_left (value_at f i) (value_at g (k + i))) (value_at r k) (left_at f g k) (h k) (left_is f g isf isg k)

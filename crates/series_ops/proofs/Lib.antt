@@ -1,10 +1,8 @@
-pub mod AnchorLaws
-pub mod Closed
 pub mod FirstValues
-pub mod SplitLaws
-pub mod ProductPlans
-pub mod LeftValues
 pub mod LeftParts
+pub mod LeftValues
 pub mod Many
-pub mod StarValues
+pub mod ProductPlans
 pub mod Refusing
+pub mod SplitLaws
+pub mod StarValues

@@ -4,7 +4,7 @@ use Rattle.std.specs.Int.{w128}
 use Rattle.std.specs.Int.RustNames.{unsigned_abs}
 use Rattle.std.proofs.lemmas.Int.{to_z-of_z, unsigned_abs-mul}
 use Rattle.std.proofs.lemmas.Nat.{mul-le}
-use Rattle.series_form.specs.Periodic.{times}
+use Rattle.series_laws.specs.Periodic.{times}
 use Rattle.series_form.proofs.Numbers.{times_product, step_of, mul_fits}
 
 reach : (m : ℕ) (x : ℤ) → m ≤ 20000 → unsigned_abs x ≤ 200000000000000000000000 → m * unsigned_abs x ≤ 4000000000000000000000000000

@@ -6,7 +6,7 @@ use Rattle.dioid.specs.declared.algebra.Refused.{Refused}
 use Rattle.dioid.specs.Answer.{Answers}
 use Rattle.series_form.specs.declared.forms.SeriesRefused.{SeriesRefused}
 use Rattle.series_form.specs.declared.forms.SeriesRefused.TheVariants.{TooLong, TooGreat, OutOfMemory}
-use Rattle.series_form.specs.Forms.{Form}
+use Rattle.series_laws.specs.Forms.{Form}
 use Rattle.series_form.specs.Bounds.{IsSmallDate}
 use Rattle.series_form.specs.Answer.{Fits, IsFirstGreatValue, IsGreatStep}
 use Rattle.series_ops.specs.Refusals.{IsRefusal}

@@ -4,22 +4,22 @@ use Rattle.std.specs.Prelude.{min}
 use Rattle.std.specs.Int.{w128}
 use Rattle.std.specs.Int.RustNames.{unsigned_abs}
 use Rattle.std.proofs.lemmas.Int.{to_z-of_z}
-use Rattle.dioid.specs.Dates.{later_of, date_product}
-use Rattle.dioid.specs.DateLaws.{later_assoc}
+use Rattle.dioid.specs.Dates.{later_of, date_product, move}
+use Rattle.dioid.specs.Proved.DateLaws.{later_assoc}
 use Rattle.dioid.specs.declared.dates.Date.{Date}
 use Rattle.dioid.specs.declared.dates.Date.TheVariants.{Early, At, Never}
-use Rattle.series_form.specs.Order.{move, later_move, product_move_left}
-use Rattle.series_form.specs.Periodic.{Repeats}
-use Rattle.series_form.specs.Forms.{Form, form_with, size_of, start_of, value_at, table}
-use Rattle.series_form.specs.Canonical.{value_in, value_repeats}
+use Rattle.dioid.proofs.Moves.{later_move, product_move_left}
+use Rattle.series_laws.specs.Periodic.{Repeats}
+use Rattle.series_laws.specs.Forms.{Form, form_with, size_of, start_of, value_at, table}
+use Rattle.series_laws.proofs.FormValues.{value_in, value_repeats}
 use Rattle.series_form.specs.Bounds.{IsUpTo, IsSeries}
 use Rattle.series_form.proofs.Numbers.{moderate_fits}
 use Rattle.series_form.proofs.Finished.{up_to_more}
 use Rattle.series_form.proofs.PointwiseTables.{later_up_to, listed_up_to}
-use Rattle.series_ops.specs.Items.{at_product}
+use Rattle.series_laws.proofs.Items.{at_product}
 use Rattle.series_ops.specs.Listed.{listed, AreUpTo}
-use Rattle.series_ops.specs.Product.{product_at, greatest}
-use Rattle.series_ops.specs.Products.{product_commutes}
+use Rattle.series_laws.specs.Product.{product_at, greatest}
+use Rattle.series_laws.proofs.Products.{product_commutes}
 use Rattle.series_ops.specs.Splits.{greatest_from, split_of, product_from, places_to, tail_product, with_tail}
 use Rattle.series_ops.proofs.FirstValues.{table_same, product_same, listed_is, added_up_to, all_up_to, all_more}
 

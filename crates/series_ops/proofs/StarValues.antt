@@ -1,39 +1,42 @@
 -- The star by its first values.
 use Rattle.std.proofs.Common.{◌≡◌, refl, ap, arith, ℕ, ℤ, pos, negsuc, zero, suc, ◌+◌, ◌*◌, ◌-◌, ◌≤◌, ◌<◌, ◌+ℤ◌, ◌-ℤ◌, sym, ◌∙◌, subst, ⊎_elim, ◌⊎◌, inl, inr, List, [], ◌∷◌, length, get_or, take, true, false, ltb, cond, Result, Ok, Err, to_z, of_z}
 use Rattle.std.specs.Int.{w128}
-use Rattle.std.proofs.lemmas.Int.{to_z-of_z}
+use Rattle.std.proofs.lemmas.Int.{to_z-of_z, ints}
 use Rattle.std.specs.Int.RustNames.{unsigned_abs}
-use Rattle.std.proofs.lemmas.Int.{ints}
 use Rattle.std.proofs.lemmas.Bool.{cases_lt}
 use Rattle.std.proofs.lemmas.Bool.Decides.{nat_tests}
 use Rattle.std.proofs.lemmas.List.{get_or-take, length-take-le}
 use Rattle.std.proofs.Math.ListN.{get_or-eq_default}
-use Rattle.dioid.specs.Dates.{later_of, date_product}
+use Rattle.dioid.specs.Dates.{later_of, date_product, move}
 use Rattle.dioid.specs.declared.dates.Date.{Date}
 use Rattle.dioid.specs.declared.dates.Date.TheVariants.{Early, At, Never}
-use Rattle.series_form.specs.declared.plans.Plan.{Plan}
+use Rattle.series_laws.specs.declared.plans.Plan.{Plan}
 use Rattle.series_form.specs.declared.forms.SeriesRefused.{SeriesRefused}
 use Rattle.series_form.specs.declared.forms.SeriesRefused.TheVariants.{TooLong, TooGreat, OutOfMemory}
-use Rattle.series_form.specs.Order.{Le, move, le_is, early_le}
-use Rattle.series_form.specs.Periodic.{Rising, Repeats}
-use Rattle.series_form.specs.Pointwise.{sum_at}
-use Rattle.series_form.specs.Forms.{Form, form_with, size_of, start_of, value_at, gap, table, IsForm, HasValues, IsCanonical, monomial_at}
-use Rattle.series_form.specs.Canonical.{table_length, value_in, value_repeats, one_canonical, constant_is, form_values}
+use Rattle.dioid.specs.Order.{Le}
+use Rattle.dioid.proofs.AtMost.{le_is, early_le}
+use Rattle.series_laws.specs.Periodic.{Rising, Repeats}
+use Rattle.series_laws.specs.Pointwise.{sum_at}
+use Rattle.series_laws.specs.Forms.{Form, form_with, size_of, start_of, value_at, gap, table, IsForm, HasValues, IsCanonical, monomial_at}
+use Rattle.series_laws.proofs.FormValues.{table_length, value_in, value_repeats, form_values}
+use Rattle.series_laws.proofs.Canonical.{one_canonical, constant_is}
 use Rattle.series_form.specs.Bounds.{IsUpTo, IsSeries}
 use Rattle.series_form.specs.Answer.{AnswersOf, IsConstant, IsBeginning, form_before}
 use Rattle.series_form.specs.Shapes.{IsCanonicalPart}
 use Rattle.series_form.specs.declared.shorten.Shape.{Shape}
-use Rattle.series_form.specs.Needs.{need_of, sum_plan, form_sum}
-use Rattle.series_form.specs.Sums.{Serves, form_repeats_own}
+use Rattle.series_laws.specs.Needs.{need_of, sum_plan, form_sum}
+use Rattle.series_laws.proofs.Sums.{Serves, form_repeats_own}
 use Rattle.series_form.proofs.Numbers.{abs_difference}
-use Rattle.series_form.proofs.Finished.{IsTabled, up_to_more, monomial_below, monomial_from}
+use Rattle.series_form.proofs.Finished.{IsTabled, up_to_more}
+use Rattle.series_laws.proofs.Shifts.{monomial_below, monomial_from}
 use Rattle.series_form.proofs.PointwiseTables.{later_up_to, listed_up_to}
 use Rattle.series_ops.specs.Listed.{listed, AreUpTo, all_but_last, last_of, later_part}
-use Rattle.series_ops.specs.Product.{product_at}
-use Rattle.series_ops.specs.StarOf.{parts_star, parts_star_is, first_parts, first_parts_is, star_rises, from_one, above_zero, IsStarBy, IsStarOf, IsGreatestSum, parts_star_greatest}
-use Rattle.series_ops.specs.Stars.{one_star}
-use Rattle.series_ops.specs.Needs.{one_shift, at_least, own_plan, star_plan, star_plan_by, carried_of, star_carried_by, star_need, star_carried}
-use Rattle.series_ops.specs.StarForms.{one_shift_is, one_shift_values, parts_serves}
+use Rattle.series_laws.specs.Product.{product_at}
+use Rattle.series_laws.specs.StarOf.{parts_star, first_parts, from_one, above_zero, IsStarBy, IsStarOf, IsGreatestSum}
+use Rattle.series_laws.proofs.StarParts.{parts_star_is, first_parts_is, star_rises, parts_star_greatest}
+use Rattle.series_laws.proofs.StarsRepeat.{one_star}
+use Rattle.series_laws.specs.ProductNeeds.{one_shift, at_least, own_plan, star_plan, star_plan_by, carried_of, star_carried_by, star_need, star_carried}
+use Rattle.series_laws.proofs.StarForms.{one_shift_is, one_shift_values, parts_serves}
 use Rattle.series_ops.proofs.FirstValues.{listed_is, listed_tabled, product_same, added_up_to, greatest_up_to, table_same, all_up_to, all_more}
 use Rattle.series_ops.specs.Splits.{tail_product, with_tail}
 use Rattle.series_ops.proofs.SplitLaws.{product_from_same, parted_listed, splits_up_to}

@@ -1,9 +1,7 @@
 -- The operations of the model on gains.
-use Rattle.series_form.specs.Forms.{Form, IsCanonical}
-use Rattle.series_ops.specs.FormLaws.{early_form, zero_form}
-use Rattle.series_form.specs.Needs.{need_of, sum_plan, least_plan, form_sum, form_least}
-use Rattle.series_ops.specs.Needs.{product_plan, star_plan_by, left_plan, form_product, form_star, form_left}
-use Rattle.series_form.specs.Forms.{value_at}
+use Rattle.series_laws.specs.Forms.{Form, IsCanonical, early_form, zero_form, value_at}
+use Rattle.series_laws.specs.Needs.{need_of, sum_plan, least_plan, form_sum, form_least}
+use Rattle.series_laws.specs.ProductNeeds.{product_plan, star_plan_by, left_plan, form_product, form_star, form_left}
 use Rattle.series_form.specs.Answer.{Fits}
 use Rattle.series_ops.specs.declared.gains.Gain.{Gain}
 

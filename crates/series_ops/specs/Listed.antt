@@ -4,8 +4,8 @@ use Rattle.std.specs.Int.RustNames.{unsigned_abs}
 use Rattle.dioid.specs.declared.dates.Date.{Date}
 use Rattle.dioid.specs.declared.dates.Date.TheVariants.{Early, At, Never}
 use Rattle.dioid.specs.Dates.{earlier_of, date_left}
-use Rattle.series_ops.specs.declared.stars.Anchor.{Anchor}
-use Rattle.series_ops.specs.Residual.{least_of}
+use Rattle.series_laws.specs.declared.plans.Anchor.{Anchor}
+use Rattle.series_laws.specs.Residual.{least_of}
 use Rattle.series_form.specs.Bounds.{IsUpTo}
 
 -- the function of a list, Early past it

@@ -3,7 +3,7 @@ use Rattle.std.specs.Prelude.{◌+◌, ◌-◌, ℕ, zero, suc, min}
 use Rattle.dioid.specs.Dates.{later_of, date_product}
 use Rattle.dioid.specs.declared.dates.Date.{Date}
 use Rattle.dioid.specs.declared.dates.Date.TheVariants.{Early}
-use Rattle.series_form.specs.Forms.{Form, start_of, value_at}
+use Rattle.series_laws.specs.Forms.{Form, start_of, value_at}
 
 -- the greatest of the m values of f from p on, Early for none
 abbrev pub greatest_from : (ℕ → Date) → ℕ → ℕ → Date

@@ -31,7 +31,7 @@ fn refused(why: SeriesRefused) -> Refused
 impl Dioid for Gain {
     ghost use Rattle.std.specs.Prelude.{true};
     ghost use Rattle.series_ops.specs.Gains.{IsCanonicalGain, gain_zero, gain_one, gain_sum, gain_product, SumFits, ProductFits};
-    ghost use Rattle.series_ops.specs.GainLaws.{gains_closed, gain_laws};
+    ghost use Rattle.series_ops.specs.Proved.GainLaws.{gains_closed, gain_laws};
 
     const TAKES_MEMORY: bool = true;
 
@@ -97,7 +97,7 @@ impl Dioid for Gain {
 
 impl Kleene for Gain {
     ghost use Rattle.series_ops.specs.Gains.{gain_star, StarFits};
-    ghost use Rattle.series_ops.specs.GainLaws.{gain_star_laws};
+    ghost use Rattle.series_ops.specs.Proved.GainLaws.{gain_star_laws};
 
     ghost star = { gain_star };
 
@@ -115,7 +115,7 @@ impl Kleene for Gain {
 
 impl Residuated for Gain {
     ghost use Rattle.series_ops.specs.Gains.{gain_left, gain_meet, LeftFits, MeetFits};
-    ghost use Rattle.series_ops.specs.GainLaws.{gain_residual_laws};
+    ghost use Rattle.series_ops.specs.Proved.GainLaws.{gain_residual_laws};
 
     ghost left = { gain_left };
 

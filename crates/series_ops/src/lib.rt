@@ -1,11 +1,11 @@
 //! Products, residuals and stars of periodic series, and the series as a dioid. The contract of each
 //! operation is that of the functions: the result has, at every shift, the value that the book's
 //! definition gives, and the refusals come exactly where the need or a number is too great. Stands on
-//! `series_form` and `dioid`.
+//! `series_laws` for the definitions and their laws, on `series_form` and on `dioid`.
 #![tactic(auto)]
 
+mod anchors;
 mod gains;
-mod laws;
 mod products;
 mod residuals;
 mod splits;
@@ -15,7 +15,7 @@ mod tables;
 mod tests;
 
 pub use gains::Gain;
-pub use laws::series_are_closed;
 pub use products::product;
 pub use residuals::left;
+pub use series_laws::series_are_closed;
 pub use stars::star;

@@ -1,17 +1,16 @@
 //! The product of two series.
-ghost use Rattle.std.specs.Prelude.{◌≡◌, ◌≤◌, ◌<◌, ◌+◌, ◌-◌, ◌*◌, ℕ, IfOk, length, pos, ◌<ℤ◌, ◌-ℤ◌};
+ghost use Rattle.std.specs.Prelude.{◌≡◌, ◌≤◌, ◌<◌, ◌+◌, ◌-◌, ◌*◌, IfOk, length, pos, ◌<ℤ◌, ◌-ℤ◌};
 ghost use Rattle.std.specs.Int.RustNames.{unsigned_abs};
 ghost use Rattle.dioid.specs.declared.dates.Date.TheVariants.{Early, Never};
-ghost use Rattle.dioid.specs.Dates.{date_product};
-ghost use Rattle.series_form.specs.declared.plans.Slopes.TheVariants.{First};
-ghost use Rattle.series_form.specs.Periodic.{times};
-ghost use Rattle.series_form.specs.Forms.{start_of, value_at, table, HasValues};
-ghost use Rattle.series_form.specs.Bounds.{IsUpTo, IsSeries};
+ghost use Rattle.series_laws.specs.declared.plans.Slopes.TheVariants.{First};
+ghost use Rattle.series_laws.specs.Periodic.{times};
+ghost use Rattle.series_laws.specs.Forms.{value_at, table, HasValues};
+ghost use Rattle.series_form.specs.Bounds.{IsSeries};
 ghost use Rattle.series_form.specs.Answer.{AnswersOf, Answers};
-ghost use Rattle.series_form.specs.Needs.{need_of, period_with, rise_of, fall_of, tail_of, slopes_of};
-ghost use Rattle.series_ops.specs.Product.{product_at};
+ghost use Rattle.series_laws.specs.Needs.{need_of, period_with, rise_of, fall_of, tail_of, slopes_of};
+ghost use Rattle.series_laws.specs.Product.{product_at};
 ghost use Rattle.series_ops.specs.Splits.{tail_product};
-ghost use Rattle.series_ops.specs.Needs.{lifts_of, waits_of, product_first, product_by_slopes, product_plan, form_product};
+ghost use Rattle.series_laws.specs.ProductNeeds.{lifts_of, waits_of, product_first, product_by_slopes, product_plan, form_product};
 ghost use Rattle.series_ops.specs.Listed.{IsNumber, listed, AreUpTo};
 
 use crate::splits::{tail_value, value_with_tail};

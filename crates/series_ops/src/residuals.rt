@@ -3,13 +3,13 @@ ghost use Rattle.std.specs.Prelude.{◌≡◌, ◌≤◌, ◌<◌, ◌+◌, ◌-
 ghost use Rattle.std.specs.Int.RustNames.{unsigned_abs};
 ghost use Rattle.dioid.specs.declared.dates.Date.TheVariants.{Early};
 ghost use Rattle.dioid.specs.Dates.{date_left};
-ghost use Rattle.series_form.specs.declared.plans.Slopes.TheVariants.{First};
-ghost use Rattle.series_form.specs.Forms.{size_of, value_at, table};
+ghost use Rattle.series_laws.specs.declared.plans.Slopes.TheVariants.{First};
+ghost use Rattle.series_laws.specs.Forms.{size_of, value_at, table};
 ghost use Rattle.series_form.specs.Bounds.{IsUpTo, IsSeries};
 ghost use Rattle.series_form.specs.Answer.{AnswersOf, Answers};
-ghost use Rattle.series_form.specs.Needs.{need_of, tail_of, slopes_of};
-ghost use Rattle.series_ops.specs.Residual.{IsLeftAt, least_of};
-ghost use Rattle.series_ops.specs.Needs.{offsets_of, left_over, OffsetsDecide, left_at, long_left, short_left, left_plan, form_left};
+ghost use Rattle.series_laws.specs.Needs.{need_of, tail_of};
+ghost use Rattle.series_laws.specs.Residual.{IsLeftAt};
+ghost use Rattle.series_laws.specs.ProductNeeds.{offsets_of, left_over, OffsetsDecide, left_at, long_left, short_left, left_plan, form_left};
 ghost use Rattle.series_ops.specs.Listed.{AreUpTo, part_listed, left_listed, star_left_listed, IsStarLeft};
 
 use crate::tables::{ended, first_values};

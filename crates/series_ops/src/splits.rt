@@ -1,8 +1,8 @@
 //! Sums of a value of one list and a value of another, over the splits of a shift.
-ghost use Rattle.std.specs.Prelude.{◌≡◌, ◌≤◌, ◌<◌, ◌+◌, ◌-◌, ℕ, length};
+ghost use Rattle.std.specs.Prelude.{◌≡◌, ◌≤◌, ◌<◌, ◌+◌, ◌-◌, length};
 ghost use Rattle.std.specs.Int.RustNames.{unsigned_abs};
 ghost use Rattle.dioid.specs.Dates.{date_product};
-ghost use Rattle.series_form.specs.Forms.{form_with, start_of, table};
+ghost use Rattle.series_laws.specs.Forms.{form_with, table};
 ghost use Rattle.series_form.specs.Bounds.{IsUpTo};
 ghost use Rattle.series_ops.specs.Splits.{greatest_from, split_of, places_to, tail_product, with_tail};
 ghost use Rattle.series_ops.specs.Listed.{listed, AreUpTo};

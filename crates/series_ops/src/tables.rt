@@ -1,10 +1,9 @@
 //! First values of a series, and the series of a list.
-ghost use Rattle.std.specs.Prelude.{◌≡◌, ◌≤◌, ◌<◌, ◌+◌, ◌-◌, ℕ, IfOk, length, take, get_or};
-ghost use Rattle.dioid.specs.declared.dates.Date.TheVariants.{Early};
-ghost use Rattle.series_form.specs.Forms.{value_at, table};
+ghost use Rattle.std.specs.Prelude.{◌≡◌, ◌≤◌, ◌<◌, ◌-◌, IfOk, length};
+ghost use Rattle.series_laws.specs.Forms.{value_at, table};
 ghost use Rattle.series_form.specs.Bounds.{IsSeries};
 ghost use Rattle.series_form.specs.Answer.{IsBeginning, IsShortest, form_before};
-ghost use Rattle.series_ops.specs.Listed.{AreUpTo, all_but_last, last_of};
+ghost use Rattle.series_ops.specs.Listed.{all_but_last, last_of};
 
 use dioid::Date;
 use series_form::{Series, SeriesRefused, shortest};

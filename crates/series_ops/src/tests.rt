@@ -3,6 +3,7 @@ use crate::{Gain, left, product, star};
 use dioid::{Date, Dioid, Kleene, Refused, Residuated};
 use series_form::{Series, SeriesRefused, least, sum};
 use std::alloc::{AllocError, Global};
+use std::test::Fail;
 
 /// Whether this is the series with these values, period and step.
 fn is_form(series: &Series, values: &[Date], period: usize, step: i128) -> bool {
@@ -37,29 +38,19 @@ fn line(alloc: Global, date: i64) -> Result<Series, SeriesRefused> {
 }
 
 #[test]
-fn products_and_stars(rt: HostRuntime) {
+fn products_and_stars(rt: HostRuntime) -> Result<(), Fail> {
     let alloc = rt.alloc();
-    let zero = Date::At(0);
-    let (two, three) = (line(alloc, 2), line(alloc, 3));
-    assert!(rt; is_series(&two, &[zero], 1, 2));
-    if let (Ok(two), Ok(three)) = (two, three) {
-        assert!(rt; is_series(&product(alloc, &two, &three), &[zero], 1, 3));
-        assert!(rt; is_series(&left(alloc, &three, &two), &[Date::Early], 1, 0));
-    }
-    if let (Ok(first), Ok(second)) = (
-        Series::monomial(alloc, 1, 2),
-        Series::monomial(alloc, 3, 4),
-    ) {
-        let early = Date::Early;
-        assert!(rt;
-            is_series(
-                &product(alloc, &first, &second),
-                &[early, early, early, early, Date::At(6)],
-                1,
-                0
-            )
-        );
-    }
+    let (zero, early) = (Date::At(0), Date::Early);
+    let two = line(alloc, 2).ok().ok_or("two")?;
+    let three = line(alloc, 3).ok().ok_or("three")?;
+    assert!(rt; is_form(&two, &[zero], 1, 2));
+    assert!(rt; is_series(&product(alloc, &two, &three), &[zero], 1, 3));
+    assert!(rt; is_series(&left(alloc, &three, &two), &[early], 1, 0));
+    let first = Series::monomial(alloc, 1, 2).ok().ok_or("first")?;
+    let second = Series::monomial(alloc, 3, 4).ok().ok_or("second")?;
+    let both = product(alloc, &first, &second);
+    assert!(rt; is_series(&both, &[early, early, early, early, Date::At(6)], 1, 0));
+    Ok(())
 }
 
 /// The greater of a floor and a date for each time that the shift covers a turn.
@@ -71,56 +62,47 @@ fn floored(alloc: Global, turn: u32, date: i64, floor: i64) -> Result<Series, Se
 }
 
 #[test]
-fn products_in_both_orders(rt: HostRuntime) {
+fn products_in_both_orders(rt: HostRuntime) -> Result<(), Fail> {
     let alloc = rt.alloc();
-    let short = floored(alloc, 2, 3, 4);
-    let long = floored(alloc, 8, 9, 0);
-    if let (Ok(short), Ok(long)) = (short, long) {
-        let (a, b, c) = (Date::At(4), Date::At(6), Date::At(9));
-        let (d, e) = (Date::At(13), Date::At(15));
-        let values = [a, a, a, a, b, b, c, c, d, d, e, e];
-        assert!(rt; is_form(&short, &[a, a, a, a, b, b], 2, 3));
-        assert!(rt; long.values().len() == 8);
-        assert!(rt; is_series(&product(alloc, &short, &long), &values, 2, 3));
-        assert!(rt; is_series(&product(alloc, &long, &short), &values, 2, 3));
-    }
+    let short = floored(alloc, 2, 3, 4).ok().ok_or("short")?;
+    let long = floored(alloc, 8, 9, 0).ok().ok_or("long")?;
+    let (a, b, c) = (Date::At(4), Date::At(6), Date::At(9));
+    let (d, e) = (Date::At(13), Date::At(15));
+    let values = [a, a, a, a, b, b, c, c, d, d, e, e];
+    assert!(rt; is_form(&short, &[a, a, a, a, b, b], 2, 3));
+    assert_eq!(rt; long.values().len(), 8);
+    assert!(rt; is_series(&product(alloc, &short, &long), &values, 2, 3));
+    assert!(rt; is_series(&product(alloc, &long, &short), &values, 2, 3));
+    Ok(())
 }
 
 #[test]
-fn stars_of_monomials(rt: HostRuntime) {
+fn stars_of_monomials(rt: HostRuntime) -> Result<(), Fail> {
     let alloc = rt.alloc();
     let zero = Date::At(0);
-    if let Ok(part) = Series::monomial(alloc, 3, 1) {
-        assert!(rt; is_series(&star(alloc, &part), &[zero, zero, zero], 3, 1));
-    }
-    if let Ok(part) = Series::monomial(alloc, 0, 1) {
-        assert!(rt; is_series(&star(alloc, &part), &[Date::Never], 1, 0));
-    }
-    if let Ok(part) = Series::monomial(alloc, 200, 1) {
-        assert!(rt; is_too_long(&star(alloc, &part), 40_401));
-    }
-    if let (Ok(low), Ok(one)) = (Series::monomial(alloc, 0, -1_000_000), line(alloc, 1)) {
-        if let Ok(part) = product(alloc, &low, &one) {
-            assert!(rt; is_too_long(&star(alloc, &part), 1_000_001));
-        }
-    }
+    let part = Series::monomial(alloc, 3, 1).ok().ok_or("third")?;
+    assert!(rt; is_series(&star(alloc, &part), &[zero, zero, zero], 3, 1));
+    let part = Series::monomial(alloc, 0, 1).ok().ok_or("late")?;
+    assert!(rt; is_series(&star(alloc, &part), &[Date::Never], 1, 0));
+    let part = Series::monomial(alloc, 200, 1).ok().ok_or("long")?;
+    assert!(rt; is_too_long(&star(alloc, &part), 40_401));
+    let low = Series::monomial(alloc, 0, -1_000_000).ok().ok_or("low")?;
+    let one = line(alloc, 1).ok().ok_or("one")?;
+    let part = product(alloc, &low, &one).ok().ok_or("part")?;
+    assert!(rt; is_too_long(&star(alloc, &part), 1_000_001));
+    Ok(())
 }
 
 #[test]
-fn sums_with_stars(rt: HostRuntime) {
+fn sums_with_stars(rt: HostRuntime) -> Result<(), Fail> {
     let alloc = rt.alloc();
-    if let (Ok(two), Ok(five)) = (line(alloc, 2), Series::monomial(alloc, 0, 5)) {
-        let (a, b) = (Date::At(5), Date::At(6));
-        assert!(rt; is_series(&sum(alloc, &two, &five), &[a, a, a, b], 1, 2));
-        assert!(rt;
-            is_series(
-                &least(alloc, &two, &five),
-                &[Date::At(0), Date::At(2), Date::At(4), a],
-                1,
-                0
-            )
-        );
-    }
+    let two = line(alloc, 2).ok().ok_or("two")?;
+    let five = Series::monomial(alloc, 0, 5).ok().ok_or("five")?;
+    let (zero, a, b) = (Date::At(0), Date::At(5), Date::At(6));
+    assert!(rt; is_series(&sum(alloc, &two, &five), &[a, a, a, b], 1, 2));
+    let lower = least(alloc, &two, &five);
+    assert!(rt; is_series(&lower, &[zero, Date::At(2), Date::At(4), a], 1, 0));
+    Ok(())
 }
 
 /// The dates of these numbers.
@@ -223,6 +205,81 @@ fn stars_past_a_transient(rt: HostRuntime) {
     assert!(rt; is_star(alloc, first, &[0, 0, 2, 2], 2, 3));
 }
 
+/// Steps of slope 1 by turns: Early below a shift, 0 there, and the turn more for each turn.
+fn turns(alloc: Global, late: u32, turn: u32) -> Result<Series, SeriesRefused> {
+    let part = Series::monomial(alloc, turn as u64, turn as i128)?;
+    let steps = star(alloc, &part)?;
+    let late = Series::monomial(alloc, late as u64, 0)?;
+    product(alloc, &late, &steps)
+}
+
+#[test]
+fn needs_of_20_000(rt: HostRuntime) -> Result<(), Fail> {
+    let alloc = rt.alloc();
+    let first = turns(alloc, 0, 139).ok().ok_or("first")?;
+    let second = turns(alloc, 540, 140).ok().ok_or("second")?;
+    let upper = sum(alloc, &first, &second).ok().ok_or("sum")?;
+    assert!(rt; upper.equals(&first));
+    let lower = least(alloc, &first, &second).ok().ok_or("least")?;
+    assert!(rt; lower.equals(&second));
+    let rest = left(alloc, &first, &second).ok().ok_or("left")?;
+    assert_eq!(rt; rest.at(539), Date::Early);
+    assert_eq!(rt; rest.at(540), Date::At(-139));
+    assert_eq!(rt; (rest.values().len(), rest.step()), (541, 1));
+    let (low, late) = (
+        Series::monomial(alloc, 0, 1),
+        Series::monomial(alloc, 19_998, 1),
+    );
+    let (low, late) = (low.ok().ok_or("low")?, late.ok().ok_or("late")?);
+    let both = product(alloc, &low, &late).ok().ok_or("product")?;
+    assert_eq!(rt;
+        (both.at(19_997), both.at(19_998)),
+        (Date::Early, Date::At(2))
+    );
+    let one = line(alloc, 1).ok().ok_or("one")?;
+    let part = Series::monomial(alloc, 197, 96).ok().ok_or("part")?;
+    let part = product(alloc, &part, &one).ok().ok_or("part")?;
+    let stars = star(alloc, &part).ok().ok_or("star")?;
+    assert_eq!(rt; (stars.at(196), stars.at(197)), (Date::At(0), Date::At(96)));
+    assert_eq!(rt; (stars.values().len(), stars.step()), (198, 1));
+    Ok(())
+}
+
+#[test]
+fn needs_above_20_000(rt: HostRuntime) -> Result<(), Fail> {
+    let alloc = rt.alloc();
+    let first = turns(alloc, 0, 139).ok().ok_or("first")?;
+    let second = turns(alloc, 541, 140).ok().ok_or("second")?;
+    assert!(rt; is_too_long(&sum(alloc, &first, &second), 20_001));
+    assert!(rt; is_too_long(&least(alloc, &first, &second), 20_001));
+    assert!(rt; is_too_long(&left(alloc, &first, &second), 20_001));
+    assert!(rt; is_too_long(&product(alloc, &first, &second), 39_461));
+    let part = Series::monomial(alloc, 200, 1).ok().ok_or("part")?;
+    let (first, second) = (Gain { series: first }, Gain { series: second });
+    let part = Gain { series: part };
+    let range = Some(Refused::Range);
+    assert_eq!(rt; first.plus(alloc, &second).err(), range);
+    assert_eq!(rt; first.meet(alloc, &second).err(), range);
+    assert_eq!(rt; first.left(alloc, &second).err(), range);
+    assert_eq!(rt; first.times(alloc, &second).err(), range);
+    assert_eq!(rt; part.star(alloc).err(), range);
+    Ok(())
+}
+
+#[test]
+fn numbers_above_the_greatest(rt: HostRuntime) -> Result<(), Fail> {
+    let alloc = rt.alloc();
+    let greatest = Series::monomial(alloc, 0, 1_000_000_000_000_000_000);
+    let greatest = greatest.ok().ok_or("greatest")?;
+    let one = Series::monomial(alloc, 0, 1).ok().ok_or("one")?;
+    let value = 1_000_000_000_000_000_001;
+    let answer = product(alloc, &greatest, &one);
+    assert_eq!(rt; answer.err(), Some(SeriesRefused::TooGreat { value }));
+    let (greatest, one) = (Gain { series: greatest }, Gain { series: one });
+    assert_eq!(rt; greatest.times(alloc, &one).err(), Some(Refused::Range));
+    Ok(())
+}
+
 /// Whether the answer is the gain with these values, period and step.
 fn is_gain(answer: &Result<Gain, Refused>, values: &[Date], period: usize, step: i128) -> bool {
     match answer {
@@ -261,25 +318,29 @@ fn meet_of<D: Residuated>(alloc: Global, a: &D, b: &D) -> Result<D, Refused> {
     a.meet(alloc, b)
 }
 
-/// The star of the monomial of shift 1, as a gain.
-fn gain(alloc: Global, date: i64) -> Result<Gain, SeriesRefused> {
-    let series = line(alloc, date)?;
+/// A series as a gain.
+fn gain(series: Result<Series, SeriesRefused>) -> Result<Gain, Fail> {
+    let series = series.ok().ok_or("series")?;
     Ok(Gain { series })
 }
 
 #[test]
-fn gains_through_the_bounds(rt: HostRuntime) {
+fn gains_through_the_bounds(rt: HostRuntime) -> Result<(), Fail> {
     let alloc = rt.alloc();
-    let zero = Date::At(0);
-    assert!(rt; is_gain(&Gain::zero(alloc), &[Date::Early], 1, 0));
+    let (zero, early, never) = (Date::At(0), Date::Early, Date::Never);
+    let (a, b, c, d) = (Date::At(2), Date::At(4), Date::At(5), Date::At(6));
+    let (two, three) = (gain(line(alloc, 2))?, gain(line(alloc, 3))?);
+    let one = gain(Series::monomial(alloc, 0, 1))?;
+    let five = gain(Series::monomial(alloc, 0, 5))?;
+    assert!(rt; is_gain(&Gain::zero(alloc), &[early], 1, 0));
     assert!(rt; is_gain(&Gain::one(alloc), &[zero], 1, 0));
-    if let (Ok(two), Ok(three)) = (gain(alloc, 2), gain(alloc, 3)) {
-        assert!(rt; is_gain(&sum_of(alloc, &two, &three), &[zero], 1, 3));
-        assert!(rt; is_gain(&product_of(alloc, &two, &three), &[zero], 1, 3));
-        assert!(rt; is_gain(&copy_of(alloc, &two), &[zero], 1, 2));
-        assert!(rt; is_gain(&star_of(alloc, &two), &[zero], 1, 2));
-        assert!(rt; is_gain(&left_of(alloc, &two, &three), &[zero], 1, 3));
-        assert!(rt; is_gain(&meet_of(alloc, &two, &three), &[zero], 1, 2));
-        assert!(rt; !two.same(&three));
-    }
+    assert!(rt; is_gain(&sum_of(alloc, &two, &five), &[c, c, c, d], 1, 2));
+    assert!(rt; is_gain(&product_of(alloc, &two, &three), &[zero], 1, 3));
+    assert!(rt; is_gain(&copy_of(alloc, &two), &[zero], 1, 2));
+    assert!(rt; is_gain(&star_of(alloc, &one), &[never], 1, 0));
+    assert!(rt; is_gain(&left_of(alloc, &three, &two), &[early], 1, 0));
+    assert!(rt; is_gain(&meet_of(alloc, &two, &five), &[zero, a, b, c], 1, 0));
+    assert!(rt; two.same(&two));
+    assert!(rt; !two.same(&three));
+    Ok(())
 }

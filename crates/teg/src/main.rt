@@ -2,10 +2,20 @@
 //! ends with the status of that call. It stands on `teg_run` and `teg_outside`.
 #![tactic(auto)]
 
+ghost use Rattle.std.specs.Prelude.{◌≡◌, map, string_bytes};
+ghost use Rattle.std.specs.Process.{exit_status};
+ghost use Rattle.teg_outside.specs.declared.monitor.Firing.{Firing};
+ghost use Rattle.teg_outside.specs.Shelves.{ShelfState};
+ghost use Rattle.teg_outside.specs.Sinks.{SinkState};
+ghost use Rattle.teg_run.specs.Calls.{Call};
+ghost use Rattle.teg_run.specs.Headline.{KeepsPromises};
+ghost use Rattle.teg_run.specs.Statuses.{code_of};
+ghost use Rattle.teg_run.specs.declared.status.Status.{Status};
+
 use std::alloc::{AllocError, Global};
 use std::process::ExitCode;
 use std::{env, io};
-use teg_outside::{FileShelf, Monitor, WriterSink};
+use teg_outside::{FileShelf, Monitor, Shelf, Sink, WriterSink};
 use teg_run::{Status, workbench};
 
 // The words after the program's name; none where one of them is no text.
@@ -28,6 +38,30 @@ fn words_of(rt: &HostRuntime, alloc: Global) -> Result<Vec<String>, AllocError> 
     }
 }
 
+// One call of the workbench, as the exit status of a program.
+fn run<S: Shelf, W: Sink>(
+    alloc: Global,
+    words: &[String],
+    shelf: &mut S,
+    out: &mut W,
+    monitors: Vec<Box<dyn Monitor>>,
+) -> ExitCode
+    ensures { (status : Status)
+        × KeepsPromises (record {
+            words = map string_bytes words.now;
+            lines = λ firings. map (λ m. line_text m firings) monitors.items;
+            shelf_before = S.state shelf.old;
+            shelf_after = S.state shelf.new;
+            sink_before = W.state out.old;
+            sink_after = W.state out.new;
+            status = status;
+          })
+        × (exit_status result ≡ code_of status) }
+{
+    let status = workbench(alloc, words, shelf, out, monitors);
+    ExitCode::from(status.code())
+}
+
 fn main(rt: HostRuntime) -> ExitCode {
     let alloc = rt.alloc();
     let Ok(words) = words_of(&rt, alloc) else {
@@ -36,6 +70,5 @@ fn main(rt: HostRuntime) -> ExitCode {
     let monitors: Vec<Box<dyn Monitor>> = Vec::new(alloc);
     let mut shelf = FileShelf::new(&rt);
     let mut out = WriterSink::new(io::writer(&rt));
-    let status = workbench(alloc, &words, &mut shelf, &mut out, monitors);
-    ExitCode::from(status.code())
+    run(alloc, &words, &mut shelf, &mut out, monitors)
 }

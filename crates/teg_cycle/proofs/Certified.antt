@@ -1,6 +1,6 @@
 -- What a certificate shows, from the certificate alone.
-use Rattle.std.proofs.Common.{ℕ, zero, suc, ◌+◌, ◌*◌, ◌<◌, ◌≤◌, ◌≡◌, List, [], ◌∷◌, Option, Some, None, length, get_or, refl, sym, ap, subst, ◌∙◌, arith, inl, inr, ⊎_elim}
-use Rattle.std.specs.Prelude.{ℤ, pos, ◌+ℤ◌, ◌≤ℤ◌, All, ◌⊎◌}
+use Rattle.std.proofs.Common.{ℕ, ◌*◌, ◌<◌, ◌≤◌, ◌≡◌, List, Option, Some, None, length, get_or, refl, subst, arith}
+use Rattle.std.specs.Prelude.{All}
 use Rattle.std.proofs.lemmas.Int.{ints}
 use Rattle.teg_net.specs.declared.entries.PlaceId.{PlaceId}
 use Rattle.teg_net.specs.declared.answers.Potential.{Potential}
@@ -10,9 +10,9 @@ use Rattle.teg_net.specs.declared.answers.CycleAnswer.{CycleAnswer}
 use Rattle.teg_net.specs.Nets.{NetLists, IsNet}
 use Rattle.teg_net.specs.Ratios.{Fraction}
 use Rattle.teg_net.specs.Circuits.{IsCircuit, IsLive, time_of, tokens_of}
-use Rattle.teg_net.specs.Parts.{IsMember, IsPlaceOfPart}
-use Rattle.teg_net.specs.GreatestRatios.{IsGreatestRatio, IsAnyPlace, HasNoCircuit, ratio_in, ratio_at, IsFirstGreatest, IsCycleTime}
-use Rattle.teg_net.specs.Certificates.{potential_at, ArePotentials, IsBestCertificate, IsPartCertificate, IsCertificate}
+use Rattle.teg_net.specs.Parts.{IsPlaceOfPart}
+use Rattle.teg_net.specs.GreatestRatios.{IsGreatestRatio, ratio_in, IsFirstGreatest, IsCycleTime}
+use Rattle.teg_net.specs.Certificates.{potential_at, ArePotentials, IsPartCertificate, IsCertificate}
 use Rattle.teg_howard.proofs.Sums.{weight_is, above_along}
 use Rattle.teg_howard.proofs.Ratios.{ratio_trans}
 use Rattle.teg_cycle.specs.Laws.{TellsOfPart, CertificatesTellOfNets, CertificatesTellOfParts}

@@ -1,15 +1,15 @@
 -- The first part of greatest ratio.
-use Rattle.std.proofs.Common.{ℕ, zero, suc, ◌+◌, ◌*◌, ◌<◌, ◌≤◌, ◌≡◌, List, Option, Some, None, length, get_or, refl, sym, ap, subst, ◌∙◌, arith, inl, inr, ⊎_elim}
+use Rattle.std.proofs.Common.{ℕ, ◌+◌, ◌*◌, ◌<◌, ◌≤◌, ◌≡◌, List, Option, Some, None, length, refl, ap, subst, ◌∙◌, arith, inl, inr, ⊎_elim}
 use Rattle.std.specs.Prelude.{◌⊎◌}
-use Rattle.std.proofs.lemmas.Bool.{cases_lt, cases_eq}
+use Rattle.std.proofs.lemmas.Bool.{cases_lt}
 use Rattle.std.proofs.lemmas.List.{get_or_past}
 use Rattle.teg_net.specs.Ratios.{Fraction}
 use Rattle.teg_net.specs.declared.answers.PartAnswer.{PartAnswer}
-use Rattle.teg_net.specs.declared.answers.PartAnswer.TheVariants.{NoCircuit, Best}
-use Rattle.teg_net.specs.GreatestRatios.{ratio_in, ratio_at, IsFirstGreatest, IsFirstGreatestAt}
+use Rattle.teg_net.specs.declared.answers.PartAnswer.TheVariants.{NoCircuit}
+use Rattle.teg_net.specs.GreatestRatios.{ratio_in, ratio_at, IsFirstGreatest}
 use Rattle.teg_cycle.specs.declared.best_parts.BestPart.{BestPart}
 use Rattle.teg_cycle.specs.BestParts.{IsFirstBelow, IsBestBelow, IsRatioAbove, HaveTokens}
-use Rattle.teg_howard.proofs.Ratios.{ratio_trans, ratio_trans_less}
+use Rattle.teg_howard.proofs.Ratios.{ratio_trans_less}
 
 -- past the end no ratio is told
 pub told_in : (answers : List PartAnswer) (j : ℕ) (q : Fraction) → ratio_at answers j ≡ Some q → j < length answers

@@ -1,3 +1,6 @@
 pub mod FirstBest
 pub mod Telling
 pub mod Certified
+pub mod Deciding
+pub mod Short
+pub mod Fitting

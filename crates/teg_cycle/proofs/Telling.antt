@@ -1,6 +1,6 @@
 -- What an answer tells makes a certificate of it.
-use Rattle.std.proofs.Common.{ℕ, zero, suc, ◌+◌, ◌*◌, ◌<◌, ◌≤◌, ◌≡◌, ◌≢◌, List, [], ◌∷◌, ◌++◌, Option, Some, None, Bool, true, false, eqb, length, get_or, refl, sym, ap, subst, ◌∙◌, arith, inl, inr, ⊎_elim}
-use Rattle.std.specs.Prelude.{ℤ, pos, ◌+ℤ◌, ◌≤ℤ◌, All, Contains, ◌⊎◌}
+use Rattle.std.proofs.Common.{ℕ, zero, suc, ◌<◌, ◌≤◌, ◌≡◌, ◌≢◌, List, [], ◌∷◌, ◌++◌, Some, true, false, eqb, length, get_or, refl, sym, subst, arith, ⊎_elim}
+use Rattle.std.specs.Prelude.{ℤ, All, Contains}
 use Rattle.std.proofs.lemmas.Int.{ints}
 use Rattle.std.proofs.lemmas.Bool.{cases_Bool, eqb-true, eq-eqb}
 use Rattle.std.proofs.lemmas.List.Elements.{All-tail, All-append}
@@ -10,9 +10,9 @@ use Rattle.teg_net.specs.declared.answers.PartAnswer.{PartAnswer}
 use Rattle.teg_net.specs.declared.answers.PartAnswer.TheVariants.{NoCircuit, Best}
 use Rattle.teg_net.specs.Nets.{NetLists}
 use Rattle.teg_net.specs.Ratios.{Fraction}
-use Rattle.teg_net.specs.Circuits.{from_of, place_at, IsPathBetween, IsCircuit}
-use Rattle.teg_net.specs.Parts.{to_of, IsMember, IsPlaceOfPart}
-use Rattle.teg_net.specs.ReducedTimes.{reduced_time, reduced_time_of, IsGreatestSum}
+use Rattle.teg_net.specs.Circuits.{from_of, IsPathBetween}
+use Rattle.teg_net.specs.Parts.{to_of, IsPlaceOfPart}
+use Rattle.teg_net.specs.ReducedTimes.{IsGreatestSum}
 use Rattle.teg_net.specs.GreatestRatios.{HasNoCircuit}
 use Rattle.teg_net.specs.PartAnswers.{first_transition_of, transitions_of, IsBestOfPart, IsPartAnswer}
 use Rattle.teg_net.specs.Certificates.{potential_at, ArePotentials, IsPartCertificate}

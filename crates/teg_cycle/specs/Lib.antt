@@ -1,3 +1,4 @@
 pub mod LastRounds
 pub mod BestParts
 pub mod Laws
+pub mod Checks

@@ -1,8 +1,8 @@
 //! The first part of greatest ratio among the answers of parts.
-ghost use Rattle.std.specs.Prelude.{◌≡◌, ◌↔◌, ◌<◌, ◌≤◌, length, IsTrue};
+ghost use Rattle.std.specs.Prelude.{◌↔◌, ◌≤◌, length, IsTrue};
 ghost use Rattle.teg_net.specs.Limits.{most_transitions};
 ghost use Rattle.teg_net.specs.GreatestRatios.{IsFirstGreatest};
-ghost use Rattle.teg_cycle.specs.BestParts.{IsBestBelow, IsRatioAbove, HaveTokens};
+ghost use Rattle.teg_cycle.specs.BestParts.{IsRatioAbove, HaveTokens};
 
 use std::cmp::Ordering;
 use teg_net::{PartAnswer, Ratio};
@@ -25,7 +25,7 @@ fn is_above(ratio: &Ratio, best: &Option<BestPart>) -> bool
 }
 
 /// The first part of greatest ratio; none where no part has a circuit.
-fn best_part(answers: &[PartAnswer]) -> Option<usize>
+pub(crate) fn best_part(answers: &[PartAnswer]) -> Option<usize>
     requires { HaveTokens answers.now }
     ensures { IsFirstGreatest answers.now result }
 {

@@ -6,7 +6,6 @@ ghost use Rattle.teg_net.specs.GreatestRatios.{IsFirstGreatest, IsCycleTime};
 ghost use Rattle.teg_net.specs.Certificates.{IsCertificate, IsPartCertificate};
 ghost use Rattle.teg_check.specs.Ranks.{IsRanking};
 ghost use Rattle.teg_parts.specs.Partitions.{AreParts};
-ghost use Rattle.teg_howard.specs.Runs.{KeepsLimits};
 ghost use Rattle.teg_cycle.specs.LastRounds.{IsLastOfRun, AreLastOfRuns};
 
 use crate::best_parts::best_number;

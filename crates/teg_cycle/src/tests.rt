@@ -1,33 +1,30 @@
-//! Each call that takes memory once, on small nets whose parts and ratios are plain to see.
+//! Small nets whose parts and ratios are plain to see.
 ghost use Rattle.std.specs.Prelude.{◌≡◌, ◌<◌, length, IfOk};
 ghost use Rattle.teg_check.specs.Ranks.{IsRanking};
 ghost use Rattle.teg_parts.specs.Partitions.{AreParts};
 
-use crate::cycle;
+use crate::{check_cycle, cycle};
+use sample_nets::{kanban, lone, ring, two_loops, two_ways};
 use std::alloc::Global;
 use std::test::Fail;
 use teg_check::{Live, check};
 use teg_howard::howard;
 use teg_net::{
-    Name, Net, OutOfMemory, PartAnswer, Place, PlaceId, Potential, Role, Round, Transition,
-    TransitionId,
+    Circuit, CycleAnswer, DateList, Name, Net, OutOfMemory, PartAnswer, Place, PlaceId, Potential,
+    Ratio, Role, Round, Transition, TransitionId,
 };
 use teg_parts::{Parts, split};
 
-/// Transition a alone, with no place.
-fn lone_transition(alloc: Global) -> Result<Net, Fail>
-    ensures { IfOk result (λ net. length net.transitions ≡ 1) }
-{
-    let a = Transition {
-        name: Name::new(alloc, "a")?,
-        role: Role::Internal,
-    };
-    let transitions = vec![in alloc; a]?;
-    Ok(Net::new(transitions, Vec::new(alloc), Vec::new(alloc)))
+/// The answer on the net.
+fn answer_of(alloc: Global, net: &Net) -> Result<CycleAnswer, Fail> {
+    let live = check(alloc, net)?;
+    let parts = split(alloc, net)?;
+    let answer = cycle(alloc, net, &live, &parts)?;
+    Ok(answer)
 }
 
 /// Transition a with two places to itself: x with holding time 1 and y with 5, each with a token.
-fn two_loops(alloc: Global) -> Result<Net, Fail>
+fn two_own_places(alloc: Global) -> Result<Net, Fail>
     ensures { IfOk result (λ net. length net.transitions ≡ 1) }
 {
     let a = Transition {
@@ -40,6 +37,7 @@ fn two_loops(alloc: Global) -> Result<Net, Fail>
         to: TransitionId { index: 0 },
         hold: 1,
         tokens: 1,
+        ready: DateList::new(Vec::new(alloc)),
     };
     let y = Place {
         name: Name::new(alloc, "y")?,
@@ -47,40 +45,10 @@ fn two_loops(alloc: Global) -> Result<Net, Fail>
         to: TransitionId { index: 0 },
         hold: 5,
         tokens: 1,
+        ready: DateList::new(Vec::new(alloc)),
     };
     let transitions = vec![in alloc; a]?;
     let places = vec![in alloc; x, y]?;
-    Ok(Net::new(transitions, places, Vec::new(alloc)))
-}
-
-/// Transitions a and b, place ab with holding time 3 and place ba with 2 and a token.
-fn ring(alloc: Global) -> Result<Net, Fail>
-    ensures { IfOk result (λ net. length net.transitions ≡ 2) }
-{
-    let a = Transition {
-        name: Name::new(alloc, "a")?,
-        role: Role::Internal,
-    };
-    let b = Transition {
-        name: Name::new(alloc, "b")?,
-        role: Role::Internal,
-    };
-    let ab = Place {
-        name: Name::new(alloc, "ab")?,
-        from: TransitionId { index: 0 },
-        to: TransitionId { index: 1 },
-        hold: 3,
-        tokens: 0,
-    };
-    let ba = Place {
-        name: Name::new(alloc, "ba")?,
-        from: TransitionId { index: 1 },
-        to: TransitionId { index: 0 },
-        hold: 2,
-        tokens: 1,
-    };
-    let transitions = vec![in alloc; a, b]?;
-    let places = vec![in alloc; ab, ba]?;
     Ok(Net::new(transitions, places, Vec::new(alloc)))
 }
 
@@ -106,24 +74,27 @@ fn rounds_of(
 /// Whether the answer tells this.
 fn is_best(
     answer: &PartAnswer,
-    time: u64,
-    tokens: u64,
+    ratio: (u64, u64),
     places: &[PlaceId],
     potentials: &[Potential],
 ) -> bool {
     match answer {
         PartAnswer::NoCircuit => false,
         PartAnswer::Best {
-            ratio,
+            ratio: told_ratio,
             circuit,
             potentials: told,
         } => {
-            ratio.time() == time
-                && ratio.tokens() == tokens
+            told_ratio.time() == ratio.0
+                && told_ratio.tokens() == ratio.1
                 && circuit.places.as_slice() == places
                 && told.as_slice() == potentials
         }
     }
+}
+
+fn place(index: u32) -> PlaceId {
+    PlaceId { index }
 }
 
 fn potential(transition: u32, value: i128) -> Potential {
@@ -133,45 +104,93 @@ fn potential(transition: u32, value: i128) -> Potential {
     }
 }
 
+/// The answer on the ring, with this potential of b.
+fn ring_answer(alloc: Global, value: i128) -> Result<CycleAnswer, Fail> {
+    let part = PartAnswer::Best {
+        ratio: Ratio::of(5, 1),
+        circuit: Circuit {
+            places: vec![in alloc; place(0), place(1)]?,
+        },
+        potentials: vec![in alloc; potential(0, 0), potential(1, value)]?,
+    };
+    Ok(CycleAnswer {
+        part_of: vec![in alloc; 0, 0]?,
+        parts: vec![in alloc; part]?,
+        best: Some(0),
+    })
+}
+
 #[test]
-fn no_place_is_no_circuit(rt: HostRuntime) -> Result<(), Fail> {
+fn no_way_back_is_no_circuit(rt: HostRuntime) -> Result<(), Fail> {
     let alloc = rt.alloc();
-    let net = lone_transition(alloc)?;
-    let live = check(alloc, &net)?;
-    let parts = split(alloc, &net)?;
-    assert_eq!(rt; parts.count(), 1);
-    let answer = cycle(alloc, &net, &live, &parts)?;
-    assert!(rt; answer.best.is_none());
+    let one = answer_of(alloc, &lone(alloc)?)?;
+    assert!(rt; one.best.is_none() && one.parts.len() == 1);
+    let two = answer_of(alloc, &two_ways(alloc)?)?;
+    assert!(rt; two.best.is_none() && two.parts.len() == 2);
     Ok(())
 }
 
 #[test]
 fn a_ring_is_one_part(rt: HostRuntime) -> Result<(), Fail> {
     let alloc = rt.alloc();
-    let net = ring(alloc)?;
-    let live = check(alloc, &net)?;
-    let parts = split(alloc, &net)?;
-    assert_eq!(rt; parts.count(), 1);
-    let answer = cycle(alloc, &net, &live, &parts)?;
+    let answer = answer_of(alloc, &ring(alloc, 1)?)?;
     assert!(rt; answer.best == Some(0));
     let part = answer.parts.first().ok_or("no part")?;
-    let places = [PlaceId { index: 0 }, PlaceId { index: 1 }];
-    assert!(rt; is_best(part, 5, 1, &places, &[potential(0, 0), potential(1, 3)]));
+    let told = is_best(
+        part,
+        (5, 1),
+        &[place(0), place(1)],
+        &[potential(0, 0), potential(1, 3)],
+    );
+    assert!(rt; told);
+    Ok(())
+}
+
+#[test]
+fn the_second_of_two_parts_is_slower(rt: HostRuntime) -> Result<(), Fail> {
+    let alloc = rt.alloc();
+    let answer = answer_of(alloc, &two_loops(alloc)?)?;
+    assert!(rt; answer.best == Some(1));
+    let a = answer.parts.first().ok_or("no part")?;
+    let b = answer.parts.get(1).ok_or("one part")?;
+    assert!(rt; is_best(a, (2, 1), &[place(0)], &[potential(0, 0)]));
+    assert!(rt; is_best(b, (3, 1), &[place(1)], &[potential(1, 0)]));
+    Ok(())
+}
+
+#[test]
+fn the_slowest_machine_of_a_line(rt: HostRuntime) -> Result<(), Fail> {
+    let alloc = rt.alloc();
+    let answer = answer_of(alloc, &kanban(alloc)?)?;
+    assert!(rt; answer.best == Some(0));
+    let part = answer.parts.first().ok_or("no part")?;
+    let potentials = [potential(0, -12), potential(1, 0), potential(2, 6)];
+    assert!(rt; is_best(part, (6, 1), &[place(1)], &potentials));
     Ok(())
 }
 
 #[test]
 fn the_slower_loop_takes_over(rt: HostRuntime) -> Result<(), Fail> {
     let alloc = rt.alloc();
-    let net = two_loops(alloc)?;
+    let net = two_own_places(alloc)?;
     let live = check(alloc, &net)?;
     let parts = split(alloc, &net)?;
     assert_eq!(rt; parts.count(), 1);
     let rounds = rounds_of(alloc, &net, &live, &parts, 0)?.ok_or("no circuit")?;
     assert_eq!(rt; rounds.len(), 2);
     assert!(rt; rounds[0].ratio.time() == 1 && rounds[1].ratio.time() == 5);
-    let answer = cycle(alloc, &net, &live, &parts)?;
+    let answer = answer_of(alloc, &net)?;
     let part = answer.parts.first().ok_or("no part")?;
-    assert!(rt; is_best(part, 5, 1, &[PlaceId { index: 1 }], &[potential(0, 0)]));
+    assert!(rt; is_best(part, (5, 1), &[place(1)], &[potential(0, 0)]));
+    Ok(())
+}
+
+#[test]
+fn a_potential_of_zero_is_no_certificate(rt: HostRuntime) -> Result<(), Fail> {
+    let alloc = rt.alloc();
+    let net = ring(alloc, 1)?;
+    assert!(rt; check_cycle(&net, &answer_of(alloc, &net)?));
+    assert!(rt; check_cycle(&net, &ring_answer(alloc, 3)?));
+    assert!(rt; !check_cycle(&net, &ring_answer(alloc, 0)?));
     Ok(())
 }

@@ -1,41 +1,56 @@
--- The least dating of a net, made from its ranks: what the table holds, and how late it can be.
-use Rattle.std.proofs.Common.{ℕ, ◌+◌, ◌*◌, ◌^◌, ◌<◌, ◌≤◌, List, length, sym, subst, arith}
+-- The least dating of a system of a net, made from the net's ranks: how late it can be, and what rows and tables have of it.
+use Rattle.std.proofs.Common.{ℕ, ◌+◌, ◌*◌, ◌^◌, ◌≤◌, List, sym, subst, arith}
 use Rattle.teg_net.specs.Nets.{NetLists, IsNet}
-use Rattle.teg_net.specs.Limits.{greatest_date, greatest_hold}
-use Rattle.teg_model.specs.Systems.{Dating, IsLeastIn}
-use Rattle.teg_model.specs.Datings.{listed, IsLeastDating}
+use Rattle.teg_net.specs.Limits.{greatest_hold}
+use Rattle.teg_model.specs.Systems.{Dating, InitialDates, System, IsLeastIn}
+use Rattle.teg_model.specs.Datings.{extended_places, listed, system_with, system_of, IsLeastDating}
 use Rattle.teg_model.specs.Bounds.{IsWithin}
 use Rattle.teg_model.specs.WalkDates.{IsGreatestOfWalks}
-use Rattle.teg_model.proofs.LeastOver.{least_over}
-use Rattle.teg_model.proofs.OfNet.{least_of, least_of_system}
+use Rattle.teg_model.specs.Ranks.{AreRanks}
+use Rattle.teg_model.proofs.LeastOver.{least_over, least_over_is_least}
+use Rattle.teg_model.proofs.OfNet.{net_ends, ranks_extended, least_of_system}
 use Rattle.teg_model.proofs.GreatestWalks.{least_is_walk}
-use Rattle.teg_model.proofs.Within.{within_more, least_within}
-use Rattle.teg_model.proofs.ListDates.{listed_from_zero, listed_within}
+use Rattle.teg_model.proofs.Within.{within_more, least_in_within, net_is_bounded}
+use Rattle.teg_model.proofs.ListDates.{first_bound, listed_within}
 use Rattle.teg_check.specs.Ranks.{IsRanking}
-use Rattle.teg_dates.specs.Tables.{TableDates, HasDatesOf, HasDatesOfWalks, most_numbers}
-use Rattle.teg_dates.specs.Rows.{listed_system}
+use Rattle.teg_dates.specs.Tables.{TableDates, HasDatesOf, HasDatesOfWalks}
+use Rattle.teg_dates.specs.Rows.{most_rows, KeepsBounds}
 use Rattle.teg_dates.proofs.Ranking.{rank_of, ranks_of}
 
-unfoldable pub earliest : NetLists → List ℕ → Dating
-earliest net ranks = least_over (listed_system net) 400 (rank_of ranks)
+unfoldable pub earliest : System → List ℕ → Dating
+earliest s ranks = least_over s 400 (rank_of ranks)
 
-pub earliest_is_least : (net : NetLists) (ranks : List ℕ) → IsNet net → IsRanking net ranks → IsLeastIn (listed_system net) (earliest net ranks)
+extended : (net : NetLists) (ranks : List ℕ) → IsNet net → IsRanking net ranks → AreRanks (extended_places net) 400 (rank_of ranks)
+extended net ranks ok r = ranks_extended net 400 (rank_of ranks) (ranks_of net ranks ok r)
+
+pub earliest_is_least : (net : NetLists) (init : InitialDates) (rel : Dating) (ranks : List ℕ) → IsNet net → IsRanking net ranks
+    → IsLeastIn (system_with net init rel) (earliest (system_with net init rel) ranks)
 unfolding earliest
-earliest_is_least net ranks ok r = least_of net (listed net) 400 (rank_of ranks) (ranks_of net ranks ok r)
-
-pub earliest_of_net : (net : NetLists) (ranks : List ℕ) → IsNet net → IsRanking net ranks → IsLeastDating net (earliest net ranks)
-earliest_of_net net ranks ok r = least_of_system net (listed net) (earliest net ranks) (earliest_is_least net ranks ok r)
+earliest_is_least net init rel ranks ok r = least_over_is_least (system_with net init rel) 400 (rank_of ranks) (extended net ranks ok r)
 
 -- its dates fit
-pub earliest_within : (net : NetLists) (ranks : List ℕ) → IsNet net → IsRanking net ranks → (t k : ℕ) → t < length net.transitions → 1 ≤ k → k ≤ most_numbers → IsWithin (2 ^ 126) (earliest net ranks t k)
-earliest_within net ranks ok r t k l o few =
-    let rr = ranks_of net ranks ok r in
-    let low = rr.below t in
-    within_more (greatest_date * (k + 1) + greatest_hold * (k * 400 + rank_of ranks t)) (2 ^ 126) (earliest net ranks t k) (omega arith)
-    (least_within net (listed net) (earliest net ranks) 400 (rank_of ranks) (λ j. greatest_date * (j + 1)) ok rr (listed_within net ok) (earliest_of_net net ranks ok r) t k l o)
+pub earliest_within : (net : NetLists) (init : InitialDates) (rel : Dating) (ranks : List ℕ) → IsNet net → IsRanking net ranks → KeepsBounds (system_with net init rel)
+    → (t k : ℕ) → 1 ≤ k → k ≤ most_rows → IsWithin (2 ^ 126) (earliest (system_with net init rel) ranks t k)
+earliest_within net init rel ranks ok r b t k o few =
+    let s : System = system_with net init rel in
+    let re = extended net ranks ok r in
+    let low = re.below t in
+    let first = b.1.grows k most_rows few in
+    within_more (b.0 k + greatest_hold * (k * 400 + rank_of ranks t)) (2 ^ 126) (earliest s ranks t k) (omega (arith, low, first, b.2, few))
+    (least_in_within s 400 greatest_hold (rank_of ranks) b.0 (earliest s ranks) re b.1 (earliest_is_least net init rel ranks ok r) t k o)
 
--- and are those of walks
-pub walks_of_table : (net : NetLists) (ranks : List ℕ) (table : TableDates) → IsNet net → IsRanking net ranks → HasDatesOf net (earliest net ranks) table → HasDatesOfWalks net table
+-- the net's own ready dates and lists keep the bounds
+pub net_keeps_bounds : (net : NetLists) → IsNet net → KeepsBounds (system_of net (listed net))
+net_keeps_bounds net ok = (first_bound, net_is_bounded net (listed net) first_bound ok (listed_within net ok), omega arith)
+
+pub earliest_of_net : (net : NetLists) (ranks : List ℕ) → IsNet net → IsRanking net ranks → IsLeastDating net (earliest (system_of net (listed net)) ranks)
+earliest_of_net net ranks ok r =
+    let s : System = system_of net (listed net) in
+    least_of_system net (listed net) (earliest s ranks) (earliest_is_least net s.initial s.release ranks ok r)
+
+-- the dates of a table of least dates are those of walks
+pub walks_of_table : (net : NetLists) (ranks : List ℕ) (table : TableDates) → IsNet net → IsRanking net ranks → HasDatesOf net (earliest (system_of net (listed net)) ranks) table → HasDatesOfWalks net table
 walks_of_table net ranks table ok r same t k l o m =
+    let x : Dating = earliest (system_of net (listed net)) ranks in
     subst (IsGreatestOfWalks net (listed net) t k) (sym (same t k l o m))
-    (least_is_walk net (listed net) (earliest net ranks) 400 (rank_of ranks) ok (ranks_of net ranks ok r) (listed_from_zero net) (earliest_of_net net ranks ok r) t k l o)
+    (least_is_walk net (listed net) x 400 (rank_of ranks) (net_ends net ok) (ranks_of net ranks ok r) (earliest_of_net net ranks ok r) t k l o)

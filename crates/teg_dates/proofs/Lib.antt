@@ -4,3 +4,4 @@ mod Cells
 mod Filling
 mod Beginning
 mod Earliest
+mod NextRow

@@ -3,6 +3,7 @@ use Rattle.std.specs.Prelude.{ℕ, ◌<◌, ◌≡◌, List, length, All, Contai
 use Rattle.std.specs.List.Sorted.{IsNonDecreasingBy}
 use Rattle.teg_net.specs.Nets.{NetLists}
 use Rattle.teg_net.specs.Circuits.{place_at}
+use Rattle.teg_check.specs.Ranks.{IsRanking}
 use Rattle.teg_dates.specs.declared.order.Ranked.{Ranked}
 
 -- the place is one of the net's, with the rank of its downstream transition
@@ -19,3 +20,7 @@ pub record IsOrder (net : NetLists) (ranks : List ℕ) (order : List Ranked) : T
   pub known : All (IsRankedPlace net ranks) order
   pub all : (q : ℕ) → q < length net.places → Contains order (ranked_at net ranks q)
   pub sorted : IsNonDecreasingBy (λ o. o.rank) order
+
+-- all places of the net, in the order of some ranking of it
+abbrev pub OrdersPlaces : NetLists → List Ranked → Type 0
+OrdersPlaces net order = (ranks : List ℕ) × IsRanking net ranks × IsOrder net ranks order

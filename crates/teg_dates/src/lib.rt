@@ -1,17 +1,24 @@
 //! The earliest dates of a timed event graph: those of the first firings of each transition.
 //!
-//! [`first_dates`] gives a [`Table`] whose dates are the least dating of the net (chapter 2), with
-//! its input lists, and with that the greatest start plus time of the walks that end at each firing.
-//! The crate stands on `teg_net`, on `teg_check` for the ranks, on `teg_model` for what a least
-//! dating is, and on `dioid` for dates.
+//! [`first_dates`] gives a [`Table`] whose dates are the least dating of the net (chapter 2), with its
+//! ready dates and its input lists, and with that the greatest start plus time of the walks that end
+//! at each firing. It stands on [`Rows`], which makes one row after another of the least dating of any
+//! system of a net: a [`Source`] gives the dates of its initial tokens and its releases. The crate
+//! stands on `teg_net`, on `teg_check` for the ranks, on `teg_model` for what a least dating is, and
+//! on `dioid` for dates.
 #![tactic(auto)]
 
 mod first;
 mod order;
+mod passes;
 mod rows;
+mod sources;
 mod table;
 #[cfg(test)]
 mod tests;
 
 pub use first::first_dates;
+pub use order::PlaceOrder;
+pub use rows::Rows;
+pub use sources::{NetInputs, Source};
 pub use table::Table;

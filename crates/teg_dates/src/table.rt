@@ -2,7 +2,7 @@
 ghost use Rattle.std.specs.Prelude.{◌≡◌, ◌<◌, ◌≤◌};
 ghost use Rattle.teg_dates.specs.Tables.{date_at};
 
-use crate::rows::cell_of;
+use crate::rows::Rows;
 use dioid::Date;
 use std::marker::Model;
 use teg_net::TransitionId;
@@ -11,9 +11,7 @@ use teg_net::TransitionId;
 /// many transitions and numbers there are, and the dates, number by number.
 #[derive(Debug, Drop)]
 pub struct Table {
-    width: usize,
-    count: u32,
-    dates: Vec<Date>,
+    rows: Rows,
 }
 
 impl Model for Table {
@@ -21,24 +19,20 @@ impl Model for Table {
 
     ghost Value = { TableDates };
 
-    ghost view = { λ a. record { width = a.width; count = a.count; dates = a.dates.items } };
+    ghost view = { λ a. a.rows };
 
-    ghost invariant = { λ a. IsTable (record { width = a.width; count = a.count; dates = a.dates.items }) };
+    ghost invariant = { λ a. IsTable a.rows };
 }
 
 impl Table {
     ghost use Rattle.teg_dates.specs.Tables.{TableDates, IsTable};
 
-    /// The table of these dates. It takes no memory.
-    pub(crate) fn new(width: usize, count: u32, dates: Vec<Date>) -> Table
-        requires { IsTable (record { width = width; count = count; dates = dates.items }) }
-        ensures { result ≡ record { width = width; count = count; dates = dates.items } }
+    /// The table of these rows. It takes no memory.
+    pub(crate) fn new(rows: Rows) -> Table
+        requires { IsTable rows }
+        ensures { result ≡ rows }
     {
-        Table {
-            width,
-            count,
-            dates,
-        }
+        Table { rows }
     }
 
     /// How many numbers the table has. It takes no memory.
@@ -46,7 +40,7 @@ impl Table {
         ensures value { result ≡ self.now.count }
         ensures limits { IsTable self.now }
     {
-        self.count
+        self.rows.count() as u32
     }
 
     /// The date of the firing of this number, from 1 on, of a transition of the net. It takes no memory.
@@ -56,6 +50,6 @@ impl Table {
         requires last { number ≤ self.now.count }
         ensures { result ≡ date_at self.now transition.index number }
     {
-        self.dates[cell_of(self.width, transition, number)]
+        self.rows.date(transition, number)
     }
 }

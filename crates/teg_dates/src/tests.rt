@@ -1,12 +1,13 @@
 //! Small nets whose dates are plain to see.
-ghost use Rattle.std.specs.Prelude.{◌≡◌, ◌<◌, length, IfOk};
+ghost use Rattle.std.specs.Prelude.{◌<◌};
 
 use crate::{Table, first_dates};
 use dioid::Date;
+use sample_nets::{ended, ready_ring, ring, two_ways};
 use std::alloc::Global;
 use std::test::Fail;
 use teg_check::check;
-use teg_net::{DateList, InputList, Name, Net, Place, Role, Transition, TransitionId};
+use teg_net::TransitionId;
 
 /// The dates of a transition in the table.
 fn dates_of(alloc: Global, table: &Table, index: u32) -> Result<Vec<Date>, Fail>
@@ -19,77 +20,10 @@ fn dates_of(alloc: Global, table: &Table, index: u32) -> Result<Vec<Date>, Fail>
     Ok(dates)
 }
 
-/// Input u with the dates 0 and 4, transition a, and place ua from u to a with hold 2.
-fn driven(alloc: Global) -> Result<Net, Fail>
-    ensures { IfOk result (λ net. length net.transitions ≡ 2) }
-{
-    let transitions = vec![in alloc;
-        Transition {
-            name: Name::new(alloc, "u")?,
-            role: Role::Input
-        },
-        Transition {
-            name: Name::new(alloc, "a")?,
-            role: Role::Internal
-        },
-    ]?;
-    let ua = Place {
-        name: Name::new(alloc, "ua")?,
-        from: TransitionId { index: 0 },
-        to: TransitionId { index: 1 },
-        hold: 2,
-        tokens: 0,
-        ready: DateList::new(Vec::new(alloc)),
-    };
-    let list = InputList {
-        transition: TransitionId { index: 0 },
-        dates: DateList::new(vec![in alloc; 0, 4]?),
-        again: None,
-    };
-    let places = vec![in alloc; ua]?;
-    let inputs = vec![in alloc; list]?;
-    Ok(Net::new(transitions, places, inputs))
-}
-
-/// Transitions a and b, place ab from a to b with hold 3, and place ba from b to a with hold 2 and one token.
-fn ring(alloc: Global) -> Result<Net, Fail>
-    ensures { IfOk result (λ net. length net.transitions ≡ 2) }
-{
-    let transitions = vec![in alloc;
-        Transition {
-            name: Name::new(alloc, "a")?,
-            role: Role::Internal
-        },
-        Transition {
-            name: Name::new(alloc, "b")?,
-            role: Role::Internal
-        },
-    ]?;
-    let places = vec![in alloc;
-        Place {
-            name: Name::new(alloc, "ab")?,
-            from: TransitionId { index: 0 },
-            to: TransitionId { index: 1 },
-            hold: 3,
-            tokens: 0,
-            ready: DateList::new(Vec::new(alloc))
-        },
-        Place {
-            name: Name::new(alloc, "ba")?,
-            from: TransitionId { index: 1 },
-            to: TransitionId { index: 0 },
-            hold: 2,
-            tokens: 1,
-            ready: DateList::new(Vec::new(alloc))
-        },
-    ]?;
-    Ok(Net::new(transitions, places, Vec::new(alloc)))
-}
-
 #[test]
 fn an_ended_list_gives_never(rt: HostRuntime) -> Result<(), Fail> {
     let alloc = rt.alloc();
-    let net = driven(alloc)?;
+    let net = ended(alloc)?;
     let live = check(alloc, &net)?;
     let table = first_dates(alloc, &net, &live, 3)?;
     let u = dates_of(alloc, &table, 0)?;
@@ -108,7 +42,7 @@ fn an_ended_list_gives_never(rt: HostRuntime) -> Result<(), Fail> {
 #[test]
 fn a_ring_fires_once_a_round(rt: HostRuntime) -> Result<(), Fail> {
     let alloc = rt.alloc();
-    let net = ring(alloc)?;
+    let net = ring(alloc, 1)?;
     let live = check(alloc, &net)?;
     let table = first_dates(alloc, &net, &live, 3)?;
     let a = dates_of(alloc, &table, 0)?;
@@ -121,5 +55,49 @@ fn a_ring_fires_once_a_round(rt: HostRuntime) -> Result<(), Fail> {
         b.as_slice(),
         [Date::At(3), Date::At(8), Date::At(13)].as_slice()
     );
+    Ok(())
+}
+
+#[test]
+fn a_token_waits_for_its_ready_date(rt: HostRuntime) -> Result<(), Fail> {
+    let alloc = rt.alloc();
+    let net = ready_ring(alloc, 4)?;
+    let live = check(alloc, &net)?;
+    let table = first_dates(alloc, &net, &live, 3)?;
+    let a = dates_of(alloc, &table, 0)?;
+    let b = dates_of(alloc, &table, 1)?;
+    assert_eq!(rt;
+        a.as_slice(),
+        [Date::At(4), Date::At(9), Date::At(14)].as_slice()
+    );
+    assert_eq!(rt;
+        b.as_slice(),
+        [Date::At(7), Date::At(12), Date::At(17)].as_slice()
+    );
+    Ok(())
+}
+
+#[test]
+fn the_later_token_of_two_ways_counts(rt: HostRuntime) -> Result<(), Fail> {
+    let alloc = rt.alloc();
+    let net = two_ways(alloc)?;
+    let live = check(alloc, &net)?;
+    let table = first_dates(alloc, &net, &live, 3)?;
+    let b = dates_of(alloc, &table, 1)?;
+    assert_eq!(rt;
+        b.as_slice(),
+        [Date::At(100), Date::At(100), Date::At(100)].as_slice()
+    );
+    Ok(())
+}
+
+#[test]
+fn a_table_goes_up_to_ten_thousand(rt: HostRuntime) -> Result<(), Fail> {
+    let alloc = rt.alloc();
+    let net = ring(alloc, 1)?;
+    let live = check(alloc, &net)?;
+    let table = first_dates(alloc, &net, &live, 10_000)?;
+    let last = table.date(TransitionId { index: 1 }, 10_000);
+    assert_eq!(rt; last, Date::At(49_998));
     Ok(())
 }

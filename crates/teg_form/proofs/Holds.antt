@@ -9,7 +9,7 @@ use Rattle.dioid.proofs.DateOrder.{at_most_refl, at_most_trans, later_left, late
 use Rattle.teg_net.specs.declared.entries.Place.{Place}
 use Rattle.teg_net.specs.Nets.{NetLists, IsNet, IsPlaceOf}
 use Rattle.teg_net.specs.Circuits.{no_place}
-use Rattle.teg_form.specs.Times.{cell, IsHoldBetween, AreFreeHolds}
+use Rattle.teg_form.specs.Times.{cell, IsHoldBetween}
 use Rattle.teg_form.proofs.Cells.{cell_in, one_cell}
 
 -- the place of this number
@@ -20,13 +20,6 @@ pub record HoldsUpTo (net : NetLists) (holds : List Date) (i : ℕ) : Type 0 whe
   pub count : length holds ≡ length net.transitions * length net.transitions
   pub sound : (a b : ℕ) → a < length net.transitions → b < length net.transitions → IsHoldBetween net a b (cell holds (length net.transitions) a b)
   pub complete : (k : ℕ) → k < i → (place net k).tokens ≡ 0 → IsAtMostDate (At (pos (place net k).hold)) (cell holds (length net.transitions) (place net k).from.index (place net k).to.index)
-
-pub holds_begin : (net : NetLists) (holds : List Date) → length holds ≡ length net.transitions * length net.transitions → ((k : ℕ) → get_or holds k Early ≡ Early) → HoldsUpTo net holds 0
-holds_begin net holds len none = record {
-  count = len;
-  sound = λ a b ha hb. subst (IsHoldBetween net a b) (sym (none (a * length net.transitions + b))) tt;
-  complete = λ k l z. absurd (omega arith);
-}
 
 pub holds_same : (net : NetLists) (holds : List Date) (i : ℕ) → HoldsUpTo net holds i → (place net i).tokens ≢ 0 → HoldsUpTo net holds (i + 1)
 holds_same net holds i h t = record {
@@ -82,6 +75,3 @@ holds_more net holds i ok h l z =
           subst (λ v. IsAtMostDate (At (pos (place net v).hold)) (cell (set holds at new) n (place net v).from.index (place net v).to.index)) e (subst (IsAtMostDate hold) (sym here) (later_right old hold)))
           (cases_lt k i);
     }
-
-pub free_holds_are : (net : NetLists) (holds : List Date) → HoldsUpTo net holds (length net.places) → AreFreeHolds net holds
-free_holds_are net holds h = record { count = h.count; sound = h.sound; complete = λ id l z. h.complete id.index l z }

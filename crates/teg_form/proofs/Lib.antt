@@ -9,3 +9,6 @@ mod StarIs
 mod Merging
 mod SortedSame
 pub mod OneForm
+mod PathDates
+mod DatesByForm
+mod FormIsWhole

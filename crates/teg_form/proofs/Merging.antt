@@ -52,13 +52,6 @@ pub record EntriesUpTo (net : NetLists) (order : List Marked) (entries : List En
   pub covers : (to pos time : ℕ) → pos < length order → to * length order + pos < turn → IsTimeFrom net (mark_at order pos).place to time → Any (Covers net (mark_at order pos).place to time) entries
   pub sorted : AllPairs (λ e f. code e < code f) entries
 
-pub entries_begin : (net : NetLists) (order : List Marked) → EntriesUpTo net order [] 0
-entries_begin net order = record {
-  known = λ i d l. absurd (omega arith);
-  covers = λ to pos time l m. absurd (omega arith);
-  sorted = λ i j d l m. absurd (omega arith);
-}
-
 -- numbers that rise tell the order
 pub before_of : (net : NetLists) (order : List Marked) (turn : ℕ) (e f : Entry) → IsFromTurn net order turn e → IsFromTurn net order turn f → code e < code f → IsEntryBefore e f
 before_of net order turn e f h k l = ⊎_elim

@@ -1,5 +1,5 @@
 -- Lists that are sorted by a strict order and have the same elements are equal.
-use Rattle.std.proofs.Common.{◌≡◌, ℕ, zero, suc, ◌<◌, ◌⊎◌, ⊎_elim, inl, inr, List, [], ◌∷◌, length, refl, sym, subst, ap, ◌∙◌, arith}
+use Rattle.std.proofs.Common.{◌≡◌, zero, suc, ◌⊎◌, ⊎_elim, inl, inr, List, [], ◌∷◌, refl, sym, subst, arith}
 use Rattle.std.specs.Prelude.{All, AllPairs, Contains}
 
 head_before : {A : Type 0} (Before : A → A → Type 0) (x : A) (xs : List A) → AllPairs Before (x ∷ xs) → All (Before x) xs

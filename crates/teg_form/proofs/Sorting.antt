@@ -1,5 +1,5 @@
 -- The loop of `by_source`.
-use Rattle.std.proofs.Common.{ℕ, ◌+◌, ◌<◌, ◌≤◌, ◌≡◌, ◌≢◌, List, [], ◌∷◌, ◌++◌, length, get_or, refl, ap, arith, ⊎_elim, length-append}
+use Rattle.std.proofs.Common.{ℕ, ◌+◌, ◌<◌, ◌≤◌, ◌≡◌, ◌≢◌, List, [], ◌∷◌, ◌++◌, length, get_or, refl, arith, ⊎_elim, length-append}
 use Rattle.std.specs.Prelude.{All, Contains}
 use Rattle.std.proofs.lemmas.Bool.{cases_lt}
 use Rattle.std.proofs.lemmas.List.Elements.{All-push, Contains-push, Contains-append_left}
@@ -12,19 +12,6 @@ pub record OrderUpTo (net : NetLists) (order : List Marked) (i : ℕ) : Type 0 w
   pub few : length order ≤ i
   pub known : All (IsMarkedPlace net) order
   pub all : (k : ℕ) → k < i → 1 ≤ (get_or net.places k no_place).tokens → Contains order (marked_at net k)
-
-pub order_begin : (net : NetLists) → OrderUpTo net [] 0
-order_begin net = record { few = omega arith; known = λ i d l. absurd (omega arith); all = λ k l m. absurd (omega arith) }
-
-pub order_same : (net : NetLists) (order : List Marked) (i : ℕ) → OrderUpTo net order i → (get_or net.places i no_place).tokens ≡ 0 → OrderUpTo net order (i + 1)
-order_same net order i h z = record {
-  few = omega (arith, h.few);
-  known = h.known;
-  all = λ k m some. ⊎_elim
-      (λ (q : k < i). h.all k q some)
-      (λ (q : i ≤ k). let is : k ≡ i = omega arith in absurd (omega (arith, z, some, ap (λ j. (get_or net.places j no_place).tokens) is)))
-      (cases_lt k i);
-}
 
 some_of : (n : ℕ) → n ≢ 0 → 1 ≤ n
 some_of n h = grind arith

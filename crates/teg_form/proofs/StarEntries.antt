@@ -9,7 +9,7 @@ use Rattle.std.proofs.lemmas.Nat.{div-add-mod'}
 use Rattle.std.proofs.lemmas.List.Elements.{All-push}
 use Rattle.std.proofs.lemmas.List.Quantifiers.{Any-push, all_pairs_push}
 use Rattle.dioid.specs.declared.dates.Date.{Date}
-use Rattle.dioid.specs.declared.dates.Date.TheVariants.{Early, At, Never}
+use Rattle.dioid.specs.declared.dates.Date.TheVariants.{Early, At}
 use Rattle.dioid.specs.Dates.{IsAtMostDate}
 use Rattle.dioid_matrix.specs.Tables.{Table}
 use Rattle.teg_net.specs.declared.entries.Place.{Place}
@@ -51,10 +51,6 @@ pub some_held : (net : NetLists) (times : Table Date) (a b time : ℕ) → AreFr
     → cell times.entries times.columns a b ≢ Early
 some_held net times a b time h ha p e = subst (IsAtMostDate (At (pos time))) e (h.complete a b time ha p)
 
-pub never_held : (net : NetLists) (times : Table Date) (a b : ℕ) → AreFreeTimes net times → a < length net.transitions → b < length net.transitions
-    → cell times.entries times.columns a b ≢ Never
-never_held net times a b h ha hb e = subst (IsTimeBetween net a b) e (h.sound a b ha hb)
-
 -- the ends of a path without tokens are transitions of the net, where its start is
 pub end_in : (net : NetLists) (ps : List PlaceId) (a b : ℕ) → IsNet net → a < length net.transitions → IsPathBetween net a ps b → b < length net.transitions
 end_in net [] a b ok h p = omega (arith, h, p)
@@ -92,14 +88,6 @@ pub record StarsUpTo (net : NetLists) (stars : List StarEntry) (pair : ℕ) : Ty
   pub all : (a b time : ℕ) → a < length net.transitions → b * length net.transitions + a < pair → b ≢ a → IsTimeOfFreePath net a b time → Any (joins a b) stars
   pub before : All (StandsBefore (length net.transitions) pair) stars
   pub sorted : AllPairs IsStarBefore stars
-
-pub stars_begin : (net : NetLists) → StarsUpTo net [] 0
-stars_begin net = record {
-  known = λ i d l. absurd (omega arith);
-  all = λ a b time ha l. absurd (omega arith);
-  before = λ i d l. absurd (omega arith);
-  sorted = λ i j d l m. absurd (omega arith);
-}
 
 -- what stands at the pair of these numbers
 at_pair : (n a b pair : ℕ) → a < n → 0 < n → b * n + a < pair + 1 → (b * n + a < pair) ⊎ ((b ≡ pair / n) × (a ≡ pair % n))

@@ -2,13 +2,15 @@
 //! those that begin with a place with tokens (chapter 2, the explicit form).
 //!
 //! Its one contract: [`standard_form`] answers exactly these times, sorted, for each pair of
-//! transitions that such a path joins. Only the net's own places count. The crate stands on
-//! `teg_net`, on `teg_check` for the ranks of a live net, on `dioid_matrix` for the star of a matrix,
-//! and on `dioid` for dates.
+//! transitions that such a path joins. Only the net's own places count. The law
+//! [`least_dates_are_by_form`] ties the form to dates. The crate stands on `teg_net`, on `teg_check`
+//! for the ranks of a live net, on `teg_model` for what a least dating is, on `dioid_matrix` for the
+//! star of a matrix, and on `dioid` for dates.
 #![tactic(auto)]
 
 mod entries;
 mod form;
+mod laws;
 mod matrix;
 mod order;
 mod stars;
@@ -16,3 +18,4 @@ mod stars;
 mod tests;
 
 pub use form::{Entry, Form, StarEntry, standard_form};
+pub use laws::least_dates_are_by_form;

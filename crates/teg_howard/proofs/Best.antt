@@ -1,22 +1,22 @@
 -- The loop of `best_circuit`: the best of the circuits that begin below i.
-use Rattle.std.proofs.Common.{ℕ, zero, suc, ◌+◌, ◌-◌, ◌*◌, ◌<◌, ◌≤◌, ◌≡◌, ◌≢◌, List, [], ◌∷◌, Bool, Option, Some, None, length, get_or, refl, sym, ap, subst, ◌∙◌, arith, inl, inr, ⊎_elim}
-use Rattle.std.specs.Prelude.{All, Any, ◌⊎◌}
-use Rattle.std.proofs.lemmas.Bool.{cases_eq, cases_lt}
+use Rattle.std.proofs.Common.{ℕ, zero, suc, ◌+◌, ◌-◌, ◌*◌, ◌<◌, ◌≤◌, ◌≡◌, List, [], ◌∷◌, Bool, Option, Some, None, length, get_or, refl, sym, ap, subst, ◌∙◌, arith, ⊎_elim}
+use Rattle.std.specs.Prelude.{All, Any}
+use Rattle.std.proofs.lemmas.Bool.{cases_lt}
 use Rattle.teg_net.specs.declared.entries.PlaceId.{PlaceId}
 use Rattle.teg_net.specs.Nets.{NetLists, IsNet}
-use Rattle.teg_net.specs.Circuits.{place_at, IsPathBetween, IsCircuit, IsLive, time_of, tokens_of, from_of}
+use Rattle.teg_net.specs.Circuits.{IsPathBetween, IsLive, time_of, tokens_of, from_of}
 use Rattle.teg_howard.specs.declared.policy_circuits.Found.{Found}
 use Rattle.teg_net.specs.Parts.{IsMember, IsPlaceOfPart, to_of}
-use Rattle.teg_howard.specs.Policies.{Policy, IsPolicy, IsPolicyCircuit, IsBestCircuit, step_back, first_id}
+use Rattle.teg_howard.specs.Policies.{Policy, IsPolicy, IsPolicyCircuit, step_back, first_id}
 use Rattle.teg_net.specs.PartAnswers.{first_transition_of}
 use Rattle.teg_howard.specs.Found.{IsFoundAt, IsMarked, IsAbove, IsBestFound}
-use Rattle.teg_howard.proofs.Back.{trail, trail_inside, get_or-trail}
+use Rattle.teg_howard.proofs.Back.{trail_inside, get_or-trail}
 use Rattle.teg_howard.proofs.Sums.{own_trail}
 use Rattle.teg_howard.proofs.Turns.{circuit_trail, root_member}
 use Rattle.teg_howard.proofs.Walks.{same_circuit, circuit_short}
-use Rattle.teg_howard.proofs.First.{Turned, low_turn}
+use Rattle.teg_howard.proofs.First.{low_turn}
 use Rattle.teg_howard.proofs.Optimum.{some_token}
-use Rattle.teg_howard.proofs.Ratios.{ratio_trans, ratio_trans_less}
+use Rattle.teg_howard.proofs.Ratios.{ratio_trans_less}
 
 abbrev pub Passes : NetLists → List Bool → List PlaceId → Type 0
 Passes net marked d = Any (λ p. IsMarked marked (to_of net p)) d

@@ -1,13 +1,12 @@
 -- Why the rounds end.
-use Rattle.std.proofs.Common.{ℕ, zero, suc, ◌+◌, ◌-◌, ◌*◌, ◌<◌, ◌≤◌, ◌≡◌, ◌≢◌, List, length, refl, sym, ap, subst, ◌∙◌, arith, inl, inr, ⊎_elim}
-use Rattle.std.specs.Prelude.{ℤ, pos, ◌+ℤ◌, ◌≤ℤ◌, ◌<ℤ◌, ◌⊎◌}
+use Rattle.std.proofs.Common.{ℕ, ◌+◌, ◌*◌, ◌<◌, List, sym, subst, arith, ⊎_elim}
+use Rattle.std.specs.Prelude.{pos, ◌+ℤ◌, ◌≤ℤ◌}
 use Rattle.std.proofs.lemmas.Int.{ints}
 use Rattle.teg_net.specs.declared.entries.PlaceId.{PlaceId}
 use Rattle.teg_net.specs.Nets.{NetLists}
 use Rattle.teg_net.specs.declared.rounds.Round.{Round}
 use Rattle.teg_howard.specs.declared.settling.Stand.{Stand}
 use Rattle.teg_howard.specs.Rounds.{potential}
-use Rattle.teg_howard.specs.Found.{potentials, held, value_of}
 use Rattle.teg_net.specs.ReducedTimes.{IsWithin}
 use Rattle.teg_howard.specs.Standing.{Standing, RisesEach, Rises}
 use Rattle.teg_howard.proofs.Measure.{level, level_rises, level_bound, height, height_rises, height_bound, remaining, falls_by_ratio, falls_by_sum}

@@ -1,6 +1,6 @@
 -- What follows from a clause on an Ok or a Some.
-use Rattle.std.proofs.Common.{ℕ, List, Option, Some, None, Result, Ok, Err, Bool, true, ◌≡◌, ◌<◌, length, get_or, refl, sym, ◌∙◌, arith, rules, subst, take, drop, ◌++◌}
-use Rattle.std.specs.Prelude.{IfOk, IfSome, IfNone, IsSome, All, Any}
+use Rattle.std.proofs.Common.{ℕ, List, Option, Some, None, Result, Ok, Err, Bool, true, ◌≡◌, ◌<◌, length, get_or, sym, ◌∙◌, arith, rules, subst, take, drop, ◌++◌}
+use Rattle.std.specs.Prelude.{IfOk, IfNone, IsSome, All, Any}
 use Rattle.std.proofs.lemmas.List.{get_or-replicate, take-append-le, get_or_default}
 use lib.ListN.{replicate}
 use Rattle.std.proofs.Math.Seq.{take-length}

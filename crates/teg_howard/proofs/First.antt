@@ -1,13 +1,13 @@
 -- A best circuit begins at its lowest numbered transition.
-use Rattle.std.proofs.Common.{ℕ, zero, suc, ◌+◌, ◌-◌, ◌*◌, ◌<◌, ◌≤◌, ◌≡◌, List, [], ◌∷◌, ◌++◌, length, get_or, take, drop, refl, sym, ap, subst, ◌∙◌, arith, ⊎_elim}
+use Rattle.std.proofs.Common.{ℕ, zero, suc, ◌+◌, ◌-◌, ◌*◌, ◌<◌, ◌≤◌, ◌≡◌, List, length, get_or, take, drop, sym, ap, subst, ◌∙◌, arith, ⊎_elim}
 use Rattle.std.specs.Prelude.{All, Any}
 use Rattle.std.proofs.lemmas.Bool.{cases_lt}
-use Rattle.std.proofs.lemmas.List.{length-append, length-drop, length-take-le, get_or_append_left, get_or-append_right, get_or-drop, get_or-take, get_or_default}
+use Rattle.std.proofs.lemmas.List.{length-drop, get_or_append_left, get_or-append_right, get_or-drop, get_or-take, get_or_default}
 use Rattle.std.proofs.lemmas.List.Elements.{All-append, All-take, All-drop}
 use Rattle.teg_net.specs.declared.entries.PlaceId.{PlaceId}
 use Rattle.teg_net.specs.Nets.{NetLists}
 use Rattle.teg_net.specs.Circuits.{place_at, time_of, tokens_of, from_of}
-use Rattle.teg_net.proofs.Turning.{turned, length-turned, turned_circuit, turned_sum, turned_all}
+use Rattle.teg_net.proofs.Turning.{turned, length-turned, turned_circuit, turned_sum}
 use Rattle.teg_net.specs.Parts.{IsPlaceOfPart, to_of}
 use Rattle.teg_howard.specs.Policies.{Policy, IsPolicyCircuit, IsBestCircuit, first_id}
 use Rattle.teg_net.specs.PartAnswers.{first_transition_of}
@@ -108,7 +108,7 @@ low_turn net parts part π P d h =
         inside = All-append (IsPlaceOfPart net parts part) (drop k d) (take k d) (All-drop (IsPlaceOfPart net parts part) k d h.inside) (All-take (IsPlaceOfPart net parts part) k d h.inside);
         own = All-append (λ p. π (to_of net p) ≡ p) (drop k d) (take k d) (All-drop (λ p. π (to_of net p) ≡ p) k d h.own) (All-take (λ p. π (to_of net p) ≡ p) k d h.own);
       };
-      low = turned_all (λ p. first_transition_of net e ≤ from_of net p) d k (omega arith) least;
+      low = All-append (λ p. first_transition_of net e ≤ from_of net p) (drop k d) (take k d) (All-drop (λ p. first_transition_of net e ≤ from_of net p) k d least) (All-take (λ p. first_transition_of net e ≤ from_of net p) k d least);
       any = any_turned P d k (omega arith);
       time = turned_sum (λ p. (place_at net p).hold) d k;
       tokens = turned_sum (λ p. (place_at net p).tokens) d k;

@@ -1,6 +1,6 @@
 -- The loop of `improve`: the places below i have made their offers.
-use Rattle.std.proofs.Common.{ℕ, zero, suc, ◌+◌, ◌-◌, ◌*◌, ◌<◌, ◌≤◌, ◌≡◌, ◌≢◌, List, [], ◌∷◌, ◌++◌, Option, Some, None, Bool, true, false, length, get_or, set, refl, sym, ap, subst, ◌∙◌, arith, inl, inr, ⊎_elim}
-use Rattle.std.specs.Prelude.{ℤ, pos, ◌+ℤ◌, ◌-ℤ◌, ◌≤ℤ◌, ◌<ℤ◌, All, Any, ◌⊎◌}
+use Rattle.std.proofs.Common.{ℕ, ◌+◌, ◌<◌, ◌≤◌, ◌≡◌, ◌≢◌, List, Option, Bool, true, false, length, get_or, set, refl, sym, ap, subst, ◌∙◌, arith, inl, inr, ⊎_elim}
+use Rattle.std.specs.Prelude.{ℤ, pos, ◌≤ℤ◌, ◌<ℤ◌, All, ◌⊎◌}
 use Rattle.std.proofs.lemmas.Int.{ints}
 use Rattle.std.proofs.lemmas.Bool.{cases_eq, cases_lt, cases_Bool}
 use Rattle.std.proofs.lemmas.List.{length-set, get_or-set_same, get_or-set_other}
@@ -8,11 +8,10 @@ use Rattle.std.proofs.lemmas.List.Elements.{All-set}
 use Rattle.teg_net.specs.declared.entries.PlaceId.{PlaceId}
 use Rattle.teg_net.specs.Nets.{NetLists}
 use Rattle.teg_net.specs.Ratios.{Fraction}
-use Rattle.teg_net.specs.Parts.{IsMember, IsPlaceOfPart, to_of}
-use Rattle.teg_howard.specs.Policies.{Policy, Enters, first_id, offer_of, Improves, IsGreatestOffer, IsImprovement}
-use Rattle.teg_net.specs.Circuits.{from_of}
-use Rattle.teg_howard.specs.Found.{given, value_of, held, potentials, IsMarked, IsBetter, CanImprove}
-use Rattle.teg_howard.proofs.Turns.{same_id, cases_improves}
+use Rattle.teg_net.specs.Parts.{IsPlaceOfPart, to_of}
+use Rattle.teg_howard.specs.Policies.{Policy, Enters, first_id, offer_of, Improves}
+use Rattle.teg_howard.specs.Found.{given, potentials, IsMarked, IsBetter}
+use Rattle.teg_howard.proofs.Turns.{same_id}
 
 -- the greatest offer to t so far, which the policy has taken
 pub record Greatest (net : NetLists) (parts : List ℕ) (part a b : ℕ) (v : ℕ → ℤ) (t : ℕ) (p : PlaceId) (z : ℤ) (i : ℕ) : Type 0 where

@@ -1,21 +1,20 @@
 -- Choices as a list: one for each member, and what the last round's answer tells of them.
-use Rattle.std.proofs.Common.{ℕ, zero, suc, ◌+◌, ◌*◌, ◌<◌, ◌≤◌, ◌≡◌, ◌≢◌, List, [], ◌∷◌, Option, Some, None, Bool, true, false, eqb, length, get_or, refl, sym, ap, subst, ◌∙◌, arith, inl, inr, ⊎_elim}
-use Rattle.std.specs.Prelude.{ℤ, pos, ◌+ℤ◌, ◌≤ℤ◌, ◌<ℤ◌, All, AllPairs, Contains, map, ◌⊎◌}
+use Rattle.std.proofs.Common.{ℕ, zero, suc, ◌*◌, ◌<◌, ◌≤◌, ◌≡◌, ◌≢◌, List, [], ◌∷◌, Some, None, true, false, eqb, length, get_or, refl, ap, subst, arith, inl, inr, ⊎_elim}
+use Rattle.std.specs.Prelude.{ℤ, pos, ◌≤ℤ◌, ◌<ℤ◌, All, AllPairs, Contains, map}
 use Rattle.std.proofs.lemmas.Int.{ints}
-use Rattle.std.proofs.lemmas.Bool.{cases_eq, cases_lt, cases_Bool, eqb-true, eq-eqb, ne_eqb}
-use Rattle.std.proofs.lemmas.List.{get_or-map, length-map, get_or_default}
+use Rattle.std.proofs.lemmas.Bool.{cases_lt, cases_Bool, eqb-true, eq-eqb, ne_eqb}
+use Rattle.std.proofs.lemmas.List.{get_or-map, length-map}
 use Rattle.std.proofs.lemmas.List.Elements.{All-map, All-tail}
 use Rattle.teg_net.specs.declared.entries.PlaceId.{PlaceId}
 use Rattle.teg_net.specs.declared.rounds.Choice.{Choice}
 use Rattle.teg_net.specs.declared.rounds.Round.{Round}
-use Rattle.teg_net.specs.declared.answers.Potential.{Potential}
 use Rattle.teg_net.specs.Nets.{NetLists}
 use Rattle.teg_net.specs.Circuits.{from_of, BeginsLowest}
 use Rattle.teg_net.specs.Parts.{IsMember, ListsMembers}
 use Rattle.teg_net.specs.PartAnswers.{first_transition_of, transitions_of}
 use Rattle.teg_net.specs.Limits.{most_transitions}
 use Rattle.teg_howard.specs.Rounds.{choice_in, chosen_for, potential, value_in}
-use Rattle.teg_howard.specs.Runs.{sum_below, potential_sum, RisesInSum, PairRises, potential_of}
+use Rattle.teg_howard.specs.Runs.{sum_below, PairRises, potential_of}
 use Rattle.teg_howard.specs.Found.{ListsChoices}
 use Rattle.teg_howard.specs.Standing.{RisesEach, Rises}
 

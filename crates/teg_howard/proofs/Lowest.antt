@@ -1,14 +1,12 @@
 -- The loop of `lowest_places`: places from number i on.
-use Rattle.std.proofs.Common.{ℕ, ◌+◌, ◌<◌, ◌≤◌, ◌≡◌, ◌≢◌, List, length, get_or, set, refl, sym, ap, subst, ◌∙◌, arith, inl, inr, ⊎_elim}
-use Rattle.std.specs.Prelude.{All, ◌⊎◌}
-use Rattle.std.proofs.lemmas.Bool.{cases_eq, cases_lt}
+use Rattle.std.proofs.Common.{ℕ, ◌+◌, ◌<◌, ◌≤◌, ◌≡◌, ◌≢◌, List, length, set, sym, ap, subst, ◌∙◌, arith, ⊎_elim}
+use Rattle.std.proofs.lemmas.Bool.{cases_eq}
 use Rattle.std.proofs.lemmas.List.{length-set, get_or-set_same, get_or-set_other}
 use Rattle.teg_net.specs.declared.entries.PlaceId.{PlaceId}
 use Rattle.teg_net.specs.Nets.{NetLists}
-use Rattle.teg_net.specs.Circuits.{place_at, from_of}
-use Rattle.teg_net.specs.Parts.{IsMember, IsPlaceOfPart, to_of}
+use Rattle.teg_net.specs.Parts.{IsPlaceOfPart, to_of}
 use Rattle.teg_howard.specs.Policies.{Enters, first_id}
-use Rattle.teg_howard.specs.Found.{given, AreLowest}
+use Rattle.teg_howard.specs.Found.{given}
 
 pub record LowestFrom (net : NetLists) (parts : List ℕ) (part : ℕ) (ps : List PlaceId) (i : ℕ) : Type 0 where
   pub count : length ps ≡ length parts

@@ -1,6 +1,6 @@
 -- A part has one policy run: two rounds that stand at one place of two runs are equal.
-use Rattle.std.proofs.Common.{ℕ, zero, suc, ◌+◌, ◌-◌, ◌*◌, ◌<◌, ◌≤◌, ◌≡◌, ◌≢◌, List, [], ◌∷◌, ◌++◌, Option, Some, None, true, false, eqb, length, get_or, take, refl, sym, ap, subst, ◌∙◌, arith, inl, inr, ⊎_elim}
-use Rattle.std.specs.Prelude.{ℤ, pos, All, Any, ◌⊎◌}
+use Rattle.std.proofs.Common.{ℕ, zero, suc, ◌+◌, ◌-◌, ◌<◌, ◌≤◌, ◌≡◌, List, [], ◌∷◌, None, true, false, eqb, length, get_or, take, refl, sym, ap, subst, ◌∙◌, arith, inl, inr, ⊎_elim}
+use Rattle.std.specs.Prelude.{All, Any}
 use Rattle.std.proofs.lemmas.Bool.{cases_Bool, cases_lt, eqb-true}
 use Rattle.std.proofs.lemmas.List.Elements.{All-tail}
 use Rattle.teg_net.specs.declared.entries.PlaceId.{PlaceId}
@@ -9,9 +9,9 @@ use Rattle.teg_net.specs.Circuits.{IsLive, time_of, tokens_of, from_of}
 use Rattle.teg_net.specs.declared.rounds.Choice.{Choice}
 use Rattle.teg_net.specs.declared.rounds.Round.{Round}
 use Rattle.teg_net.specs.Parts.{IsMember, IsPlaceOfPart, to_of}
-use Rattle.teg_howard.specs.Policies.{Policy, IsPolicy, Enters, IsPolicyCircuit, IsBestCircuit, LeadsBack, IsRouted, Joins, JoinsNext, IsRouting, AreSums, IsImprovement, IsChanged, Improves}
+use Rattle.teg_howard.specs.Policies.{Policy, IsPolicy, IsBestCircuit, LeadsBack, IsRouted, Joins, IsRouting, AreSums, IsImprovement, IsChanged, Improves}
 use Rattle.teg_net.specs.PartAnswers.{first_transition_of}
-use Rattle.teg_howard.specs.Rounds.{chosen, potential, place_in, value_in, choice_in, IsRound, IsRoundOf, IsFirstRound, IsLowestInto, KeepsCircuit, Follows, IsRunTo, IsPolicyRun}
+use Rattle.teg_howard.specs.Rounds.{chosen, potential, place_in, value_in, choice_in, IsRound, IsRoundOf, IsFirstRound, KeepsCircuit, Follows, IsRunTo, IsPolicyRun}
 use Rattle.teg_net.specs.Ratios.{IsRatioOf}
 use Rattle.teg_howard.proofs.Turns.{same_id, cases_member, better_is_policy, still_back_to_root}
 use Rattle.teg_howard.proofs.Routing.{all_home}

@@ -1,17 +1,16 @@
 -- A round that no place improves is optimal.
-use Rattle.std.proofs.Common.{ℕ, zero, suc, ◌+◌, ◌-◌, ◌*◌, ◌<◌, ◌≤◌, ◌≡◌, ◌≢◌, List, [], ◌∷◌, ◌++◌, length, get_or, take, refl, sym, ap, subst, ◌∙◌, arith, inl, inr, ⊎_elim}
-use Rattle.std.specs.Prelude.{ℤ, pos, ◌+ℤ◌, ◌-ℤ◌, ◌≤ℤ◌, ◌<ℤ◌, All, Any, AllPairs, sum_by, ◌⊎◌}
+use Rattle.std.proofs.Common.{ℕ, suc, ◌*◌, ◌<◌, ◌≤◌, ◌≡◌, ◌≢◌, List, get_or, refl, ap, subst, ◌∙◌, arith, ⊎_elim}
+use Rattle.std.specs.Prelude.{ℤ, pos, ◌≤ℤ◌, All}
 use Rattle.std.proofs.lemmas.Int.{ints, by_lt_z}
-use Rattle.std.proofs.lemmas.Bool.{cases_eq, cases_lt}
+use Rattle.std.proofs.lemmas.Bool.{cases_eq}
 use Rattle.teg_net.specs.declared.entries.PlaceId.{PlaceId}
 use Rattle.teg_net.specs.Nets.{NetLists}
-use Rattle.teg_net.specs.Circuits.{place_at, IsPathBetween, IsCircuit, IsLive, time_of, tokens_of, from_of}
+use Rattle.teg_net.specs.Circuits.{IsPathBetween, IsCircuit, IsLive, time_of, tokens_of}
 use Rattle.teg_net.specs.Parts.{IsMember, IsPlaceOfPart, to_of}
-use Rattle.teg_howard.specs.Policies.{Policy, IsPolicy, Enters, IsPolicyCircuit, step_back, LeadsBack, first_id, offer_of, AreSums, Improves}
-use Rattle.teg_net.specs.PartAnswers.{first_transition_of}
-use Rattle.teg_net.specs.ReducedTimes.{reduced_time, reduced_time_of}
+use Rattle.teg_howard.specs.Policies.{Policy, IsPolicy, step_back, LeadsBack, offer_of, AreSums, Improves}
+use Rattle.teg_net.specs.ReducedTimes.{reduced_time_of}
 use Rattle.teg_howard.proofs.Search.{FirstBelow, first_below}
-use Rattle.teg_howard.proofs.Back.{trail, back_member, trail_leads, trail_inside}
+use Rattle.teg_howard.proofs.Back.{trail, trail_leads, trail_inside}
 use Rattle.teg_howard.proofs.Sums.{weight_is, above_along, sum_back}
 
 module _ (net : NetLists) (parts : List ℕ) (part a b : ℕ) (v : ℕ → ℤ) (none : (t : ℕ) (p : PlaceId) → Improves net parts part a b v t p → ⊥) where

@@ -1,11 +1,7 @@
 -- Ratios in lowest terms, and which is greater.
-use Rattle.std.proofs.Common.{ℕ, zero, suc, ◌+◌, ◌-◌, ◌*◌, ◌/◌, ◌<◌, ◌≤◌, ◌≡◌, ◌≢◌, refl, sym, ap, subst, ◌∙◌, arith, inl, inr, ⊎_elim}
-use Rattle.std.specs.Prelude.{◌⊎◌}
-use Rattle.std.specs.Int.{◌∣◌, IsGcd}
-use Rattle.std.proofs.lemmas.Bool.{cases_lt, cases_eq}
-use Rattle.std.proofs.lemmas.Nat.Gcd.{dvd_refl, le_of_dvd}
-use Rattle.std.proofs.Math.Nat.{div-mul_cancel, div-le_self, mul-dvd-mul_right, mul-le-mul_left, mul-le-mul_right}
-use Rattle.teg_net.specs.Ratios.{Fraction, IsRatioOf}
+use Rattle.std.proofs.Common.{ℕ, ◌+◌, ◌*◌, ◌<◌, ◌≤◌, arith, ⊎_elim}
+use Rattle.std.proofs.lemmas.Bool.{cases_lt}
+use Rattle.std.proofs.Math.Nat.{mul-le-mul_right}
 use Rattle.teg_howard.proofs.Measure.{cancel}
 
 -- a ratio at most another that is at most a third

@@ -1,14 +1,13 @@
 -- Runs of rounds, and places into each member.
-use Rattle.std.proofs.Common.{ℕ, zero, suc, ◌+◌, ◌-◌, ◌<◌, ◌≤◌, ◌≡◌, ◌≢◌, List, [], ◌∷◌, ◌++◌, length, get_or, refl, sym, ap, subst, ◌∙◌, arith, inl, inr, ⊎_elim}
-use Rattle.std.specs.Prelude.{All, ◌⊎◌}
+use Rattle.std.proofs.Common.{ℕ, ◌+◌, ◌-◌, ◌<◌, ◌≤◌, ◌≡◌, ◌≢◌, List, [], ◌∷◌, ◌++◌, length, get_or, sym, ap, subst, ◌∙◌, arith, ⊎_elim}
+use Rattle.std.specs.Prelude.{All}
 use Rattle.std.proofs.lemmas.Bool.{cases_lt, cases_eq}
 use Rattle.std.proofs.lemmas.List.{length_push, get_or_push, get_or_append_left, get_or_default}
 use Rattle.std.proofs.lemmas.List.Elements.{All-tail}
 use Rattle.teg_net.specs.declared.entries.PlaceId.{PlaceId}
-use Rattle.teg_net.specs.Nets.{NetLists, IsNet}
-use Rattle.teg_net.specs.Circuits.{IsPathBetween, from_of}
+use Rattle.teg_net.specs.Nets.{NetLists}
+use Rattle.teg_net.specs.Circuits.{IsPathBetween}
 use Rattle.teg_net.specs.declared.rounds.Round.{Round}
-use Rattle.teg_parts.specs.Partitions.{AreStrong}
 use Rattle.teg_net.specs.Parts.{IsMember, IsPlaceOfPart, Reaches, to_of}
 use Rattle.teg_howard.specs.Policies.{Enters, IsPolicy, Improves, first_id}
 use Rattle.teg_net.specs.PartAnswers.{first_transition_of}
@@ -16,7 +15,7 @@ use Rattle.teg_howard.specs.Rounds.{IsFirstRound, Follows, IsRunTo, IsPolicyRun,
 use Rattle.teg_howard.specs.Found.{given, potentials, AreLowest}
 use Rattle.teg_howard.specs.Standing.{Standing, HasCircuit, IsLast, Rises}
 use Rattle.teg_howard.specs.Runs.{AllRise, IsAnswerOf, KeepsLimits, potential_of}
-use Rattle.std.specs.Prelude.{map, ℤ, pos, ◌+ℤ◌, ◌≤ℤ◌}
+use Rattle.std.specs.Prelude.{map}
 use Rattle.std.proofs.lemmas.Int.{ints}
 use Rattle.teg_net.specs.Ratios.{Fraction}
 use Rattle.teg_net.specs.declared.answers.Potential.{Potential}

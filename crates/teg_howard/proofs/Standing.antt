@@ -1,30 +1,27 @@
 -- Rounds that stand, and the step from one to the next.
-use Rattle.std.proofs.Common.{ℕ, zero, suc, ◌+◌, ◌-◌, ◌*◌, ◌<◌, ◌≤◌, ◌≡◌, ◌≢◌, List, [], ◌∷◌, ◌++◌, Option, Some, None, Bool, true, false, length, get_or, refl, sym, ap, subst, ◌∙◌, arith, inl, inr, ⊎_elim}
-use Rattle.std.specs.Prelude.{ℤ, pos, ◌+ℤ◌, ◌-ℤ◌, ◌≤ℤ◌, ◌<ℤ◌, All, Any, ◌⊎◌}
+use Rattle.std.proofs.Common.{ℕ, ◌+◌, ◌*◌, ◌<◌, ◌≤◌, ◌≡◌, ◌≢◌, List, Bool, length, refl, sym, ap, subst, ◌∙◌, arith, inl, inr, ⊎_elim}
+use Rattle.std.specs.Prelude.{pos, All, Any}
 use Rattle.std.proofs.lemmas.Int.{ints}
-use Rattle.std.proofs.lemmas.Bool.{cases_eq, cases_lt}
+use Rattle.std.proofs.lemmas.Bool.{cases_lt}
 use Rattle.teg_net.specs.declared.entries.PlaceId.{PlaceId}
 use Rattle.teg_net.specs.Nets.{NetLists, IsNet}
-use Rattle.teg_net.specs.Circuits.{IsPathBetween, IsCircuit, IsLive, time_of, tokens_of, from_of}
+use Rattle.teg_net.specs.Circuits.{IsLive, time_of, tokens_of, from_of}
 use Rattle.teg_net.specs.Ratios.{Fraction, IsRatioOf}
-use Rattle.teg_net.specs.declared.rounds.Round.{Round}
 use Rattle.teg_howard.specs.declared.settling.Stand.{Stand}
 use Rattle.teg_howard.specs.declared.policy_circuits.Found.{Found}
-use Rattle.teg_parts.specs.Partitions.{AreStrong}
 use Rattle.teg_net.specs.Parts.{IsMember, IsPlaceOfPart, to_of}
 use Rattle.teg_howard.specs.Policies.{Policy, IsPolicy, Enters, IsPolicyCircuit, IsBestCircuit, LeadsBack, IsRouting, AreSums, Improves, IsImprovement, IsChanged, first_id, offer_of}
 use Rattle.teg_net.specs.PartAnswers.{first_transition_of}
-use Rattle.teg_howard.specs.Rounds.{chosen, potential, place_in, value_in, choice_in, IsRound, IsRoundOf, IsFirstRound, IsLowestInto, KeepsCircuit, Follows}
-use Rattle.teg_howard.specs.Found.{given, potentials, value_of, held, IsSmallRatio, AreLowest, IsMade, CanSettle, IsSettled, IsBestFound, IsMarked, IsBetter}
-use Rattle.teg_net.specs.ReducedTimes.{IsWithin}
-use Rattle.teg_howard.specs.Standing.{Standing, RisesEach, Rises, HasCircuit, GoesOn, IsLast}
-use Rattle.teg_howard.proofs.Turns.{cases_id, cases_member, at_root, everywhere, better_is_policy, offers_more, greater_ratio, still_back_to_root, still_circuit, rises, rises_more}
-use Rattle.teg_howard.proofs.Routing.{all_home, routed_is_policy, circuit_kept, none_joined}
+use Rattle.teg_howard.specs.Rounds.{chosen, potential, place_in, value_in, IsRound, IsRoundOf, IsFirstRound}
+use Rattle.teg_howard.specs.Found.{given, potentials, held, IsSmallRatio, AreLowest, CanSettle, IsSettled, IsBestFound, IsMarked, IsBetter}
+use Rattle.teg_howard.specs.Standing.{Standing, HasCircuit, GoesOn, IsLast}
+use Rattle.teg_howard.proofs.Turns.{cases_member, everywhere, better_is_policy, greater_ratio, still_back_to_root, still_circuit, rises, rises_more}
+use Rattle.teg_howard.proofs.Routing.{all_home, routed_is_policy, circuit_kept}
 use Rattle.teg_howard.proofs.Improving.{cases_marked}
 use Rattle.teg_howard.proofs.Listing.{lists_members, begins_lowest}
 use Rattle.teg_howard.proofs.First.{best_lowest}
 use Rattle.teg_howard.proofs.Optimum.{some_token}
-use Rattle.std.proofs.Math.Nat.{mul-le-mul_left, mul-le-mul_right}
+use Rattle.std.proofs.Math.Nat.{mul-le-mul_right}
 
 pub same_functions : {A B : Type 0} (f g : A → B) → ((x : A) → f x ≡ g x) → f ≡ g
 same_functions f g e = λ i. λ x. e x i

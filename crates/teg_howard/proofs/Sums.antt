@@ -1,18 +1,16 @@
 -- What the places of a path count together, and potentials along it.
-use Rattle.std.proofs.Common.{ℕ, zero, suc, ◌+◌, ◌-◌, ◌*◌, ◌<◌, ◌≤◌, ◌≡◌, ◌≢◌, List, [], ◌∷◌, ◌++◌, length, get_or, take, refl, sym, ap, subst, ◌∙◌, arith, inl, inr, ⊎_elim}
-use Rattle.std.specs.Prelude.{ℤ, pos, ◌+ℤ◌, ◌-ℤ◌, ◌≤ℤ◌, ◌<ℤ◌, All, Any, AllPairs, sum_by, ◌⊎◌}
+use Rattle.std.proofs.Common.{ℕ, zero, suc, ◌+◌, ◌*◌, ◌<◌, ◌≡◌, ◌≢◌, List, [], ◌∷◌, ◌++◌, length, get_or, refl, sym, ap, ◌∙◌, arith}
+use Rattle.std.specs.Prelude.{ℤ, pos, ◌+ℤ◌, ◌≤ℤ◌, ◌<ℤ◌, All}
 use Rattle.std.proofs.lemmas.Int.{ints}
-use Rattle.std.proofs.lemmas.Bool.{cases_eq, cases_lt}
 use Rattle.std.proofs.lemmas.List.Sums.{sum_by-cons}
 use Rattle.std.proofs.lemmas.List.Elements.{All-tail}
 use Rattle.teg_net.specs.declared.entries.PlaceId.{PlaceId}
 use Rattle.teg_net.specs.Nets.{NetLists}
-use Rattle.teg_net.specs.Circuits.{place_at, IsPathBetween, IsCircuit, time_of, tokens_of, from_of}
-use Rattle.teg_net.specs.Parts.{IsMember, IsPlaceOfPart, to_of}
-use Rattle.teg_howard.specs.Policies.{Policy, IsPolicy, Enters, IsPolicyCircuit, step_back, LeadsBack, first_id, offer_of, AreSums}
-use Rattle.teg_net.specs.PartAnswers.{first_transition_of}
-use Rattle.teg_net.specs.ReducedTimes.{reduced_time, reduced_time_of}
-use Rattle.teg_howard.proofs.Back.{trail, length-trail, back_add, get_or-trail, back_member}
+use Rattle.teg_net.specs.Circuits.{place_at, IsPathBetween, time_of, tokens_of, from_of}
+use Rattle.teg_net.specs.Parts.{IsMember, to_of}
+use Rattle.teg_howard.specs.Policies.{Policy, IsPolicy, step_back, offer_of, AreSums}
+use Rattle.teg_net.specs.ReducedTimes.{reduced_time_of}
+use Rattle.teg_howard.proofs.Back.{trail, back_add, back_member}
 
 pub weight_is : (net : NetLists) (a b : ℕ) (ps : List PlaceId) → (reduced_time_of net a b ps +ℤ pos (a * tokens_of net ps)) ≡ pos (b * time_of net ps)
 weight_is net a b [] = let e : a * 0 ≡ b * 0 = omega arith in rw e (omega (arith, ints))

@@ -1,20 +1,18 @@
 -- One round and the next: what improves, what is routed, and why the pair of ratio and potentials rises.
-use Rattle.std.proofs.Common.{ℕ, zero, suc, ◌+◌, ◌-◌, ◌*◌, ◌<◌, ◌≤◌, ◌≡◌, ◌≢◌, List, [], ◌∷◌, ◌++◌, length, get_or, take, refl, sym, ap, subst, ◌∙◌, arith, inl, inr, ⊎_elim}
-use Rattle.std.specs.Prelude.{ℤ, pos, ◌+ℤ◌, ◌-ℤ◌, ◌≤ℤ◌, ◌<ℤ◌, All, Any, AllPairs, sum_by, ◌⊎◌}
+use Rattle.std.proofs.Common.{ℕ, zero, suc, ◌+◌, ◌-◌, ◌*◌, ◌<◌, ◌≤◌, ◌≡◌, ◌≢◌, List, [], ◌∷◌, ◌++◌, length, get_or, refl, sym, ap, subst, ◌∙◌, arith, inl, inr, ⊎_elim}
+use Rattle.std.specs.Prelude.{ℤ, pos, ◌+ℤ◌, ◌≤ℤ◌, ◌<ℤ◌, All, Any, ◌⊎◌}
 use Rattle.std.proofs.lemmas.Int.{ints, by_lt_z}
 use Rattle.std.proofs.lemmas.Bool.{cases_eq, cases_lt}
-use Rattle.std.proofs.lemmas.List.{get_or_default, length-take, get_or-take, length-take-le}
-use Rattle.std.proofs.lemmas.List.Elements.{All-tail}
 use Rattle.teg_net.specs.declared.entries.PlaceId.{PlaceId}
 use Rattle.teg_net.specs.Nets.{NetLists}
-use Rattle.teg_net.specs.Circuits.{place_at, IsPathBetween, IsCircuit, time_of, tokens_of, from_of}
+use Rattle.teg_net.specs.Circuits.{time_of, tokens_of, from_of}
 use Rattle.teg_net.specs.Parts.{IsMember, IsPlaceOfPart, to_of}
-use Rattle.teg_howard.specs.Policies.{Policy, IsPolicy, Enters, IsPolicyCircuit, IsBestCircuit, step_back, LeadsBack, first_id, offer_of, AreSums, Improves, IsGreatestOffer, IsImprovement, IsChanged, IsRouted, Joins, JoinsNext, IsRouting}
+use Rattle.teg_howard.specs.Policies.{Policy, IsPolicy, Enters, IsPolicyCircuit, step_back, LeadsBack, first_id, offer_of, AreSums, Improves, IsImprovement, IsChanged}
 use Rattle.teg_net.specs.PartAnswers.{first_transition_of}
 use Rattle.teg_net.specs.ReducedTimes.{reduced_time, reduced_time_of}
 use Rattle.teg_howard.proofs.Search.{FirstBelow, first_below}
 use Rattle.teg_howard.proofs.Back.{trail, length-trail, back_add, get_or-trail, back_member, trail_leads, trail_inside, trail_own, trail_circuit, first_return, to_a_circuit}
-use Rattle.teg_howard.proofs.Sums.{weight_is, weight-append, below_along, above_by_one, above_along, trail_add, own_trail, sum_back}
+use Rattle.teg_howard.proofs.Sums.{weight_is, weight-append, below_along, above_by_one, trail_add, own_trail, sum_back}
 
 pub same_id : (p q : PlaceId) → p.index ≡ q.index → p ≡ q
 same_id p q e = ap (λ i. let r : PlaceId = record { index = i } in r) e

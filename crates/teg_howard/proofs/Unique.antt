@@ -1,18 +1,17 @@
 -- The rules determine the run: two rounds that follow from one agree.
-use Rattle.std.proofs.Common.{ℕ, zero, suc, ◌+◌, ◌-◌, ◌*◌, ◌<◌, ◌≤◌, ◌≡◌, ◌≢◌, List, [], ◌∷◌, ◌++◌, length, get_or, take, refl, sym, ap, subst, ◌∙◌, arith, inl, inr, ⊎_elim}
-use Rattle.std.specs.Prelude.{ℤ, pos, ◌+ℤ◌, ◌-ℤ◌, ◌≤ℤ◌, ◌<ℤ◌, All, Any, ◌⊎◌}
+use Rattle.std.proofs.Common.{ℕ, zero, suc, ◌+◌, ◌*◌, ◌<◌, ◌≤◌, ◌≡◌, ◌≢◌, List, [], ◌∷◌, ◌++◌, length, get_or, take, refl, sym, ap, subst, ◌∙◌, arith, ⊎_elim}
+use Rattle.std.specs.Prelude.{ℤ, ◌+ℤ◌, ◌≤ℤ◌, Any}
 use Rattle.std.proofs.lemmas.Int.{ints}
 use Rattle.std.proofs.lemmas.Bool.{cases_eq, cases_lt}
-use Rattle.std.proofs.lemmas.List.{get_or_default, take_more}
+use Rattle.std.proofs.lemmas.List.{take_more}
 use Rattle.std.proofs.Math.Seq.{take-length}
 use Rattle.teg_net.specs.declared.entries.PlaceId.{PlaceId}
 use Rattle.teg_net.specs.Nets.{NetLists, IsNet}
-use Rattle.teg_net.specs.Circuits.{IsCircuit, IsLive, time_of, tokens_of, from_of}
-use Rattle.teg_net.specs.Parts.{IsMember, IsPlaceOfPart, to_of}
-use Rattle.teg_howard.specs.Policies.{Policy, IsPolicy, Enters, IsPolicyCircuit, IsBestCircuit, step_back, LeadsBack, IsRouted, Joins, JoinsNext, IsRouting, AreSums, Improves, IsGreatestOffer, IsImprovement, first_id, offer_of}
+use Rattle.teg_net.specs.Circuits.{time_of, tokens_of, from_of}
+use Rattle.teg_net.specs.Parts.{IsMember, to_of}
+use Rattle.teg_howard.specs.Policies.{Policy, IsPolicy, IsPolicyCircuit, IsBestCircuit, step_back, LeadsBack, IsRouted, JoinsNext, IsRouting, AreSums, Improves, IsImprovement, first_id, offer_of}
 use Rattle.teg_net.specs.PartAnswers.{first_transition_of}
 use Rattle.teg_net.specs.ReducedTimes.{reduced_time}
-use Rattle.teg_howard.proofs.Search.{FirstBelow, first_below}
 use Rattle.teg_howard.proofs.Back.{back_member, back_add}
 use Rattle.teg_howard.proofs.Turns.{same_id, cases_improves}
 use Rattle.teg_howard.proofs.Walks.{same_circuit}

@@ -1,19 +1,19 @@
 -- The walk of `circuit_through`: m places step_back from where it starts.
-use Rattle.std.proofs.Common.{ℕ, zero, suc, ◌+◌, ◌-◌, ◌*◌, ◌<◌, ◌≤◌, ◌≡◌, ◌≢◌, List, [], ◌∷◌, ◌++◌, length, get_or, reverse, refl, sym, ap, subst, ◌∙◌, arith, inl, inr, ⊎_elim}
-use Rattle.std.specs.Prelude.{All, ◌⊎◌, sum_by}
+use Rattle.std.proofs.Common.{ℕ, zero, suc, ◌+◌, ◌-◌, ◌*◌, ◌<◌, ◌≤◌, ◌≡◌, ◌≢◌, List, [], ◌∷◌, ◌++◌, length, reverse, refl, sym, ap, subst, ◌∙◌, arith, ⊎_elim}
+use Rattle.std.specs.Prelude.{All}
 use Rattle.std.proofs.lemmas.Bool.{cases_eq, cases_lt}
 use Rattle.std.proofs.lemmas.List.{reverse-append}
 use Rattle.std.proofs.lemmas.List.Sums.{sum_by-cons}
 use Rattle.teg_net.specs.declared.entries.PlaceId.{PlaceId}
 use Rattle.teg_net.specs.Nets.{NetLists, IsNet, IsPlaceOf}
-use Rattle.teg_net.specs.Circuits.{place_at, no_place, IsPathBetween, IsCircuit, time_of, tokens_of, from_of}
+use Rattle.teg_net.specs.Circuits.{place_at, no_place, IsCircuit, time_of, tokens_of, from_of}
 use Rattle.teg_howard.specs.declared.policy_circuits.Found.{Found}
-use Rattle.teg_net.specs.Parts.{IsMember, IsPlaceOfPart, to_of}
-use Rattle.teg_howard.specs.Policies.{Policy, IsPolicy, Enters, IsPolicyCircuit, step_back, first_id}
+use Rattle.teg_net.specs.Parts.{IsMember, to_of}
+use Rattle.teg_howard.specs.Policies.{Policy, IsPolicy, IsPolicyCircuit, step_back}
 use Rattle.teg_net.specs.PartAnswers.{first_transition_of}
 use Rattle.teg_howard.specs.Found.{IsOnPolicy, IsFoundAt, GoesBelow}
 use Rattle.teg_howard.proofs.Search.{pigeons}
-use Rattle.teg_howard.proofs.Back.{trail, length-trail, back_add, get_or-trail, back_member, trail_circuit}
+use Rattle.teg_howard.proofs.Back.{trail, back_add, back_member, trail_circuit}
 use Rattle.teg_howard.proofs.Turns.{circuit_trail, root_member, no_early}
 
 pub record Walked (net : NetLists) (π : Policy) (start m at : ℕ) (backs : List PlaceId) (time tokens : ℕ) : Type 0 where

@@ -1,8 +1,8 @@
 -- What the searches of a round find: policies as lists, and circuits with their sums.
-use Rattle.std.specs.Prelude.{ℕ, ℤ, pos, ◌+ℤ◌, ◌≤ℤ◌, ◌+◌, ◌*◌, ◌<◌, ◌≤◌, ◌≡◌, ◌≢◌, ⊤, List, length, All, AllPairs, Any, Option, Some, None, Bool, true, false, slice_index_or}
+use Rattle.std.specs.Prelude.{ℕ, ℤ, pos, ◌*◌, ◌<◌, ◌≤◌, ◌≡◌, ◌≢◌, ⊤, List, length, All, AllPairs, Option, Some, None, Bool, true, false, slice_index_or}
 use Rattle.teg_net.specs.declared.entries.PlaceId.{PlaceId}
 use Rattle.teg_net.specs.Nets.{NetLists, IsNet}
-use Rattle.teg_net.specs.Circuits.{place_at, IsCircuit, time_of, tokens_of, from_of}
+use Rattle.teg_net.specs.Circuits.{IsCircuit, time_of, tokens_of, from_of}
 use Rattle.teg_howard.specs.declared.policy_circuits.Found.{Found}
 use Rattle.teg_net.specs.Ratios.{Fraction, IsRatioOf}
 use Rattle.teg_net.specs.declared.rounds.Round.{Round}

@@ -1,7 +1,6 @@
 -- Policy runs: lists of rounds of which each follows from the one before.
-use Rattle.std.specs.Prelude.{ℕ, ℤ, pos, ◌+◌, ◌-◌, ◌*◌, ◌<◌, ◌≤◌, ◌≡◌, ◌≢◌, ◌==◌, if◌then◌else◌, ◌⊎◌, List, [], ◌∷◌, length, All, Any, map, Option, Some, None, slice_index, slice_index_or}
+use Rattle.std.specs.Prelude.{ℕ, ℤ, pos, ◌+◌, ◌-◌, ◌<◌, ◌≤◌, ◌≡◌, ◌==◌, if◌then◌else◌, ◌⊎◌, List, [], ◌∷◌, length, Any, map, Option, Some, None, slice_index_or}
 use Rattle.teg_net.specs.declared.entries.PlaceId.{PlaceId}
-use Rattle.teg_net.specs.declared.circuits.Circuit.{Circuit}
 use Rattle.teg_net.specs.Nets.{NetLists}
 use Rattle.teg_net.specs.Circuits.{BeginsLowest, time_of, tokens_of}
 use Rattle.teg_net.specs.Ratios.{IsRatioOf}

@@ -1,22 +1,18 @@
 -- What holds between two rounds.
-use Rattle.std.specs.Prelude.{ℕ, ℤ, pos, ◌+◌, ◌*◌, ◌<◌, ◌≤◌, ◌≡◌, ◌≢◌, ◌⊎◌, ◌<ℤ◌, ◌≤ℤ◌, List, length, All, map, Option, Some, None, slice_index_or}
+use Rattle.std.specs.Prelude.{ℕ, ◌*◌, ◌<◌, ◌≤◌, ◌≡◌, ◌≢◌, ◌⊎◌, ◌<ℤ◌, ◌≤ℤ◌, List, length, All, None}
 use Rattle.teg_net.specs.declared.entries.PlaceId.{PlaceId}
 use Rattle.teg_net.specs.Nets.{NetLists, IsNet}
-use Rattle.teg_net.specs.Circuits.{IsPathBetween, IsCircuit, IsLive, time_of, tokens_of, from_of}
+use Rattle.teg_net.specs.Circuits.{IsLive, time_of, tokens_of, from_of}
 use Rattle.teg_net.specs.declared.rounds.Round.{Round}
 use Rattle.teg_howard.specs.declared.settling.Stand.{Stand}
-use Rattle.teg_net.specs.declared.rounds.Choice.{Choice}
-use Rattle.teg_net.specs.declared.answers.Potential.{Potential}
-use Rattle.teg_net.specs.declared.answers.PartAnswer.{PartAnswer}
-use Rattle.teg_net.specs.declared.answers.PartAnswer.TheVariants.{NoCircuit, Best}
 use Rattle.teg_parts.specs.Partitions.{AreStrong}
 use Rattle.teg_net.specs.Parts.{IsMember, IsPlaceOfPart}
 use Rattle.teg_howard.specs.Policies.{IsPolicy, IsPolicyCircuit, LeadsBack, AreSums, Improves, first_id}
-use Rattle.teg_net.specs.ReducedTimes.{reduced_time_of, IsWithin}
+use Rattle.teg_net.specs.ReducedTimes.{IsWithin}
 use Rattle.teg_net.specs.PartAnswers.{first_transition_of}
 use Rattle.teg_howard.specs.Rounds.{chosen, potential, Follows}
 use Rattle.teg_net.specs.Ratios.{IsRatioOf}
-use Rattle.teg_howard.specs.Found.{given, potentials, value_of, held, IsSmallRatio, AreLowest, ListsChoices}
+use Rattle.teg_howard.specs.Found.{given, potentials, value_of, held, IsSmallRatio, ListsChoices}
 
 -- a round stands on the policy that the list gives
 pub record Standing (net : NetLists) (parts : List ℕ) (part : ℕ) (policy : List PlaceId) (st : Stand) : Type 0 where

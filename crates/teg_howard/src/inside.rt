@@ -1,7 +1,7 @@
 //! Which places lie in a part, and the numbers of the parts as a list.
-ghost use Rattle.std.specs.Prelude.{◌≡◌, ◌≢◌, ◌+◌, ◌-◌, ◌*◌, ◌/◌, ◌<◌, ◌≤◌, ◌↔◌, ◌⊎◌, ◌≤ℤ◌, ◌<ℤ◌, ◌+ℤ◌, ◌-ℤ◌, pos, ℕ, ℤ, List, Bool, true, false, length, All, Any, IsTrue, IfOk, IfErr, IfSome, IfNone, map, slice_index, slice_index_or, Option, Some, None};
-ghost use Rattle.teg_net.specs.Nets.{IsNet, IsPlaceOf};
-ghost use Rattle.teg_net.specs.Parts.{IsMember, IsPlaceOfPart, to_of};
+ghost use Rattle.std.specs.Prelude.{◌≡◌, ◌<◌, ◌↔◌, length, IsTrue, IfOk};
+ghost use Rattle.teg_net.specs.Nets.{IsNet};
+ghost use Rattle.teg_net.specs.Parts.{IsMember};
 
 use std::alloc::{AllocError, Global};
 use teg_net::{Net, Place, TransitionId};

@@ -1,6 +1,5 @@
 //! The rounds of a part, from the first to the one that no place improves.
-ghost use Rattle.std.specs.Prelude.{◌≡◌, ◌≢◌, ◌+◌, ◌-◌, ◌*◌, ◌/◌, ◌<◌, ◌≤◌, ◌↔◌, ◌⊎◌, ◌≤ℤ◌, ◌<ℤ◌, ◌+ℤ◌, ◌-ℤ◌, pos, ℕ, ℤ, List, Bool, true, false, length, All, Any, IsTrue, IfOk, IfErr, IfSome, IfNone, map, slice_index, slice_index_or, Option, Some, None};
-ghost use Rattle.teg_net.specs.declared.entries.PlaceId.{PlaceId};
+ghost use Rattle.std.specs.Prelude.{◌≡◌, IfOk, IfSome, IfNone, map};
 ghost use Rattle.teg_net.specs.PartAnswers.{IsPartAnswer};
 ghost use Rattle.teg_howard.specs.Rounds.{IsFirstRound, IsPolicyRun};
 ghost use Rattle.teg_howard.specs.Runs.{potential_of, IsAnswerOf, IsAnswerOfLast, KeepsLimits, AllRise};

@@ -1,7 +1,5 @@
 //! Policies of a part: the first one, and the better one that the potentials give (policy improvement).
-ghost use Rattle.std.specs.Prelude.{◌≡◌, ◌≢◌, ◌+◌, ◌-◌, ◌*◌, ◌/◌, ◌<◌, ◌≤◌, ◌↔◌, ◌⊎◌, ◌≤ℤ◌, ◌<ℤ◌, ◌+ℤ◌, ◌-ℤ◌, pos, ℕ, ℤ, List, Bool, true, false, length, All, Any, IsTrue, IfOk, IfErr, IfSome, IfNone, map, slice_index, slice_index_or, Option, Some, None};
-ghost use Rattle.teg_net.specs.Nets.{IsNet, IsPlaceOf};
-ghost use Rattle.teg_net.specs.Parts.{IsMember, IsPlaceOfPart, to_of};
+ghost use Rattle.std.specs.Prelude.{◌≡◌, ◌↔◌, ℕ, length, IsTrue, IfOk};
 ghost use Rattle.teg_howard.specs.Found.{AreLowest, IsMarked, CanImprove, IsBetter};
 
 use crate::inside::is_inside;

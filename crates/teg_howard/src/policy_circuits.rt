@@ -1,9 +1,9 @@
 //! The circuits of a policy, and the best of them.
-ghost use Rattle.std.specs.Prelude.{◌≡◌, ◌≢◌, ◌+◌, ◌-◌, ◌*◌, ◌/◌, ◌<◌, ◌≤◌, ◌↔◌, ◌⊎◌, ◌≤ℤ◌, ◌<ℤ◌, ◌+ℤ◌, ◌-ℤ◌, pos, ℕ, ℤ, List, Bool, true, false, length, All, Any, IsTrue, IfOk, IfErr, IfSome, IfNone, map, slice_index, slice_index_or, Option, Some, None};
-ghost use Rattle.teg_net.specs.Nets.{IsNet, IsPlaceOf};
-ghost use Rattle.teg_net.specs.Circuits.{IsLive, IsCircuit, AreInRange};
-ghost use Rattle.teg_net.specs.Parts.{IsMember, IsPlaceOfPart, to_of};
-ghost use Rattle.teg_howard.specs.Policies.{IsPolicy, IsPolicyCircuit, step_back};
+ghost use Rattle.std.specs.Prelude.{◌≡◌, ◌<◌, ◌↔◌, List, length, All, Any, IsTrue, IfOk, IfSome, IfNone, Some};
+ghost use Rattle.teg_net.specs.Nets.{IsNet};
+ghost use Rattle.teg_net.specs.Circuits.{IsLive, AreInRange};
+ghost use Rattle.teg_net.specs.Parts.{to_of};
+ghost use Rattle.teg_howard.specs.Policies.{IsPolicy, IsPolicyCircuit};
 ghost use Rattle.teg_net.specs.declared.entries.PlaceId.{PlaceId};
 ghost use Rattle.teg_howard.specs.Found.{given, IsOnPolicy, IsFoundAt, IsMarked, IsAbove, AreSmall, IsBestFound, GoesBelow};
 

@@ -1,7 +1,6 @@
 //! The potentials of a policy: every member is routed to the circuit, and gets its potential (value determination).
-ghost use Rattle.std.specs.Prelude.{◌≡◌, ◌≢◌, ◌+◌, ◌-◌, ◌*◌, ◌/◌, ◌<◌, ◌≤◌, ◌↔◌, ◌⊎◌, ◌≤ℤ◌, ◌<ℤ◌, ◌+ℤ◌, ◌-ℤ◌, pos, ℕ, ℤ, List, Bool, true, false, length, All, Any, IsTrue, IfOk, IfErr, IfSome, IfNone, map, slice_index, slice_index_or, Option, Some, None};
-ghost use Rattle.teg_net.specs.Nets.{IsNet, IsPlaceOf};
-ghost use Rattle.teg_net.specs.Parts.{IsMember, IsPlaceOfPart, to_of};
+ghost use Rattle.std.specs.Prelude.{◌≡◌, ◌≢◌, ◌*◌, ◌<◌, ◌≤◌, ◌+ℤ◌, ◌-ℤ◌, pos, ℕ, ℤ, length, All, IfOk, IfSome, IfNone, None};
+ghost use Rattle.teg_net.specs.Parts.{IsMember};
 ghost use Rattle.teg_net.specs.ReducedTimes.{IsWithin};
 ghost use Rattle.teg_howard.specs.Found.{given, value_of, IsSmallRatio, IsFollower, IsJoin, IsMade, CanSettle, IsSettled};
 

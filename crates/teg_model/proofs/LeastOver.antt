@@ -14,11 +14,11 @@ use Rattle.teg_model.specs.Systems.{Dating, InitialDates, System, available_in, 
 use Rattle.teg_model.specs.Ranks.{AreRanks}
 
 -- the latest of d and of the tokens that the places into t have for firing k
-latest_into : List Place → InitialDates → Dating → ℕ → ℕ → Date → Date
+pub latest_into : List Place → InitialDates → Dating → ℕ → ℕ → Date → Date
 latest_into [] init x t k d = d
 latest_into (p ∷ ps) init x t k d = cond (eqb p.to.index t) (later_of (available_in init x p k) (latest_into ps init x t k d)) (latest_into ps init x t k d)
 
-latest_above : (ps : List Place) (init : InitialDates) (x : Dating) (t k : ℕ) (d : Date) → IsAtMostDate d (latest_into ps init x t k d)
+pub latest_above : (ps : List Place) (init : InitialDates) (x : Dating) (t k : ℕ) (d : Date) → IsAtMostDate d (latest_into ps init x t k d)
 unfolding latest_into
 latest_above [] init x t k d = at_most_refl d
 latest_above (p ∷ ps) init x t k d =
@@ -28,7 +28,7 @@ latest_above (p ∷ ps) init x t k d =
       | false ↦ more
     ]
 
-latest_upper : (ps : List Place) (init : InitialDates) (x : Dating) (t k : ℕ) (d : Date) → All (λ p. p.to.index ≡ t → IsAtMostDate (available_in init x p k) (latest_into ps init x t k d)) ps
+pub latest_upper : (ps : List Place) (init : InitialDates) (x : Dating) (t k : ℕ) (d : Date) → All (λ p. p.to.index ≡ t → IsAtMostDate (available_in init x p k) (latest_into ps init x t k d)) ps
 unfolding latest_into
 latest_upper [] init x t k d i e l = absurd (omega arith)
 latest_upper (p ∷ ps) init x t k d zero e l = λ q.
@@ -41,7 +41,7 @@ latest_upper (p ∷ ps) init x t k d (suc i) e l = λ q.
       | false ↦ more
     ]
 
-latest_least : (ps : List Place) (init : InitialDates) (x : Dating) (t k : ℕ) (d z : Date) → All (λ p. p.to.index ≡ t → IsAtMostDate (available_in init x p k) z) ps → IsAtMostDate d z → IsAtMostDate (latest_into ps init x t k d) z
+pub latest_least : (ps : List Place) (init : InitialDates) (x : Dating) (t k : ℕ) (d z : Date) → All (λ p. p.to.index ≡ t → IsAtMostDate (available_in init x p k) z) ps → IsAtMostDate d z → IsAtMostDate (latest_into ps init x t k d) z
 unfolding latest_into
 latest_least [] init x t k d z h l = l
 latest_least (p ∷ ps) init x t k d z h l =
@@ -180,7 +180,7 @@ unfolding least_over
 least_is_least s bound r y f t k l = round_below s y f (suc (size bound r t k)) t k l
 
 -- the latest is d, or what some place available
-latest_attained : (ps : List Place) (init : InitialDates) (x : Dating) (t k : ℕ) (d : Date) → (latest_into ps init x t k d ≡ d) ⊎ ((i : ℕ) × (i < length ps) × ((get_or ps i no_place).to.index ≡ t) × (latest_into ps init x t k d ≡ available_in init x (get_or ps i no_place) k))
+pub latest_attained : (ps : List Place) (init : InitialDates) (x : Dating) (t k : ℕ) (d : Date) → (latest_into ps init x t k d ≡ d) ⊎ ((i : ℕ) × (i < length ps) × ((get_or ps i no_place).to.index ≡ t) × (latest_into ps init x t k d ≡ available_in init x (get_or ps i no_place) k))
 unfolding latest_into
 latest_attained [] init x t k d = inl refl
 latest_attained (p ∷ ps) init x t k d =

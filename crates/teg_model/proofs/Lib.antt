@@ -2,8 +2,12 @@ pub mod LeastOver
 pub mod OfNet
 pub mod Delays
 pub mod Tokens
+pub mod TightLeast
+pub mod FirstStarts
 pub mod WalkSteps
+pub mod SystemWalks
 pub mod GreatestWalks
 pub mod Within
 pub mod ListDates
+pub mod NetBound
 pub mod LiveRanks

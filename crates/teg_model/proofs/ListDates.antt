@@ -1,25 +1,15 @@
 -- The dates that input lists give.
 use Rattle.std.proofs.Common.{ℕ, ◌+◌, ◌*◌, ◌≤◌, ◌≡◌, Option, Some, None, refl, arith}
-use Rattle.std.specs.Prelude.{pos, IfSome, find, ◌==◌}
+use Rattle.std.specs.Prelude.{IfSome, find, ◌==◌}
 use Rattle.std.proofs.lemmas.Int.{ints}
-use Rattle.dioid.specs.declared.dates.Date.TheVariants.{At}
-use Rattle.dioid.specs.Dates.{IsAtMostDate}
 use Rattle.teg_net.specs.declared.entries.InputList.{InputList}
 use Rattle.teg_net.specs.Limits.{greatest_date}
 use Rattle.teg_net.specs.Nets.{NetLists, IsNet, IsInputOf}
 use Rattle.teg_net.specs.Inputs.{date_by, input_date}
 use Rattle.teg_net.proofs.InputDates.{found_rules, list_date-most}
-use Rattle.teg_model.specs.Datings.{AreFromZero, as_date, listed}
+use Rattle.teg_model.specs.Datings.{as_date, listed}
 use Rattle.teg_model.specs.Bounds.{IsWithin}
 use Rattle.teg_model.proofs.Within.{AreWithin}
-
-as_date_from_zero : (o : Option ℕ) → IsAtMostDate (At (pos 0)) (as_date o)
-as_date_from_zero None = tt
-as_date_from_zero (Some d) = omega (arith, ints)
-
--- they are not before 0
-pub listed_from_zero : (net : NetLists) → AreFromZero (listed net)
-listed_from_zero net t k o = as_date_from_zero (input_date net t k)
 
 as_date_within : (o : Option ℕ) (n : ℕ) → IfSome o (λ d. d ≤ n) → IsWithin n (as_date o)
 as_date_within None n h = tt
@@ -31,9 +21,14 @@ date_by_most net t k (Some l) ok e =
     let rules : IsInputOf net l = found_rules net net.inputs t l ok.each_input e in
     list_date-most l.dates l.again k rules.dates_in rules.again
 
--- and stay within a bound that grows with the number
-pub listed_within : (net : NetLists) → IsNet net → AreWithin net (listed net) (λ k. greatest_date * (k + 1))
+-- what the dates that a net gives for firing k are at most
+abbrev pub first_bound : ℕ → ℕ
+first_bound k = greatest_date * (k + 1)
+
+-- they stay within that bound, which grows with the number
+pub listed_within : (net : NetLists) → IsNet net → AreWithin net (listed net) first_bound
 listed_within net ok = record {
   grows = λ j k l. omega arith;
+  ready = omega arith;
   inputs = λ t k o i. as_date_within (input_date net t k) (greatest_date * (k + 1)) (date_by_most net t k (find (λ l. l.transition.index == t) net.inputs) ok refl);
 }

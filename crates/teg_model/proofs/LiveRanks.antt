@@ -11,10 +11,10 @@ use Rattle.std.proofs.lemmas.Map.Made.{IsDistinct-from_AllPairs}
 use Rattle.std.proofs.lemmas.Map.Steps.{length-le_from_distinct_below}
 use Rattle.teg_net.specs.declared.entries.PlaceId.{PlaceId}
 use Rattle.teg_net.specs.declared.entries.Place.{Place}
-use Rattle.teg_net.specs.Nets.{NetLists, IsNet}
+use Rattle.teg_net.specs.Nets.{NetLists}
 use Rattle.teg_net.specs.Circuits.{no_place, place_at, from_of, IsPathBetween, tokens_of, IsLive}
 use Rattle.teg_net.proofs.PathLaws.{IsPathBetween-in_range}
-use Rattle.teg_model.specs.Ranks.{IsRanked}
+use Rattle.teg_model.specs.Ranks.{AreRanks, IsRanked, HasEndsInRange}
 
 -- ---- places without tokens never come back
 
@@ -80,7 +80,7 @@ once_all net (p ∷ ps) a b live h none =
     once_with net p ps once (λ i d m. apart_on net p ps a b live h none once (suc i) i d (omega arith) m)
 
 -- each of them begins at a transition of the net
-from_below : (net : NetLists) (ps : List PlaceId) (a b q : ℕ) → IsNet net → IsPathBetween net a ps b → Any (λ x. eqb q x ≡ true) (map (from_of net) ps) → q < length net.transitions
+from_below : (net : NetLists) (ps : List PlaceId) (a b q : ℕ) → HasEndsInRange net → IsPathBetween net a ps b → Any (λ x. eqb q x ≡ true) (map (from_of net) ps) → q < length net.transitions
 from_below net ps a b q ok h any =
     let i : ℕ = any.0 in
     let long = length-map ps (from_of net) in
@@ -88,11 +88,11 @@ from_below net ps a b q ok h any =
     let range = IsPathBetween-in_range net ps a b h i first_id within in
     let is : q ≡ any.1 = grind (arith, nat_tests, any.4) in
     let there : any.1 ≡ from_of net (get_or ps i first_id) = sym any.3 ∙ get_or-map (from_of net) ps i first_id any.1 within in
-    let own = ok.each_place (get_or ps i first_id).index no_place range in
-    rw (is ∙ there) own.from_in
+    let own = ok (get_or ps i first_id).index no_place range in
+    rw (is ∙ there) own.0
 
 -- so there are no more of them than transitions
-path_short : (net : NetLists) (ps : List PlaceId) (a b : ℕ) → IsNet net → IsLive net → IsPathBetween net a ps b → tokens_of net ps ≡ 0 → length ps ≤ length net.transitions
+path_short : (net : NetLists) (ps : List PlaceId) (a b : ℕ) → HasEndsInRange net → IsLive net → IsPathBetween net a ps b → tokens_of net ps ≡ 0 → length ps ≤ length net.transitions
 path_short net ps a b ok live h none =
     let froms : List ℕ = map (from_of net) ps in
     let long = length-map ps (from_of net) in
@@ -158,9 +158,10 @@ path_of net (suc j) t e =
     let all = sum_by-cons (λ q. (place_at net q).tokens) id rest.0 in
     (id ∷ rest.0, rest.1, (a.2, from, rest.2), omega (arith, rest.3), omega (arith, rest.4))
 
-pub live_is_ranked : (net : NetLists) → IsNet net → IsLive net → IsRanked net
+-- ranks below two more than the number of transitions
+pub live_ranks : (net : NetLists) → HasEndsInRange net → IsLive net → (rank : ℕ → ℕ) × AreRanks net.places (suc (suc (length net.transitions))) rank
 unfolding depth
-live_is_ranked net ok live =
+live_ranks net ok live =
     let n : ℕ = length net.transitions in
     let end : (t : ℕ) → leads_on net.places (suc n) t ≡ false =
     λ t. ⊎_elim
@@ -170,7 +171,6 @@ live_is_ranked net ok live =
     (λ (e : leads_on net.places (suc n) t ≡ false). e)
     (cases_Bool (leads_on net.places (suc n) t)) in
     let same : (t : ℕ) → depth net.places (suc n) t ≡ depth net.places n t = λ t. rw (end t) (omega arith) in (
-      suc (suc n),
       λ t. suc n - depth net.places (suc n) t,
       record {
         below = λ t. omega arith;
@@ -180,3 +180,6 @@ live_is_ranked net ok live =
             omega (arith, up, most, same (get_or net.places i d).to.index);
       },
     )
+
+pub live_is_ranked : (net : NetLists) → HasEndsInRange net → IsLive net → IsRanked net
+live_is_ranked net ok live = let ranks = live_ranks net ok live in (suc (suc (length net.transitions)), ranks.0, ranks.1)

@@ -5,7 +5,7 @@ use Rattle.std.specs.List.{range_with_len}
 use Rattle.std.proofs.lemmas.Bool.{cases_lt}
 use Rattle.std.proofs.lemmas.List.{get_or-append-add, get_or-append_right, length-append, get_or_append_left}
 use Rattle.std.proofs.lemmas.List.Elements.{All-append, All-map}
-use Rattle.std.proofs.lemmas.List.FromFn.{get_or-map-range_with_len, length-map-range_with_len}
+use Rattle.std.proofs.lemmas.List.FromFn.{get_or-range_with_len, length-range_with_len, get_or-map-range_with_len, length-map-range_with_len}
 use Rattle.dioid.specs.declared.dates.Date.{Date}
 use Rattle.dioid.specs.declared.dates.Date.TheVariants.{Early}
 use Rattle.dioid.specs.Dates.{IsAtMostDate}
@@ -14,19 +14,31 @@ use Rattle.teg_net.specs.declared.entries.Role.{Role}
 use Rattle.teg_net.specs.declared.entries.Role.TheVariants.{Internal, Input, Output}
 use Rattle.teg_net.specs.declared.entries.Transition.{Transition}
 use Rattle.teg_net.specs.declared.entries.Place.{Place}
-use Rattle.teg_net.specs.Nets.{NetLists, IsInput}
+use Rattle.teg_net.specs.Nets.{NetLists, IsNet, IsInput}
 use Rattle.teg_net.specs.Circuits.{no_place}
 use Rattle.teg_model.specs.Systems.{Dating, System, available, IsFeasibleIn, IsLeastIn}
-use Rattle.teg_model.specs.Ranks.{AreRanks}
+use Rattle.teg_model.specs.Ranks.{AreRanks, HasEndsInRange}
 use Rattle.teg_model.specs.Datings.{implicit_place, extended_places, IsFeasibleUnder, IsLeastUnder, by_role, by_transition, at_input, system_of}
 use Rattle.teg_model.specs.Laws.{AreSameOn, IsTight}
 use Rattle.teg_model.proofs.LeastOver.{least_over, least_is_feasible, least_is_tight, least_is_least, least_over_is_least, available_rises}
+
+-- the places of a net end at its transitions
+pub net_ends : (net : NetLists) → IsNet net → HasEndsInRange net
+net_ends net ok i d l = ((ok.each_place i d l).from_in, (ok.each_place i d l).to_in)
 
 -- a fact of each place of the net and of each implicit place
 pub all_extended : (net : NetLists) (P : Place → Type 0) → All P net.places → ((t : ℕ) → P (implicit_place t)) → All P (extended_places net)
 all_extended net P a b =
     All-append P net.places (map implicit_place (range_with_len 0 (length net.transitions))) a
     (All-map P implicit_place (range_with_len 0 (length net.transitions)) (λ i d l. b (get_or (range_with_len 0 (length net.transitions)) i d)))
+
+pub all_extended_in : (net : NetLists) (P : Place → Type 0) → All P net.places → ((t : ℕ) → t < length net.transitions → P (implicit_place t)) → All P (extended_places net)
+all_extended_in net P a b =
+    let n : ℕ = length net.transitions in
+    All-append P net.places (map implicit_place (range_with_len 0 n)) a
+    (All-map P implicit_place (range_with_len 0 n) (λ i d l.
+    let low : i < n = omega (arith, l, length-range_with_len 0 n) in
+    rw (get_or-range_with_len 0 n i d low) (b (0 + i) (omega arith))))
 
 -- each place of the net, and the implicit place of each transition, is among them
 pub extended_has : (net : NetLists) (P : Place → Type 0) → ((i : ℕ) → i < length (extended_places net) → P (get_or (extended_places net) i no_place))

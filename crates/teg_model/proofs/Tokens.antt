@@ -31,6 +31,11 @@ implicit_after init x t k =
     let e : suc (suc k) - 1 ≡ suc k = omega arith in
     available_after init x (implicit_place t) (suc (suc k)) (x t (suc k)) (omega arith) (ap (x t) e) ∙ delayed_not (x t (suc k))
 
+pub implicit_gives : (init : InitialDates) (x : Dating) (t s : ℕ) → 1 ≤ s → available_in init x (implicit_place t) (s + 1) ≡ x t s
+implicit_gives init x t s o =
+    let back : s + 1 - 1 ≡ s = omega arith in
+    available_after init x (implicit_place t) (s + 1) (x t s) (omega arith) (ap (x t) back) ∙ delayed_not (x t s)
+
 -- what a feasible dating keeps of each place
 pub place_keeps : (net : NetLists) (u x : Dating) → IsFeasibleUnder net u x → (k : ℕ) → 1 ≤ k → (q : ℕ) → q < length net.places
     → IsAtMostDate (available_at x (get_or net.places q no_place) k) (x (get_or net.places q no_place).to.index k)

@@ -11,6 +11,7 @@ use Rattle.teg_net.specs.declared.entries.Place.{Place}
 use Rattle.teg_net.specs.Nets.{NetLists, IsInput}
 use Rattle.teg_model.specs.Systems.{System, available_in}
 use Rattle.teg_net.specs.Inputs.{input_date}
+use Rattle.teg_net.specs.ReadyDates.{ready_date}
 
 -- the implicit place of a transition leads to the transition itself, with no hold and one token
 abbrev pub implicit_place : ℕ → Place
@@ -20,21 +21,13 @@ implicit_place t = record { name = []; from = record { index = t }; to = record 
 abbrev pub extended_places : NetLists → List Place
 extended_places net = net.places ++ map implicit_place (range_with_len 0 (length net.transitions))
 
--- initial tokens are available from date 0 on
+-- an initial token is available from its ready date on, which is 0 where the place has none
 abbrev pub initial_date : Place → ℕ → Date
-initial_date p k = At (pos 0)
+initial_date p k = At (pos (ready_date p k))
 
 -- the date from which the token is available that the place has for firing k of its downstream transition
 abbrev pub available_at : (ℕ → ℕ → Date) → Place → ℕ → Date
 available_at x p k = available_in initial_date x p k
-
--- for each input and number the date before which it cannot fire
-abbrev pub Releases : Type 0
-Releases = ℕ → ℕ → Date
-
--- the releases start at 0 or later
-abbrev pub AreFromZero : (ℕ → ℕ → Date) → Type 0
-AreFromZero u = (t k : ℕ) → 1 ≤ k → IsAtMostDate (At (pos 0)) (u t k)
 
 -- the date of an input's firing, where none is never
 abbrev pub as_date : Option ℕ → Date
@@ -54,10 +47,6 @@ pub record IsFeasibleUnder (net : NetLists) (u : ℕ → ℕ → Date) (x : ℕ 
 pub record IsLeastUnder (net : NetLists) (u : ℕ → ℕ → Date) (x : ℕ → ℕ → Date) : Type 0 where
   pub feasible : IsFeasibleUnder net u x
   pub least : (y : ℕ → ℕ → Date) → IsFeasibleUnder net u y → (t k : ℕ) → t < length net.transitions → 1 ≤ k → IsAtMostDate (x t k) (y t k)
-
--- feasible under the net's own input lists
-abbrev pub IsFeasible : NetLists → (ℕ → ℕ → Date) → Type 0
-IsFeasible net x = IsFeasibleUnder net (listed net) x
 
 -- the least dating of the net
 abbrev pub IsLeastDating : NetLists → (ℕ → ℕ → Date) → Type 0

@@ -1,21 +1,25 @@
--- What holds of least datings: there is one, and only one; it is tight; and its dates are those of walks (chapter 2).
+-- What holds of the least datings of a net: there is one, and only one; it is tight; its dates are those of walks; and
+-- they keep a bound (chapter 2).
 use Rattle.std.specs.Prelude.{ℕ, ◌<◌, ◌≤◌, ◌≡◌, length, All}
 use Rattle.dioid.specs.declared.dates.Date.{Date}
 use Rattle.dioid.specs.Dates.{IsAtMostDate}
+use Rattle.teg_net.specs.Limits.{greatest_number}
 use Rattle.teg_net.specs.Nets.{NetLists, IsNet, IsInput}
-use Rattle.teg_model.specs.Systems.{IsLeastIn}
 use Rattle.teg_net.specs.Circuits.{IsLive}
-use Rattle.teg_model.specs.Ranks.{IsRanked}
-use Rattle.teg_model.specs.Datings.{AreFromZero, IsLeastUnder, extended_places, available_at, system_of}
+use Rattle.teg_model.specs.Systems.{IsLeastIn}
+use Rattle.teg_model.specs.Ranks.{IsRanked, HasEndsInRange}
+use Rattle.teg_model.specs.Bounds.{IsWithin, greatest_least_date}
+use Rattle.teg_model.specs.Datings.{IsFeasibleUnder, IsLeastUnder, IsLeastDating, extended_places, available_at, system_of}
 use Rattle.teg_model.specs.WalkDates.{IsGreatestOfWalks}
 
 -- the transitions of a live net have ranks
 abbrev pub LiveNetsAreRanked : Type 0
-LiveNetsAreRanked = (net : NetLists) → IsNet net → IsLive net → IsRanked net
+LiveNetsAreRanked = (net : NetLists) → HasEndsInRange net → IsLive net → IsRanked net
 
 -- a live net has a least dating under any releases, and that is the least of its system too
 abbrev pub LeastDatingsExist : Type 0
-LeastDatingsExist = (net : NetLists) → IsNet net → IsLive net → (u : ℕ → ℕ → Date) → (x : ℕ → ℕ → Date) × IsLeastUnder net u x × IsLeastIn (system_of net u) x
+LeastDatingsExist = (net : NetLists) → HasEndsInRange net → IsLive net → (u : ℕ → ℕ → Date)
+    → (x : ℕ → ℕ → Date) × IsLeastUnder net u x × IsLeastIn (system_of net u) x
 
 -- two datings are one at every firing of the net
 abbrev pub AreSameOn : NetLists → (ℕ → ℕ → Date) → (ℕ → ℕ → Date) → Type 0
@@ -38,12 +42,22 @@ pub record IsTight (net : NetLists) (u x : ℕ → ℕ → Date) : Type 0 where
 
 -- the least datings of a live net are tight
 abbrev pub LeastDatingsAreTight : Type 0
-LeastDatingsAreTight = (net : NetLists) → IsNet net → IsLive net → (u x : ℕ → ℕ → Date) → IsLeastUnder net u x → IsTight net u x
+LeastDatingsAreTight = (net : NetLists) → HasEndsInRange net → IsLive net → (u x : ℕ → ℕ → Date) → IsLeastUnder net u x → IsTight net u x
+
+-- and a dating that is feasible and tight is the least
+abbrev pub TightDatingsAreLeast : Type 0
+TightDatingsAreLeast = (net : NetLists) → HasEndsInRange net → IsLive net → (u x : ℕ → ℕ → Date)
+    → IsFeasibleUnder net u x → IsTight net u x → IsLeastUnder net u x
 
 -- each date of a dating is the greatest start plus time of the walks that end there
 abbrev pub AreDatesOfWalks : NetLists → (ℕ → ℕ → Date) → (ℕ → ℕ → Date) → Type 0
 AreDatesOfWalks net u x = (t k : ℕ) → t < length net.transitions → 1 ≤ k → IsGreatestOfWalks net u t k (x t k)
 
--- the least dates of a live net, under releases from date 0 on, are those of walks
+-- the least dates of a live net are those of walks
 abbrev pub LeastDatesAreWalks : Type 0
-LeastDatesAreWalks = (net : NetLists) → IsNet net → IsLive net → (u x : ℕ → ℕ → Date) → AreFromZero u → IsLeastUnder net u x → AreDatesOfWalks net u x
+LeastDatesAreWalks = (net : NetLists) → HasEndsInRange net → IsLive net → (u x : ℕ → ℕ → Date) → IsLeastUnder net u x → AreDatesOfWalks net u x
+
+-- the least dates of a live net, by its input lists, keep the bound up to the greatest number
+abbrev pub LeastDatesAreWithin : Type 0
+LeastDatesAreWithin = (net : NetLists) → IsNet net → IsLive net → (x : ℕ → ℕ → Date) → IsLeastDating net x
+    → (t k : ℕ) → t < length net.transitions → 1 ≤ k → k ≤ greatest_number → IsWithin greatest_least_date (x t k)

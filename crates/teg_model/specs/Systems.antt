@@ -1,6 +1,6 @@
 -- A system of places: when its initial tokens are available, before which dates its firings are not
 -- released from outside, and its least dating (chapter 2, the dater equations as inequalities).
-use Rattle.std.specs.Prelude.{ℕ, ◌-◌, ◌≤◌, List, All, nat_lt, if◌then◌else◌}
+use Rattle.std.specs.Prelude.{ℕ, ◌-◌, ◌≤◌, ◌≡◌, List, All, nat_lt, if◌then◌else◌}
 use Rattle.dioid.specs.declared.dates.Date.{Date}
 use Rattle.dioid.specs.Dates.{IsAtMostDate, delayed}
 use Rattle.teg_net.specs.declared.entries.Place.{Place}
@@ -37,3 +37,10 @@ pub record IsFeasibleIn (s : System) (x : ℕ → ℕ → Date) : Type 0 where
 pub record IsLeastIn (s : System) (x : ℕ → ℕ → Date) : Type 0 where
   pub feasible : IsFeasibleIn s x
   pub least : (y : ℕ → ℕ → Date) → IsFeasibleIn s y → (t k : ℕ) → 1 ≤ k → IsAtMostDate (x t k) (y t k)
+
+-- no firing comes later than the last of its release and of the tokens that it takes
+pub record IsTightIn (s : System) (x : ℕ → ℕ → Date) : Type 0 where
+  pub tight : (t k : ℕ) (z : Date) → 1 ≤ k
+      → All (λ p. p.to.index ≡ t → IsAtMostDate (available s x p k) z) s.places
+      → IsAtMostDate (s.release t k) z
+      → IsAtMostDate (x t k) z

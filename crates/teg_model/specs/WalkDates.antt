@@ -1,28 +1,42 @@
--- The dates of walks over firing numbers, start plus time, and the greatest of them.
-use Rattle.std.specs.Prelude.{ℕ, pos, ◌<◌, ◌≤◌, ◌≡◌, List, length}
+-- The dates of walks over firing numbers, start plus time, and the greatest of them (chapter 2).
+use Rattle.std.specs.Prelude.{ℕ, ◌<◌, ◌≤◌, ◌≡◌, List, length}
 use Rattle.dioid.specs.declared.dates.Date.{Date}
-use Rattle.dioid.specs.declared.dates.Date.TheVariants.{At}
 use Rattle.dioid.specs.Dates.{IsAtMostDate, delayed}
 use Rattle.teg_net.specs.Nets.{NetLists}
-use Rattle.teg_model.specs.Datings.{at_input}
 use Rattle.teg_net.specs.declared.walks.Step.{Step}
 use Rattle.teg_net.specs.Walks.{Walks, walk_time}
+use Rattle.teg_model.specs.Systems.{System}
+use Rattle.teg_model.specs.Starts.{IsStartIn, start_of}
 
--- when a walk from firing s of transition a starts: at the release where it begins at an input, and else at date 0
-abbrev pub start_of : NetLists → (ℕ → ℕ → Date) → ℕ → ℕ → Date
-start_of net u a s = at_input net a (u a s) (At (pos 0))
-
--- a walk with this start plus time ends at firing k of transition b
-pub record IsDateOfWalk (net : NetLists) (u : ℕ → ℕ → Date) (b k : ℕ) (date : Date) : Type 0 where
+-- a walk from a firing with a start ends at firing k of transition b, and the date is that start plus its time
+pub record IsDateOfWalkFrom (net : NetLists) (IsStart : ℕ → ℕ → Date → Type 0) (b k : ℕ) (date : Date) : Type 0 where
   pub from : ℕ
   pub number : ℕ
   pub steps : List Step
+  pub start : Date
   pub from_in : from < length net.transitions
   pub from_one : 1 ≤ number
   pub walk : Walks net from number steps b k
-  pub is : date ≡ delayed (walk_time net steps) (start_of net u from number)
+  pub starts : IsStart from number start
+  pub is : date ≡ delayed (walk_time net steps) start
+
+-- one of the dates, and none is later
+pub record IsGreatestDate (IsOne : Date → Type 0) (date : Date) : Type 0 where
+  pub reached : IsOne date
+  pub greatest : (other : Date) → IsOne other → IsAtMostDate other date
+
+-- the greatest start plus time of the walks of the net that end at firing k of transition b, with the starts of a system
+abbrev pub IsGreatestOfWalksIn : NetLists → System → ℕ → ℕ → Date → Type 0
+IsGreatestOfWalksIn net s b k date = IsGreatestDate (IsDateOfWalkFrom net (IsStartIn s) b k) date
+
+-- the start of a firing of the net
+abbrev pub IsStartOf : NetLists → (ℕ → ℕ → Date) → ℕ → ℕ → Date → Type 0
+IsStartOf net u t k start = start ≡ start_of net u t k
+
+-- a walk with this start plus time ends at firing k of transition b
+abbrev pub IsDateOfWalk : NetLists → (ℕ → ℕ → Date) → ℕ → ℕ → Date → Type 0
+IsDateOfWalk net u b k date = IsDateOfWalkFrom net (IsStartOf net u) b k date
 
 -- the greatest start plus time of the walks that end at firing k of transition b
-pub record IsGreatestOfWalks (net : NetLists) (u : ℕ → ℕ → Date) (b k : ℕ) (date : Date) : Type 0 where
-  pub reached : IsDateOfWalk net u b k date
-  pub greatest : (other : Date) → IsDateOfWalk net u b k other → IsAtMostDate other date
+abbrev pub IsGreatestOfWalks : NetLists → (ℕ → ℕ → Date) → ℕ → ℕ → Date → Type 0
+IsGreatestOfWalks net u b k date = IsGreatestDate (IsDateOfWalk net u b k) date

@@ -1,5 +1,6 @@
-//! The laws of least datings. Each is a function that does nothing when it runs: its contract is the law.
-ghost use Rattle.teg_model.specs.Laws.{LiveNetsAreRanked, LeastDatingsExist, LeastDatingsAreOne, LeastOfSystemsAreLeast, LeastDatingsAreTight, LeastDatesAreWalks};
+//! The laws of the least datings of nets. Each is a function that does nothing when it runs: its
+//! contract is the law.
+ghost use Rattle.teg_model.specs.Laws.{LeastDatesAreWalks, LeastDatesAreWithin, LeastDatingsAreOne, LeastDatingsAreTight, LeastDatingsExist, LeastOfSystemsAreLeast, LiveNetsAreRanked, TightDatingsAreLeast};
 
 /// A live net has ranks: numbers of its transitions that rise along each place without tokens (chapter 2).
 pub fn live_nets_are_ranked()
@@ -19,13 +20,20 @@ pub fn least_datings_are_one()
     ensures of_system { LeastOfSystemsAreLeast }
 {}
 
-/// In a live net no firing of a least dating comes later than the last of the tokens and the release that it waits for.
+/// In a live net a feasible dating is the least just where no firing comes later than the last of
+/// the tokens and the release that it waits for.
 pub fn least_datings_are_tight()
-    ensures { LeastDatingsAreTight }
+    ensures tight { LeastDatingsAreTight }
+    ensures least { TightDatingsAreLeast }
 {}
 
 /// In a live net each least date is the greatest start plus time of the walks that end at its firing,
-/// under any releases from date 0 on (chapter 2).
+/// under any releases (chapter 2).
 pub fn least_dates_are_walks()
     ensures { LeastDatesAreWalks }
+{}
+
+/// In a live net the least dates of numbers up to the greatest are from 0 to 2 times 10^30, or `Never`.
+pub fn least_dates_are_within()
+    ensures { LeastDatesAreWithin }
 {}

@@ -6,6 +6,7 @@ pub mod Paths
 pub mod ReadyDates
 pub mod Inputs
 pub mod Walks
+pub mod NameOrders
 pub mod Ratios
 pub mod Parts
 pub mod ReducedTimes

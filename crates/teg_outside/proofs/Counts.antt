@@ -27,5 +27,5 @@ pub rested_first : (a b c : ℕ) → a ≤ b → b ≤ c → Rested a c → Rest
 rested_first a b c below above rested = omega arith
 
 -- a count that rested in all rested then
-pub rested_then : (a b c : ℕ) → a ≤ b → b ≤ c → Rested a c → Rested b c
-rested_then a b c below above rested = omega arith
+pub rested_then : (a b c : ℕ) → a ≤ b → Rested a c → Rested b c
+rested_then a b c below rested = omega arith

@@ -61,10 +61,10 @@ after_call shelf = record shelf { calls = one_more shelf.calls }
 abbrev pub after_read : FilesInMemory → List ℕ → ℕ → FilesInMemory
 after_read shelf name limit = record shelf { calls = one_more shelf.calls; reads = shelf.reads ++ (name, limit) ∷ [] }
 
--- what a read of a shelf in memory did, by its answer
-abbrev pub MemoryReads : FilesInMemory → FilesInMemory → List ℕ → ℕ → Result (Vec ℕ) ShelfFault → Type 0
-MemoryReads old new name limit (Ok file) =
-    (next_read old name limit ≡ Ok file.items) × (new ≡ after_read old name limit)
+-- what a read of a shelf in memory did, by its reply
+abbrev pub MemoryReads : FilesInMemory → FilesInMemory → List ℕ → ℕ → Result (List ℕ) ShelfFault → Type 0
+MemoryReads old new name limit (Ok bytes) =
+    (next_read old name limit ≡ Ok bytes) × (new ≡ after_read old name limit)
 MemoryReads old new name limit (Err ReadFailed) =
     (next_read old name limit ≡ Err ReadFailed)
     × (new ≡ record (after_read old name limit) { faults = one_more old.faults })

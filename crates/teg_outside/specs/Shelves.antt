@@ -2,7 +2,7 @@
 use Rattle.std.specs.Prelude.{ℕ, ◌≤◌, ◌<◌, ◌≡◌, ◌⊎◌, List, [], ◌∷◌, ◌++◌, length, Option, Some, None, Result, Ok, Err, if◌then◌else◌}
 use Rattle.std.specs.Str.{bytes_eq}
 use Rattle.std.specs.Global.{Vec}
-use Rattle.teg_outside.specs.Causes.{Rose, Rested}
+use Rattle.teg_outside.specs.Causes.{Rose, Rested, one_more}
 use Rattle.teg_outside.specs.declared.shelf.ShelfFault.{ShelfFault}
 use Rattle.teg_outside.specs.declared.shelf.ShelfFault.TheVariants.{Failed, TooLarge, OutOfMemory}
 
@@ -16,6 +16,10 @@ pub record ShelfState : Type 0 where
   pub faults : ℕ
   -- how many reads met a file beyond their limit
   pub overlong : ℕ
+
+-- a shelf that tells its counts alone
+abbrev pub counted : ℕ → ℕ → ShelfState
+counted faults overlong = record { files = None; reads = None; faults = faults; overlong = overlong }
 
 -- the bytes of the first file of that name
 abbrev pub file_of : List (List ℕ × List ℕ) → List ℕ → Option (List ℕ)
@@ -37,11 +41,16 @@ abbrev pub ReadsGrow : Option (List (List ℕ × ℕ)) → Option (List (List �
 ReadsGrow None new more = new ≡ None
 ReadsGrow (Some reads) new more = new ≡ Some (reads ++ more)
 
--- what a read of that name did, by its answer
-abbrev pub ReadAnswers : ShelfState → ShelfState → List ℕ → ℕ → Result (Vec ℕ) ShelfFault → Type 0
-ReadAnswers old new name limit (Ok file) =
-    (new.faults ≡ old.faults) × (new.overlong ≡ old.overlong) × (length file.items ≤ limit)
-    × IsFile old.files name file.items × ReadsGrow old.reads new.reads ((name, limit) ∷ [])
+-- the reply of a read: the bytes of the file, or why there are none
+abbrev pub replied : Result (Vec ℕ) ShelfFault → Result (List ℕ) ShelfFault
+replied (Ok file) = Ok file.items
+replied (Err fault) = Err fault
+
+-- what a read of that name did, by its reply
+abbrev pub ReadAnswers : ShelfState → ShelfState → List ℕ → ℕ → Result (List ℕ) ShelfFault → Type 0
+ReadAnswers old new name limit (Ok bytes) =
+    (new.faults ≡ old.faults) × (new.overlong ≡ old.overlong) × (length bytes ≤ limit)
+    × IsFile old.files name bytes × ReadsGrow old.reads new.reads ((name, limit) ∷ [])
 ReadAnswers old new name limit (Err Failed) =
     Rose old.faults new.faults × ReadsGrow old.reads new.reads ((name, limit) ∷ [])
 ReadAnswers old new name limit (Err TooLarge) =
@@ -50,9 +59,23 @@ ReadAnswers old new name limit (Err TooLarge) =
 ReadAnswers old new name limit (Err OutOfMemory) =
     ReadsGrow old.reads new.reads ((name, limit) ∷ []) ⊎ ReadsGrow old.reads new.reads []
 
+-- all that a read says: no file changed, no count fell, and what it did by its reply
+pub record Reads (old new : ShelfState) (name : List ℕ) (limit : ℕ) (reply : Result (List ℕ) ShelfFault) : Type 0 where
+  pub files : new.files ≡ old.files
+  pub faults : old.faults ≤ new.faults
+  pub overlong : old.overlong ≤ new.overlong
+  pub answer : ReadAnswers old new name limit reply
+
+-- a read raises the count of its own fault by one, and no other
+abbrev pub CountsFault : ShelfState → ShelfState → Result (List ℕ) ShelfFault → Type 0
+CountsFault old new (Ok bytes) = (new.faults ≡ old.faults) × (new.overlong ≡ old.overlong)
+CountsFault old new (Err Failed) = (new.faults ≡ one_more old.faults) × (new.overlong ≡ old.overlong)
+CountsFault old new (Err TooLarge) = (new.faults ≡ old.faults) × (new.overlong ≡ one_more old.overlong)
+CountsFault old new (Err OutOfMemory) = (new.faults ≡ old.faults) × (new.overlong ≡ old.overlong)
+
 -- a told file beyond the limit is refused as such, where no fault rose and memory was found
-abbrev pub LongIsTooLarge : ShelfState → ShelfState → List ℕ → ℕ → Result (Vec ℕ) ShelfFault → Type 0
-LongIsTooLarge old new name limit result =
+abbrev pub LongIsTooLarge : ShelfState → ShelfState → List ℕ → ℕ → Result (List ℕ) ShelfFault → Type 0
+LongIsTooLarge old new name limit reply =
     (files : List (List ℕ × List ℕ)) (bytes : List ℕ) →
     old.files ≡ Some files → file_of files name ≡ Some bytes → limit < length bytes →
-    Rested old.faults new.faults → (result ≡ Err TooLarge) ⊎ (result ≡ Err OutOfMemory)
+    Rested old.faults new.faults → (reply ≡ Err TooLarge) ⊎ (reply ≡ Err OutOfMemory)

@@ -1,6 +1,7 @@
 //! The real files.
-ghost use Rattle.std.specs.Prelude.{◌≡◌, ◌≤◌, None, vec_len, IfOk};
-ghost use Rattle.teg_outside.specs.Shelves.{ShelfState};
+ghost use Rattle.std.specs.Prelude.{◌≡◌, ◌≤◌, ◌<◌, Err, length, vec_len, IfOk, IfSome};
+ghost use Rattle.teg_outside.specs.declared.shelf.ShelfFault.TheVariants.{TooLarge};
+ghost use Rattle.teg_outside.specs.Shelves.{CountsFault, ReadAnswers, counted, replied};
 
 use crate::{Shelf, ShelfFault};
 use std::alloc::Global;
@@ -24,12 +25,7 @@ pub struct FileShelf<'a, R: Files> {
 impl<'a, R: Files> FileShelf<'a, R> {
     /// A shelf of the runtime's files, with both counts at 0. No memory is taken.
     pub fn new(rt: &'a R) -> Self
-        ensures { ⟦<FileShelf<'a, R> as Shelf>⟧.state result ≡ record {
-          files = None;
-          reads = None;
-          faults = 0;
-          overlong = 0;
-        } }
+        ensures { ⟦<FileShelf<'a, R> as Shelf>⟧.state result ≡ counted 0 0 }
     {
         FileShelf {
             rt,
@@ -39,9 +35,12 @@ impl<'a, R: Files> FileShelf<'a, R> {
     }
 }
 
-// Reads to the end, or until more than `limit` bytes came.
+// Reads to the end, or until more than `limit` bytes came. Where the bytes that are left are known,
+// the answer is all of them, or they are more than the limit.
 fn read_up_to<F: Read>(alloc: Global, file: &mut F, limit: usize) -> Result<Vec<u8>, ShelfFault>
-    ensures { IfOk result (λ bytes. vec_len bytes ≤ limit) }
+    ensures within { IfOk result (λ bytes. vec_len bytes ≤ limit) }
+    ensures whole { IfOk result (λ bytes. IfSome (F.remaining file.old) (λ left. bytes.items ≡ left)) }
+    ensures long { result ≡ Err TooLarge → IfSome (F.remaining file.old) (λ left. limit < length left) }
 {
     let mut bytes = Vec::new(alloc);
     let mut piece = [0u8; PIECE];
@@ -76,10 +75,17 @@ fn read_file<R: Files>(
 }
 
 impl<R: Files> Shelf for FileShelf<'_, R> {
-    ghost state = { λ s. record { files = None; reads = None; faults = s.faults; overlong = s.overlong } };
+    ghost state = { λ s. counted s.faults s.overlong };
 
-    /// The whole file of that name in the runtime. An error of std answers Failed.
-    fn read(&mut self, alloc: Global, name: &str, limit: usize) -> Result<Vec<u8>, ShelfFault> {
+    /// The whole file of that name in the runtime. An error of std answers Failed. Failed and
+    /// TooLarge raise their own count by one, and nothing else raises a count.
+    fn read(&mut self, alloc: Global, name: &str, limit: usize) -> Result<Vec<u8>, ShelfFault>
+        ensures files { (counted self.new.faults self.new.overlong).files ≡ (counted self.old.faults self.old.overlong).files }
+        ensures faults { (counted self.old.faults self.old.overlong).faults ≤ (counted self.new.faults self.new.overlong).faults }
+        ensures overlong { (counted self.old.faults self.old.overlong).overlong ≤ (counted self.new.faults self.new.overlong).overlong }
+        ensures answer { ReadAnswers (counted self.old.faults self.old.overlong) (counted self.new.faults self.new.overlong) name.now limit (replied result) }
+        ensures counts { CountsFault (counted self.old.faults self.old.overlong) (counted self.new.faults self.new.overlong) (replied result) }
+    {
         let answer = read_file(self.rt, alloc, name, limit);
         match &answer {
             Err(ShelfFault::Failed) => self.faults = self.faults.saturating_add(1),

@@ -1,6 +1,6 @@
 //! A shelf of files in memory.
 ghost use Rattle.std.specs.Prelude.{◌≡◌, ◌≤◌, None, MatchOption, Some, [], map};
-ghost use Rattle.teg_outside.specs.Shelves.{ReadAnswers, file_of};
+ghost use Rattle.teg_outside.specs.Shelves.{ReadAnswers, file_of, replied};
 ghost use Rattle.teg_outside.specs.Memory.{FilesInMemory, MemoryReads, shelf_told, told_file, told_read};
 
 use crate::{Shelf, ShelfFault};
@@ -81,8 +81,8 @@ impl Shelf for MemoryShelf {
         ensures files { (shelf_told self.new).files ≡ (shelf_told self.old).files }
         ensures faults { (shelf_told self.old).faults ≤ (shelf_told self.new).faults }
         ensures overlong { (shelf_told self.old).overlong ≤ (shelf_told self.new).overlong }
-        ensures answer { ReadAnswers (shelf_told self.old) (shelf_told self.new) name.now limit result }
-        ensures rule { MemoryReads self.old self.new name.now limit result }
+        ensures answer { ReadAnswers (shelf_told self.old) (shelf_told self.new) name.now limit (replied result) }
+        ensures rule { MemoryReads self.old self.new name.now limit (replied result) }
     {
         self.calls = self.calls.saturating_add(1);
         let Ok(asked) = String::from_str(alloc, name) else {

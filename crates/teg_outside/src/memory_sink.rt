@@ -1,5 +1,5 @@
 //! A sink of bytes in memory.
-ghost use Rattle.std.specs.Prelude.{◌≡◌, ◌≤◌, ◌<◌, Some, [], length, vec_len, vec_capacity, IfOk};
+ghost use Rattle.std.specs.Prelude.{◌≡◌, ◌≤◌, ◌<◌, [], length, vec_len, vec_capacity, IfOk};
 ghost use Rattle.teg_outside.specs.Sinks.{WriteAnswers};
 ghost use Rattle.teg_outside.specs.Memory.{BytesInMemory, MemoryWrites, sink_told};
 

@@ -1,6 +1,6 @@
 //! A shelf of files.
 ghost use Rattle.std.specs.Prelude.{◌≡◌, ◌≤◌};
-ghost use Rattle.teg_outside.specs.Shelves.{ShelfState, ReadAnswers};
+ghost use Rattle.teg_outside.specs.Shelves.{ShelfState, ReadAnswers, replied};
 
 use std::alloc::Global;
 
@@ -35,5 +35,5 @@ pub trait Shelf {
         ensures files { (state self.new).files ≡ (state self.old).files }
         ensures faults { (state self.old).faults ≤ (state self.new).faults }
         ensures overlong { (state self.old).overlong ≤ (state self.new).overlong }
-        ensures answer { ReadAnswers (state self.old) (state self.new) name.now limit result };
+        ensures answer { ReadAnswers (state self.old) (state self.new) name.now limit (replied result) };
 }

@@ -1,5 +1,5 @@
 //! A sink of bytes.
-ghost use Rattle.std.specs.Prelude.{◌≡◌, ◌≤◌};
+ghost use Rattle.std.specs.Prelude.{◌≤◌};
 ghost use Rattle.teg_outside.specs.Sinks.{SinkState, WriteAnswers};
 
 /// Why a write took no byte.

@@ -1,6 +1,6 @@
 //! A monitor of the tests' own, any shelf at a file beyond the limit, files and output.
 ghost use Rattle.std.specs.Prelude.{◌||◌, nat_lt, length, codes, if◌then◌else◌};
-ghost use Rattle.teg_outside.specs.Shelves.{ShelfState, LongIsTooLarge};
+ghost use Rattle.teg_outside.specs.Shelves.{LongIsTooLarge, replied};
 
 use crate::{Firing, Monitor, OutOfMemory, Shelf, ShelfFault};
 use std::alloc::Global;
@@ -47,7 +47,7 @@ pub fn read_from<S: Shelf>(
     name: &str,
     limit: usize,
 ) -> Result<Vec<u8>, ShelfFault>
-    ensures { LongIsTooLarge (S.state shelf.old) (S.state shelf.new) name.now limit result }
+    ensures { LongIsTooLarge (S.state shelf.old) (S.state shelf.new) name.now limit (replied result) }
 {
     shelf.read(alloc, name, limit)
 }

@@ -1,6 +1,6 @@
 //! The real output.
-ghost use Rattle.std.specs.Prelude.{◌≡◌, None};
-ghost use Rattle.teg_outside.specs.Sinks.{SinkState};
+ghost use Rattle.std.specs.Prelude.{◌≡◌, ◌≤◌, ◌<◌, None, length, take, IfSome};
+ghost use Rattle.std.specs.Io.KnownBytes.{Appends};
 
 use crate::{Sink, SinkFault};
 use std::io::Write;
@@ -23,6 +23,22 @@ impl<W: Write> WriterSink<W> {
     }
 }
 
+// How many bytes the writer took, at least one, once it is flushed; none where it failed.
+fn write_and_flush<W: Write>(inner: &mut W, piece: &[u8]) -> Option<usize>
+    ensures within { IfSome result (λ n. (0 < n) × (n ≤ length piece.now)) }
+    ensures taken { IfSome result (λ n. Appends (W.contents inner.old) (W.contents inner.new) (take n piece.now)) }
+{
+    let written = match inner.write(piece) {
+        Ok(count) => count,
+        Err(_) => 0,
+    };
+    if written == 0 || inner.flush().is_err() {
+        None
+    } else {
+        Some(written)
+    }
+}
+
 impl<W: Write> Sink for WriterSink<W> {
     ghost state = { λ s. record { bytes = None; faults = s.faults } };
 
@@ -32,14 +48,10 @@ impl<W: Write> Sink for WriterSink<W> {
         if piece.is_empty() {
             return Ok(0);
         }
-        let written = match self.inner.write(piece) {
-            Ok(count) => count,
-            Err(_) => 0,
-        };
-        if written == 0 || self.inner.flush().is_err() {
+        let Some(written) = write_and_flush(&mut self.inner, piece) else {
             self.faults = self.faults.saturating_add(1);
             return Err(SinkFault::Failed);
-        }
+        };
         Ok(written)
     }
 }
@@ -47,7 +59,33 @@ impl<W: Write> Sink for WriterSink<W> {
 #[cfg(test)]
 mod tests {
     use super::*;
-    use std::io::Cursor;
+    use std::io::{Cursor, Result as Written};
+
+    /// A writer that takes all it is given, and counts its flushes.
+    #[derive(Drop)]
+    struct FlushCount {
+        flushes: u64,
+    }
+
+    impl Write for FlushCount {
+        fn write(&mut self, piece: &[u8]) -> Written<usize> {
+            Ok(piece.len())
+        }
+
+        fn flush(&mut self) -> Written<()> {
+            self.flushes = self.flushes.saturating_add(1);
+            Ok(())
+        }
+    }
+
+    #[test]
+    fn each_write_is_flushed(rt: HostRuntime) {
+        let mut sink = WriterSink::new(FlushCount { flushes: 0 });
+        assert_eq!(rt; sink.write(b"abc"), Ok(3));
+        assert_eq!(rt; sink.write(b""), Ok(0));
+        assert_eq!(rt; sink.write(b"d"), Ok(1));
+        assert_eq!(rt; sink.inner.flushes, 2);
+    }
 
     #[test]
     fn a_writer_of_memory_takes_what_is_written(rt: HostRuntime) {

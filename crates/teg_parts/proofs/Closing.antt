@@ -1,5 +1,5 @@
 -- The last bag becomes a part once all its places are walked.
-use Rattle.std.proofs.Common.{ℕ, zero, suc, ◌+◌, ◌-◌, ◌<◌, ◌≤◌, ◌≡◌, ◌≢◌, List, [], ◌∷◌, Option, Some, None, length, get_or, set, take, refl, sym, ap, subst, ◌∙◌, arith, inl, inr, ⊎_elim}
+use Rattle.std.proofs.Common.{ℕ, ◌+◌, ◌-◌, ◌<◌, ◌≤◌, ◌≡◌, ◌≢◌, List, Some, None, length, get_or, set, take, refl, sym, ap, subst, ◌∙◌, arith, inl, inr, ⊎_elim}
 use Rattle.std.specs.Prelude.{◌⊎◌, Contains}
 use Rattle.std.proofs.lemmas.Bool.{cases_eq, cases_lt}
 use Rattle.std.proofs.lemmas.List.{get_or-take, length-take-le, get_or-set_same, get_or-set_other, length-set}
@@ -10,7 +10,7 @@ use Rattle.teg_net.specs.Parts.{Reaches, to_of}
 use Rattle.teg_parts.specs.declared.search.Mark.{Mark}
 use Rattle.teg_parts.specs.declared.search.Mark.TheVariants.{Unseen, Open, Done}
 use Rattle.teg_parts.specs.declared.search.Bag.{Bag}
-use Rattle.teg_parts.specs.Searches.{mark_of, unseen, bag_at, AreSeated, AreBags, AreClosed, IsBagUpTo, IsInLastBag, IsInStretch, IsWaiting, IsWalkedFrom, IsSearch, KeepsSeen}
+use Rattle.teg_parts.specs.Searches.{mark_of, unseen, bag_at, AreSeated, AreClosed, IsBagUpTo, IsWalkedFrom, IsSearch, KeepsSeen}
 use Rattle.teg_parts.proofs.Marks.{cases_mark, same_seat, same_component, unseen_not_open, unseen_not_done, open_not_done, mark_in, unseen_same, bags_in_order}
 
 -- ---- the loop over the seats of the bag

@@ -1,10 +1,10 @@
 -- What the search has found where no bag is left and every transition was met.
-use Rattle.std.proofs.Common.{ℕ, zero, suc, ◌+◌, ◌-◌, ◌<◌, ◌≤◌, ◌≡◌, ◌≢◌, List, [], ◌∷◌, Option, Some, None, length, get_or, refl, sym, ap, subst, ◌∙◌, arith, inl, inr, ⊎_elim}
+use Rattle.std.proofs.Common.{ℕ, ◌<◌, ◌≡◌, ◌≢◌, List, None, length, get_or, sym, ap, subst, ◌∙◌, arith, ⊎_elim}
 use Rattle.std.specs.Prelude.{◌⊎◌}
 use Rattle.teg_net.specs.declared.entries.PlaceId.{PlaceId}
 use Rattle.teg_net.specs.Nets.{NetLists, IsNet}
 use Rattle.teg_net.specs.Circuits.{no_place, from_of}
-use Rattle.teg_net.specs.Parts.{Reaches, to_of}
+use Rattle.teg_net.specs.Parts.{to_of}
 use Rattle.teg_parts.specs.declared.search.Mark.{Mark}
 use Rattle.teg_parts.specs.declared.search.Mark.TheVariants.{Unseen, Open, Done}
 use Rattle.teg_parts.specs.declared.search.Bag.{Bag}

@@ -1,8 +1,8 @@
 -- A transition that opens as a bag of its own.
-use Rattle.std.proofs.Common.{ℕ, zero, suc, ◌+◌, ◌-◌, ◌*◌, ◌<◌, ◌≤◌, ◌≡◌, ◌≢◌, List, [], ◌∷◌, ◌++◌, Option, Some, None, length, get_or, set, refl, sym, ap, subst, ◌∙◌, arith, inl, inr, ⊎_elim}
+use Rattle.std.proofs.Common.{ℕ, ◌+◌, ◌-◌, ◌<◌, ◌≤◌, ◌≡◌, ◌≢◌, List, [], ◌∷◌, ◌++◌, Option, Some, None, length, get_or, set, refl, sym, ap, subst, ◌∙◌, arith, inl, inr, ⊎_elim}
 use Rattle.std.specs.Prelude.{◌⊎◌, Contains}
 use Rattle.std.proofs.lemmas.Bool.{cases_eq, cases_lt}
-use Rattle.std.proofs.lemmas.List.{get_or-set_same, get_or-set_other, length-set, length_push, get_or_push, get_or_append_left, get_or_default}
+use Rattle.std.proofs.lemmas.List.{get_or-set_same, get_or-set_other, length-set, length_push, get_or_push, get_or_append_left}
 use Rattle.teg_net.specs.declared.entries.PlaceId.{PlaceId}
 use Rattle.teg_net.specs.Nets.{NetLists}
 use Rattle.teg_net.specs.Circuits.{from_of}
@@ -11,8 +11,8 @@ use Rattle.teg_parts.specs.declared.search.Mark.{Mark}
 use Rattle.teg_parts.specs.declared.search.Mark.TheVariants.{Unseen, Open, Done}
 use Rattle.teg_parts.specs.declared.search.Bag.{Bag}
 use Rattle.teg_parts.specs.PlacesFrom.{AddsPlacesFrom}
-use Rattle.teg_parts.specs.Searches.{mark_of, unseen, bag_at, AreSeated, AreBags, IsBagUpTo, IsInLastBag, IsInStretch, IsWaiting, IsWalkedFrom, IsSearch, IsUnderWay, KeepsSeen}
-use Rattle.teg_parts.proofs.Marks.{cases_mark, same_seat, unseen_not_open, unseen_not_done, open_not_done, mark_in, unseen_less, reaches_itself, reaches_on, reaches_by, bags_in_order}
+use Rattle.teg_parts.specs.Searches.{mark_of, bag_at, AreSeated, AreBags, IsBagUpTo, IsInStretch, IsWaiting, IsWalkedFrom, IsSearch, IsUnderWay, KeepsSeen}
+use Rattle.teg_parts.proofs.Marks.{same_seat, unseen_not_open, unseen_not_done, open_not_done, unseen_less, reaches_itself, reaches_on}
 
 module _ (net : NetLists) (way : Option PlaceId) (ms : List Mark) (st : List ℕ) (ag ag' : List PlaceId) (bs : List Bag) (done t : ℕ)
     (h : IsSearch net way ms st ag bs done) (t_in : t < length net.transitions) (new : mark_of ms t ≡ Unseen)

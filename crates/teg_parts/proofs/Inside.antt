@@ -1,11 +1,10 @@
 -- Where part numbers never fall along a place, each circuit lies in one part.
-use Rattle.std.proofs.Common.{ℕ, zero, suc, ◌+◌, ◌<◌, ◌≤◌, ◌≡◌, List, [], ◌∷◌, length, get_or, refl, sym, ap, subst, ◌∙◌, arith}
+use Rattle.std.proofs.Common.{ℕ, zero, suc, ◌<◌, ◌≤◌, ◌≡◌, List, [], ◌∷◌, length, get_or, ap, arith}
 use Rattle.std.specs.Prelude.{All}
-use Rattle.std.proofs.lemmas.List.{get_or_default}
 use Rattle.teg_net.specs.declared.entries.PlaceId.{PlaceId}
 use Rattle.teg_net.specs.Nets.{NetLists, IsNet}
-use Rattle.teg_net.specs.Circuits.{no_place, place_at, from_of, IsPathBetween, IsCircuit}
-use Rattle.teg_net.specs.Parts.{to_of, IsMember, IsPlaceOfPart}
+use Rattle.teg_net.specs.Circuits.{no_place, from_of, IsPathBetween, IsCircuit}
+use Rattle.teg_net.specs.Parts.{to_of, IsPlaceOfPart}
 
 module _ (net : NetLists) (kept : IsNet net) (part_of : List ℕ) (count : length part_of ≡ length net.transitions)
     (rises : All (λ p. get_or part_of p.from.index 0 ≤ get_or part_of p.to.index 0) net.places) where

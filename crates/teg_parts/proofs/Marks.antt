@@ -1,19 +1,19 @@
 -- Marks of transitions, bags of a stack, and paths put together.
-use Rattle.std.proofs.Common.{ℕ, zero, suc, ◌+◌, ◌-◌, ◌*◌, ◌<◌, ◌≤◌, ◌≡◌, ◌≢◌, List, [], ◌∷◌, ◌++◌, Option, Some, None, Result, Ok, Err, Bool, true, false, not, is_some, cond, length, get_or, set, take, drop, refl, sym, ap, subst, ◌∙◌, arith, rules, inl, inr, ⊎_elim}
-use Rattle.std.specs.Prelude.{◌⊎◌, count_by, OnOk, IsSome}
-use Rattle.std.proofs.lemmas.Bool.{cases_eq, cases_lt}
-use Rattle.std.proofs.lemmas.List.{get_or-set_same, get_or-set_other, get_or_past, length-set, take-append-le}
+use Rattle.std.proofs.Common.{ℕ, ◌+◌, ◌*◌, ◌<◌, ◌≤◌, ◌≡◌, ◌≢◌, List, [], ◌∷◌, ◌++◌, Option, Some, None, Result, Ok, Err, Bool, true, false, not, is_some, cond, length, set, take, drop, refl, sym, ap, subst, ◌∙◌, arith, rules, inl, inr, ⊎_elim}
+use Rattle.std.specs.Prelude.{◌⊎◌, OnOk, IsSome}
+use Rattle.std.proofs.lemmas.Bool.{cases_lt}
+use Rattle.std.proofs.lemmas.List.{get_or_past, take-append-le}
 use Rattle.std.proofs.Math.Seq.{take-length}
 use Rattle.std.proofs.lemmas.List.Sums.{sum_by-set}
 use Rattle.teg_net.specs.declared.entries.PlaceId.{PlaceId}
 use Rattle.teg_net.specs.Nets.{NetLists}
-use Rattle.teg_net.specs.Circuits.{from_of, IsPathBetween}
+use Rattle.teg_net.specs.Circuits.{from_of}
 use Rattle.teg_net.specs.Parts.{Reaches, to_of}
 use Rattle.teg_net.proofs.PathLaws.{IsPathBetween-append}
 use Rattle.teg_parts.specs.declared.search.Mark.{Mark}
 use Rattle.teg_parts.specs.declared.search.Mark.TheVariants.{Unseen, Open, Done}
 use Rattle.teg_parts.specs.declared.search.Bag.{Bag}
-use Rattle.teg_parts.specs.Searches.{mark_of, is_unseen, unseen, bag_at, AreBags, IsBagUpTo, IsInLastBag}
+use Rattle.teg_parts.specs.Searches.{mark_of, is_unseen, unseen, bag_at, AreBags}
 
 pub cases_mark : (m : Mark) → (m ≡ Unseen) ⊎ (((i : ℕ) × (m ≡ Open i)) ⊎ ((c : ℕ) × (m ≡ Done c)))
 cases_mark Unseen = inl refl

@@ -1,5 +1,5 @@
 -- The loops of the numbering.
-use Rattle.std.proofs.Common.{ℕ, zero, suc, ◌+◌, ◌-◌, ◌<◌, ◌≤◌, ◌≡◌, ◌≢◌, List, [], ◌∷◌, Option, Some, None, Bool, true, false, cond, is_none, count_by, length, get_or, set, refl, sym, ap, subst, ◌∙◌, arith, inl, inr, ⊎_elim}
+use Rattle.std.proofs.Common.{ℕ, ◌+◌, ◌<◌, ◌≤◌, ◌≡◌, ◌≢◌, List, Option, Some, None, Bool, true, false, cond, is_none, length, get_or, set, refl, sym, ap, subst, ◌∙◌, arith, inl, inr, ⊎_elim}
 use Rattle.std.specs.Prelude.{◌⊎◌}
 use Rattle.std.proofs.lemmas.Bool.{cases_eq, cases_lt, cases_Bool}
 use Rattle.std.proofs.lemmas.List.{get_or-set_same, get_or-set_other, length-set, get_or_past, get_or-replicate, length-replicate}
@@ -8,8 +8,7 @@ use lib.ListN.{replicate}
 use Rattle.teg_net.specs.declared.entries.PlaceId.{PlaceId}
 use Rattle.teg_net.specs.Nets.{NetLists}
 use Rattle.teg_net.specs.Circuits.{from_of}
-use Rattle.teg_net.specs.Parts.{to_of, IsMember, IsPlaceOfPart}
-use Rattle.teg_parts.specs.Searches.{AreComponents}
+use Rattle.teg_net.specs.Parts.{to_of, IsPlaceOfPart}
 use Rattle.teg_parts.specs.Numbers.{component_at, number_of, without, Blocks, AreBlocked, IsFree, IsFirstFree, IsGiven, IsOpenFor, IsFirstOpen, AreInnerMarks}
 
 same_id : (p q : PlaceId) → p.index ≡ q.index → p ≡ q

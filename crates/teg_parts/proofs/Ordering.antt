@@ -1,17 +1,17 @@
 -- Components get the numbers of their parts in order.
-use Rattle.std.proofs.Common.{ℕ, zero, suc, ◌+◌, ◌-◌, ◌<◌, ◌≤◌, ◌≡◌, ◌≢◌, List, [], ◌∷◌, Option, Some, None, Bool, true, false, length, get_or, refl, sym, ap, subst, ◌∙◌, arith, inl, inr, ⊎_elim}
-use Rattle.std.specs.Prelude.{◌⊎◌, All, ◌↔◌}
+use Rattle.std.proofs.Common.{ℕ, zero, suc, ◌+◌, ◌<◌, ◌≤◌, ◌≡◌, ◌≢◌, List, [], ◌∷◌, Option, Some, None, Bool, length, get_or, refl, sym, ap, subst, ◌∙◌, arith, inl, inr, ⊎_elim}
+use Rattle.std.specs.Prelude.{◌⊎◌}
 use Rattle.std.proofs.lemmas.Bool.{cases_eq, cases_lt}
 use Rattle.std.proofs.lemmas.List.{get_or_past, get_or_default, get_or-replicate, length-replicate}
 use lib.ListN.{replicate}
 use Rattle.teg_net.specs.declared.entries.PlaceId.{PlaceId}
 use Rattle.teg_net.specs.Nets.{NetLists, IsNet}
-use Rattle.teg_net.specs.Circuits.{no_place, place_at, from_of, IsPathBetween}
-use Rattle.teg_net.specs.Parts.{Reaches, to_of, IsMember, IsPlaceOfPart}
-use Rattle.teg_parts.specs.Partitions.{PartLists, AreStrong, MayTake, HasLowerMember, AreInOrder, AreParts}
+use Rattle.teg_net.specs.Circuits.{no_place, from_of, IsPathBetween}
+use Rattle.teg_net.specs.Parts.{Reaches, to_of}
+use Rattle.teg_parts.specs.Partitions.{AreStrong, AreInOrder, AreParts}
 use Rattle.teg_parts.specs.Searches.{AreComponents}
-use Rattle.teg_parts.specs.Numbers.{component_at, number_of, Blocks, IsFree, IsFirstFree, IsGiven, IsAfter, MayBy, IsFirstOf, AreNumbered, AllNumbered, AreInOrderOf, AreInnerMarks}
-use Rattle.teg_parts.proofs.Marks.{reaches_itself, reaches_on, reaches_by}
+use Rattle.teg_parts.specs.Numbers.{component_at, number_of, IsFree, IsFirstFree, IsGiven, IsAfter, MayBy, IsFirstOf, AreNumbered, AllNumbered, AreInOrderOf, AreInnerMarks}
+use Rattle.teg_parts.proofs.Marks.{reaches_on, reaches_by}
 
 pub cases_number : (o : Option ℕ) → (o ≡ None) ⊎ ((j : ℕ) × (o ≡ Some j))
 cases_number None = inl refl

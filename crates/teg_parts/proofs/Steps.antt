@@ -1,17 +1,17 @@
 -- A place of the last bag is walked: it leads to a done transition, or back to an open one, whose bag is joined with those after it.
-use Rattle.std.proofs.Common.{ℕ, zero, suc, ◌+◌, ◌-◌, ◌<◌, ◌≤◌, ◌≡◌, ◌≢◌, List, [], ◌∷◌, Option, Some, None, length, get_or, take, refl, sym, ap, subst, ◌∙◌, arith, inl, inr, ⊎_elim}
+use Rattle.std.proofs.Common.{ℕ, ◌-◌, ◌<◌, ◌≤◌, ◌≡◌, List, Option, Some, None, length, get_or, take, refl, sym, ap, subst, ◌∙◌, arith, inl, inr, ⊎_elim}
 use Rattle.std.specs.Prelude.{◌⊎◌, Contains}
-use Rattle.std.proofs.lemmas.Bool.{cases_eq, cases_lt}
+use Rattle.std.proofs.lemmas.Bool.{cases_lt}
 use Rattle.std.proofs.lemmas.List.{get_or-take, length-take-le, get_or_default}
 use Rattle.teg_net.specs.declared.entries.PlaceId.{PlaceId}
 use Rattle.teg_net.specs.Nets.{NetLists}
 use Rattle.teg_net.specs.Circuits.{from_of}
 use Rattle.teg_net.specs.Parts.{Reaches, to_of}
 use Rattle.teg_parts.specs.declared.search.Mark.{Mark}
-use Rattle.teg_parts.specs.declared.search.Mark.TheVariants.{Unseen, Open, Done}
+use Rattle.teg_parts.specs.declared.search.Mark.TheVariants.{Open, Done}
 use Rattle.teg_parts.specs.declared.search.Bag.{Bag}
-use Rattle.teg_parts.specs.Searches.{mark_of, unseen, bag_at, AreSeated, AreBags, IsBagUpTo, IsInLastBag, IsInStretch, IsWaiting, IsWalkedFrom, IsSearch, IsUnderWay, AreJoined}
-use Rattle.teg_parts.proofs.Marks.{same_seat, reaches_on, reaches_by, bags_in_order}
+use Rattle.teg_parts.specs.Searches.{mark_of, bag_at, IsBagUpTo, IsWaiting, IsWalkedFrom, IsSearch, IsUnderWay, AreJoined}
+use Rattle.teg_parts.proofs.Marks.{reaches_on, reaches_by, bags_in_order}
 
 pub same_option : (p q : PlaceId) → Some p ≡ Some q → p ≡ q
 same_option p q e = cc

@@ -1,10 +1,10 @@
 //! The numbers of the parts: one after the other, each time the part of the lowest numbered
 //! transition among those whose other upstream parts all have a number.
-ghost use Rattle.std.specs.Prelude.{◌≡◌, ◌↔◌, ◌<◌, ◌≤◌, ℕ, All, length, IfOk, IfSome, IfNone, slice_index_or};
+ghost use Rattle.std.specs.Prelude.{◌≡◌, ◌<◌, ◌≤◌, ℕ, All, length, IfOk, IfSome, IfNone, slice_index_or};
 ghost use Rattle.teg_net.specs.Limits.{most_transitions};
 ghost use Rattle.teg_net.specs.Nets.{IsNet};
 ghost use Rattle.teg_parts.specs.Searches.{AreComponents};
-ghost use Rattle.teg_parts.specs.Numbers.{AreBlocked, IsFree, IsFirstFree, IsGiven, AreNumbered, AllNumbered, AreInOrderOf, AreInnerMarks, IsOpenFor, IsFirstOpen};
+ghost use Rattle.teg_parts.specs.Numbers.{AreBlocked, IsFree, IsFirstFree, IsGiven, AreInOrderOf, AreInnerMarks, IsOpenFor, IsFirstOpen};
 
 use std::alloc::{AllocError, Global};
 use teg_net::Net;

@@ -1,5 +1,5 @@
 //! The places that leave each transition, linked from the highest numbered down.
-ghost use Rattle.std.specs.Prelude.{◌≡◌, ◌<◌, length, IfOk, OnOk};
+ghost use Rattle.std.specs.Prelude.{◌<◌, length, IfOk, OnOk};
 ghost use Rattle.teg_parts.specs.PlacesFrom.{ArePlacesFrom, AddsPlacesFrom};
 
 use std::alloc::{AllocError, Global};

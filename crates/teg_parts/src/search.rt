@@ -2,11 +2,9 @@
 //! and Gabow). Transitions on the way stand in a stack of bags: those in one bag reach each other,
 //! and each bag leads to the next. A place back to an earlier bag joins the bags from there on; the
 //! last bag is a part once its places are walked.
-ghost use Rattle.std.specs.Prelude.{◌≡◌, ◌≢◌, ◌<◌, ◌≤◌, ◌+◌, ◌-◌, length, IfOk, OnOk, Option, Some, None};
-ghost use Rattle.teg_net.specs.Limits.{most_transitions};
-ghost use Rattle.teg_net.specs.Parts.{Reaches, to_of};
+ghost use Rattle.std.specs.Prelude.{◌≡◌, ◌≢◌, ◌<◌, ◌-◌, length, IfOk, OnOk, None};
 ghost use Rattle.teg_parts.specs.PlacesFrom.{ArePlacesFrom};
-ghost use Rattle.teg_parts.specs.Searches.{mark_of, bag_at, AreSeated, AreBags, AreJoined, AreClosed, Stands, CanEnter, work_left, KeepsSeen, AreComponents, IsComponentOf};
+ghost use Rattle.teg_parts.specs.Searches.{mark_of, bag_at, AreSeated, AreJoined, AreClosed, Stands, CanEnter, work_left, KeepsSeen, AreComponents, IsComponentOf};
 ghost use Rattle.teg_parts.specs.declared.search.Mark.TheVariants.{Unseen};
 
 use crate::places_from::{PlacesFrom, places_from, push_places_from};

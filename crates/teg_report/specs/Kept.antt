@@ -1,19 +1,18 @@
 -- What the values of an answer keep by their types, and where an answer is told in the one way that it has.
-use Rattle.std.specs.Prelude.{ℕ, ◌<◌, ◌≡◌, ◌^◌, List, Option, IfSome, All, IsTrue, ⊤}
-use Rattle.std.specs.Int.RustNames.{unsigned_abs}
-use Rattle.dioid.specs.declared.dates.Date.{Date}
-use Rattle.dioid.specs.declared.dates.Date.TheVariants.{Early, At, Never}
+use Rattle.std.specs.Prelude.{ℕ, ◌<◌, ◌≡◌, ◌^◌, Option, IfSome, All, IsTrue, ⊤}
 use Rattle.teg_dates.specs.Tables.{IsTable}
 use Rattle.teg_form.specs.declared.form.Entry.{Entry}
 use Rattle.teg_form.specs.declared.form.StarEntry.{StarEntry}
 use Rattle.teg_net.specs.Names.{is_name}
 use Rattle.teg_net.specs.Nets.{NetLists, IsNet}
+use Rattle.teg_reader.specs.Spots.{IsPlainSpot, HasPlainSpot}
 use Rattle.teg_reader.specs.declared.refusals.ReadRefusal.{ReadRefusal}
 use Rattle.teg_reader.specs.declared.refusals.ReadRefusal.TheVariants.{NotToml, UnknownKey, WrongKind, MissingKey, BadName, Repeated, OutOfRange, NoTransitions, UnknownTransition, NotEventGraph, InputHasUpstream, BadInput, OutOfMemory}
 use Rattle.teg_reader.specs.declared.refusals.Section.TheVariants.{Top}
 use Rattle.teg_reader.specs.declared.refusals.Spot.{Spot}
 use Rattle.teg_report.specs.Answers.{Answer, Usage, Live, Listed, Form, Read, TooLarge, TokenFree, Fault}
 use Rattle.teg_report.specs.Reports.{IsAbout}
+use Rattle.teg_text.specs.Words.{AreBytes, IsDate}
 
 -- a number of 32 bits
 abbrev pub IsWord32 : ℕ → Type 0
@@ -23,24 +22,10 @@ IsWord32 n = n < 2 ^ 32
 abbrev pub IsWord64 : ℕ → Type 0
 IsWord64 n = n < 2 ^ 64
 
--- a date whose number has 128 bits
-abbrev pub IsDate : Date → Type 0
-IsDate Early = ⊤
-IsDate (At date) = unsigned_abs date < 2 ^ 128
-IsDate Never = ⊤
-
--- at the top of the file there is no position, which is told as 0
-abbrev pub IsPlainSpot : Spot → Type 0
-IsPlainSpot spot = spot.section ≡ Top → spot.position ≡ 0
-
 -- a position is one of 32 bits, and 0 at the top
 pub record IsSpot (spot : Spot) : Type 0 where
   pub position : IsWord32 spot.position
   pub top : IsPlainSpot spot
-
--- a text: a list of bytes
-abbrev pub AreBytes : List ℕ → Type 0
-AreBytes bytes = All (λ byte. byte < 256) bytes
 
 -- what a refusal of the reader keeps; it is not its want of memory
 abbrev pub IsRefusal : ReadRefusal → Type 0
@@ -57,17 +42,6 @@ IsRefusal (NotEventGraph place producers consumers) = IsTrue (is_name place) × 
 IsRefusal (InputHasUpstream place) = IsTrue (is_name place)
 IsRefusal (BadInput transition position) = IsTrue (is_name transition) × IsWord32 position
 IsRefusal OutOfMemory = ⊥
-
--- the spot that a refusal tells, if it tells one, is plain
-abbrev pub HasPlainSpot : ReadRefusal → Type 0
-HasPlainSpot (UnknownKey spot key) = IsPlainSpot spot
-HasPlainSpot (WrongKind spot key) = IsPlainSpot spot
-HasPlainSpot (MissingKey spot key) = IsPlainSpot spot
-HasPlainSpot (BadName spot) = IsPlainSpot spot
-HasPlainSpot (Repeated spot) = IsPlainSpot spot
-HasPlainSpot (OutOfRange spot key) = IsPlainSpot spot
-HasPlainSpot (UnknownTransition spot name) = IsPlainSpot spot
-HasPlainSpot _ = ⊤
 
 -- the numbers of a star entry
 abbrev pub IsStarKept : StarEntry → Type 0

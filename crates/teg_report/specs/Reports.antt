@@ -6,10 +6,10 @@ use Rattle.teg_net.specs.Nets.{NetLists}
 use Rattle.teg_reader.specs.declared.refusals.ReadRefusal.TheVariants.{OutOfMemory}
 use Rattle.teg_report.specs.Answers.{Answer, Usage, Live, Listed, Form, Read, TooLarge, TokenFree, Fault}
 use Rattle.teg_report.specs.Forms.{IsFormWithin, form_lines}
-use Rattle.teg_report.specs.Lines.{written}
+use Rattle.teg_text.specs.Lines.{written}
 use Rattle.teg_report.specs.Lists.{list_lines}
 use Rattle.teg_report.specs.Refusals.{read_line}
-use Rattle.teg_report.specs.Texts.{usage_lines, live_lines, too_large_line, fault_line, token_free_line}
+use Rattle.teg_report.specs.Texts.{usage_lines, live_lines, too_large_line, read_fault_line, token_free_line}
 
 -- the net whose names are told; no names where none is given
 abbrev pub names_of : Option NetLists → NetLists
@@ -25,7 +25,7 @@ lines_of net (Form form) = form_lines net form
 lines_of net (Read refusal) = read_line refusal ∷ []
 lines_of net (TooLarge file) = too_large_line file ∷ []
 lines_of net (TokenFree circuit) = token_free_line net circuit ∷ []
-lines_of net (Fault file) = fault_line file ∷ []
+lines_of net (Fault file) = read_fault_line file ∷ []
 
 -- the text of an answer, with the names of the net where one is given
 abbrev pub text_of : Option NetLists → Answer → List ℕ

@@ -6,7 +6,7 @@ use Rattle.teg_net.specs.Nets.{NetLists}
 use Rattle.teg_net.specs.Circuits.{place_at}
 use Rattle.teg_report.specs.declared.answer.Which.{Which}
 use Rattle.teg_report.specs.declared.answer.Which.TheVariants.{Net as NetFile}
-use Rattle.teg_report.specs.Lines.{phrase}
+use Rattle.teg_text.specs.Lines.{phrase}
 
 -- the commands that are built, each with what follows it
 abbrev pub command_forms : List (List ℕ)
@@ -42,8 +42,8 @@ abbrev pub too_large_line : Which → List (List ℕ)
 too_large_line file = phrase (codes "refused:") ++ (file_words file ++ phrase (codes "is longer than 4194304 bytes"))
 
 -- that a file could not be read
-abbrev pub fault_line : Which → List (List ℕ)
-fault_line file = phrase (codes "fault: cannot read") ++ file_words file
+abbrev pub read_fault_line : Which → List (List ℕ)
+read_fault_line file = phrase (codes "fault: cannot read") ++ file_words file
 
 -- the name of a place
 abbrev pub name_of_place : NetLists → PlaceId → List ℕ

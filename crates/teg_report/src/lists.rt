@@ -1,30 +1,18 @@
 //! The text of a list of dates: two lines before the dates, and one line for each number.
-ghost use Rattle.std.specs.Prelude.{ℕ, ◌≡◌, ◌++◌, ◌<◌, ◌≤◌, [], All, IfOk, length, codes, string_bytes};
+ghost use Rattle.std.specs.Prelude.{ℕ, ◌≡◌, ◌++◌, ◌<◌, ◌≤◌, [], All, IfOk, length, string_bytes};
 ghost use Rattle.teg_net.specs.Limits.{most_transitions};
 ghost use Rattle.teg_dates.specs.Tables.{IsTable, date_at};
-ghost use Rattle.teg_report.specs.Kept.{IsDate};
-ghost use Rattle.teg_report.specs.Lines.{line_then, written};
-ghost use Rattle.teg_report.specs.Lists.{count_line, date_word, list_lines, names_line, number_line};
+ghost use Rattle.teg_report.specs.Lists.{count_line, list_lines, names_line, number_line};
+ghost use Rattle.teg_text.specs.Lines.{line_then, written};
+ghost use Rattle.teg_text.specs.Words.{IsDate};
 
-use dioid::Date;
 use std::alloc::{AllocError, Global};
 use teg_dates::Table;
 use teg_net::{Net, OutOfMemory, TransitionId};
-
-/// Appends a blank and a date.
-fn push_date(text: &mut String, date: Date) -> Result<(), AllocError>
-    ensures text { IfOk result (λ _. string_bytes text.new ≡ string_bytes text.old ++ (codes " " ++ date_word date)) }
-    ensures kept { IfOk result (λ _. IsDate date) }
-{
-    match date {
-        Date::Early => text.push_str(" epsilon"),
-        Date::At(date) => write!(text, " {date}"),
-        Date::Never => text.push_str(" never"),
-    }
-}
+use teg_text::push_date;
 
 /// Appends the line of a number.
-#[tactic(auto, using(crate::proofs::Joining::further_map))]
+#[tactic(auto, using(teg_text::proofs::Joining::further_map))]
 fn push_line(text: &mut String, table: &Table, width: usize, number: u64) -> Result<(), AllocError>
     requires width { width ≡ table.now.width }
     requires few { width ≤ most_transitions }
@@ -38,6 +26,7 @@ fn push_line(text: &mut String, table: &Table, width: usize, number: u64) -> Res
         let transition = TransitionId {
             index: index as u32,
         };
+        text.push(' ')?;
         push_date(text, table.date(transition, number))?;
     }
     text.push('\n')?;
@@ -45,7 +34,7 @@ fn push_line(text: &mut String, table: &Table, width: usize, number: u64) -> Res
 }
 
 /// The lines before the dates.
-#[tactic(auto, using(crate::proofs::Joining::further_map))]
+#[tactic(auto, using(teg_text::proofs::Joining::further_map))]
 fn head(alloc: Global, net: &Net, count: u32) -> Result<String, AllocError>
     ensures { IfOk result (λ text. string_bytes text ≡ line_then (count_line count) (line_then (names_line net.now) [])) }
 {
@@ -59,7 +48,7 @@ fn head(alloc: Global, net: &Net, count: u32) -> Result<String, AllocError>
 }
 
 /// The dates of the table, one line for each of its numbers.
-#[tactic(auto, using(crate::proofs::Joining::written_map))]
+#[tactic(auto, using(teg_text::proofs::Joining::written_map))]
 pub(crate) fn list(alloc: Global, net: &Net, table: &Table) -> Result<Vec<u8>, OutOfMemory>
     requires { table.now.width ≡ length net.now.transitions }
     ensures text { IfOk result (λ text. text.items ≡ written (list_lines net.now (date_at table.now) table.now.count)) }

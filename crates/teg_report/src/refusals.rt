@@ -1,15 +1,18 @@
 //! The texts of refused net files.
-ghost use Rattle.std.specs.Prelude.{◌≡◌, ◌++◌, ◌<◌, [], ◌∷◌, IfOk, IsTrue, string_bytes};
+ghost use Rattle.std.specs.Prelude.{◌≡◌, [], ◌∷◌, IfOk, IsTrue, string_bytes};
 ghost use Rattle.teg_net.specs.Names.{is_name};
-ghost use Rattle.teg_report.specs.Kept.{AreBytes, HasPlainSpot, IsRefusal, IsWord32};
-ghost use Rattle.teg_report.specs.Lines.{written};
-ghost use Rattle.teg_report.specs.Refusals.{ends_line, entered_line, fault_line, hex_digit, input_line, label_byte, label_word, read_line};
+ghost use Rattle.teg_reader.specs.Spots.{HasPlainSpot};
+ghost use Rattle.teg_report.specs.Kept.{IsRefusal, IsWord32};
+ghost use Rattle.teg_report.specs.Refusals.{ends_line, entered_line, fault_line, input_line, read_line};
 ghost use Rattle.teg_report.specs.Spots.{spot_text};
+ghost use Rattle.teg_text.specs.Lines.{written};
+ghost use Rattle.teg_text.specs.Words.{AreBytes, label_word};
 
 use crate::texts::bytes_of;
-use std::alloc::{AllocError, Global};
+use std::alloc::Global;
 use teg_net::{Label, Name, OutOfMemory};
 use teg_reader::{ReadRefusal, Section, Spot};
+use teg_text::push_label;
 
 /// A table of the file.
 fn spot_text(alloc: Global, spot: &Spot) -> Result<String, OutOfMemory>
@@ -25,39 +28,13 @@ fn spot_text(alloc: Global, spot: &Spot) -> Result<String, OutOfMemory>
     }
 }
 
-/// The byte of a hexadecimal digit.
-fn hex_digit(digit: u8) -> u8
-    requires { digit < 16 }
-    ensures result { result ≡ hex_digit digit }
-    ensures ascii { result < 128 }
-{
-    if 10 <= digit { 87 + digit } else { 48 + digit }
-}
-
-/// Appends a byte of a label.
-fn push_label_byte(text: &mut String, byte: u8) -> Result<(), AllocError>
-    ensures { IfOk result (λ _. string_bytes text.new ≡ string_bytes text.old ++ label_byte byte) }
-{
-    if byte == b'\\' {
-        text.push_str("\\\\")
-    } else if (0x21..=0x7E).contains(&byte) {
-        text.push(char::from(byte))
-    } else {
-        text.push_str("\\x")?;
-        text.push(char::from(hex_digit(byte / 16)))?;
-        text.push(char::from(hex_digit(byte % 16)))
-    }
-}
-
 /// A label, byte by byte.
 fn label_word(alloc: Global, label: &Label) -> Result<String, OutOfMemory>
     ensures text { IfOk result (λ text. string_bytes text ≡ label_word label.now) }
-    ensures kept { AreBytes label.now }
+    ensures kept { IfOk result (λ _. AreBytes label.now) }
 {
     let mut text = String::new(alloc);
-    for byte in label.as_str().as_bytes() {
-        push_label_byte(&mut text, *byte)?;
-    }
+    push_label(&mut text, label.as_str())?;
     Ok(text)
 }
 

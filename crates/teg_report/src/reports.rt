@@ -1,8 +1,9 @@
 //! The text of an answer.
-ghost use Rattle.std.specs.Prelude.{◌≡◌, IfOk};
+ghost use Rattle.std.specs.Prelude.{◌≡◌, IfOk, IfSome};
 ghost use Rattle.std.specs.Option.{option_copied};
-ghost use Rattle.teg_report.specs.Answers.{Answer as SomeAnswer};
-ghost use Rattle.teg_report.specs.Kept.{IsKept, IsPlain, IsTold};
+ghost use Rattle.teg_net.specs.Nets.{IsNet};
+ghost use Rattle.teg_report.specs.Answering.{AreOfOneNet, IsReadFrom};
+ghost use Rattle.teg_report.specs.Kept.{IsKept, IsPlain};
 ghost use Rattle.teg_report.specs.Meanings.{meant};
 ghost use Rattle.teg_report.specs.Reports.{IsAbout, text_of};
 
@@ -38,6 +39,15 @@ fn text(alloc: Global, net: Option<&Net>, answer: &Answer<'_>) -> Result<Vec<u8>
     }
 }
 
+/// That a net which is given keeps its rules.
+fn know_rules(net: Option<&Net>)
+    ensures { IfSome (option_copied net.entry) IsNet }
+{
+    if let Some(net) = net {
+        net.transitions();
+    }
+}
+
 /// The bytes of an answer, one line feed after each line.
 ///
 /// The net is given wherever the text has a name that the answer does not hold itself: for `List`,
@@ -50,9 +60,35 @@ pub fn report(alloc: Global, net: Option<&Net>, answer: &Answer<'_>) -> Result<V
     requires { IsAbout (option_copied net) (meant answer.now) }
     // The bytes are the text of the answer.
     ensures text { IfOk result (λ text. text.items ≡ text_of (option_copied net.entry) (meant answer.now)) }
-    // And no other answer about the same net has these bytes.
-    ensures different { IfOk result (λ text. (other : SomeAnswer) → IsPlain (meant answer.now) → IsTold (option_copied net.entry) other →
-        text.items ≡ text_of (option_copied net.entry) other → other ≡ meant answer.now) }
+    // The answer is read back from its bytes, by the names of its net: so answers with the same bytes are one.
+    ensures read_back { IfOk result (λ text. IsPlain (meant answer.now) →
+        IsReadFrom (option_copied net.entry) (meant answer.now) text.items) }
 {
+    know_rules(net);
     text(alloc, net, answer)
+}
+
+/// The bytes of two answers about one net, each told with the net or without it. Where the answers
+/// differ, so do the bytes.
+///
+/// `OutOfMemory` comes only where no memory is found.
+pub fn report_both(
+    alloc: Global,
+    first_net: Option<&Net>,
+    first: &Answer<'_>,
+    second_net: Option<&Net>,
+    second: &Answer<'_>,
+) -> Result<(Vec<u8>, Vec<u8>), OutOfMemory>
+    requires one_net { AreOfOneNet (option_copied first_net) (option_copied second_net) }
+    requires first { IsAbout (option_copied first_net) (meant first.now) }
+    requires second { IsAbout (option_copied second_net) (meant second.now) }
+    ensures first { IfOk result (λ texts. texts.0.items ≡ text_of (option_copied first_net.entry) (meant first.now)) }
+    ensures second { IfOk result (λ texts. texts.1.items ≡ text_of (option_copied second_net.entry) (meant second.now)) }
+    // Different answers have different bytes.
+    ensures different { IfOk result (λ texts. IsPlain (meant first.now) → IsPlain (meant second.now) →
+        texts.0.items ≡ texts.1.items → meant first.now ≡ meant second.now) }
+{
+    let one = report(alloc, first_net, first)?;
+    let two = report(alloc, second_net, second)?;
+    Ok((one, two))
 }

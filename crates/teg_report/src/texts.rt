@@ -2,10 +2,11 @@
 ghost use Rattle.std.specs.Prelude.{◌≡◌, [], ◌∷◌, IfOk};
 ghost use Rattle.teg_net.specs.Circuits.{AreInRange};
 ghost use Rattle.teg_report.specs.Kept.{IsWord32};
-ghost use Rattle.teg_report.specs.Lines.{written};
-ghost use Rattle.teg_report.specs.Texts.{usage_lines, live_lines, too_large_line, fault_line, token_free_line};
+ghost use Rattle.teg_report.specs.Texts.{usage_lines, live_lines, too_large_line, read_fault_line, token_free_line};
+ghost use Rattle.teg_text.specs.Lines.{written};
 
 use crate::answer::Which;
+use crate::circuits::push_circuit;
 use std::alloc::Global;
 use teg_net::{Circuit, Net, OutOfMemory};
 
@@ -36,7 +37,6 @@ pub(crate) fn live(alloc: Global, transitions: u32, places: u32) -> Result<Vec<u
 }
 
 /// The circuit for whose sake a net is not live.
-#[tactic(auto, using(crate::proofs::Joining::further_map))]
 pub(crate) fn token_free(
     alloc: Global,
     net: &Net,
@@ -45,12 +45,8 @@ pub(crate) fn token_free(
     requires { AreInRange net.now circuit.now.places.items }
     ensures { IfOk result (λ text. text.items ≡ written (token_free_line net.now circuit.now.places.items ∷ [])) }
 {
-    let places = net.places();
     let mut text = String::from_str(alloc, "refused: token-free circuit")?;
-    for id in &circuit.places {
-        text.push(' ')?;
-        text.push_str(places[id.index as usize].name.as_str())?;
-    }
+    push_circuit(&mut text, net, circuit)?;
     text.push('\n')?;
     Ok(text.into_bytes())
 }
@@ -66,7 +62,7 @@ pub(crate) fn too_large(alloc: Global, file: Which) -> Result<Vec<u8>, OutOfMemo
 
 /// That a file could not be read.
 pub(crate) fn fault(alloc: Global, file: Which) -> Result<Vec<u8>, OutOfMemory>
-    ensures { IfOk result (λ text. text.items ≡ written (fault_line file ∷ [])) }
+    ensures { IfOk result (λ text. text.items ≡ written (read_fault_line file ∷ [])) }
 {
     match file {
         Which::Net => bytes_of(alloc, "fault: cannot read the net\n"),

@@ -1,10 +1,12 @@
 pub mod Answering
-pub mod Causes
+pub mod Faults
 pub mod Formed
 pub mod Growing
 pub mod Listed
+pub mod LiveNets
 pub mod Promises
 pub mod ReadOrder
+pub mod Refusals
 pub mod Refusing
+pub mod Verdicts
 pub mod Ways
-pub mod Written

@@ -7,8 +7,9 @@ use Rattle.dioid.proofs.DateOrder.{same_by_at_most}
 use Rattle.teg_dates.specs.Tables.{TableDates, HasLeastDates, date_at}
 use Rattle.teg_model.specs.Datings.{IsLeastDating}
 use Rattle.teg_net.specs.Nets.{NetLists}
-use Rattle.teg_report.specs.Lines.{written}
-use Rattle.teg_report.specs.Lists.{count_line, date_word, dated_firing, names_line, number_line}
+use Rattle.teg_report.specs.Lists.{count_line, dated_firing, names_line, number_line}
+use Rattle.teg_text.specs.Lines.{written}
+use Rattle.teg_text.specs.Words.{date_word}
 use Rattle.teg_run.specs.declared.status.Verdict.TheVariants.{Done as VerdictDone}
 use Rattle.teg_run.specs.Says.{SaysList}
 use Rattle.teg_run.specs.Texts.{list_text}

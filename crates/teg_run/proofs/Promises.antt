@@ -1,203 +1,257 @@
 -- The promises of the whole call, from how it runs.
-use Rattle.std.proofs.Common.{◌≡◌, ◌≢◌, ℕ, ◌⊎◌, ⊎_elim, inl, inr, List, [], Option, Some, None, refl, sym, subst, ◌∙◌}
+use Rattle.std.proofs.Common.{◌≡◌, ◌≢◌, ℕ, ◌⊎◌, ⊎_elim, inl, inr, List, [], ◌++◌, Option, Some, None, refl, sym, ap, subst, ◌∙◌}
+use Rattle.std.proofs.lemmas.List.{append_cancel_left}
 use Rattle.teg_net.specs.Nets.{NetLists}
-use Rattle.teg_outside.specs.declared.monitor.Firing.{Firing}
-use Rattle.teg_outside.specs.Causes.{Rested}
-use Rattle.teg_outside.specs.Shelves.{ShelfState}
-use Rattle.teg_outside.specs.Sinks.{SinkState, BytesGrow, PrefixGrows}
-use Rattle.teg_run.specs.declared.order.NetCommand.{NetCommand}
-use Rattle.teg_run.specs.declared.order.NetCommand.TheVariants.{Check, Form, List as ListCommand}
+use Rattle.teg_outside.specs.Causes.{Rose}
+use Rattle.teg_outside.specs.Sinks.{BytesGrow}
+use Rattle.teg_outside.proofs.Counts.{rose_not_rested}
+use Rattle.teg_report.specs.declared.answer.Which.{Which}
 use Rattle.teg_run.specs.declared.status.Status.{Status}
-use Rattle.teg_run.specs.declared.status.Status.TheVariants.{Done, Words, Text, Net, WriteFault, NoMemory}
+use Rattle.teg_run.specs.declared.status.Status.TheVariants.{Done, Words, Text, Net, ReadFault, WriteFault, NoMemory}
 use Rattle.teg_run.specs.declared.status.Verdict.{Verdict}
-use Rattle.teg_run.specs.declared.status.Verdict.TheVariants.{Done as VerdictDone}
+use Rattle.teg_run.specs.Calls.{Call}
 use Rattle.teg_run.specs.Endings.{Ending, Whole, Lost}
-use Rattle.teg_run.specs.Headline.{Ends, Opens, TextCause, NetCause, Follows, SaysLeastDates, SaysStandardForm}
-use Rattle.teg_run.specs.Orders.{Order, OfNet, order_of, asked_files}
-use Rattle.teg_run.specs.Reading.{ReadsAll}
-use Rattle.teg_run.specs.Replies.{Reply}
-use Rattle.teg_run.specs.Runs.{Answered, Finished, Runs}
-use Rattle.teg_run.specs.Says.{SaysNet, Asked}
+use Rattle.teg_run.specs.Headline.{Ends, EndsLost, HasFault, Follows, ComesOnly, ReadsAreCalm, OverlongRose, WroteWhole, WrotePrefix, ReadsFirstOf, NamesLastRead, AllowsNet, Allows, EndsAsAllowed, Concerns, SaysOfNet, SaysLive, SaysLeastDates, SaysStandardForm, KeepsPromises}
+use Rattle.teg_run.specs.Requests.{NetCommand, CheckNet, ListNet, FormNet, Request, OfNet, request_of, files_of, asked_files}
+use Rattle.teg_run.specs.Runs.{Answered, CarriesOut, Finished, Runs}
+use Rattle.teg_run.specs.Says.{Asked, SaysNet, SaysOutcome}
 use Rattle.teg_run.specs.Statuses.{status_of}
-use Rattle.teg_run.specs.Texts.{usage, live_text, list_text, form_text}
-use Rattle.teg_run.proofs.Listed.{listed_is}
-use Rattle.teg_run.proofs.ReadOrder.{none_read}
-use Rattle.teg_run.proofs.Ways.{Way, Unread, Overlong, NoToml, NoNet, NotLive, Reported, way_of, no_text_way, refused_way, opened_way}
+use Rattle.teg_run.specs.Texts.{usage, live_text, list_text, form_text, too_large_text, fault_text}
+use Rattle.teg_run.proofs.Faults.{IsFaultOf, text_is_fault, net_is_fault, comes_only, follows, way_is_said, overlong_way, fault_way}
+use Rattle.teg_run.proofs.LiveNets.{live_goes_on}
+use Rattle.teg_run.proofs.ReadOrder.{none_read, reads_first}
+use Rattle.teg_run.proofs.Verdicts.{IsSaid}
+use Rattle.teg_run.proofs.Ways.{Way, way_of}
 
--- a call that asks for this
-abbrev pub RunsFor : Option Order → (List Firing → List (List ℕ)) → ShelfState → ShelfState → SinkState → SinkState → Status → Type 0
-RunsFor asked lines shelf shelf' sink sink' status =
-    (ending : Ending) × Answered (Asked asked lines) (asked_files asked) shelf shelf' ending × Finished sink sink' ending status
+-- ---- how a call ended that asks for this
 
--- a verdict is none of the statuses that only the call itself gives
-pub verdict_is : (verdict : Verdict) → status_of verdict ≡ Done
-verdict_is VerdictDone = refl
+-- its answer came in one of the ways and was written, or memory ran out
+abbrev Ended : Request → Call → Type 0
+Ended request call =
+    ((said : Status) × (text : List ℕ) × Way call.shelf_before call.shelf_after (files_of request) said text
+    × Finished call.sink_before call.sink_after (Whole said text) call.status)
+    ⊎ EndsLost call
 
--- a text that was written whole, where it is the wanted one
-pub ends_with : (sink sink' : SinkState) (status said wanted : Status) (text text' : List ℕ) → said ≡ wanted → text ≡ text' →
-    Finished sink sink' (Whole said text) status → Ends sink sink' status wanted text'
-ends_with sink sink' status said wanted text text' e t h =
-    ⊎_elim (λ (whole : _). inl (whole.0 ∙ e, whole.1, subst (λ (l : List ℕ). BytesGrow sink.bytes sink'.bytes l) t whole.2))
-    (λ (cut : _). inr (inl (cut.0, cut.1, subst (λ (l : List ℕ). PrefixGrows sink.bytes sink'.bytes l) t cut.2))) h
+ended_with : (request : Request) (call : Call) (ending : Ending) →
+    Answered (Asked (Some request) call.lines) (files_of request) call.shelf_before call.shelf_after ending →
+    Finished call.sink_before call.sink_after ending call.status → Ended request call
+ended_with request call Lost h k = inr k
+ended_with request call (Whole said text) h k =
+    inl (said, text, way_of request call.lines call.shelf_before call.shelf_after h.0 said text h.1 h.2, k)
 
--- words that are refused
+ended : (request : Request) (call : Call) → Runs call → request_of call.words ≡ Some request → Ended request call
+ended request call runs asks =
+    let h = subst (λ (asked : Option Request). CarriesOut asked call) asks runs in ended_with request call h.0 h.1 h.2
 
-refused_words : (lines : List Firing → List (List ℕ)) (shelf shelf' : ShelfState) (sink sink' : SinkState) (status : Status) (ending : Ending) →
-    Answered (Asked None lines) [] shelf shelf' ending → Finished sink sink' ending status →
-    (shelf' ≡ shelf) × Ends sink sink' status Words usage
-refused_words lines shelf shelf' sink sink' status Lost h k = (none_read shelf shelf' h.0 h.1, inr (inr k))
-refused_words lines shelf shelf' sink sink' status (Whole said text) h k =
-    (none_read shelf shelf' h.0 h.1, ends_with sink sink' status said Words text usage h.2.1.0 h.2.1.1 k)
+-- a text of another status than a write fault was written whole
+whole_of : (call : Call) (said : Status) (text : List ℕ) → call.status ≢ WriteFault → Finished call.sink_before call.sink_after (Whole said text) call.status →
+    (call.status ≡ said) × (call.sink_after.faults ≡ call.sink_before.faults) × BytesGrow call.sink_before.bytes call.sink_after.bytes text
+whole_of call said text other h = ⊎_elim (λ (whole : _). whole) (λ (cut : _). absurd (other cut.0)) h
 
-pub words_refused : (words : List (List ℕ)) (lines : List Firing → List (List ℕ)) (shelf shelf' : ShelfState) (sink sink' : SinkState) (status : Status) →
-    Runs words lines shelf shelf' sink sink' status → order_of words ≡ None → (shelf' ≡ shelf) × Ends sink sink' status Words usage
-words_refused words lines shelf shelf' sink sink' status h e =
-    let k = subst (λ (asked : Option Order). RunsFor asked lines shelf shelf' sink sink' status) e h in
-    refused_words lines shelf shelf' sink sink' status k.0 k.1 k.2
+-- ---- words that are refused
 
--- a command on a net
+refused_with : (call : Call) (ending : Ending) → Answered (Asked None call.lines) [] call.shelf_before call.shelf_after ending →
+    Finished call.sink_before call.sink_after ending call.status → (call.shelf_after ≡ call.shelf_before) × Ends call Words usage
+refused_with call Lost h k = (none_read call.shelf_before call.shelf_after h.0 h.1, inr k)
+refused_with call (Whole said text) h k = (
+  none_read call.shelf_before call.shelf_after h.0 h.1,
+  inl (subst (λ (s : Status). Finished call.sink_before call.sink_after (Whole s usage) call.status) h.2.1.0
+      (subst (λ (l : List ℕ). Finished call.sink_before call.sink_after (Whole said l) call.status) h.2.1.1 k)),
+)
 
--- it ended in one of its ways and was written, or memory ran out
-abbrev pub EndsSomeWay : (command : NetCommand) (name : List ℕ) → ShelfState → ShelfState → SinkState → SinkState → Status → Type 0
-EndsSomeWay command name shelf shelf' sink sink' status =
-    ((said : Status) × (text : List ℕ) × Way shelf shelf' name (SaysNet command) said text × Finished sink sink' (Whole said text) status)
-    ⊎ ((status ≡ NoMemory) × (sink' ≡ sink))
+words_refused : (call : Call) → Runs call → request_of call.words ≡ None → (call.shelf_after ≡ call.shelf_before) × Ends call Words usage
+words_refused call runs asks =
+    let h = subst (λ (asked : Option Request). CarriesOut asked call) asks runs in refused_with call h.0 h.1 h.2
 
-pub some_way_ended : (command : NetCommand) (name : List ℕ) (lines : List Firing → List (List ℕ)) (shelf shelf' : ShelfState) (sink sink' : SinkState) (status : Status) (ending : Ending) →
-    Answered (Asked (Some (OfNet command name)) lines) (asked_files (Some (OfNet command name))) shelf shelf' ending → Finished sink sink' ending status →
-    EndsSomeWay command name shelf shelf' sink sink' status
-some_way_ended command name lines shelf shelf' sink sink' status Lost h k = inr k
-some_way_ended command name lines shelf shelf' sink sink' status (Whole said text) h k =
-    inl (said, text, way_of shelf shelf' name (SaysNet command) said text h.0 h.1 h.2, k)
+words_only_for : (asked : Option Request) (call : Call) → Runs call → request_of call.words ≡ asked → call.status ≡ Words → request_of call.words ≡ None
+words_only_for None call runs asks e = asks
+words_only_for (Some request) call runs asks e =
+    absurd (⊎_elim
+    (λ (said : _). let whole = whole_of call said.0 said.1 (λ f. cc) said.3 in
+    (way_is_said call.shelf_before call.shelf_after (files_of request) said.0 said.1 said.2).no_words (sym whole.0 ∙ e))
+    (λ (lost : _). let bad : ⊥ = cc (lost.0, e) in bad) (ended request call runs asks))
 
-pub some_way : (words : List (List ℕ)) (lines : List Firing → List (List ℕ)) (shelf shelf' : ShelfState) (sink sink' : SinkState) (status : Status) (command : NetCommand) (name : List ℕ) →
-    Runs words lines shelf shelf' sink sink' status → order_of words ≡ Some (OfNet command name) → EndsSomeWay command name shelf shelf' sink sink' status
-some_way words lines shelf shelf' sink sink' status command name h e =
-    let k = subst (λ (asked : Option Order). RunsFor asked lines shelf shelf' sink sink' status) e h in
-    some_way_ended command name lines shelf shelf' sink sink' status k.0 k.1 k.2
+-- ---- causes
 
--- what a call says is a status of an answer, and never one of the writing or of memory
-
-abbrev pub IsSaid : Status → Type 0
-IsSaid said = (said ≢ WriteFault) × (said ≢ NoMemory)
-
-pub way_is_said : (shelf shelf' : ShelfState) (name : List ℕ) (says : NetLists → Verdict → List ℕ → Type 0) (said : Status) (text : List ℕ) →
-    Way shelf shelf' name says said text → IsSaid said × (said ≢ Words)
-way_is_said shelf shelf' name says said text (Unread is text_is rose grew) = ((λ e. cc, λ e. cc), λ e. cc)
-way_is_said shelf shelf' name says said text (Overlong is text_is rose long) = ((λ e. cc, λ e. cc), λ e. cc)
-way_is_said shelf shelf' name says said text (NoToml is text_is bytes file short says_it) = ((λ e. cc, λ e. cc), λ e. cc)
-way_is_said shelf shelf' name says said text (NoNet is refusal text_is bytes file short says_it other) = ((λ e. cc, λ e. cc), λ e. cc)
-way_is_said shelf shelf' name says said text (NotLive is net circuit text_is bytes file short says_it free) = ((λ e. cc, λ e. cc), λ e. cc)
-way_is_said shelf shelf' name says said text (Reported verdict is net text_is bytes file short says_it live) =
-    let done = verdict_is verdict in ((λ e. cc, λ e. cc), λ e. cc)
-
-pub asked_is_said : (asked : Option Order) (lines : List Firing → List (List ℕ)) (shelf shelf' : ShelfState) (replies : List Reply) (said : Status) (text : List ℕ) →
-    ReadsAll shelf shelf' (asked_files asked) replies → Asked asked lines replies said text → IsSaid said
-asked_is_said None lines shelf shelf' replies said text reads h = let is = h.1.0 in (λ e. cc, λ e. cc)
-asked_is_said (Some (OfNet command name)) lines shelf shelf' replies said text reads h =
-    (way_is_said shelf shelf' name (SaysNet command) said text (way_of shelf shelf' name (SaysNet command) said text replies reads h)).0
-
--- the status Words
-
-words_from_way : (command : NetCommand) (name : List ℕ) (shelf shelf' : ShelfState) (sink sink' : SinkState) (status : Status) →
-    EndsSomeWay command name shelf shelf' sink sink' status → status ≡ Words → ⊥
-words_from_way command name shelf shelf' sink sink' status h e =
-    ⊎_elim (λ (said : _). ⊎_elim (λ (whole : _). (way_is_said shelf shelf' name (SaysNet command) said.0 said.1 said.2).1 (sym whole.0 ∙ e))
-    (λ (cut : _). let bad : ⊥ = cc (cut.0, e) in bad) said.3)
-    (λ (lost : _). let bad : ⊥ = cc (lost.0, e) in bad) h
-
-words_only_for : (asked : Option Order) (words : List (List ℕ)) (lines : List Firing → List (List ℕ)) (shelf shelf' : ShelfState) (sink sink' : SinkState) (status : Status) →
-    order_of words ≡ asked → Runs words lines shelf shelf' sink sink' status → status ≡ Words → order_of words ≡ None
-words_only_for None words lines shelf shelf' sink sink' status asks h e = asks
-words_only_for (Some (OfNet command name)) words lines shelf shelf' sink sink' status asks h e =
-    absurd (words_from_way command name shelf shelf' sink sink' status (some_way words lines shelf shelf' sink sink' status command name h asks) e)
-
-pub words_only_refused : (words : List (List ℕ)) (lines : List Firing → List (List ℕ)) (shelf shelf' : ShelfState) (sink sink' : SinkState) (status : Status) →
-    Runs words lines shelf shelf' sink sink' status → status ≡ Words → order_of words ≡ None
-words_only_refused words lines shelf shelf' sink sink' status h e =
-    words_only_for (order_of words) words lines shelf shelf' sink sink' status refl h e
-
--- a cause leads to its status
-
-pub text_follows : (words : List (List ℕ)) (lines : List Firing → List (List ℕ)) (shelf shelf' : ShelfState) (sink sink' : SinkState) (status : Status) →
-    Runs words lines shelf shelf' sink sink' status → Follows TextCause Text words shelf shelf' sink sink' status
-text_follows words lines shelf shelf' sink sink' status h files (OfNet command name) told rested asks cause =
+-- a status of a file leads back to the request and to a way
+came_for : (asked : Option Request) (call : Call) → call.status ≢ Words → call.status ≢ WriteFault → call.status ≢ NoMemory → Runs call →
+    request_of call.words ≡ asked →
+    (request : Request) × (text : List ℕ) × (request_of call.words ≡ Some request)
+    × Way call.shelf_before call.shelf_after (files_of request) call.status text × BytesGrow call.sink_before.bytes call.sink_after.bytes text
+came_for None call wordless other memory runs asks =
+    let refused = words_refused call runs asks in
+    absurd (⊎_elim (λ (said : _). wordless (whole_of call Words usage other said).0) (λ (lost : _). memory lost.0) refused.1)
+came_for (Some request) call wordless other memory runs asks =
     ⊎_elim
-    (λ (said : _). let way = no_text_way shelf shelf' files name (SaysNet command) said.0 said.1 cause.0 told rested cause.1 said.2 in
-    (said.1, way.1, ends_with sink sink' status said.0 Text said.1 said.1 way.0 refl said.3))
-    (λ (lost : _). (cause.0, cause.1, inr (inr lost))) (some_way words lines shelf shelf' sink sink' status command name h asks)
+    (λ (said : _). let whole = whole_of call said.0 said.1 other said.3 in
+    (request, said.1, asks, subst (λ (s : Status). Way call.shelf_before call.shelf_after (files_of request) s said.1) (sym whole.0) said.2, whole.2))
+    (λ (lost : _). absurd (memory lost.0)) (ended request call runs asks)
 
-pub net_follows : (words : List (List ℕ)) (lines : List Firing → List (List ℕ)) (shelf shelf' : ShelfState) (sink sink' : SinkState) (status : Status) →
-    Runs words lines shelf shelf' sink sink' status → Follows NetCause Net words shelf shelf' sink sink' status
-net_follows words lines shelf shelf' sink sink' status h files (OfNet command name) told rested asks cause =
+-- the status of a fault of a file comes only from that fault
+fault_only : (wanted : Status) (fault : List (List ℕ × List ℕ) → Which → List ℕ → List ℕ → Type 0) → IsFaultOf wanted fault →
+    wanted ≢ Words → wanted ≢ WriteFault → wanted ≢ NoMemory → (call : Call) → (call.status ≡ Text → ReadsAreCalm call) → Runs call → ComesOnly fault wanted call
+fault_only wanted fault is wordless other memory call calm runs files told e =
+    let came = came_for (request_of call.words) call (λ w. wordless (sym e ∙ w)) (λ w. other (sym e ∙ w)) (λ w. memory (sym e ∙ w)) runs refl in (
+      came.0,
+      came.1,
+      came.2,
+      comes_only wanted fault is files call.shelf_before call.shelf_after (files_of came.0) call.status came.1 told calm e came.3,
+      came.4,
+    )
+
+-- a fault of a file leads to its status
+fault_follows : (wanted : Status) (fault : List (List ℕ × List ℕ) → Which → List ℕ → List ℕ → Type 0) → IsFaultOf wanted fault →
+    (call : Call) → Runs call → Follows fault wanted call
+fault_follows wanted fault is call runs files request told calm asks cause =
     ⊎_elim
-    (λ (said : _). let way = refused_way shelf shelf' files name (SaysNet command) said.0 said.1 cause.0 told rested cause.1 said.2 in
-    (said.1, way.1, ends_with sink sink' status said.0 Net said.1 said.1 way.0 refl said.3))
-    (λ (lost : _). (cause.0, cause.1, inr (inr lost))) (some_way words lines shelf shelf' sink sink' status command name h asks)
+    (λ (said : _). let way = follows wanted fault is files call.shelf_before call.shelf_after (files_of request) said.0 said.1 cause.0 told calm cause.1 said.2 in
+    (said.1, way.1, inl (subst (λ (s : Status). Finished call.sink_before call.sink_after (Whole s said.1) call.status) way.0 said.3)))
+    (λ (lost : _). (cause.0, cause.1, inr lost)) (ended request call runs asks)
 
-pub check_follows : (words : List (List ℕ)) (lines : List Firing → List (List ℕ)) (shelf shelf' : ShelfState) (sink sink' : SinkState) (status : Status) →
-    Runs words lines shelf shelf' sink sink' status → (files : List (List ℕ × List ℕ)) (name : List ℕ) (net : NetLists) →
-    order_of words ≡ Some (OfNet Check name) → shelf.files ≡ Some files → Rested shelf.faults shelf'.faults → Opens files name net →
-    Ends sink sink' status Done (live_text net)
-check_follows words lines shelf shelf' sink sink' status h files name net asks told rested opens =
+-- what was appended is what grew
+appended : (old new : Option (List ℕ)) (bytes text more : List ℕ) → old ≡ Some bytes → new ≡ Some (bytes ++ more) → BytesGrow old new text → text ≡ more
+appended old new bytes text more o n h =
+    let k = subst (λ (b : Option (List ℕ)). BytesGrow b new text) o h in
+    let same : bytes ++ text ≡ bytes ++ more = cc in append_cancel_left bytes text more same
+
+overlong_rose : (call : Call) → Runs call → call.status ≡ Text → OverlongRose call
+overlong_rose call runs e which bytes old new =
+    let came = came_for (request_of call.words) call (λ w. cc) (λ w. cc) (λ w. cc) runs refl in
+    let text_is = appended call.sink_before.bytes call.sink_after.bytes bytes came.1 (too_large_text which) old new came.4 in
+    overlong_way which call.shelf_before call.shelf_after (files_of came.0) call.status came.1 e text_is came.3
+
+fault_rose : (call : Call) → Runs call → call.status ≡ ReadFault → Rose call.shelf_before.faults call.shelf_after.faults
+fault_rose call runs e =
+    let came = came_for (request_of call.words) call (λ w. cc) (λ w. cc) (λ w. cc) runs refl in
+    (fault_way call.shelf_before call.shelf_after (files_of came.0) call.status came.1 e came.3).0
+
+fault_named_by : (call : Call) (request : Request) (text : List ℕ) → call.status ≡ ReadFault → request_of call.words ≡ Some request →
+    Way call.shelf_before call.shelf_after (files_of request) call.status text → BytesGrow call.sink_before.bytes call.sink_after.bytes text →
+    NamesLastRead call (asked_files (request_of call.words))
+fault_named_by call request text e asks way grew =
+    let fault = (fault_way call.shelf_before call.shelf_after (files_of request) call.status text e way).1 in
+    subst (λ (asked : Option Request). NamesLastRead call (asked_files asked)) (sym asks)
+    (fault.0, fault.1, fault.2, fault.3, fault.4, subst (λ (l : List ℕ). BytesGrow call.sink_before.bytes call.sink_after.bytes l) fault.5 grew)
+
+fault_named : (call : Call) → Runs call → call.status ≡ ReadFault → NamesLastRead call (asked_files (request_of call.words))
+fault_named call runs e =
+    let came = came_for (request_of call.words) call (λ w. cc) (λ w. cc) (λ w. cc) runs refl in
+    fault_named_by call came.0 came.1 e came.2 came.3 came.4
+
+-- ---- commands on a live net
+
+net_said : (call : Call) (command : NetCommand) (net : NetLists) (asks : Concerns call command net) (ending : Ending) →
+    Answered (Asked (Some (OfNet command asks.name)) call.lines) (files_of (OfNet command asks.name)) call.shelf_before call.shelf_after ending →
+    Finished call.sink_before call.sink_after ending call.status →
+    ((verdict : Verdict) × (text : List ℕ) × SaysNet command net verdict text × Ends call (status_of verdict) text) ⊎ EndsLost call
+net_said call command net asks Lost h k = inr k
+net_said call command net asks (Whole said text) h k =
+    let on = live_goes_on asks.files call.shelf_before call.shelf_after asks.name [] net (λ n. SaysOutcome (SaysNet command n)) h.0 said text
+    asks.told asks.calm asks.opens h.1 h.2 in
+    inl (on.3.1.0, text, on.3.1.2, inl (subst (λ (s : Status). Finished call.sink_before call.sink_after (Whole s text) call.status) on.3.1.1 k))
+
+says_of_net : (call : Call) → Runs call → SaysOfNet call
+says_of_net call runs command net asks =
+    let h = subst (λ (asked : Option Request). CarriesOut asked call) asks.asks runs in net_said call command net asks h.0 h.1 h.2
+
+-- an ending with the verdict Done and the text that is wanted
+done_with : (call : Call) (verdict : Verdict) (text wanted : List ℕ) → status_of verdict ≡ Done → text ≡ wanted → Ends call (status_of verdict) text → Ends call Done wanted
+done_with call verdict text wanted e t h =
+    subst (λ (s : Status). Ends call s wanted) e (subst (λ (l : List ℕ). Ends call (status_of verdict) l) t h)
+
+check_follows : (call : Call) → Runs call → SaysLive call
+check_follows call runs net asks =
+    ⊎_elim (λ (said : _). done_with call said.0 said.1 (live_text net) (ap status_of said.2.0) said.2.1 said.3)
+    (λ (lost : _). inr lost) (says_of_net call runs CheckNet net asks)
+
+list_follows : (call : Call) → Runs call → SaysLeastDates call
+list_follows call runs count net asks =
+    ⊎_elim (λ (said : _). inl (said.2.1.0, said.2.1.1, done_with call said.0 said.1 (list_text net said.2.1.0 count) (ap status_of said.2.0) said.2.1.2 said.3))
+    (λ (lost : _). inr lost) (says_of_net call runs (ListNet count) net asks)
+
+form_follows : (call : Call) → Runs call → SaysStandardForm call
+form_follows call runs net asks =
+    ⊎_elim (λ (said : _). inl (said.2.1.0, said.2.1.1, done_with call said.0 said.1 (form_text net said.2.1.0) (ap status_of said.2.0) said.2.1.2 said.3))
+    (λ (lost : _). inr lost) (says_of_net call runs FormNet net asks)
+
+allowed : (command : NetCommand) (net : NetLists) (verdict : Verdict) (text : List ℕ) → SaysNet command net verdict text → AllowsNet command verdict
+allowed CheckNet net verdict text h = h.0
+allowed (ListNet count) net verdict text h = h.0
+allowed FormNet net verdict text h = h.0
+
+ends_as_allowed : (call : Call) → Runs call → EndsAsAllowed call
+ends_as_allowed call runs files (OfNet command name) asks told reads writes accepts =
     ⊎_elim
-    (λ (said : _). let way = opened_way shelf shelf' files name net (SaysNet Check) said.0 said.1 told rested opens said.2 in
-    ends_with sink sink' status said.0 Done said.1 (live_text net) (way.1 ∙ verdict_is way.0) way.2.1 said.3)
-    (λ (lost : _). inr (inr lost)) (some_way words lines shelf shelf' sink sink' status Check name h asks)
+    (λ (said : _). ⊎_elim
+    (λ (finished : _). ⊎_elim (λ (whole : _). inr (said.0, whole.0, allowed command accepts.0 said.0 said.1 said.2))
+    (λ (cut : _). absurd (rose_not_rested call.sink_before.faults call.sink_after.faults cut.1 writes)) finished)
+    (λ (lost : _). inl lost.0) said.3)
+    (λ (lost : _). inl lost.0)
+    (says_of_net call runs command accepts.0 (record { name = name; files = files; asks = asks; told = told; calm = reads; opens = accepts.1 }))
 
-pub list_follows : (words : List (List ℕ)) (lines : List Firing → List (List ℕ)) (shelf shelf' : ShelfState) (sink sink' : SinkState) (status : Status) →
-    Runs words lines shelf shelf' sink sink' status → SaysLeastDates words shelf shelf' sink sink' status
-list_follows words lines shelf shelf' sink sink' status h files name count net asks told rested opens x least =
-    ⊎_elim
-    (λ (said : _). let way = opened_way shelf shelf' files name net (SaysNet (ListCommand count)) said.0 said.1 told rested opens said.2 in
-    ends_with sink sink' status said.0 Done said.1 (list_text net x count) (way.1 ∙ verdict_is way.0) (listed_is net count said.1 x least way.2.1) said.3)
-    (λ (lost : _). inr (inr lost)) (some_way words lines shelf shelf' sink sink' status (ListCommand count) name h asks)
+-- ---- what was written and read
 
-pub form_follows : (words : List (List ℕ)) (lines : List Firing → List (List ℕ)) (shelf shelf' : ShelfState) (sink sink' : SinkState) (status : Status) →
-    Runs words lines shelf shelf' sink sink' status → SaysStandardForm words shelf shelf' sink sink' status
-form_follows words lines shelf shelf' sink sink' status h files name net asks told rested opens =
-    ⊎_elim
-    (λ (said : _). let way = opened_way shelf shelf' files name net (SaysNet Form) said.0 said.1 told rested opens said.2 in
-    inl (way.2.1.0, way.2.1.1, ends_with sink sink' status said.0 Done said.1 (form_text net way.2.1.0) (way.1 ∙ verdict_is way.0) way.2.1.2 said.3))
-    (λ (lost : _). inr lost) (some_way words lines shelf shelf' sink sink' status Form name h asks)
+wrote_whole : (call : Call) (ending : Ending) → call.status ≢ WriteFault → call.status ≢ NoMemory →
+    Answered (Asked (request_of call.words) call.lines) (asked_files (request_of call.words)) call.shelf_before call.shelf_after ending →
+    Finished call.sink_before call.sink_after ending call.status → WroteWhole call
+wrote_whole call Lost other memory h k = absurd (memory k.0)
+wrote_whole call (Whole said text) other memory h k =
+    let whole = whole_of call said text other k in
+    (text, (h.0, h.1, subst (λ (s : Status). Asked (request_of call.words) call.lines h.0 s text) (sym whole.0) h.2), whole.1, whole.2)
 
--- a status comes only from its cause
+-- what is asked never ends with a fault of the sink or for want of memory
+asked_is_said : (asked : Option Request) (call : Call) (said : Status) (text : List ℕ) →
+    Answered (Asked asked call.lines) (asked_files asked) call.shelf_before call.shelf_after (Whole said text) → (said ≢ WriteFault) × (said ≢ NoMemory)
+asked_is_said None call said text h = let is = h.2.1.0 in (λ e. cc, λ e. cc)
+asked_is_said (Some request) call said text h =
+    let is = way_is_said call.shelf_before call.shelf_after (files_of request) said text
+    (way_of request call.lines call.shelf_before call.shelf_after h.0 said text h.1 h.2) in (is.no_write_fault, is.no_memory)
 
--- a call whose status is none of writing or memory wrote the whole of its text
-whole_of : (sink sink' : SinkState) (status said : Status) (text : List ℕ) → status ≢ WriteFault → Finished sink sink' (Whole said text) status →
-    (status ≡ said) × (sink'.faults ≡ sink.faults) × BytesGrow sink.bytes sink'.bytes text
-whole_of sink sink' status said text other h = ⊎_elim (λ (whole : _). whole) (λ (cut : _). absurd (other cut.0)) h
+cut_off_with : (call : Call) (ending : Ending) → call.status ≡ WriteFault →
+    Answered (Asked (request_of call.words) call.lines) (asked_files (request_of call.words)) call.shelf_before call.shelf_after ending →
+    Finished call.sink_before call.sink_after ending call.status → Rose call.sink_before.faults call.sink_after.faults × WrotePrefix call
+cut_off_with call Lost e h k = absurd (let lost = k.0 in let bad : ⊥ = cc in bad)
+cut_off_with call (Whole said text) e h k =
+    ⊎_elim (λ (whole : _). absurd ((asked_is_said (request_of call.words) call said text h).0 (sym whole.0 ∙ e)))
+    (λ (cut : _). (cut.1, (said, text, (h.0, h.1, h.2), cut.2))) k
 
--- the way in which a call with this order ended, where its status is none of writing or memory
-abbrev pub EndedWay : Order → ShelfState → ShelfState → SinkState → SinkState → Status → Type 0
-EndedWay (OfNet command name) shelf shelf' sink sink' status =
-    (text : List ℕ) × Way shelf shelf' name (SaysNet command) status text × BytesGrow sink.bytes sink'.bytes text
+unwritten_with : (call : Call) (ending : Ending) → call.status ≡ NoMemory →
+    Answered (Asked (request_of call.words) call.lines) (asked_files (request_of call.words)) call.shelf_before call.shelf_after ending →
+    Finished call.sink_before call.sink_after ending call.status → call.sink_after ≡ call.sink_before
+unwritten_with call Lost e h k = k.1
+unwritten_with call (Whole said text) e h k =
+    ⊎_elim (λ (whole : _). absurd ((asked_is_said (request_of call.words) call said text h).1 (sym whole.0 ∙ e)))
+    (λ (cut : _). let bad : ⊥ = cc (cut.0, e) in absurd bad) k
 
-ended_some_way : (command : NetCommand) (name : List ℕ) (shelf shelf' : ShelfState) (sink sink' : SinkState) (status : Status) → status ≢ WriteFault → status ≢ NoMemory →
-    EndsSomeWay command name shelf shelf' sink sink' status → EndedWay (OfNet command name) shelf shelf' sink sink' status
-ended_some_way command name shelf shelf' sink sink' status other memory h =
-    ⊎_elim
-    (λ (said : _). let whole = whole_of sink sink' status said.0 said.1 other said.3 in
-    (said.1, subst (λ (s : Status). Way shelf shelf' name (SaysNet command) s said.1) (sym whole.0) said.2, whole.2))
-    (λ (lost : _). absurd (memory lost.0)) h
+read_in_order : (call : Call) (ending : Ending) →
+    Answered (Asked (request_of call.words) call.lines) (asked_files (request_of call.words)) call.shelf_before call.shelf_after ending →
+    ReadsFirstOf call.shelf_before call.shelf_after (asked_files (request_of call.words))
+read_in_order call Lost h = reads_first call.shelf_before call.shelf_after (asked_files (request_of call.words)) h.0 h.1
+read_in_order call (Whole said text) h = reads_first call.shelf_before call.shelf_after (asked_files (request_of call.words)) h.0 h.1
 
-status_of_refused_words : (lines : List Firing → List (List ℕ)) (shelf shelf' : ShelfState) (sink sink' : SinkState) (status : Status) (ending : Ending) → status ≢ WriteFault → status ≢ NoMemory →
-    Answered (Asked None lines) [] shelf shelf' ending → Finished sink sink' ending status → status ≡ Words
-status_of_refused_words lines shelf shelf' sink sink' status Lost other memory h k = absurd (memory k.0)
-status_of_refused_words lines shelf shelf' sink sink' status (Whole said text) other memory h k = (whole_of sink sink' status said text other k).0 ∙ h.2.1.0
+-- ---- all of them
 
--- a call that ended with a status of an answer to accepted words: its order, and its way
-ended_for : (asked : Option Order) (words : List (List ℕ)) (lines : List Firing → List (List ℕ)) (shelf shelf' : ShelfState) (sink sink' : SinkState) (status : Status) →
-    order_of words ≡ asked → status ≢ WriteFault → status ≢ NoMemory → status ≢ Words → Runs words lines shelf shelf' sink sink' status →
-    (order : Order) × (order_of words ≡ Some order) × EndedWay order shelf shelf' sink sink' status
-ended_for None words lines shelf shelf' sink sink' status asks other memory wordless h =
-    let k = subst (λ (asked : Option Order). RunsFor asked lines shelf shelf' sink sink' status) asks h in
-    absurd (wordless (status_of_refused_words lines shelf shelf' sink sink' status k.0 other memory k.1 k.2))
-ended_for (Some (OfNet command name)) words lines shelf shelf' sink sink' status asks other memory wordless h =
-    (OfNet command name, asks, ended_some_way command name shelf shelf' sink sink' status other memory (some_way words lines shelf shelf' sink sink' status command name h asks))
-
-pub ended : (words : List (List ℕ)) (lines : List Firing → List (List ℕ)) (shelf shelf' : ShelfState) (sink sink' : SinkState) (status : Status) →
-    status ≢ WriteFault → status ≢ NoMemory → status ≢ Words → Runs words lines shelf shelf' sink sink' status →
-    (order : Order) × (order_of words ≡ Some order) × EndedWay order shelf shelf' sink sink' status
-ended words lines shelf shelf' sink sink' status other memory wordless h =
-    ended_for (order_of words) words lines shelf shelf' sink sink' status refl other memory wordless h
+pub keeps_promises : (call : Call) → Runs call → KeepsPromises call
+keeps_promises call runs =
+    record {
+      run = runs;
+      words = words_refused call runs;
+      words_only = words_only_for (request_of call.words) call runs refl;
+      text = fault_follows Text _ text_is_fault call runs;
+      text_only = λ calm. fault_only Text _ text_is_fault (λ e. cc) (λ e. cc) (λ e. cc) call (λ e. calm) runs;
+      overlong = overlong_rose call runs;
+      net = fault_follows Net _ net_is_fault call runs;
+      net_only = λ files told e. fault_only Net _ net_is_fault (λ w. cc) (λ w. cc) (λ w. cc) call (λ t. absurd (let bad : ⊥ = cc (t, e) in bad)) runs files told e;
+      of_net = says_of_net call runs;
+      check = check_follows call runs;
+      list = list_follows call runs;
+      form = form_follows call runs;
+      written = λ other memory. wrote_whole call runs.0 other memory runs.1 runs.2;
+      cut_off = λ e. (cut_off_with call runs.0 e runs.1 runs.2).1;
+      unwritten = λ e. unwritten_with call runs.0 e runs.1 runs.2;
+      reads = read_in_order call runs.0 runs.1;
+      read_fault = fault_rose call runs;
+      fault_named = fault_named call runs;
+      write_fault = λ e. (cut_off_with call runs.0 e runs.1 runs.2).0;
+      complete = ends_as_allowed call runs;
+    }

@@ -1,46 +1,49 @@
 -- Reads one after another: what is told of them, and what became of the shelf.
-use Rattle.std.proofs.Common.{suc, ◌≡◌, ℕ, ◌⊎◌, ⊎_elim, inl, inr, List, [], ◌∷◌, take, map, refl, sym, subst, arith}
-use Rattle.teg_outside.specs.Shelves.{ShelfState, ReadsGrow}
+use Rattle.std.proofs.Common.{suc, ◌≡◌, ℕ, ◌⊎◌, ⊎_elim, inl, inr, List, [], ◌∷◌, take, map, Result, Ok, Err, refl, sym, subst, arith}
+use Rattle.teg_outside.specs.declared.shelf.ShelfFault.{ShelfFault}
+use Rattle.teg_outside.specs.declared.shelf.ShelfFault.TheVariants.{Failed, TooLarge, OutOfMemory}
+use Rattle.teg_outside.specs.Shelves.{ShelfState, Reads, ReadsGrow}
 use Rattle.teg_outside.proofs.Growth.{reads_grow_none, reads_grow_then}
 use Rattle.teg_report.specs.declared.answer.Which.{Which}
 use Rattle.teg_report.specs.declared.answer.Which.TheVariants.{Net as NetFile}
 use Rattle.teg_run.specs.Headline.{as_told, ReadsFirstOf}
-use Rattle.teg_run.specs.Openings.{IsAccepted}
-use Rattle.teg_run.specs.Reading.{GoesOn, ReadsAll}
-use Rattle.teg_run.specs.Replies.{limit, Reply, Got, Long, Fault, Lost, Reads, Later}
+use Rattle.teg_run.specs.Limits.{most_bytes}
+use Rattle.teg_run.specs.Openings.{IsTaken}
+use Rattle.teg_run.specs.Reads.{GoesOn, ReadsAll}
 
-pub read_later : (old new : ShelfState) (name : List ℕ) (reply : Reply) → Reads old new name reply → Later old new
-read_later old new name (Got bytes) h = h.0
-read_later old new name Long h = h.0
-read_later old new name Fault h = h.0
-read_later old new name Lost h = h.0
+-- without replies nothing was read
+pub none_left : (old new : ShelfState) (files : List (Which × List ℕ)) (replies : List (Result (List ℕ) ShelfFault)) → replies ≡ [] →
+    ReadsAll old new files replies → new ≡ old
+none_left old new files replies e h = subst (λ (rs : List (Result (List ℕ) ShelfFault)). ReadsAll old new files rs) e h
 
 -- without names nothing is read
-pub none_read : (old new : ShelfState) (replies : List Reply) → ReadsAll old new [] replies → new ≡ old
+pub none_read : (old new : ShelfState) (replies : List (Result (List ℕ) ShelfFault)) → ReadsAll old new [] replies → new ≡ old
 none_read old new [] h = h
 none_read old new (reply ∷ replies) h = absurd h
 
 -- a read is told, but for one that found no memory
-read_grows : (old new : ShelfState) (name : List ℕ) (reply : Reply) → Reads old new name reply →
-    ReadsGrow old.reads new.reads ((name, limit) ∷ []) ⊎ ((reply ≡ Lost) × ReadsGrow old.reads new.reads [])
-read_grows old new name (Got bytes) h = inl h.5
-read_grows old new name Long h = inl h.3
-read_grows old new name Fault h = inl h.2
-read_grows old new name Lost h = ⊎_elim (λ (x : _). inl x) (λ (x : _). inr (refl, x)) h.1
+read_grows : (old new : ShelfState) (name : List ℕ) (reply : Result (List ℕ) ShelfFault) → Reads old new name most_bytes reply →
+    ReadsGrow old.reads new.reads ((name, most_bytes) ∷ []) ⊎ ((reply ≡ Err OutOfMemory) × ReadsGrow old.reads new.reads [])
+read_grows old new name (Ok bytes) h = inl h.answer.4
+read_grows old new name (Err TooLarge) h = inl h.answer.2
+read_grows old new name (Err Failed) h = inl h.answer.1
+read_grows old new name (Err OutOfMemory) h = ⊎_elim (λ (x : _). inl x) (λ (x : _). inr (refl, x)) h.answer
 
-not_accepted : (which : Which) → IsAccepted which Lost → ⊥
-not_accepted NetFile h = h.1
+not_taken : (which : Which) → IsTaken which (Err OutOfMemory) → ⊥
+not_taken NetFile h = h.1
 
 -- after a read that found no memory nothing is read
-lost_last : (old mid new : ShelfState) (which : Which) (files : List (Which × List ℕ)) (reply : Reply) (replies : List Reply) (named : List (Which × List ℕ)) →
-    reply ≡ Lost → ReadsGrow old.reads mid.reads [] → GoesOn which reply replies → ReadsAll mid new files replies → ReadsFirstOf old new named
+lost_last : (old mid new : ShelfState) (which : Which) (files : List (Which × List ℕ)) (reply : Result (List ℕ) ShelfFault)
+    (replies : List (Result (List ℕ) ShelfFault)) (named : List (Which × List ℕ)) →
+    reply ≡ Err OutOfMemory → ReadsGrow old.reads mid.reads [] → GoesOn which reply replies → ReadsAll mid new files replies → ReadsFirstOf old new named
 lost_last old mid new which files reply [] named lost grew goes rest =
     (0, omega arith, subst (λ (s : ShelfState). ReadsGrow old.reads s.reads []) (sym rest) grew)
 lost_last old mid new which files reply (next ∷ replies) named lost grew goes rest =
-    absurd (not_accepted which (subst (λ (r : Reply). IsAccepted which r) lost goes))
+    absurd (not_taken which (subst (λ (r : Result (List ℕ) ShelfFault). IsTaken which r) lost goes))
 
 -- the told reads grew by a first part of the reads of these files
-pub reads_first : (old new : ShelfState) (files : List (Which × List ℕ)) (replies : List Reply) → ReadsAll old new files replies → ReadsFirstOf old new files
+pub reads_first : (old new : ShelfState) (files : List (Which × List ℕ)) (replies : List (Result (List ℕ) ShelfFault)) →
+    ReadsAll old new files replies → ReadsFirstOf old new files
 reads_first old new files [] h = (0, omega arith, subst (λ (s : ShelfState). ReadsGrow old.reads s.reads []) (sym h) (reads_grow_none old.reads))
 reads_first old new [] (reply ∷ replies) h = absurd h
 reads_first old new (file ∷ files) (reply ∷ replies) h =

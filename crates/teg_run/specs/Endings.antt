@@ -1,4 +1,4 @@
--- How the work on an order ends, before anything is written.
+-- How the work on a request ends, before anything is written.
 use Rattle.std.specs.Prelude.{ℕ, List, Option, Some, None}
 use Rattle.teg_run.specs.declared.status.Status.{Status}
 use Rattle.teg_run.specs.declared.status.Verdict.{Verdict}
@@ -9,10 +9,10 @@ pub data Ending : Type 0 where
   Whole : (status : Status) (text : List ℕ) → Ending
   Lost : Ending
 
--- the ending of an order whose command reports this, or finds no memory
+-- the ending of a request whose command has this outcome, or finds no memory
 abbrev pub ending_of : Option (Verdict × List ℕ) → Ending
 ending_of None = Lost
-ending_of (Some report) = Whole (status_of report.0) report.1
+ending_of (Some outcome) = Whole (status_of outcome.0) outcome.1
 
 -- a claim on the ending, where memory was found
 abbrev pub EndsWith : (Status → List ℕ → Type 0) → Ending → Type 0

@@ -1,49 +1,61 @@
 -- What the whole call promises its caller, one promise at a time.
-use Rattle.std.specs.Prelude.{ℕ, ◌≡◌, ◌≢◌, ◌≤◌, ◌<◌, ◌⊎◌, List, [], ◌∷◌, ◌++◌, length, take, map, Some, IsSomeAnd, Ok, Err}
+use Rattle.std.specs.Prelude.{ℕ, ◌≡◌, ◌≢◌, ◌≤◌, ◌<◌, ◌⊎◌, List, [], ◌∷◌, ◌++◌, length, take, map, Some, None, Ok, Err, Result}
 use Rattle.dioid.specs.declared.dates.Date.{Date}
 use Rattle.teg_form.specs.Forms.{FormLists, IsFormOf}
 use Rattle.teg_model.specs.Datings.{IsLeastDating}
 use Rattle.teg_net.specs.declared.entries.PlaceId.{PlaceId}
-use Rattle.teg_reader.specs.declared.refusals.ReadRefusal.{ReadRefusal}
-use Rattle.teg_reader.specs.declared.refusals.ReadRefusal.TheVariants.{NotToml}
 use Rattle.teg_net.specs.Nets.{NetLists}
 use Rattle.teg_net.specs.Circuits.{IsLive, IsTokenFree}
+use Rattle.teg_reader.specs.declared.refusals.ReadRefusal.{ReadRefusal}
+use Rattle.teg_reader.specs.declared.refusals.ReadRefusal.TheVariants.{NotToml}
 use Rattle.teg_reader.specs.Documents.{document}
-use Rattle.teg_outside.specs.declared.monitor.Firing.{Firing}
+use Rattle.teg_outside.specs.declared.shelf.ShelfFault.{ShelfFault}
 use Rattle.teg_outside.specs.Causes.{Rose, Rested}
 use Rattle.teg_outside.specs.Shelves.{ShelfState, ReadsGrow, file_of}
-use Rattle.teg_outside.specs.Sinks.{SinkState, BytesGrow, PrefixGrows}
-use Rattle.teg_run.specs.declared.order.NetCommand.{NetCommand}
-use Rattle.teg_run.specs.declared.order.NetCommand.TheVariants.{Check, Form, List as ListCommand}
-use Rattle.teg_run.specs.declared.status.Status.{Status}
-use Rattle.teg_run.specs.declared.status.Status.TheVariants.{Done, WriteFault, NoMemory}
-use Rattle.teg_run.specs.declared.status.Verdict.{Verdict}
-use Rattle.teg_run.specs.declared.status.Verdict.TheVariants.{Done as VerdictDone}
+use Rattle.teg_outside.specs.Sinks.{BytesGrow, PrefixGrows}
 use Rattle.teg_report.specs.declared.answer.Which.{Which}
 use Rattle.teg_report.specs.declared.answer.Which.TheVariants.{Net as NetFile}
-use Rattle.teg_run.specs.Orders.{Order, OfNet, order_of, net_of, asked_files}
-use Rattle.teg_run.specs.Reading.{ReadsAll}
-use Rattle.teg_run.specs.Replies.{Reply, limit}
-use Rattle.teg_run.specs.Says.{Asked}
+use Rattle.teg_run.specs.declared.status.Status.{Status}
+use Rattle.teg_run.specs.declared.status.Status.TheVariants.{Done, Words, Text, Net, ReadFault, WriteFault, NoMemory}
+use Rattle.teg_run.specs.declared.status.Verdict.{Verdict}
+use Rattle.teg_run.specs.declared.status.Verdict.TheVariants.{Done as VerdictDone}
+use Rattle.teg_run.specs.Calls.{Call}
+use Rattle.teg_run.specs.Endings.{Whole, Lost}
+use Rattle.teg_run.specs.Limits.{most_bytes}
+use Rattle.teg_run.specs.Reads.{ReadsAll}
+use Rattle.teg_run.specs.Requests.{NetCommand, CheckNet, ListNet, FormNet, Request, OfNet, request_of, files_of, asked_files}
+use Rattle.teg_run.specs.Runs.{Finished, Runs}
+use Rattle.teg_run.specs.Says.{Asked, SaysNet}
 use Rattle.teg_run.specs.Statuses.{status_of}
-use Rattle.teg_run.specs.Texts.{read_text, live_text, list_text, form_text, token_free_text, too_large_text, fault_text}
+use Rattle.teg_run.specs.Texts.{usage, read_text, live_text, list_text, form_text, token_free_text, too_large_text, fault_text}
 
--- the call ended with this status and the whole of this text, unless writing or memory failed first
-abbrev pub Ends : SinkState → SinkState → Status → Status → List ℕ → Type 0
-Ends old new status wanted text =
-    ((status ≡ wanted) × (new.faults ≡ old.faults) × BytesGrow old.bytes new.bytes text)
-    ⊎ ((status ≡ WriteFault) × Rose old.faults new.faults × PrefixGrows old.bytes new.bytes text)
-    ⊎ ((status ≡ NoMemory) × (new ≡ old))
+-- ---- how a call ended
 
--- files by name, and what they hold
+-- no memory was found, and nothing was written
+abbrev pub EndsLost : Call → Type 0
+EndsLost call = Finished call.sink_before call.sink_after Lost call.status
+
+-- with this status and the whole of this text, unless writing or memory failed first
+abbrev pub Ends : Call → Status → List ℕ → Type 0
+Ends call wanted text = Finished call.sink_before call.sink_after (Whole wanted text) call.status ⊎ EndsLost call
+
+-- no read of the call failed
+abbrev pub ReadsAreCalm : Call → Type 0
+ReadsAreCalm call = Rested call.shelf_before.faults call.shelf_after.faults
+
+-- no write of the call failed
+abbrev pub WritesAreCalm : Call → Type 0
+WritesAreCalm call = Rested call.sink_before.faults call.sink_after.faults
+
+-- ---- files by name, and what they hold
 
 -- the file of that name has these bytes, at most as many as a file may have
 abbrev pub Holds : List (List ℕ × List ℕ) → List ℕ → List ℕ → Type 0
-Holds files name bytes = (file_of files name ≡ Some bytes) × (length bytes ≤ limit)
+Holds files name bytes = (file_of files name ≡ Some bytes) × (length bytes ≤ most_bytes)
 
 -- the file of that name has more bytes than a file may have
 abbrev pub IsTooLong : List (List ℕ × List ℕ) → List ℕ → Type 0
-IsTooLong files name = (bytes : List ℕ) × (file_of files name ≡ Some bytes) × (limit < length bytes)
+IsTooLong files name = (bytes : List ℕ) × (file_of files name ≡ Some bytes) × (most_bytes < length bytes)
 
 -- the file of that name says this net, and it is live
 abbrev pub Opens : List (List ℕ × List ℕ) → List ℕ → NetLists → Type 0
@@ -63,99 +75,162 @@ NetIsRefused files name text =
     ⊎ ((bytes : List ℕ) × (net : NetLists) × (circuit : List PlaceId) × Holds files name bytes × (document bytes ≡ Ok net)
     × IsTokenFree net circuit × (text ≡ token_free_text net circuit))
 
--- why a call with this order ends with the status Text, and what it writes
-abbrev pub TextCause : List (List ℕ × List ℕ) → Order → List ℕ → Type 0
-TextCause files order text = IsSomeAnd (net_of order) (λ name. NetIsNoText files name text)
+-- ---- why files are refused
 
--- why a call with this order ends with the status Net, and what it writes
-abbrev pub NetCause : List (List ℕ × List ℕ) → Order → List ℕ → Type 0
-NetCause files order text = IsSomeAnd (net_of order) (λ name. NetIsRefused files name text)
+-- the file is accepted as such a file
+abbrev pub IsAccepted : List (List ℕ × List ℕ) → Which → List ℕ → Type 0
+IsAccepted files NetFile name = (net : NetLists) × Opens files name net
 
--- over told files, where this cause holds and no fault of the shelf rose, the call ends with this status and a text of the cause
-abbrev pub Follows : (List (List ℕ × List ℕ) → Order → List ℕ → Type 0) → Status → List (List ℕ) → ShelfState → ShelfState → SinkState → SinkState → Status → Type 0
-Follows cause wanted words shelf shelf' sink sink' status =
-    (files : List (List ℕ × List ℕ)) (order : Order) → shelf.files ≡ Some files → Rested shelf.faults shelf'.faults →
-    order_of words ≡ Some order → ((text : List ℕ) × cause files order text) →
-    (text : List ℕ) × cause files order text × Ends sink sink' status wanted text
+-- the file is no text of such a file, and this text says so
+abbrev pub IsNoText : List (List ℕ × List ℕ) → Which → List ℕ → List ℕ → Type 0
+IsNoText files NetFile name text = NetIsNoText files name text
 
--- over told files, this status comes only where this cause holds, and a text of the cause was written
-abbrev pub ComesOnly : (List (List ℕ × List ℕ) → Order → List ℕ → Type 0) → Status → List (List ℕ) → ShelfState → SinkState → SinkState → Status → Type 0
-ComesOnly cause wanted words shelf sink sink' status =
-    (files : List (List ℕ × List ℕ)) → shelf.files ≡ Some files → status ≡ wanted →
-    (order : Order) × (text : List ℕ) × (order_of words ≡ Some order) × cause files order text × BytesGrow sink.bytes sink'.bytes text
+-- the file is one that says no live net, and this text says so
+abbrev pub IsNoNet : List (List ℕ × List ℕ) → Which → List ℕ → List ℕ → Type 0
+IsNoNet files NetFile name text = NetIsRefused files name text
+
+-- one of these files has this fault, which this text says, and those before it are accepted
+abbrev pub HasFault : (List (List ℕ × List ℕ) → Which → List ℕ → List ℕ → Type 0) → List (List ℕ × List ℕ) → List (Which × List ℕ) → List ℕ → Type 0
+HasFault fault files [] text = ⊥
+HasFault fault files (file ∷ named) text =
+    fault files file.0 file.1 text ⊎ (IsAccepted files file.0 file.1 × HasFault fault files named text)
+
+-- over told files, where a file of the request has this fault and no read failed, the call ends with this status and a text of the fault
+abbrev pub Follows : (List (List ℕ × List ℕ) → Which → List ℕ → List ℕ → Type 0) → Status → Call → Type 0
+Follows fault wanted call =
+    (files : List (List ℕ × List ℕ)) (request : Request) → call.shelf_before.files ≡ Some files → ReadsAreCalm call →
+    request_of call.words ≡ Some request → ((text : List ℕ) × HasFault fault files (files_of request) text) →
+    (text : List ℕ) × HasFault fault files (files_of request) text × Ends call wanted text
+
+-- over told files, this status comes only where a file of the request has this fault, and a text of the fault was written
+abbrev pub ComesOnly : (List (List ℕ × List ℕ) → Which → List ℕ → List ℕ → Type 0) → Status → Call → Type 0
+ComesOnly fault wanted call =
+    (files : List (List ℕ × List ℕ)) → call.shelf_before.files ≡ Some files → call.status ≡ wanted →
+    (request : Request) × (text : List ℕ) × (request_of call.words ≡ Some request) × HasFault fault files (files_of request) text
+    × BytesGrow call.sink_before.bytes call.sink_after.bytes text
 
 -- for every shelf, a text that says that a file is too long comes only where the count of over-long files rose
-abbrev pub OverlongRose : ShelfState → ShelfState → SinkState → SinkState → Type 0
-OverlongRose shelf shelf' sink sink' =
-    (which : Which) (bytes : List ℕ) → sink.bytes ≡ Some bytes → sink'.bytes ≡ Some (bytes ++ too_large_text which) →
-    Rose shelf.overlong shelf'.overlong
+abbrev pub OverlongRose : Call → Type 0
+OverlongRose call =
+    (which : Which) (bytes : List ℕ) → call.sink_before.bytes ≡ Some bytes → call.sink_after.bytes ≡ Some (bytes ++ too_large_text which) →
+    Rose call.shelf_before.overlong call.shelf_after.overlong
+
+-- ---- what was written and read
 
 -- the words lead to this status and this text, by what the reads of this call gave
-abbrev pub IsTextOf : List (List ℕ) → (List Firing → List (List ℕ)) → ShelfState → ShelfState → Status → List ℕ → Type 0
-IsTextOf words lines shelf shelf' status text =
-    (replies : List Reply) × ReadsAll shelf shelf' (asked_files (order_of words)) replies × Asked (order_of words) lines replies status text
+abbrev pub IsTextOf : Call → Status → List ℕ → Type 0
+IsTextOf call status text =
+    (replies : List (Result (List ℕ) ShelfFault)) × ReadsAll call.shelf_before call.shelf_after (asked_files (request_of call.words)) replies
+    × Asked (request_of call.words) call.lines replies status text
 
 -- the whole text of the words was written, and nothing else
-abbrev pub WroteWhole : List (List ℕ) → (List Firing → List (List ℕ)) → ShelfState → ShelfState → SinkState → SinkState → Status → Type 0
-WroteWhole words lines shelf shelf' sink sink' status =
-    (text : List ℕ) × IsTextOf words lines shelf shelf' status text × (sink'.faults ≡ sink.faults) × BytesGrow sink.bytes sink'.bytes text
+abbrev pub WroteWhole : Call → Type 0
+WroteWhole call =
+    (text : List ℕ) × IsTextOf call call.status text × (call.sink_after.faults ≡ call.sink_before.faults)
+    × BytesGrow call.sink_before.bytes call.sink_after.bytes text
 
 -- a first part of the text of the words was written, and nothing else
-abbrev pub WrotePrefix : List (List ℕ) → (List Firing → List (List ℕ)) → ShelfState → ShelfState → SinkState → SinkState → Type 0
-WrotePrefix words lines shelf shelf' sink sink' =
-    (status : Status) × (text : List ℕ) × IsTextOf words lines shelf shelf' status text × PrefixGrows sink.bytes sink'.bytes text
+abbrev pub WrotePrefix : Call → Type 0
+WrotePrefix call =
+    (status : Status) × (text : List ℕ) × IsTextOf call status text × PrefixGrows call.sink_before.bytes call.sink_after.bytes text
 
 -- a read of a file as it is told
 abbrev pub as_told : Which × List ℕ → List ℕ × ℕ
-as_told file = (file.1, limit)
+as_told file = (file.1, most_bytes)
 
 -- where reads are told, they grew by a first part of the reads of these files, in order, each once
 abbrev pub ReadsFirstOf : ShelfState → ShelfState → List (Which × List ℕ) → Type 0
-ReadsFirstOf shelf shelf' files = (n : ℕ) × (n ≤ length files) × ReadsGrow shelf.reads shelf'.reads (take n (map as_told files))
+ReadsFirstOf old new named = (n : ℕ) × (n ≤ length named) × ReadsGrow old.reads new.reads (take n (map as_told named))
 
 -- the file that the text names as unreadable is the last of these that was read
-abbrev pub NamesLastRead : ShelfState → ShelfState → SinkState → SinkState → List (Which × List ℕ) → Type 0
-NamesLastRead shelf shelf' sink sink' files =
-    (before : List (Which × List ℕ)) × (file : Which × List ℕ) × (after : List (Which × List ℕ)) × (files ≡ before ++ file ∷ after)
-    × ReadsGrow shelf.reads shelf'.reads (map as_told (before ++ file ∷ [])) × BytesGrow sink.bytes sink'.bytes (fault_text file.0)
+abbrev pub NamesLastRead : Call → List (Which × List ℕ) → Type 0
+NamesLastRead call named =
+    (before : List (Which × List ℕ)) × (file : Which × List ℕ) × (after : List (Which × List ℕ)) × (named ≡ before ++ file ∷ after)
+    × ReadsGrow call.shelf_before.reads call.shelf_after.reads (map as_told (before ++ file ∷ []))
+    × BytesGrow call.sink_before.bytes call.sink_after.bytes (fault_text file.0)
 
--- the files of the order are accepted: its net file says a live net
-abbrev pub AcceptsFiles : List (List ℕ × List ℕ) → Order → Type 0
+-- ---- what is said of accepted files
+
+-- the files of the request are accepted: its net file says a live net
+abbrev pub AcceptsFiles : List (List ℕ × List ℕ) → Request → Type 0
 AcceptsFiles files (OfNet command name) = (net : NetLists) × Opens files name net
 
 -- how a command on a net may end, once its files are accepted
 abbrev pub AllowsNet : NetCommand → Verdict → Type 0
-AllowsNet Check verdict = verdict ≡ VerdictDone
-AllowsNet (ListCommand count) verdict = verdict ≡ VerdictDone
-AllowsNet Form verdict = verdict ≡ VerdictDone
+AllowsNet CheckNet verdict = verdict ≡ VerdictDone
+AllowsNet (ListNet count) verdict = verdict ≡ VerdictDone
+AllowsNet FormNet verdict = verdict ≡ VerdictDone
 
--- how an order may end, once its files are accepted
-abbrev pub Allows : Order → Verdict → Type 0
+-- how a request may end, once its files are accepted
+abbrev pub Allows : Request → Verdict → Type 0
 Allows (OfNet command name) verdict = AllowsNet command verdict
 
--- over told files and without a fault of the shelf, a live net that is checked is told with its size
-abbrev pub SaysLive : List (List ℕ) → ShelfState → ShelfState → SinkState → SinkState → Status → Type 0
-SaysLive words shelf shelf' sink sink' status =
-    (files : List (List ℕ × List ℕ)) (name : List ℕ) (net : NetLists) → order_of words ≡ Some (OfNet Check name) → shelf.files ≡ Some files →
-    Rested shelf.faults shelf'.faults → Opens files name net → Ends sink sink' status Done (live_text net)
+-- over told files, accepted words and files and no fault lead to an ending of the command itself, or to want of memory
+abbrev pub EndsAsAllowed : Call → Type 0
+EndsAsAllowed call =
+    (files : List (List ℕ × List ℕ)) (request : Request) → request_of call.words ≡ Some request → call.shelf_before.files ≡ Some files →
+    ReadsAreCalm call → WritesAreCalm call → AcceptsFiles files request →
+    (call.status ≡ NoMemory) ⊎ ((verdict : Verdict) × (call.status ≡ status_of verdict) × Allows request verdict)
 
--- over told files and without a fault of the shelf, a live net that is listed is told with the first dates of its least dating
-abbrev pub SaysLeastDates : List (List ℕ) → ShelfState → ShelfState → SinkState → SinkState → Status → Type 0
-SaysLeastDates words shelf shelf' sink sink' status =
-    (files : List (List ℕ × List ℕ)) (name : List ℕ) (count : ℕ) (net : NetLists) → order_of words ≡ Some (OfNet (ListCommand count) name) →
-    shelf.files ≡ Some files → Rested shelf.faults shelf'.faults → Opens files name net →
-    (x : ℕ → ℕ → Date) → IsLeastDating net x → Ends sink sink' status Done (list_text net x count)
+-- the words ask for this command on a net, whose told file says this live net, and no read failed
+pub record Concerns (call : Call) (command : NetCommand) (net : NetLists) : Type 0 where
+  pub name : List ℕ
+  pub files : List (List ℕ × List ℕ)
+  pub asks : request_of call.words ≡ Some (OfNet command name)
+  pub told : call.shelf_before.files ≡ Some files
+  pub calm : ReadsAreCalm call
+  pub opens : Opens files name net
 
--- over told files and without a fault of the shelf, a live net is told with its standard form, unless memory ran out
-abbrev pub SaysStandardForm : List (List ℕ) → ShelfState → ShelfState → SinkState → SinkState → Status → Type 0
-SaysStandardForm words shelf shelf' sink sink' status =
-    (files : List (List ℕ × List ℕ)) (name : List ℕ) (net : NetLists) → order_of words ≡ Some (OfNet Form name) → shelf.files ≡ Some files →
-    Rested shelf.faults shelf'.faults → Opens files name net →
-    ((form : FormLists) × IsFormOf net form × Ends sink sink' status Done (form_text net form)) ⊎ ((status ≡ NoMemory) × (sink' ≡ sink))
+-- a command on a live net ends with what it says of that net, or for want of memory
+abbrev pub SaysOfNet : Call → Type 0
+SaysOfNet call =
+    (command : NetCommand) (net : NetLists) → Concerns call command net →
+    ((verdict : Verdict) × (text : List ℕ) × SaysNet command net verdict text × Ends call (status_of verdict) text) ⊎ EndsLost call
 
--- over told files, accepted words and files without a fault lead to an ending of the command itself, or to want of memory
-abbrev pub EndsAsAllowed : List (List ℕ) → ShelfState → ShelfState → SinkState → SinkState → Status → Type 0
-EndsAsAllowed words shelf shelf' sink sink' status =
-    (files : List (List ℕ × List ℕ)) (order : Order) → order_of words ≡ Some order → shelf.files ≡ Some files →
-    Rested shelf.faults shelf'.faults → Rested sink.faults sink'.faults → AcceptsFiles files order →
-    (status ≡ NoMemory) ⊎ ((verdict : Verdict) × (status ≡ status_of verdict) × Allows order verdict)
+-- a live net that is checked is told with its size
+abbrev pub SaysLive : Call → Type 0
+SaysLive call = (net : NetLists) → Concerns call CheckNet net → Ends call Done (live_text net)
+
+-- a live net that is listed has a least dating and is told with its first dates, unless memory ran out
+abbrev pub SaysLeastDates : Call → Type 0
+SaysLeastDates call =
+    (count : ℕ) (net : NetLists) → Concerns call (ListNet count) net →
+    ((x : ℕ → ℕ → Date) × IsLeastDating net x × Ends call Done (list_text net x count)) ⊎ EndsLost call
+
+-- a live net is told with its standard form, unless memory ran out
+abbrev pub SaysStandardForm : Call → Type 0
+SaysStandardForm call =
+    (net : NetLists) → Concerns call FormNet net →
+    ((form : FormLists) × IsFormOf net form × Ends call Done (form_text net form)) ⊎ EndsLost call
+
+-- ---- the promises
+
+pub record KeepsPromises (call : Call) : Type 0 where
+  -- From the words by what the reads gave to what was written. The other promises follow from it.
+  pub run : Runs call
+  -- Words that ask for nothing: no file is read, and the usage is written.
+  pub words : request_of call.words ≡ None → (call.shelf_after ≡ call.shelf_before) × Ends call Words usage
+  pub words_only : call.status ≡ Words → request_of call.words ≡ None
+  -- A file that is too long, or a net file that is no TOML: exactly then, where files are told.
+  pub text : Follows IsNoText Text call
+  pub text_only : ReadsAreCalm call → ComesOnly IsNoText Text call
+  pub overlong : call.status ≡ Text → OverlongRose call
+  -- A net file that says no net, or one with a token-free circuit: exactly then, where files are told.
+  pub net : Follows IsNoNet Net call
+  pub net_only : ComesOnly IsNoNet Net call
+  -- A command on a live net: what it says of that net is written.
+  pub of_net : SaysOfNet call
+  pub check : SaysLive call
+  pub list : SaysLeastDates call
+  pub form : SaysStandardForm call
+  -- What was written: the whole text, a first part before a fault, nothing for want of memory.
+  pub written : call.status ≢ WriteFault → call.status ≢ NoMemory → WroteWhole call
+  pub cut_off : call.status ≡ WriteFault → WrotePrefix call
+  pub unwritten : call.status ≡ NoMemory → call.sink_after ≡ call.sink_before
+  -- What was read, and the causes of faults.
+  pub reads : ReadsFirstOf call.shelf_before call.shelf_after (asked_files (request_of call.words))
+  pub read_fault : call.status ≡ ReadFault → Rose call.shelf_before.faults call.shelf_after.faults
+  pub fault_named : call.status ≡ ReadFault → NamesLastRead call (asked_files (request_of call.words))
+  pub write_fault : call.status ≡ WriteFault → Rose call.sink_before.faults call.sink_after.faults
+  -- Accepted words and files, and no fault: no other ending than the command's own, or want of memory.
+  pub complete : EndsAsAllowed call

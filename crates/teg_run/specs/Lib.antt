@@ -1,11 +1,12 @@
+pub mod Calls
 pub mod Endings
 pub mod Headline
+pub mod Limits
 pub mod Meanings
 pub mod Openings
-pub mod Orders
 pub mod Ranges
-pub mod Reading
-pub mod Replies
+pub mod Reads
+pub mod Requests
 pub mod Runs
 pub mod Says
 pub mod Statuses

@@ -1,4 +1,4 @@
--- What the reply to a read opens: a value that the command goes on with, or a refusal.
+-- What a read of a file opens: a value that the request goes on with, or a refusal.
 use Rattle.std.specs.Prelude.{ℕ, ◌≡◌, List, Result, Ok, Err}
 use Rattle.teg_net.specs.declared.entries.PlaceId.{PlaceId}
 use Rattle.teg_reader.specs.declared.refusals.ReadRefusal.{ReadRefusal}
@@ -6,17 +6,29 @@ use Rattle.teg_reader.specs.declared.refusals.ReadRefusal.TheVariants.{NotToml}
 use Rattle.teg_net.specs.Nets.{NetLists}
 use Rattle.teg_net.specs.Circuits.{IsLive, IsTokenFree}
 use Rattle.teg_reader.specs.Documents.{document}
+use Rattle.teg_outside.specs.declared.shelf.ShelfFault.{ShelfFault}
+use Rattle.teg_outside.specs.declared.shelf.ShelfFault.TheVariants.{Failed, TooLarge, OutOfMemory}
 use Rattle.teg_run.specs.declared.status.Status.{Status}
 use Rattle.teg_run.specs.declared.status.Status.TheVariants.{Text, Net, ReadFault}
 use Rattle.teg_report.specs.declared.answer.Which.{Which}
 use Rattle.teg_report.specs.declared.answer.Which.TheVariants.{Net as NetFile}
-use Rattle.teg_run.specs.Replies.{Reply, Got, Long, Fault, Lost}
 use Rattle.teg_run.specs.Texts.{read_text, token_free_text, too_large_text, fault_text}
 
 -- what the file says, or the status and the text of its refusal
 pub data Opening (A : Type 0) : Type 0 where
   Accepted : (file : A) → Opening A
   Refused : (status : Status) (text : List ℕ) → Opening A
+
+-- what opens where a file gave no bytes: its refusal, and nothing where memory was not found
+abbrev pub OpensUnread : {A : Type 0} → Which → ShelfFault → Opening A → Type 0
+OpensUnread which TooLarge opening = opening ≡ Refused Text (too_large_text which)
+OpensUnread which Failed opening = opening ≡ Refused ReadFault (fault_text which)
+OpensUnread which OutOfMemory opening = ⊥
+
+-- what a read of a file opens, by what its bytes open
+abbrev pub OpensFile : {A : Type 0} → Which → (List ℕ → Opening A → Type 0) → Result (List ℕ) ShelfFault → Opening A → Type 0
+OpensFile which opens (Ok bytes) opening = opens bytes opening
+OpensFile which opens (Err fault) opening = OpensUnread which fault opening
 
 -- the status of a file that says no net
 abbrev pub read_status : ReadRefusal → Status
@@ -35,12 +47,9 @@ OpensDocument (Ok net) opening = OpensNetLists net opening
 OpensDocument (Err refusal) opening = opening ≡ Refused (read_status refusal) (read_text refusal)
 
 -- what a read of the net file opens
-abbrev pub OpensNet : Reply → Opening NetLists → Type 0
-OpensNet (Got bytes) opening = OpensDocument (document bytes) opening
-OpensNet Long opening = opening ≡ Refused Text (too_large_text NetFile)
-OpensNet Fault opening = opening ≡ Refused ReadFault (fault_text NetFile)
-OpensNet Lost opening = ⊥
+abbrev pub OpensNet : Result (List ℕ) ShelfFault → Opening NetLists → Type 0
+OpensNet = OpensFile NetFile (λ bytes. OpensDocument (document bytes))
 
--- a reply after which more may be read: the file is accepted
-abbrev pub IsAccepted : Which → Reply → Type 0
-IsAccepted NetFile reply = (net : NetLists) × OpensNet reply (Accepted net)
+-- what was read is accepted as such a file, so that more may be read
+abbrev pub IsTaken : Which → Result (List ℕ) ShelfFault → Type 0
+IsTaken NetFile reply = (net : NetLists) × OpensNet reply (Accepted net)

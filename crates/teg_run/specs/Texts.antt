@@ -7,9 +7,9 @@ use Rattle.teg_net.specs.Nets.{NetLists}
 use Rattle.teg_reader.specs.declared.refusals.ReadRefusal.{ReadRefusal}
 use Rattle.teg_report.specs.declared.answer.Which.{Which}
 use Rattle.teg_report.specs.Answers.{Usage, Live, Form, Read, TooLarge, TokenFree, Fault}
-use Rattle.teg_report.specs.Lines.{written}
 use Rattle.teg_report.specs.Lists.{list_lines}
 use Rattle.teg_report.specs.Reports.{text_of}
+use Rattle.teg_text.specs.Lines.{written}
 
 -- what is written where words are refused
 abbrev pub usage : List ℕ

@@ -1,12 +1,12 @@
-//! How the work on an order ends, before anything is written.
+//! How the work on a request ends, before anything is written.
 ghost use Rattle.std.specs.Prelude.{◌≡◌};
 ghost use Rattle.teg_run.specs.Endings.{ending_of};
-ghost use Rattle.teg_run.specs.Meanings.{ended, reported};
+ghost use Rattle.teg_run.specs.Meanings.{ended, outcome_of};
 
 use crate::status::{Status, Verdict};
 use teg_net::OutOfMemory;
 
-/// How the work on an order ends.
+/// How the work on a request ends.
 #[derive(Drop)]
 pub enum Ending {
     /// With this status and the whole of its text.
@@ -15,21 +15,21 @@ pub enum Ending {
     Lost,
 }
 
-/// What a command says of accepted files.
+/// What a command comes to on accepted files: how it ends, and its text.
 #[derive(Drop)]
-pub struct Report {
+pub struct Outcome {
     pub verdict: Verdict,
     pub text: Vec<u8>,
 }
 
-/// The ending of an order whose command reports this.
-pub fn closed(report: Result<Report, OutOfMemory>) -> Ending
-    ensures { ended result ≡ ending_of (reported report) }
+/// The ending of a request whose command has this outcome.
+pub fn closed(outcome: Result<Outcome, OutOfMemory>) -> Ending
+    ensures { ended result ≡ ending_of (outcome_of outcome) }
 {
-    match report {
-        Ok(report) => Ending::Whole {
-            status: report.verdict.status(),
-            text: report.text,
+    match outcome {
+        Ok(outcome) => Ending::Whole {
+            status: outcome.verdict.status(),
+            text: outcome.text,
         },
         Err(_) => Ending::Lost,
     }

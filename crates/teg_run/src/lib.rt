@@ -1,19 +1,23 @@
 //! The whole workbench as one call: words in, the named files read, an answer written.
 //!
-//! The one contract is that of [`workbench`]. Its clause `run` ties the words, the shelf before and
-//! after, the sink before and after, the monitors and the status in three parts: what the words ask
-//! for, what the reads gave and what answer they lead to, and how that answer was written. Its other
-//! clauses say what follows from it, one promise each.
+//! The one contract is that of [`workbench`]: the promises of the record `KeepsPromises` in
+//! `specs/Headline.antt`, of one call as the record `Call` has it (the words, the monitors, the shelf
+//! and the sink before and after, the status). Its field `run` ties these in three parts: what the
+//! words ask for, what the reads gave and what answer they lead to, and how that answer was written.
+//! The other fields say what follows from it, one promise each.
 //! It stands on `teg_words`, `teg_net`, `teg_reader`, `teg_check`, `teg_dates`, `teg_form`, what
 //! `teg_model` and `dioid` say of dates, `teg_report` for the texts, and `teg_outside`.
 #![tactic(auto)]
 
 mod call;
+mod carry_out;
 mod ending;
+mod fetching;
 mod live_net;
 mod net_commands;
-mod order;
-mod reading;
+mod net_file;
+mod opening;
+mod request;
 mod status;
 mod writing;
 

@@ -4,12 +4,8 @@ use std::test::Fail;
 use teg_outside::{MemoryShelf, MemorySink, Monitor};
 use teg_run::{Status, workbench};
 
-/// Two transitions in a loop: a place from a to b with hold 3, and one back with hold 2 and a token.
-pub const LOOP: &str =
-    "[[transition]]\nname = \"a\"\n\n[[transition]]\nname = \"b\"\n\n[[place]]\nname = \"ab\"\nfrom = \"a\"\nto = \"b\"\nhold = 3\n\n[[place]]\nname = \"ba\"\nfrom = \"b\"\nto = \"a\"\nhold = 2\ntokens = 1\n";
-
-/// What is written where that loop is checked.
-pub const LOOP_IS_LIVE: &str = "live\ntransitions 2\nplaces 2\n";
+/// A case: the words, what the file named `net` holds, how the call ends, and what it writes.
+pub type Row<'a> = (&'a [&'a str], &'a str, Status, &'a str);
 
 /// A shelf with one file, named `net`, whose reads with these numbers fail.
 pub fn shelf_of(alloc: Global, net: &[u8], failing: Vec<u64>) -> Result<MemoryShelf, Fail> {
@@ -20,23 +16,23 @@ pub fn shelf_of(alloc: Global, net: &[u8], failing: Vec<u64>) -> Result<MemorySh
     Ok(MemoryShelf::new(alloc, files, failing))
 }
 
-/// A sink with room for every text, of which a call takes everything.
-pub fn wide_sink(alloc: Global) -> Result<MemorySink, Fail> {
-    Ok(MemorySink::new(alloc, 65536, 65536, Vec::new(alloc))?)
+/// A sink of which a call takes everything, with room for so many bytes.
+pub fn sink_of(alloc: Global, room: usize) -> Result<MemorySink, Fail> {
+    Ok(MemorySink::new(alloc, 65536, room, Vec::new(alloc))?)
 }
 
-/// A call with these words and no monitors.
+/// A call with these words and these monitors.
 pub fn call(
     alloc: Global,
     words: &[&str],
     shelf: &mut MemoryShelf,
     out: &mut MemorySink,
+    monitors: Vec<Box<dyn Monitor>>,
 ) -> Result<Status, Fail> {
     let mut owned = Vec::new(alloc);
     for word in words {
         owned.push(String::from_str(alloc, word)?)?;
     }
-    let monitors: Vec<Box<dyn Monitor>> = Vec::new(alloc);
     Ok(workbench(alloc, &owned, shelf, out, monitors))
 }
 
@@ -49,7 +45,7 @@ pub fn answers(
     text: &str,
 ) -> Result<bool, Fail> {
     let mut shelf = shelf_of(alloc, net, Vec::new(alloc))?;
-    let mut out = wide_sink(alloc)?;
-    let ended = call(alloc, words, &mut shelf, &mut out)?;
+    let mut out = sink_of(alloc, 65536)?;
+    let ended = call(alloc, words, &mut shelf, &mut out, Vec::new(alloc))?;
     Ok(ended == status && out.contents() == text.as_bytes())
 }

@@ -1,7 +1,7 @@
 use Rattle.std.proofs.Common.{◌≡◌, ℕ, ◌+◌, ◌-◌, ◌*◌, ◌%◌, ◌<◌, eqb, false, ap, ◌∙◌, arith, Bool}
 use Rattle.std.proofs.lemmas.Bool.Decides.{nat_tests}
-use Rattle.series_form.specs.Forms.{first_of}
-use Rattle.series_form.specs.Canonical.{first_next}
+use Rattle.series_laws.specs.Forms.{first_of}
+use Rattle.series_laws.proofs.FormValues.{first_next}
 use Rattle.series_form.proofs.plans.common_multiple.Goals as goal
 
 not_zero : (n : ℕ) → (n ≡ 0 → ⊥) → eqb n 0 ≡ false

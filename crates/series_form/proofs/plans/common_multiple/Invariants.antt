@@ -1,6 +1,6 @@
 use Rattle.std.proofs.Common.{◌≡◌, ◌-◌, ◌*◌, ◌%◌, eqb}
-use Rattle.series_form.specs.Forms.{first_of}
-use Rattle.series_form.specs.Needs.{turns_of}
+use Rattle.series_laws.specs.Forms.{first_of}
+use Rattle.series_laws.specs.Needs.{turns_of}
 use Rattle.series_form.proofs.plans.common_multiple.Given as goal
 
 abbrev pub invariant-loop-turns : goal.invariant-loop-turns

@@ -1,5 +1,5 @@
 use Rattle.std.proofs.Common.{◌<◌, ℕ, arith, subst, sym}
-use Rattle.series_form.specs.Sums.{common_positive}
+use Rattle.series_laws.proofs.Sums.{common_positive}
 use Rattle.series_form.proofs.plans.common_period.Goals as goal
 
 pub returns-clause-positive : goal.returns-clause-positive

@@ -1,6 +1,6 @@
 use Rattle.std.proofs.Common.{◌<◌, ◌≤◌, ◌/◌, ◌≡◌, ℕ, ℤ, arith, subst, sym, ap, ◌∙◌}
 use Rattle.std.specs.Int.RustNames.{unsigned_abs}
-use Rattle.series_form.specs.Periodic.{times}
+use Rattle.series_laws.specs.Periodic.{times}
 use Rattle.series_form.proofs.Numbers.{div_below, gain_bound, gain_fits, gain_code}
 use Rattle.series_form.proofs.plans.gain_over.Goals as goal
 

@@ -2,8 +2,8 @@ use Rattle.std.proofs.Common.{◌≡◌, ◌≤◌, ◌+◌, ◌-◌, ℕ, ℤ, 
 use Rattle.std.specs.Int.{w128, int_max}
 use Rattle.std.specs.Int.RustNames.{unsigned_abs}
 use Rattle.std.proofs.lemmas.Int.{to_z-of_z}
-use Rattle.series_form.specs.Forms.{value_at, gap}
-use Rattle.series_form.specs.Needs.{greatest_int}
+use Rattle.series_laws.specs.Forms.{value_at, gap}
+use Rattle.series_laws.specs.Needs.{greatest_int}
 use Rattle.series_form.proofs.Numbers.{moderate_fits}
 use Rattle.series_form.proofs.PointwiseTables.{max_up_to}
 use Rattle.series_form.proofs.pointwise.greatest_lead.Goals as goal

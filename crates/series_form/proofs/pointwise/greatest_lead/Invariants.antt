@@ -1,7 +1,7 @@
 use Rattle.std.proofs.Common.{◌≡◌, ◌+◌, ◌≤◌}
 use Rattle.std.specs.Int.RustNames.{unsigned_abs}
-use Rattle.series_form.specs.Forms.{value_at, gap}
-use Rattle.series_form.specs.Needs.{greatest_int}
+use Rattle.series_laws.specs.Forms.{value_at, gap}
+use Rattle.series_laws.specs.Needs.{greatest_int}
 use Rattle.series_form.proofs.pointwise.greatest_lead.Given as goal
 
 abbrev pub invariant-loop-place : goal.invariant-loop-place

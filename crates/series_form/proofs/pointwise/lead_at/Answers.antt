@@ -3,7 +3,7 @@ use Rattle.std.specs.Int.{w128}
 use Rattle.std.proofs.lemmas.Int.{to_z-of_z}
 use Rattle.std.specs.Int.RustNames.{unsigned_abs}
 use Rattle.dioid.specs.declared.dates.Date.{Date}
-use Rattle.series_form.specs.Forms.{Form, value_at, gap}
+use Rattle.series_laws.specs.Forms.{Form, value_at, gap}
 use Rattle.series_form.specs.Bounds.{IsUpTo, IsWithin, IsSeries}
 use Rattle.series_form.proofs.Finished.{value_up_to, up_to_more, gap_up_to}
 use Rattle.series_form.proofs.pointwise.lead_at.Goals as goal

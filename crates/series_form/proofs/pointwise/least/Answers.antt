@@ -1,9 +1,9 @@
 use Rattle.std.proofs.Common.{subst}
-use Rattle.series_form.specs.declared.plans.Plan.{Plan}
-use Rattle.series_form.specs.Forms.{value_at, HasValues}
-use Rattle.series_form.specs.Pointwise.{least_at}
-use Rattle.series_form.specs.Needs.{need_of, form_least}
-use Rattle.series_form.specs.Sums.{form_least_is, form_least_values}
+use Rattle.series_laws.specs.declared.plans.Plan.{Plan}
+use Rattle.series_laws.specs.Forms.{value_at, HasValues}
+use Rattle.series_laws.specs.Pointwise.{least_at}
+use Rattle.series_laws.specs.Needs.{need_of, form_least}
+use Rattle.series_laws.proofs.Sums.{form_least_is, form_least_values}
 use Rattle.series_form.specs.Answer.{AnswersOf, Answers}
 use Rattle.series_form.proofs.Finished.{tabled_begins, tabled_answer, model_answer}
 use Rattle.series_form.proofs.PointwiseTables.{least_tabled}

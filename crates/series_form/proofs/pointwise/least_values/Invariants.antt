@@ -1,6 +1,6 @@
 use Rattle.std.proofs.Common.{◌≡◌}
-use Rattle.series_form.specs.Forms.{table, value_at}
-use Rattle.series_form.specs.Pointwise.{least_at}
+use Rattle.series_laws.specs.Forms.{table, value_at}
+use Rattle.series_laws.specs.Pointwise.{least_at}
 use Rattle.series_form.proofs.pointwise.least_values.Given as goal
 
 abbrev pub invariant-loop-shift : goal.invariant-loop-shift

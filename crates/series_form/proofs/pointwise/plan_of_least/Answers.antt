@@ -1,5 +1,5 @@
 use Rattle.std.proofs.Common.{◌∙◌, sym}
-use Rattle.series_form.specs.Sums.{second_first}
+use Rattle.series_laws.proofs.Sums.{second_first}
 use Rattle.series_form.proofs.pointwise.plan_of_least.Goals as goal
 
 pub crossing_of-requires-in-Second : goal.crossing_of-requires-in-Second

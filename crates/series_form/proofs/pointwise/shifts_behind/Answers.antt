@@ -3,8 +3,8 @@ use Rattle.std.specs.Int.{w128}
 use Rattle.std.specs.Int.RustNames.{unsigned_abs}
 use Rattle.std.proofs.lemmas.Int.{to_z-of_z}
 use Rattle.std.proofs.lemmas.Nat.{mul-le}
-use Rattle.series_form.specs.Forms.{value_at, gap}
-use Rattle.series_form.specs.Needs.{ceiling, greatest_int, later_start, lead_of, periods_behind, rise_of, fall_of}
+use Rattle.series_laws.specs.Forms.{value_at, gap}
+use Rattle.series_laws.specs.Needs.{ceiling, greatest_int, later_start, lead_of, periods_behind, rise_of, fall_of}
 use Rattle.series_form.proofs.Numbers.{moderate_fits}
 use Rattle.series_form.proofs.pointwise.shifts_behind.Goals as goal
 

@@ -1,12 +1,13 @@
 use Rattle.std.proofs.Common.{◌≡◌, ap, ◌∙◌, sym, subst, ◌-◌, length, to_z, of_z}
 use Rattle.std.specs.Int.{w128}
 use Rattle.std.proofs.lemmas.Int.{to_z-of_z}
-use Rattle.series_form.specs.Forms.{Form, form_with, value_at, HasValues, IsCanonical, canonical_of}
-use Rattle.series_form.specs.Periodic.{Repeats}
+use Rattle.series_laws.specs.Forms.{Form, form_with, value_at, HasValues, IsCanonical, canonical_of}
+use Rattle.series_laws.specs.Periodic.{Repeats}
 use Rattle.series_form.specs.Bounds.{IsModerate}
 use Rattle.series_form.specs.Answer.{form_before}
 use Rattle.series_form.specs.Shapes.{IsPart}
-use Rattle.series_form.specs.Canonical.{value_repeats, canonical_is, canonical_values}
+use Rattle.series_laws.proofs.FormValues.{value_repeats}
+use Rattle.series_laws.proofs.Canonical.{canonical_is, canonical_values}
 use Rattle.series_form.proofs.shorten.canonical_part.Goals as goal
 
 pub shape_of-requires : goal.shape_of-requires

@@ -4,7 +4,7 @@ use Rattle.std.specs.Int.RustNames.{unsigned_abs}
 use Rattle.std.proofs.lemmas.Int.{to_z-of_z}
 use Rattle.dioid.specs.declared.dates.Date.{Date}
 use Rattle.series_form.specs.Bounds.{IsSeries}
-use Rattle.series_form.specs.Forms.{Form, form_with}
+use Rattle.series_laws.specs.Forms.{Form, form_with}
 use Rattle.series_form.specs.Shapes.{IsShape, IsTooGreat, shortened}
 use Rattle.series_form.proofs.Numbers.{small_fits}
 use Rattle.series_form.proofs.FirstPart.{shortened_series, shortened_answer, shortened_great}

@@ -2,7 +2,7 @@ use Rattle.std.proofs.Common.{◌≡◌, ap, ◌∙◌, ℤ, ℕ, to_z, of_z, �
 use Rattle.std.specs.Int.{w128}
 use Rattle.std.proofs.lemmas.Int.{to_z-of_z}
 use Rattle.dioid.specs.declared.dates.Date.{Date}
-use Rattle.series_form.specs.Forms.{form_with, value_at, gap, least_period_of}
+use Rattle.series_laws.specs.Forms.{form_with, value_at, gap, least_period_of}
 use Rattle.series_form.proofs.Steps.{turn_step, turn_found}
 use Rattle.series_form.proofs.shorten.least_period.Goals as goal
 

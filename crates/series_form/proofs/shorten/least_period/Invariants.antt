@@ -1,5 +1,5 @@
 use Rattle.std.proofs.Common.{◌≡◌, ◌-◌, ◌+◌}
-use Rattle.series_form.specs.Forms.{form_with, value_at, repeats_test, first_of, gap, least_period_of}
+use Rattle.series_laws.specs.Forms.{form_with, value_at, repeats_test, first_of, gap, least_period_of}
 use Rattle.series_form.proofs.shorten.least_period.Given as goal
 
 abbrev pub invariant-loop-turn : goal.invariant-loop-turn

@@ -1,8 +1,8 @@
 use Rattle.std.proofs.Common.{◌≡◌, ◌+◌, ℤ, ap, ◌∙◌, to_z, of_z}
 use Rattle.std.specs.Int.{w128}
 use Rattle.std.proofs.lemmas.Int.{to_z-of_z}
-use Rattle.series_form.specs.Forms.{form_with, value_at, date_eqb}
-use Rattle.series_form.specs.Order.{move}
+use Rattle.series_laws.specs.Forms.{form_with, value_at, date_eqb}
+use Rattle.dioid.specs.Dates.{move}
 use Rattle.series_form.proofs.shorten.moves_at.Goals as goal
 
 pub returns : goal.returns

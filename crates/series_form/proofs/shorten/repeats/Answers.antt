@@ -2,9 +2,9 @@ use Rattle.std.proofs.Common.{◌≡◌, ℕ, ℤ, false, ap, sym, ◌∙◌, ar
 use Rattle.std.specs.Int.{w128}
 use Rattle.std.proofs.lemmas.Int.{to_z-of_z}
 use Rattle.dioid.specs.declared.dates.Date.{Date}
-use Rattle.series_form.specs.Forms.{form_with, value_at, date_eqb}
-use Rattle.series_form.specs.Order.{move}
-use Rattle.series_form.specs.Canonical.{test_fails}
+use Rattle.series_laws.specs.Forms.{form_with, value_at, date_eqb}
+use Rattle.dioid.specs.Dates.{move}
+use Rattle.series_laws.proofs.FormValues.{test_fails}
 use Rattle.series_form.proofs.shorten.repeats.Goals as goal
 
 pub returns-then-not-is_moved : goal.returns-then-not-is_moved

@@ -4,7 +4,7 @@ use Rattle.std.specs.Int.RustNames.{unsigned_abs}
 use Rattle.std.proofs.lemmas.Int.{to_z-of_z}
 use Rattle.dioid.specs.declared.dates.Date.{Date}
 use Rattle.dioid.specs.declared.dates.Date.TheVariants.{At}
-use Rattle.series_form.specs.Forms.{Form, form_with}
+use Rattle.series_laws.specs.Forms.{Form, form_with}
 use Rattle.series_form.specs.Bounds.{IsModerateDate, HasSmallNumbers}
 use Rattle.series_form.specs.Answer.{IsFirstGreat, IsFirstGreatValue, IsGreatStep}
 use Rattle.series_form.specs.Shapes.{IsPart}

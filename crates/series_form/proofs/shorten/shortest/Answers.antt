@@ -2,8 +2,8 @@ use Rattle.std.proofs.Common.{◌≡◌, ap, ◌∙◌, sym, subst, List, to_z, 
 use Rattle.std.specs.Int.{w128}
 use Rattle.std.proofs.lemmas.Int.{to_z-of_z}
 use Rattle.dioid.specs.declared.dates.Date.{Date}
-use Rattle.series_form.specs.Forms.{Form, form_with, value_at}
-use Rattle.series_form.specs.Periodic.{Rising}
+use Rattle.series_laws.specs.Forms.{Form, form_with, value_at}
+use Rattle.series_laws.specs.Periodic.{Rising}
 use Rattle.series_form.specs.Bounds.{IsModerate}
 use Rattle.series_form.specs.Answer.{form_before, IsShortest}
 use Rattle.series_form.proofs.shorten.shortest.Goals as goal

@@ -1,5 +1,5 @@
 use Rattle.std.proofs.Common.{arith, rules}
-use Rattle.series_form.specs.Canonical.{same_lists}
+use Rattle.series_laws.proofs.FormValues.{same_lists}
 use Rattle.series_form.proofs.values.same_values.Goals as goal
 
 pub returns : goal.returns

@@ -3,11 +3,11 @@ use Rattle.std.specs.Int.{w128}
 use Rattle.std.specs.Int.RustNames.{unsigned_abs}
 use Rattle.std.proofs.lemmas.Int.{to_z-of_z}
 use Rattle.std.proofs.lemmas.Nat.{mul-le}
-use Rattle.series_form.specs.Periodic.{times}
-use Rattle.series_form.specs.Needs.{period_with, fall_of}
-use Rattle.series_form.specs.Sums.{common_second}
+use Rattle.series_laws.specs.Periodic.{times}
+use Rattle.series_laws.specs.Needs.{period_with, fall_of}
+use Rattle.series_laws.proofs.Sums.{common_second}
 use Rattle.series_form.proofs.Numbers.{times_product, step_of, mul_fits}
-use Rattle.series_ops.specs.Needs.{lifts_of}
+use Rattle.series_laws.specs.ProductNeeds.{lifts_of}
 use Rattle.series_ops.proofs.ProductPlans.{lifted_bound}
 use Rattle.series_ops.proofs.products.gain_on_lifts.Goals as goal
 

@@ -1,5 +1,5 @@
 use Rattle.std.proofs.Common.{◌∙◌, sym}
-use Rattle.series_form.specs.Sums.{second_first}
+use Rattle.series_laws.proofs.Sums.{second_first}
 use Rattle.series_ops.proofs.products.plan_by_slopes.Goals as goal
 
 pub plan_of_steeper-requires-in-Second-clause-slopes : goal.plan_of_steeper-requires-in-Second-clause-slopes

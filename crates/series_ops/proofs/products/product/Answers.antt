@@ -1,13 +1,13 @@
 use Rattle.std.proofs.Common.{subst}
-use Rattle.series_form.specs.declared.plans.Plan.{Plan}
-use Rattle.series_form.specs.Forms.{value_at, HasValues}
-use Rattle.series_form.specs.Needs.{need_of}
+use Rattle.series_laws.specs.declared.plans.Plan.{Plan}
+use Rattle.series_laws.specs.Forms.{value_at, HasValues}
+use Rattle.series_laws.specs.Needs.{need_of}
 use Rattle.series_form.specs.Answer.{AnswersOf, Answers}
 use Rattle.series_form.proofs.Finished.{tabled_begins, tabled_answer, model_answer}
 use Rattle.series_ops.specs.Listed.{all_but_last, last_of}
-use Rattle.series_ops.specs.Product.{product_at}
-use Rattle.series_ops.specs.Needs.{form_product}
-use Rattle.series_ops.specs.Products.{form_product_is, form_product_values}
+use Rattle.series_laws.specs.Product.{product_at}
+use Rattle.series_laws.specs.ProductNeeds.{form_product}
+use Rattle.series_laws.proofs.Products.{form_product_is, form_product_values}
 use Rattle.series_ops.proofs.ProductPlans.{product_tabled}
 use Rattle.series_ops.proofs.products.product.Goals as goal
 

@@ -1,9 +1,9 @@
 use Rattle.std.proofs.Common.{◌≡◌, ◌∙◌, ap, arith, length, List}
 use Rattle.dioid.specs.declared.dates.Date.{Date}
-use Rattle.series_form.specs.Forms.{value_at}
-use Rattle.series_form.specs.Canonical.{table_length}
+use Rattle.series_laws.specs.Forms.{value_at}
+use Rattle.series_laws.proofs.FormValues.{table_length}
 use Rattle.series_form.proofs.Finished.{table_push}
-use Rattle.series_ops.specs.Product.{product_at}
+use Rattle.series_laws.specs.Product.{product_at}
 use Rattle.series_ops.specs.Listed.{listed}
 use Rattle.series_ops.specs.Splits.{tail_product, with_tail}
 use Rattle.series_ops.proofs.FirstValues.{listed_is}

@@ -1,6 +1,6 @@
 use Rattle.std.proofs.Common.{◌≡◌}
-use Rattle.series_form.specs.Forms.{table, value_at}
-use Rattle.series_ops.specs.Product.{product_at}
+use Rattle.series_laws.specs.Forms.{table, value_at}
+use Rattle.series_laws.specs.Product.{product_at}
 use Rattle.series_ops.specs.Listed.{listed}
 use Rattle.series_ops.proofs.products.product_list.Given as goal
 

@@ -1,7 +1,7 @@
 use Rattle.std.proofs.Common.{◌≡◌, ◌≤◌, ◌∙◌, ap, sym, arith, List, length, to_z, of_z}
 use Rattle.std.specs.Int.{w128}
 use Rattle.dioid.specs.declared.dates.Date.{Date}
-use Rattle.series_form.specs.Forms.{Form, form_with, size_of, table}
+use Rattle.series_laws.specs.Forms.{Form, form_with, size_of, table}
 use Rattle.series_form.proofs.Finished.{table_push}
 use Rattle.series_ops.specs.Listed.{listed}
 use Rattle.series_ops.specs.Splits.{tail_product}

@@ -1,5 +1,5 @@
 use Rattle.std.proofs.Common.{◌≡◌}
-use Rattle.series_form.specs.Forms.{table}
+use Rattle.series_laws.specs.Forms.{table}
 use Rattle.series_ops.specs.Listed.{listed}
 use Rattle.series_ops.specs.Splits.{tail_product}
 use Rattle.series_ops.proofs.products.tail_list.Given as goal

@@ -1,8 +1,8 @@
 use Rattle.std.proofs.Common.{◌≡◌, ◌≤◌, ◌∙◌, ℕ, List, ap, subst, arith, length}
 use Rattle.std.specs.Prelude.{IfOk}
 use Rattle.dioid.specs.declared.dates.Date.{Date}
-use Rattle.series_form.specs.Forms.{value_at, table}
-use Rattle.series_form.specs.Canonical.{table_length}
+use Rattle.series_laws.specs.Forms.{value_at, table}
+use Rattle.series_laws.proofs.FormValues.{table_length}
 use Rattle.series_ops.proofs.FirstValues.{table_up_to}
 use Rattle.series_ops.proofs.SplitLaws.{product_listed}
 use Rattle.series_ops.proofs.products.values_by_first.Goals as goal

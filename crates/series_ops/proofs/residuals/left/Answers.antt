@@ -1,13 +1,13 @@
 use Rattle.std.proofs.Common.{◌≤◌, ℕ, subst}
-use Rattle.series_form.specs.declared.plans.Plan.{Plan}
-use Rattle.series_form.specs.Forms.{value_at, HasValues}
-use Rattle.series_form.specs.Needs.{need_of}
+use Rattle.series_laws.specs.declared.plans.Plan.{Plan}
+use Rattle.series_laws.specs.Forms.{value_at, HasValues}
+use Rattle.series_laws.specs.Needs.{need_of}
 use Rattle.series_form.specs.Answer.{AnswersOf, Answers}
 use Rattle.series_form.proofs.Finished.{tabled_begins, tabled_answer, model_answer}
 use Rattle.series_ops.specs.Listed.{all_but_last, last_of}
-use Rattle.series_ops.specs.Residual.{IsLeftAt}
-use Rattle.series_ops.specs.Needs.{left_at, form_left}
-use Rattle.series_ops.specs.Lefts.{form_left_is, form_left_values}
+use Rattle.series_laws.specs.Residual.{IsLeftAt}
+use Rattle.series_laws.specs.ProductNeeds.{left_at, form_left}
+use Rattle.series_laws.proofs.Lefts.{form_left_is, form_left_values}
 use Rattle.series_ops.proofs.LeftValues.{left_tabled, has_residuals}
 use Rattle.series_ops.proofs.residuals.left.Goals as goal
 

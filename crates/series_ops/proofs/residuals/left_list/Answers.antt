@@ -1,8 +1,8 @@
 use Rattle.std.proofs.Common.{◌≡◌, ◌∙◌, ap, sym, arith, length}
-use Rattle.series_form.specs.Forms.{table}
-use Rattle.series_form.specs.Canonical.{table_length}
+use Rattle.series_laws.specs.Forms.{table}
+use Rattle.series_laws.proofs.FormValues.{table_length}
 use Rattle.series_form.proofs.Finished.{table_push}
-use Rattle.series_ops.specs.Needs.{left_over}
+use Rattle.series_laws.specs.ProductNeeds.{left_over}
 use Rattle.series_ops.proofs.residuals.left_list.Goals as goal
 
 pub next_left-next-requires-clause-values : goal.next_left-next-requires-clause-values

@@ -1,6 +1,6 @@
 use Rattle.std.proofs.Common.{◌≡◌}
-use Rattle.series_form.specs.Forms.{table}
-use Rattle.series_ops.specs.Needs.{left_over}
+use Rattle.series_laws.specs.Forms.{table}
+use Rattle.series_laws.specs.ProductNeeds.{left_over}
 use Rattle.series_ops.proofs.residuals.left_list.Given as goal
 
 abbrev pub invariant-loop-shift : goal.invariant-loop-shift

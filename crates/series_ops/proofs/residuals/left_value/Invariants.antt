@@ -1,5 +1,5 @@
 use Rattle.std.proofs.Common.{◌≡◌}
-use Rattle.series_ops.specs.Residual.{least_of}
+use Rattle.series_laws.specs.Residual.{least_of}
 use Rattle.series_ops.specs.Listed.{part_listed}
 use Rattle.series_ops.proofs.residuals.left_value.Given as goal
 

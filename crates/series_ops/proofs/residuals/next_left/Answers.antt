@@ -1,10 +1,10 @@
 use Rattle.std.proofs.Common.{◌≡◌, ◌+◌, ◌-◌, ◌∙◌, ◌-ℤ◌, ℕ, ℤ, pos, ap, arith, length, get_or}
 use Rattle.dioid.specs.Dates.{date_left}
 use Rattle.dioid.specs.declared.dates.Date.TheVariants.{Early, At}
-use Rattle.series_form.specs.Forms.{size_of, value_at}
-use Rattle.series_form.specs.Canonical.{table_length}
+use Rattle.series_laws.specs.Forms.{size_of, value_at}
+use Rattle.series_laws.proofs.FormValues.{table_length}
 use Rattle.series_ops.specs.Listed.{left_listed}
-use Rattle.series_ops.specs.Needs.{offsets_of}
+use Rattle.series_laws.specs.ProductNeeds.{offsets_of}
 use Rattle.series_ops.proofs.FirstValues.{all_more}
 use Rattle.series_ops.proofs.LeftValues.{long_table_up_to}
 use Rattle.series_ops.proofs.LeftParts.{list_reaches, left_listed_is, left_later_is, star_left_up_to, overs_up_to, negative_code}

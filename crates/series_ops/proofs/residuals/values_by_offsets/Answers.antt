@@ -1,6 +1,6 @@
 use Rattle.std.proofs.Common.{◌≡◌, ◌∙◌, ◌+◌, ap, arith, length}
-use Rattle.series_form.specs.Forms.{size_of, value_at}
-use Rattle.series_form.specs.Canonical.{table_length}
+use Rattle.series_laws.specs.Forms.{size_of, value_at}
+use Rattle.series_laws.proofs.FormValues.{table_length}
 use Rattle.series_ops.proofs.LeftValues.{long_table_up_to}
 use Rattle.series_ops.proofs.residuals.values_by_offsets.Goals as goal
 

@@ -4,8 +4,8 @@ use Rattle.std.proofs.lemmas.Int.{to_z-of_z}
 use Rattle.dioid.specs.Dates.{later_of, date_product}
 use Rattle.dioid.specs.declared.dates.Date.{Date}
 use Rattle.dioid.specs.declared.dates.Date.TheVariants.{At}
-use Rattle.series_form.specs.Forms.{form_with}
-use Rattle.series_form.specs.Canonical.{table_length}
+use Rattle.series_laws.specs.Forms.{form_with}
+use Rattle.series_laws.proofs.FormValues.{table_length}
 use Rattle.series_ops.specs.Listed.{listed}
 use Rattle.series_ops.specs.Splits.{greatest_from, split_of, places_to, tail_product}
 use Rattle.series_ops.proofs.SplitLaws.{tail_begun, tail_carried}

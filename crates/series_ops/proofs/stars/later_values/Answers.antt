@@ -1,5 +1,5 @@
 use Rattle.std.proofs.Common.{◌≡◌, ◌∙◌, ◌+◌, suc, ap, arith}
-use Rattle.series_form.specs.Forms.{value_at}
+use Rattle.series_laws.specs.Forms.{value_at}
 use Rattle.series_form.proofs.Finished.{table_push}
 use Rattle.series_ops.specs.Listed.{later_part}
 use Rattle.series_ops.proofs.stars.later_values.Goals as goal

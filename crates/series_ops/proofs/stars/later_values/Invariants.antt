@@ -1,5 +1,5 @@
 use Rattle.std.proofs.Common.{◌≡◌}
-use Rattle.series_form.specs.Forms.{table, value_at}
+use Rattle.series_laws.specs.Forms.{table, value_at}
 use Rattle.series_ops.specs.Listed.{later_part}
 use Rattle.series_ops.proofs.stars.later_values.Given as goal
 

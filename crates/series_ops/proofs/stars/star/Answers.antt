@@ -1,9 +1,10 @@
 use Rattle.std.proofs.Common.{◌∙◌, ℕ, sym, ap}
-use Rattle.series_form.specs.Forms.{value_at}
+use Rattle.series_laws.specs.Forms.{value_at}
 use Rattle.series_form.proofs.Finished.{model_answer}
-use Rattle.series_ops.specs.StarOf.{above_zero, star_at, IsStarOf, star_only}
-use Rattle.series_ops.specs.Needs.{star_need, star_carried, form_star}
-use Rattle.series_ops.specs.StarForms.{form_star_is, form_star_values}
+use Rattle.series_laws.specs.StarOf.{above_zero, star_at, IsStarOf}
+use Rattle.series_laws.proofs.StarParts.{star_only}
+use Rattle.series_laws.specs.ProductNeeds.{star_need, star_carried, form_star}
+use Rattle.series_laws.proofs.StarForms.{form_star_is, form_star_values}
 use Rattle.series_ops.proofs.StarValues.{not_above, low_answer, high_answer}
 use Rattle.series_ops.proofs.stars.star.Goals as goal
 

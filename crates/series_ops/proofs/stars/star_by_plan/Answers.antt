@@ -1,9 +1,9 @@
 use Rattle.std.proofs.Common.{◌≡◌, ◌∙◌, ◌+◌, ap, length, arith}
-use Rattle.series_form.specs.Forms.{value_at, HasValues}
-use Rattle.series_form.specs.Canonical.{table_length}
+use Rattle.series_laws.specs.Forms.{value_at, HasValues}
+use Rattle.series_laws.proofs.FormValues.{table_length}
 use Rattle.series_form.proofs.Finished.{tabled_begins, tabled_answer}
 use Rattle.series_ops.specs.Listed.{all_but_last, last_of}
-use Rattle.series_ops.specs.StarOf.{parts_star}
+use Rattle.series_laws.specs.StarOf.{parts_star}
 use Rattle.series_ops.proofs.StarValues.{star_tabled}
 use Rattle.series_ops.proofs.stars.star_by_plan.Goals as goal
 

@@ -3,12 +3,12 @@ use Rattle.std.specs.Int.{w128}
 use Rattle.dioid.specs.Dates.{later_of}
 use Rattle.dioid.specs.declared.dates.Date.{Date}
 use Rattle.dioid.specs.declared.dates.Date.TheVariants.{At}
-use Rattle.series_form.specs.Forms.{Form, form_with, size_of, start_of, table, value_at}
-use Rattle.series_form.specs.Canonical.{table_length}
+use Rattle.series_laws.specs.Forms.{Form, form_with, size_of, start_of, table, value_at}
+use Rattle.series_laws.proofs.FormValues.{table_length}
 use Rattle.series_form.proofs.Finished.{table_push}
 use Rattle.series_ops.specs.Listed.{listed, later_part}
 use Rattle.series_ops.specs.Splits.{tail_product}
-use Rattle.series_ops.specs.StarOf.{parts_star}
+use Rattle.series_laws.specs.StarOf.{parts_star}
 use Rattle.series_ops.proofs.SplitLaws.{passed_form, passed_step}
 use Rattle.series_ops.proofs.StarValues.{stars_up_to, later_fits, later_up, later_tails, later_carried, later_tails_up, star_next}
 use Rattle.series_ops.proofs.stars.star_list.Goals as goal

@@ -1,7 +1,7 @@
 use Rattle.std.proofs.Common.{◌≡◌, ◌+◌}
-use Rattle.series_form.specs.Forms.{form_with, table, value_at}
+use Rattle.series_laws.specs.Forms.{form_with, table, value_at}
 use Rattle.series_ops.specs.Splits.{tail_product}
-use Rattle.series_ops.specs.StarOf.{parts_star}
+use Rattle.series_laws.specs.StarOf.{parts_star}
 use Rattle.series_ops.proofs.stars.star_list.Given as goal
 
 abbrev pub invariant-loop-shift : goal.invariant-loop-shift

@@ -1,17 +1,17 @@
 use Rattle.std.proofs.Common.{◌≡◌, ◌≤◌, ◌∙◌, ◌+◌, ℕ, ap, sym, subst, arith}
 use Rattle.dioid.specs.declared.dates.Date.{Date}
-use Rattle.series_form.specs.declared.plans.Plan.{Plan}
-use Rattle.series_form.specs.Pointwise.{sum_at}
-use Rattle.series_form.specs.Forms.{Form, value_at, HasValues}
+use Rattle.series_laws.specs.declared.plans.Plan.{Plan}
+use Rattle.series_laws.specs.Pointwise.{sum_at}
+use Rattle.series_laws.specs.Forms.{Form, value_at, HasValues}
 use Rattle.series_form.specs.Bounds.{IsUpTo}
 use Rattle.series_form.specs.Answer.{AnswersOf, form_before}
-use Rattle.series_form.specs.Needs.{need_of, sum_plan, form_sum}
-use Rattle.series_form.specs.Sums.{form_sum_is, form_sum_values}
+use Rattle.series_laws.specs.Needs.{need_of, sum_plan, form_sum}
+use Rattle.series_laws.proofs.Sums.{form_sum_is, form_sum_values}
 use Rattle.series_form.proofs.Finished.{tabled_begins, tabled_values}
 use Rattle.series_form.proofs.PointwiseTables.{sum_tabled}
-use Rattle.series_ops.specs.StarOf.{parts_star}
-use Rattle.series_ops.specs.Needs.{one_shift, at_least, own_plan, star_plan}
-use Rattle.series_ops.specs.StarForms.{one_shift_is}
+use Rattle.series_laws.specs.StarOf.{parts_star}
+use Rattle.series_laws.specs.ProductNeeds.{one_shift, at_least, own_plan, star_plan}
+use Rattle.series_laws.proofs.StarForms.{one_shift_is}
 use Rattle.series_ops.proofs.StarValues.{one_is, long_need, short_carried, sum_up_to, sums_up_to}
 use Rattle.series_ops.proofs.stars.star_with.Goals as goal
 

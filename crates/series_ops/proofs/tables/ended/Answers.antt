@@ -1,7 +1,7 @@
 use Rattle.std.proofs.Common.{◌≡◌, ◌<◌, ◌-◌, ◌∙◌, ℕ, List, ap, sym, subst, arith, length, get_or, take}
 use Rattle.dioid.specs.declared.dates.Date.{Date}
 use Rattle.dioid.specs.declared.dates.Date.TheVariants.{Early}
-use Rattle.series_form.specs.Forms.{value_at}
+use Rattle.series_laws.specs.Forms.{value_at}
 use Rattle.series_form.specs.Answer.{IsBeginning, IsShortest, form_before}
 use Rattle.series_ops.specs.Listed.{all_but_last, last_of}
 use Rattle.series_ops.proofs.FirstValues.{any_default}

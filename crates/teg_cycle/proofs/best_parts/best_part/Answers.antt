@@ -1,9 +1,8 @@
-use Rattle.std.proofs.Common.{ℕ, List, Option, Some, None, ◌≡◌, ◌<◌, length, get_or, sym, ap, subst, ◌∙◌, arith, rules, refl}
+use Rattle.std.proofs.Common.{◌≡◌, ◌<◌, length, get_or, sym, ap, ◌∙◌}
 use Rattle.std.proofs.lemmas.Bool.{iff_false}
 use Rattle.std.proofs.lemmas.List.{get_or_read}
-use Rattle.teg_net.specs.declared.answers.PartAnswer.{PartAnswer}
-use Rattle.teg_net.specs.declared.answers.PartAnswer.TheVariants.{NoCircuit, Best}
-use Rattle.teg_net.specs.GreatestRatios.{ratio_at, ratio_in}
+use Rattle.teg_net.specs.declared.answers.PartAnswer.TheVariants.{NoCircuit}
+use Rattle.teg_net.specs.GreatestRatios.{ratio_in}
 use Rattle.teg_cycle.specs.BestParts.{IsBestBelow}
 use Rattle.teg_cycle.proofs.FirstBest.{part_skip, part_keep, part_take}
 use Rattle.teg_cycle.proofs.best_parts.best_part.Goals as goal

@@ -1,13 +1,11 @@
-use Rattle.std.proofs.Common.{ℕ, ◌≡◌, ◌<◌, ◌≤◌, ◌+◌, List, length, get_or, sym, ap, subst, ◌∙◌, arith}
+use Rattle.std.proofs.Common.{◌≡◌, ◌<◌, length, sym, ap, subst, ◌∙◌, arith}
 use Rattle.std.specs.Prelude.{All}
 use Rattle.teg_net.specs.GreatestRatios.{IsFirstGreatest}
 use Rattle.std.proofs.lemmas.List.{length_push}
 use Rattle.teg_check.proofs.Liveness.{ranking_is_live}
-use Rattle.teg_net.specs.declared.answers.PartAnswer.{PartAnswer}
-use Rattle.teg_net.specs.PartAnswers.{IsPartAnswer, ArePartAnswers}
+use Rattle.teg_net.specs.PartAnswers.{IsPartAnswer}
 use Rattle.teg_net.specs.Certificates.{IsPartCertificate, IsCertificate}
 use Rattle.teg_cycle.specs.LastRounds.{IsLastOfRun}
-use Rattle.teg_cycle.specs.BestParts.{HaveTokens}
 use Rattle.teg_cycle.proofs.Telling.{each_push, have_tokens}
 use Rattle.teg_cycle.proofs.Certified.{tell_of_nets}
 use Rattle.teg_cycle.proofs.cycle_time.cycle.Goals as goal

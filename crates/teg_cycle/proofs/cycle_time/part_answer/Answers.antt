@@ -1,6 +1,4 @@
-use Rattle.std.proofs.Common.{ℕ, ◌≡◌, ◌<◌, List, Bool, true, false, get_or, sym, ◌∙◌}
-use Rattle.teg_net.specs.declared.entries.PlaceId.{PlaceId}
-use Rattle.teg_net.specs.Parts.{IsPlaceOfPart}
+use Rattle.std.proofs.Common.{◌≡◌, true, false, get_or, sym, ◌∙◌}
 use Rattle.teg_cycle.proofs.Telling.{no_place_no_circuit, answer_certifies, run_tells, last_of_run}
 use Rattle.teg_cycle.proofs.cycle_time.part_answer.Goals as goal
 

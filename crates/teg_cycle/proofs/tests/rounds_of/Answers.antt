@@ -1,4 +1,4 @@
-use Rattle.std.proofs.Common.{ℕ, ◌≡◌, Bool, true, false, get_or, sym, ◌∙◌}
+use Rattle.std.proofs.Common.{◌≡◌, true, false, get_or, sym, ◌∙◌}
 use Rattle.teg_cycle.proofs.tests.rounds_of.Goals as goal
 
 pub howard-requires-clause-circuit : goal.howard-requires-clause-circuit

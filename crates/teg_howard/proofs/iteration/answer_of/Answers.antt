@@ -1,8 +1,5 @@
-use Rattle.std.proofs.Common.{ℕ, List, ◌≡◌, arith, rules, refl}
-use Rattle.std.proofs.lemmas.Grind.{common_steps}
+use Rattle.std.proofs.Common.{◌≡◌, rules, refl}
 use Rattle.std.proofs.lemmas.List.Elements.{same_from_all_zip}
-use Rattle.std.specs.Prelude.{map}
-use Rattle.teg_howard.specs.Runs.{potential_of}
 use Rattle.teg_howard.proofs.iteration.answer_of.Goals as goal
 
 pub returns : goal.returns

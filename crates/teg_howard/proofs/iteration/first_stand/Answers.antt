@@ -1,9 +1,8 @@
-use Rattle.std.proofs.Common.{ℕ, List, Bool, true, ◌≡◌, ◌<◌, ◌≤◌, length, get_or, sym, ap, subst, ◌∙◌, arith, rules, refl}
-use Rattle.std.specs.Prelude.{All, Any}
+use Rattle.std.proofs.Common.{true, ◌≡◌, length, ◌∙◌, rules}
 use lib.ListN.{replicate}
-use Rattle.teg_net.specs.Parts.{IsMember, to_of}
-use Rattle.teg_howard.specs.Policies.{IsPolicy, step_back}
-use Rattle.teg_howard.specs.Found.{given, IsMarked, IsBestFound, CanSettle}
+use Rattle.teg_net.specs.Parts.{to_of}
+use Rattle.teg_howard.specs.Policies.{step_back}
+use Rattle.teg_howard.specs.Found.{given, IsBestFound}
 use Rattle.teg_howard.proofs.Exits.{IfOk_then, some_by, all_marked, any_marked}
 use Rattle.teg_howard.proofs.Back.{to_a_circuit, trail}
 use Rattle.teg_howard.proofs.Runs.{lowest_policy, lowest_in_range, lowest_outside, entered}

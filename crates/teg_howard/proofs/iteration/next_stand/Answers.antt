@@ -1,11 +1,7 @@
-use Rattle.std.proofs.Common.{ℕ, List, Bool, true, Option, Some, None, ◌≡◌, ◌<◌, ◌≤◌, length, get_or, sym, ap, subst, ◌∙◌, arith, rules, refl}
-use Rattle.std.specs.Prelude.{All, Any}
-use Rattle.std.proofs.lemmas.Bool.{iff_false, true_from_ne_false}
+use Rattle.std.proofs.Common.{◌≡◌, ◌∙◌, rules}
+use Rattle.std.proofs.lemmas.Bool.{iff_false}
 use Rattle.std.proofs.lemmas.List.Elements.{same_from_all_zip}
-use Rattle.teg_net.specs.declared.entries.PlaceId.{PlaceId}
-use Rattle.teg_net.specs.Parts.{IsMember, to_of}
-use Rattle.teg_howard.specs.Policies.{IsPolicy, IsPolicyCircuit}
-use Rattle.teg_howard.specs.Found.{given, IsMarked, IsBestFound, IsBetter, CanSettle}
+use Rattle.teg_howard.specs.Found.{given, IsBestFound, IsBetter}
 use Rattle.teg_howard.proofs.Standing.{step_policy, none_marked, ready_new, goes_new, ready_same, goes_same}
 use Rattle.teg_howard.proofs.iteration.next_stand.Goals as goal
 

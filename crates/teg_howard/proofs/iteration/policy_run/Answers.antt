@@ -1,8 +1,7 @@
-use Rattle.std.proofs.Common.{ℕ, List, Option, Some, None, ◌≡◌, ◌<◌, ◌++◌, ◌∷◌, [], length, get_or, sym, ap, subst, ◌∙◌, arith, rules, refl}
-use Rattle.teg_howard.specs.Standing.{Standing, GoesOn, IsLast}
-use Rattle.teg_howard.specs.Runs.{IsAnswerOf, AllRise}
-use Rattle.teg_howard.specs.Rounds.{IsRunTo, IsPolicyRun}
-use Rattle.teg_howard.proofs.Runs.{run_one, run_more, run_all, rise_more, last_answers, last_keeps, last_pushed}
+use Rattle.std.proofs.Common.{◌≡◌, length, ap, arith}
+use Rattle.teg_howard.specs.Standing.{GoesOn, IsLast}
+use Rattle.teg_howard.specs.Runs.{IsAnswerOf}
+use Rattle.teg_howard.proofs.Runs.{run_more, run_all, rise_more, last_answers, last_keeps, last_pushed}
 use Rattle.teg_howard.proofs.Ending.{falls}
 use Rattle.teg_howard.proofs.Exits.{written_back}
 use Rattle.teg_howard.proofs.iteration.policy_run.Goals as goal

@@ -1,4 +1,4 @@
-use Rattle.std.proofs.Common.{ℕ, ◌++◌, ◌∷◌, []}
+use Rattle.std.proofs.Common.{◌++◌, ◌∷◌, []}
 use Rattle.teg_howard.specs.Rounds.{IsRunTo}
 use Rattle.teg_howard.specs.Runs.{AllRise}
 use Rattle.teg_howard.specs.Standing.{Standing}

@@ -1,4 +1,4 @@
-use Rattle.std.proofs.Common.{◌≡◌, ◌∙◌, sym, subst, List, ℕ}
+use Rattle.std.proofs.Common.{◌≡◌, ◌∙◌}
 use Rattle.teg_check.proofs.Liveness.{ranking_is_live}
 use Rattle.teg_howard.specs.Standing.{HasCircuit}
 use Rattle.teg_howard.proofs.part_answers.howard.Goals as goal

@@ -1,5 +1,5 @@
-use Rattle.std.proofs.Common.{ℕ, List, Option, Some, None, Bool, true, false, ◌≡◌, ◌≢◌, ◌<◌, ◌≤◌, ◌+◌, length, get_or, set, sym, ap, subst, ◌∙◌, arith, rules, refl}
-use Rattle.std.specs.Prelude.{ℤ, ◌+ℤ◌, ◌≤ℤ◌, ◌<ℤ◌, All, pos}
+use Rattle.std.proofs.Common.{ℕ, Some, false, ◌≡◌, ◌<◌, length, get_or, sym, ap, subst, ◌∙◌, arith, rules, refl}
+use Rattle.std.specs.Prelude.{ℤ, ◌+ℤ◌, ◌≤ℤ◌, ◌<ℤ◌, pos}
 use Rattle.std.proofs.lemmas.Int.{ints, to_z-of_z}
 use Rattle.std.proofs.lemmas.Bool.{iff_false}
 use Rattle.std.proofs.lemmas.List.{get_or_read}
@@ -10,9 +10,9 @@ use Rattle.teg_net.specs.Circuits.{no_place, place_at, from_of}
 use Rattle.teg_net.specs.Parts.{IsMember, IsPlaceOfPart, to_of}
 use Rattle.teg_net.specs.ReducedTimes.{reduced_time, IsWithin}
 use Rattle.teg_howard.specs.Policies.{offer_of}
-use Rattle.teg_howard.specs.Found.{given, held, value_of, potentials, IsMarked}
+use Rattle.teg_howard.specs.Found.{given, held, value_of, potentials}
 use Rattle.teg_howard.proofs.Values.{fits_within}
-use Rattle.teg_howard.proofs.Improving.{improving_all, improving_take, improving_keep, improving_skip, bar, Improving}
+use Rattle.teg_howard.proofs.Improving.{improving_all, improving_take, improving_keep, improving_skip, bar}
 use Rattle.teg_howard.proofs.policies.improve.Goals.{then-is_inside+then-offered-end, then-index, else-index, then-is_inside+else-offered-end, else-is_inside}
 use Rattle.teg_howard.proofs.policies.improve.Goals as goal
 

@@ -1,13 +1,13 @@
-use Rattle.std.proofs.Common.{ℕ, List, Option, Some, None, ◌≡◌, ◌<◌, ◌≤◌, ◌+◌, Bool, length, get_or, true, sym, ap, subst, ◌∙◌, arith, refl}
-use Rattle.std.specs.Prelude.{IfSome, IfNone, All}
+use Rattle.std.proofs.Common.{ℕ, List, Option, Some, None, ◌≡◌, ◌≤◌, Bool, length, arith}
+use Rattle.std.specs.Prelude.{IfSome, IfNone}
 use Rattle.teg_net.specs.declared.entries.PlaceId.{PlaceId}
 use Rattle.std.proofs.lemmas.Bool.{iff_false}
 use Rattle.teg_howard.specs.declared.policy_circuits.Found.{Found}
 use Rattle.teg_net.specs.Parts.{IsMember}
 use Rattle.teg_howard.specs.Policies.{IsPolicy, IsPolicyCircuit, Policy}
-use Rattle.teg_howard.specs.Found.{given, IsFoundAt, IsAbove, IsBestFound}
+use Rattle.teg_howard.specs.Found.{given, IsFoundAt, IsBestFound}
 use Rattle.teg_net.specs.Nets.{NetLists, IsNet}
-use Rattle.teg_net.specs.Circuits.{IsLive, AreInRange}
+use Rattle.teg_net.specs.Circuits.{IsLive}
 use Rattle.teg_howard.proofs.Best.{Passes, BestTo, best_skip, skip_outside, skip_none, skip_other, best_stay, best_take, best_all, none_all, found_circuit}
 use Rattle.teg_howard.proofs.policy_circuits.best_circuit.Goals.{then-parts-start+in_ok-circuit+in-Some+then-passes+then-is_greater, in-Some-2, in-None-2, then-parts-start+in_ok-circuit+in-Some+else-passes, else-passes-via-then-passes+else-is_greater, else-passes-via-else-passes, then-parts-start+in_ok-circuit+in_default, else-parts-start}
 use Rattle.teg_howard.proofs.policy_circuits.best_circuit.Goals as goal

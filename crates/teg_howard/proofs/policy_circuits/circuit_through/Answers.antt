@@ -1,13 +1,12 @@
-use Rattle.std.proofs.Common.{ℕ, List, ◌++◌, ◌∷◌, [], ◌≡◌, ◌<◌, ◌+◌, ◌^◌, length, get_or, sym, ap, subst, ◌∙◌, arith, reverse, refl}
+use Rattle.std.proofs.Common.{ℕ, List, ◌≡◌, ◌<◌, ◌+◌, ◌^◌, length, sym, ap, subst, ◌∙◌, arith, reverse, refl}
 use Rattle.std.proofs.lemmas.List.{get_or_read}
 use Rattle.teg_net.specs.Nets.{NetLists, IsNet, IsPlaceOf}
 use Rattle.teg_net.specs.declared.entries.PlaceId.{PlaceId}
 use Rattle.teg_net.specs.Circuits.{place_at, no_place}
 use Rattle.teg_net.specs.Parts.{IsMember}
-use Rattle.teg_howard.specs.Policies.{step_back, first_id, IsPolicyCircuit}
 use Rattle.teg_howard.specs.Found.{given, IsOnPolicy}
 use Rattle.teg_howard.proofs.Back.{back_member}
-use Rattle.teg_howard.proofs.Walks.{Walked, walked_none, walked_more, walked_round, walked_below, trail_sums}
+use Rattle.teg_howard.proofs.Walks.{Walked, walked_more, walked_round, walked_below, trail_sums}
 use Rattle.teg_howard.proofs.policy_circuits.circuit_through.Goals as goal
 
 pub bounds-policy-at : goal.bounds-policy-at

@@ -1,4 +1,4 @@
-use Rattle.std.proofs.Common.{ℕ, ◌<◌, get_or, false, true, ◌≡◌}
+use Rattle.std.proofs.Common.{ℕ, ◌<◌, get_or}
 use Rattle.teg_net.specs.Parts.{to_of}
 use Rattle.teg_howard.specs.Policies.{first_id}
 use Rattle.teg_howard.specs.Found.{IsMarked}

@@ -2,8 +2,7 @@ use Rattle.std.specs.Prelude.{ℤ}
 use Rattle.std.proofs.lemmas.Int.{to_z-of_z}
 use mir.Val.{SFits, to_z, of_z}
 use mir.Syntax.{w128}
-use Rattle.teg_net.specs.declared.rounds.Choice.{Choice}
-use Rattle.std.proofs.Common.{ℕ, ◌++◌, ◌∷◌, [], List, Option, Some, None, ◌≡◌, ◌<◌, ◌≤◌, ◌+◌, length, get_or, sym, ap, subst, ◌∙◌, arith, rules, refl}
+use Rattle.std.proofs.Common.{◌++◌, ◌∷◌, [], ◌≡◌, ◌+◌, ap, subst, rules}
 use Rattle.teg_net.specs.Parts.{IsMember}
 use Rattle.teg_howard.specs.Found.{given, held, value_of}
 use Rattle.teg_howard.proofs.Choices.{Listed, listed_more, listed_skip}

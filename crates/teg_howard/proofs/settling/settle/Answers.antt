@@ -1,20 +1,20 @@
-use Rattle.std.proofs.Common.{ℕ, List, Option, Some, None, ◌≡◌, ◌≢◌, ◌<◌, ◌≤◌, ◌+◌, ◌++◌, ◌∷◌, [], length, get_or, set, sym, ap, subst, ◌∙◌, arith, rules, refl, ⊎_elim}
-use Rattle.std.specs.Prelude.{ℤ, ◌+ℤ◌, All}
+use Rattle.std.proofs.Common.{ℕ, Option, Some, None, ◌≡◌, ◌<◌, ◌≤◌, ◌++◌, ◌∷◌, [], length, get_or, sym, ◌∙◌, arith, rules, ⊎_elim}
+use Rattle.std.specs.Prelude.{ℤ, ◌+ℤ◌}
 use Rattle.std.proofs.lemmas.List.{get_or_read, get_or_default, get_or_past, get_or-replicate, length-replicate}
 use Rattle.std.proofs.lemmas.Bool.{cases_lt}
 use lib.ListN.{replicate}
 use Rattle.std.proofs.lemmas.List.Elements.{All-set}
-use Rattle.std.proofs.lemmas.Int.{ints, to_z-of_z}
-use mir.Val.{SFits, to_z, of_z}
+use Rattle.std.proofs.lemmas.Int.{to_z-of_z}
+use mir.Val.{SFits}
 use mir.Syntax.{w128}
 use Rattle.teg_net.specs.declared.entries.PlaceId.{PlaceId}
 use Rattle.teg_net.specs.Circuits.{no_place, place_at, from_of}
-use Rattle.teg_net.specs.Parts.{IsMember, to_of}
+use Rattle.teg_net.specs.Parts.{to_of}
 use Rattle.teg_net.specs.PartAnswers.{first_transition_of}
 use Rattle.teg_howard.specs.Policies.{first_id}
-use Rattle.teg_net.specs.ReducedTimes.{reduced_time, IsWithin}
-use Rattle.teg_howard.specs.Found.{given, held, value_of, IsFollower, IsJoin}
-use Rattle.teg_howard.proofs.Values.{Followed, Routed, followed_start, follow_step, route_step, held_fits, all_within, held_within, routed_none, all_valued, valued_sums, routed_routing, some_apart, only_members}
+use Rattle.teg_net.specs.ReducedTimes.{reduced_time}
+use Rattle.teg_howard.specs.Found.{given, value_of, IsFollower}
+use Rattle.teg_howard.proofs.Values.{followed_start, follow_step, route_step, held_fits, all_within, held_within, routed_none, all_valued, valued_sums, routed_routing, some_apart, only_members}
 use Rattle.teg_howard.proofs.Turns.{root_member}
 use Rattle.teg_howard.proofs.settling.settle.Goals as goal
 

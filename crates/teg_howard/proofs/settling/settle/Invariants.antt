@@ -1,4 +1,4 @@
-use Rattle.std.proofs.Common.{ℕ, List, ◌≡◌, ◌<◌, length, count_by, is_none}
+use Rattle.std.proofs.Common.{List, ◌<◌, length, count_by, is_none}
 use Rattle.std.specs.Prelude.{All}
 use Rattle.teg_net.specs.declared.entries.PlaceId.{PlaceId}
 use Rattle.teg_net.specs.PartAnswers.{first_transition_of}

@@ -1,4 +1,4 @@
-use Rattle.std.proofs.Common.{ℕ, ◌≡◌, ◌<◌, ◌≤◌, ◌+◌, Option, Some, length, get_or}
+use Rattle.std.proofs.Common.{ℕ, ◌≡◌, ◌<◌, ◌≤◌, ◌+◌, Some, length, get_or}
 use Rattle.teg_parts.specs.Numbers.{AreNumbered, without, number_of}
 use Rattle.teg_parts.proofs.numbering.parts_in_order.Given as goal
 

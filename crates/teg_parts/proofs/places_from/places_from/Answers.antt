@@ -1,4 +1,4 @@
-use Rattle.std.proofs.Common.{ℕ, ◌≡◌, ◌<◌, ◌≤◌, List, [], Option, Some, None, length, get_or, arith, rules}
+use Rattle.std.proofs.Common.{◌≡◌, ◌<◌, None, length, get_or, arith, rules}
 use Rattle.std.proofs.lemmas.List.{get_or_read}
 use lib.ListN.{replicate}
 use Rattle.teg_net.specs.declared.entries.PlaceId.{PlaceId}

@@ -1,4 +1,4 @@
-use Rattle.std.proofs.Common.{ℕ, ◌≡◌, ◌<◌, ◌≤◌, List, length, get_or, ap, subst, ◌∙◌, arith}
+use Rattle.std.proofs.Common.{◌≡◌, length, get_or, ap, subst, arith}
 use Rattle.teg_parts.specs.Searches.{mark_of, IsComponentOf}
 use Rattle.teg_parts.proofs.Components.{are_components}
 use Rattle.teg_parts.proofs.search.components.Goals as goal

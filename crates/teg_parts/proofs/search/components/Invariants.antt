@@ -1,4 +1,4 @@
-use Rattle.std.proofs.Common.{ℕ, ◌≡◌, ◌≢◌, ◌<◌, Option, None, length, get_or}
+use Rattle.std.proofs.Common.{ℕ, ◌≡◌, ◌≢◌, ◌<◌, None, length, get_or}
 use Rattle.teg_parts.specs.declared.search.Mark.TheVariants.{Unseen}
 use Rattle.teg_parts.specs.Searches.{mark_of, Stands, IsComponentOf}
 use Rattle.teg_parts.proofs.search.components.Given as goal

@@ -1,4 +1,4 @@
-use Rattle.std.proofs.Common.{ℕ, ◌≡◌, ◌≢◌, ◌<◌, ◌≤◌, ◌+◌, List, length, get_or, set, ap, sym, ◌∙◌, arith}
+use Rattle.std.proofs.Common.{◌≡◌, ◌<◌, length, set, ap, ◌∙◌, arith}
 use Rattle.std.proofs.lemmas.List.{length_push, get_or-set_same}
 use Rattle.teg_parts.specs.declared.search.Mark.TheVariants.{Unseen, Open}
 use Rattle.teg_parts.specs.Searches.{mark_of, unseen}

@@ -1,4 +1,4 @@
-use Rattle.std.proofs.Common.{◌≢◌, Option, None}
+use Rattle.std.proofs.Common.{◌≢◌, None}
 use Rattle.teg_parts.specs.declared.search.Mark.TheVariants.{Unseen}
 use Rattle.teg_parts.specs.Searches.{mark_of, Stands, KeepsSeen, work_left}
 use Rattle.teg_parts.proofs.search.walk_from.Given as goal

@@ -1,4 +1,3 @@
-use Rattle.std.proofs.Common.{ℕ, ◌≡◌, List, length, ap, subst, ◌∙◌, arith}
 use Rattle.teg_parts.specs.Numbers.{AreInOrderOf, AreInnerMarks}
 use Rattle.teg_parts.proofs.Ordering.{are_parts}
 use Rattle.teg_parts.proofs.strong_parts.split.Goals as goal

@@ -1,11 +1,11 @@
-use Rattle.std.proofs.Common.{◌≡◌, ℕ, Result, Ok, Err, IfOk, sym, ◌∙◌}
+use Rattle.std.proofs.Common.{◌≡◌, ℕ, Result, Ok, Err, IfOk, ap, ◌∙◌}
 use Rattle.std.specs.Global.{Vec}
 use Rattle.std.specs.Option.{option_copied}
-use Rattle.teg_report.specs.Answers.{Answer}
-use Rattle.teg_report.specs.Kept.{IsKept, IsPlain, IsTold}
+use Rattle.teg_report.specs.Answering.{IsReadFrom, answer_in}
+use Rattle.teg_report.specs.Kept.{IsKept, IsPlain}
 use Rattle.teg_report.specs.Meanings.{meant}
 use Rattle.teg_report.specs.Reports.{text_of}
-use Rattle.teg_report.proofs.Apart.{told_apart}
+use Rattle.teg_report.proofs.ReadBack.{told_read}
 use Rattle.teg_report.proofs.reports.report.Goals as goal
 
 -- what holds of a value by two facts on it
@@ -13,15 +13,14 @@ by_both : {X E : Type 0} (P Q R : X → Type 0) (r : Result X E) → ((x : X) �
 by_both P Q R (Ok x) f p q = f x p q
 by_both P Q R (Err e) f p q = tt
 
-pub returns-clause-different : goal.returns-clause-different
-returns-clause-different c =
+pub returns-clause-read_back : goal.returns-clause-read_back
+returns-clause-read_back c =
     let net = option_copied c.args.net in
     let mine = meant c.args.answer.now in
     by_both
     (λ (text : Vec ℕ). text.items ≡ text_of net mine)
     (λ (text : Vec ℕ). IsPlain mine → IsKept mine)
-    (λ (text : Vec ℕ). (other : Answer) → IsPlain mine → IsTold net other → text.items ≡ text_of net other → other ≡ mine)
+    (λ (text : Vec ℕ). IsPlain mine → IsReadFrom net mine text.items)
     c.text.result
-    (λ text is kept other plain theirs same.
-    told_apart net other mine theirs (record { keeps_rules = theirs.keeps_rules; about = c.requires; kept = kept plain }) (sym same ∙ is))
+    (λ text is kept plain names named. ap (answer_in names) is ∙ told_read net names named mine (record { keeps_rules = c.know_rules.ensures; about = c.requires; kept = kept plain }))
     c.text.ensures.text c.text.ensures.kept

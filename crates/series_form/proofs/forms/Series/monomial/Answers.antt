@@ -2,8 +2,8 @@ use Rattle.std.proofs.Common.{◌≡◌, ◌+◌, ℤ, subst, sym, to_z, of_z}
 use Rattle.std.specs.Int.{w128}
 use Rattle.std.proofs.lemmas.Int.{to_z-of_z}
 use Rattle.dioid.specs.declared.dates.Date.TheVariants.{At}
-use Rattle.series_form.specs.Forms.{value_at, monomial_at, table, HasValues}
-use Rattle.series_form.specs.Needs.{plan}
+use Rattle.series_laws.specs.Forms.{value_at, monomial_at, table, HasValues}
+use Rattle.series_laws.specs.Needs.{plan}
 use Rattle.series_form.specs.Answer.{form_before, IsShortest, IsBeginning}
 use Rattle.series_form.proofs.Finished.{monomial_tabled, tabled_begins, tabled_answer}
 use Rattle.series_form.proofs.forms.Series.monomial.Goals as goal

@@ -1,5 +1,4 @@
-use Rattle.series_form.specs.Needs.{need_of}
-use Rattle.series_form.specs.Needs.{sum_plan, form_sum}
+use Rattle.series_laws.specs.Needs.{need_of, sum_plan, form_sum}
 use Rattle.series_ops.specs.Gains.{gain_sum}
 use Rattle.series_ops.proofs.Refusing.{gain_refused}
 use Rattle.series_ops.proofs.gains.GainDioid.plus.Goals as goal

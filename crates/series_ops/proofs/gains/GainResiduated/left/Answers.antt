@@ -1,5 +1,5 @@
-use Rattle.series_form.specs.Needs.{need_of}
-use Rattle.series_ops.specs.Needs.{left_plan, form_left}
+use Rattle.series_laws.specs.Needs.{need_of}
+use Rattle.series_laws.specs.ProductNeeds.{left_plan, form_left}
 use Rattle.series_ops.specs.Gains.{gain_left}
 use Rattle.series_ops.proofs.Refusing.{gain_refused}
 use Rattle.series_ops.proofs.gains.GainResiduated.left.Goals as goal

@@ -1,5 +1,4 @@
-use Rattle.series_form.specs.Needs.{need_of}
-use Rattle.series_form.specs.Needs.{least_plan, form_least}
+use Rattle.series_laws.specs.Needs.{need_of, least_plan, form_least}
 use Rattle.series_ops.specs.Gains.{gain_meet}
 use Rattle.series_ops.proofs.Refusing.{gain_refused}
 use Rattle.series_ops.proofs.gains.GainResiduated.meet.Goals as goal

@@ -1,0 +1,3 @@
+pub mod Records
+pub mod Numbers
+pub mod Rows

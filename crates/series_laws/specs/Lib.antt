@@ -1,0 +1,11 @@
+pub mod Closure
+pub mod FormLaws
+pub mod Forms
+pub mod Needs
+pub mod Periodic
+pub mod Pointwise
+pub mod Product
+pub mod ProductNeeds
+pub mod Residual
+pub mod StarOf
+pub mod Stars

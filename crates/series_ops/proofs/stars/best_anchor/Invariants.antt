@@ -1,8 +1,0 @@
-use Rattle.std.proofs.Common.{◌≡◌}
-use Rattle.series_form.specs.Forms.{form_with}
-use Rattle.series_ops.specs.Needs.{anchor_upto}
-use Rattle.series_ops.specs.Listed.{IsModest}
-use Rattle.series_ops.proofs.stars.best_anchor.Given as goal
-
-abbrev pub invariant-loop-place : goal.invariant-loop-place
-invariant-loop-place l = (l.anchor ≡ anchor_upto (form_with l.values l.fn.period l.fn.step) l.place) × IsModest l.anchor

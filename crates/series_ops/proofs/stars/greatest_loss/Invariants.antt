@@ -1,9 +1,0 @@
-use Rattle.std.proofs.Common.{◌≡◌, ◌≤◌, ◌+◌}
-use Rattle.std.specs.Int.RustNames.{unsigned_abs}
-use Rattle.series_form.specs.Forms.{form_with, start_of}
-use Rattle.series_form.specs.Needs.{greatest_int}
-use Rattle.series_ops.specs.Needs.{loss_of}
-use Rattle.series_ops.proofs.stars.greatest_loss.Given as goal
-
-abbrev pub invariant-loop-place : goal.invariant-loop-place
-invariant-loop-place l = (l.worst ≡ greatest_int (λ i. loss_of (form_with l.values l.fn.period l.fn.step) (start_of (form_with l.values l.fn.period l.fn.step) + i)) l.place) × (unsigned_abs l.worst ≤ 8000000000000000000000000000)

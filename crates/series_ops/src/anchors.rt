@@ -1,0 +1,190 @@
+//! The anchor of a star: the part of the greatest ratio, and from where a star repeats by it.
+ghost use Rattle.std.specs.Prelude.{◌≡◌, ◌≤◌, ◌<◌, ◌+◌, ◌-◌, int_lt, length};
+ghost use Rattle.std.specs.Int.{int_max};
+ghost use Rattle.std.specs.Int.RustNames.{unsigned_abs};
+ghost use Rattle.dioid.specs.declared.dates.Date.TheVariants.{At, Never};
+ghost use Rattle.series_laws.specs.Periodic.{times};
+ghost use Rattle.series_laws.specs.Forms.{form_with, start_of};
+ghost use Rattle.series_form.specs.Bounds.{IsUpTo};
+ghost use Rattle.series_laws.specs.Needs.{greatest_int};
+ghost use Rattle.series_laws.specs.ProductNeeds.{beats, anchor_step, anchor_of, loss_of, natural_of, own_plan, anchored_plan};
+ghost use Rattle.series_ops.specs.Listed.{AreUpTo, IsModest};
+
+use dioid::Date;
+use series_form::Plan;
+use series_laws::Anchor;
+
+/// A number many times over.
+fn many(count: usize, number: i128) -> i128
+    requires count { count ≤ 20000 }
+    requires number { unsigned_abs number ≤ 200000000000000000000000 }
+    ensures value { result ≡ times count number }
+    ensures bound { unsigned_abs result ≤ 4000000000000000000000000000 }
+{
+    count as i128 * number
+}
+
+/// Whether a part has the greater ratio than the anchor. The first may have an equal one.
+fn is_better(anchor: Anchor, shift: usize, value: i128) -> bool
+    requires anchor { IsModest anchor }
+    requires shift { shift ≤ 20000 }
+    requires value { unsigned_abs value ≤ 200000000000000000000000 }
+    ensures { result ≡ beats anchor shift value }
+{
+    let theirs = many(shift, anchor.value);
+    let own = many(anchor.shift, value);
+    if anchor.found {
+        is_less(theirs, own)
+    } else {
+        !is_less(own, theirs)
+    }
+}
+
+/// Whether the first number is less.
+fn is_less(first: i128, second: i128) -> bool
+    ensures { result ≡ int_lt first second }
+{
+    first < second
+}
+
+/// The anchor after one more part.
+fn next_anchor(anchor: Anchor, shift: usize, date: Date) -> Anchor
+    requires anchor { IsModest anchor }
+    requires shift { shift ≤ 20000 }
+    requires date { IsUpTo 200000000000000000000000 date }
+    ensures value { result ≡ anchor_step anchor shift date }
+    ensures modest { IsModest result }
+{
+    match date {
+        Date::At(value) => {
+            if is_better(anchor, shift, value) {
+                Anchor {
+                    found: true,
+                    shift,
+                    value,
+                }
+            } else {
+                anchor
+            }
+        }
+        _ => anchor,
+    }
+}
+
+/// The anchor among the shifts of the list from 1 on.
+fn best_anchor(values: &[Date], period: usize, step: i128) -> Anchor
+    requires some { 0 < length values.now }
+    requires short { length values.now ≤ 20000 }
+    requires period { period ≤ length values.now }
+    requires step { unsigned_abs step ≤ 200000000000000000000000 }
+    requires values { AreUpTo 200000000000000000000000 values.now }
+    ensures value { result ≡ anchor_of (form_with values.now period step) }
+    ensures modest { IsModest result }
+{
+    let mut anchor = Anchor {
+        found: false,
+        shift: period,
+        value: step,
+    };
+    for place in 0..values.len() - 1 {
+        anchor = next_anchor(anchor, place + 1, values[place + 1]);
+    }
+    anchor
+}
+
+/// What a part of the list loses against steps.
+fn loss(values: &[Date], period: usize, step: i128, place: usize) -> i128
+    requires place { place < length values.now }
+    requires short { length values.now ≤ 20000 }
+    requires period { period ≤ length values.now }
+    requires step { unsigned_abs step ≤ 200000000000000000000000 }
+    requires values { AreUpTo 200000000000000000000000 values.now }
+    ensures value { result ≡ loss_of (form_with values.now period step) place }
+    ensures bound { unsigned_abs result ≤ 8000000000000000000000000000 }
+{
+    match values[place] {
+        Date::At(value) => many(place, step) - many(period, value),
+        _ => 0,
+    }
+}
+
+/// The greater of two numbers.
+fn greater(first: i128, second: i128) -> i128
+    ensures { result ≡ int_max first second }
+{
+    if first < second { second } else { first }
+}
+
+/// The greatest loss of one part that stands in the tail.
+fn greatest_loss(values: &[Date], period: usize, step: i128) -> i128
+    requires positive { 0 < period }
+    requires short { length values.now ≤ 20000 }
+    requires period { period ≤ length values.now }
+    requires step { unsigned_abs step ≤ 200000000000000000000000 }
+    requires values { AreUpTo 200000000000000000000000 values.now }
+    ensures value { result ≡ greatest_int (λ i. loss_of (form_with values.now period step) (start_of (form_with values.now period step) + i)) (period - 1) }
+    ensures bound { unsigned_abs result ≤ 8000000000000000000000000000 }
+{
+    let start = values.len() - period;
+    let mut worst = loss(values, period, step, start);
+    for place in 0..period - 1 {
+        worst = greater(worst, loss(values, period, step, start + (place + 1)));
+    }
+    worst
+}
+
+/// A number, 0 where it is below.
+fn at_least_zero(number: i128) -> u128
+    requires { unsigned_abs number ≤ 8000000000000000000000000000 }
+    ensures value { result ≡ natural_of number }
+    ensures bound { result ≤ 8000000000000000000000000000 }
+{
+    if number < 0 { 0 } else { number as u128 }
+}
+
+/// From where the star repeats where the tail is a number: by the anchor if there is one, else
+/// past the greatest loss by the period.
+fn plan_of_number(values: &[Date], period: usize, step: i128) -> Plan
+    requires positive { 0 < period }
+    requires short { length values.now ≤ 20000 }
+    requires period { period ≤ length values.now }
+    requires step { unsigned_abs step ≤ 200000000000000000000000 }
+    requires values { AreUpTo 200000000000000000000000 values.now }
+    ensures value { result ≡ anchored_plan (anchor_of (form_with values.now period step)) (form_with values.now period step) }
+    ensures bound { result.from ≤ 1000000000000000000000000000000000 }
+{
+    let anchor = best_anchor(values, period, step);
+    if anchor.found {
+        return Plan {
+            from: (anchor.shift * values.len() + 1) as u128,
+            turn: anchor.shift,
+        };
+    }
+    let worst = at_least_zero(greatest_loss(values, period, step));
+    let more = period as u128 + 1;
+    let turns = if more < worst { worst } else { more };
+    Plan {
+        from: values.len() as u128 * turns + 1,
+        turn: period,
+    }
+}
+
+/// From where the star of a form repeats, the form at least 0 from shift 1 on.
+pub(crate) fn plan_of_parts(values: &[Date], period: usize, step: i128) -> Plan
+    requires positive { 0 < period }
+    requires short { length values.now ≤ 20000 }
+    requires period { period ≤ length values.now }
+    requires step { unsigned_abs step ≤ 200000000000000000000000 }
+    requires values { AreUpTo 200000000000000000000000 values.now }
+    ensures value { result ≡ own_plan (form_with values.now period step) }
+    ensures bound { result.from ≤ 1000000000000000000000000000000000 }
+{
+    match values[values.len() - period] {
+        Date::Early => Plan { from: 0, turn: 1 },
+        Date::At(_) => plan_of_number(values, period, step),
+        Date::Never => Plan {
+            from: values.len() as u128,
+            turn: 1,
+        },
+    }
+}

@@ -1,0 +1,6 @@
+use Rattle.std.proofs.Common.{length}
+use Rattle.teg_dates.proofs.Beginning.{BegunTo}
+use Rattle.teg_dates.proofs.passes.begin_row.Given as goal
+
+abbrev pub invariant-loop-index : goal.invariant-loop-index
+invariant-loop-index g l = BegunTo (g.S.Source.initial l.source) (g.S.Source.release l.source l.net) (length l.net.transitions) l.number l.fn.dates.items l.dates.items l.index

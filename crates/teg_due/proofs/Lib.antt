@@ -1,0 +1,3 @@
+pub mod SeenRows
+pub mod DueRules
+pub mod NamedOnce

@@ -1,0 +1,5 @@
+pub mod Names
+pub mod Dues
+pub mod Logs
+pub mod Rules
+pub mod Gathered

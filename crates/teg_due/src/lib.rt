@@ -1,0 +1,19 @@
+//! Files of rows about a net: due dates, and logs of recorded runs.
+//!
+//! [`read_due`] and [`read_log`] answer the rows of a file in order, or its first faulty row with
+//! the first of its faults. Rows are counted from 1, a header included. The rows that are answered
+//! keep the rules that the crates above ask for (`IsDueOf`, `IsLogOf`). The crate stands on
+//! `teg_net` for the names of transitions and on `csv_records` for the records of a text.
+#![tactic(auto)]
+
+mod dues;
+mod gathered;
+mod logs;
+mod names;
+mod rows;
+#[cfg(test)]
+mod tests;
+
+pub use dues::read_due;
+pub use logs::read_log;
+pub use rows::{Due, DueRefusal, DueRow, LogRefusal, LogRow};

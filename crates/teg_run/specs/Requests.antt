@@ -1,0 +1,54 @@
+-- What the words of the command line ask for.
+use Rattle.std.specs.Prelude.{ℕ, Bool, false, List, [], ◌∷◌, Option, Some, None, codes, bytes_eq, if◌then◌else◌, option_and_then}
+use Rattle.std.specs.Option.{option_map}
+use Rattle.teg_dates.specs.Tables.{most_numbers}
+use Rattle.teg_words.specs.Numbers.{number_of}
+use Rattle.teg_words.specs.Words.{Given, given_of}
+use Rattle.teg_report.specs.declared.answer.Which.{Which}
+use Rattle.teg_report.specs.declared.answer.Which.TheVariants.{Net as NetFile}
+
+-- a command on a net, with what else it is given
+pub data NetCommand : Type 0 where
+  CheckNet : NetCommand
+  ListNet : (count : ℕ) → NetCommand
+  FormNet : NetCommand
+
+-- what words can ask for: a command on the net in the file of this name
+pub data Request : Type 0 where
+  OfNet : (command : NetCommand) (net : List ℕ) → Request
+
+-- `check NET`
+abbrev pub check_asked : List (List ℕ) → Option (List ℕ) → Bool → Option Request
+check_asked (net ∷ []) None false = Some (OfNet CheckNet net)
+check_asked rest limit rounds = None
+
+-- `list NET K`, with K from 1 to the most numbers of a table
+abbrev pub list_asked : List (List ℕ) → Option (List ℕ) → Bool → Option Request
+list_asked (net ∷ word ∷ []) None false = option_map (λ count. OfNet (ListNet count) net) (number_of 1 most_numbers word)
+list_asked rest limit rounds = None
+
+-- `form NET`
+abbrev pub form_asked : List (List ℕ) → Option (List ℕ) → Bool → Option Request
+form_asked (net ∷ []) None false = Some (OfNet FormNet net)
+form_asked rest limit rounds = None
+
+-- the request of a command with what is given to it: nothing for a command that is not built
+abbrev pub asked_for : Given → Option Request
+asked_for given =
+    if bytes_eq given.command (codes "check") then check_asked given.rest given.limit given.rounds
+    else (if bytes_eq given.command (codes "list") then list_asked given.rest given.limit given.rounds
+    else (if bytes_eq given.command (codes "form") then form_asked given.rest given.limit given.rounds
+    else None))
+
+-- the request that the words give, if they give one
+abbrev pub request_of : List (List ℕ) → Option Request
+request_of words = option_and_then asked_for (given_of words)
+
+-- the files that a request names, in the order in which they are read: what each is for, and its name
+abbrev pub files_of : Request → List (Which × List ℕ)
+files_of (OfNet command net) = (NetFile, net) ∷ []
+
+-- the files that the words name
+abbrev pub asked_files : Option Request → List (Which × List ℕ)
+asked_files None = []
+asked_files (Some request) = files_of request

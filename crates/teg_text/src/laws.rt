@@ -1,0 +1,16 @@
+//! The laws of texts: what is written can be read back.
+ghost use Rattle.teg_text.specs.Reading.{DatesAreRead, LabelsAreRead, LinesAreRead, NumbersAreRead, RatiosAreRead};
+
+/// The law that lines of words are read back from their text. It does nothing when it runs.
+pub fn lines_are_read()
+    ensures { LinesAreRead }
+{}
+
+/// The law that numbers, dates, ratios and labels are read back from their words. It does nothing
+/// when it runs.
+pub fn words_are_read()
+    ensures numbers { NumbersAreRead }
+    ensures dates { DatesAreRead }
+    ensures ratios { RatiosAreRead }
+    ensures labels { LabelsAreRead }
+{}

@@ -1,0 +1,59 @@
+//! Monitors that are handed in: each is dropped once, whatever the words, and sees nothing of a
+//! command without firings.
+ghost use Rattle.std.specs.Prelude.{codes};
+
+use crate::bench::{call, shelf_of, sink_of};
+use crate::nets::LOOP;
+use std::alloc::Global;
+use std::cell::Cell;
+use std::rc::Rc;
+use std::test::Fail;
+use teg_outside::{Firing, Monitor, OutOfMemory};
+
+// Adds to the shared count 1 when it is dropped, and 1,000 for each firing that it sees.
+struct Counter {
+    count: Rc<Cell<u32>>,
+}
+
+impl Drop for Counter {
+    fn drop(self) {
+        self.count.set(self.count.get().saturating_add(1));
+        let Counter { count: _ } = self;
+    }
+}
+
+impl Monitor for Counter {
+    ghost line_text = { λ m firings. codes "counted" };
+
+    fn see(&mut self, _firing: Firing) {
+        self.count.set(self.count.get().saturating_add(1000));
+    }
+
+    fn line(&self, alloc: Global) -> Result<String, OutOfMemory> {
+        Ok(String::from_str(alloc, "counted")?)
+    }
+}
+
+#[test]
+fn monitors_are_dropped_once_and_see_nothing(rt: HostRuntime) -> Result<(), Fail> {
+    let alloc = rt.alloc();
+    let table: [&[&str]; 4] = [
+        &["check", "net"],
+        &["list", "net", "3"],
+        &["form", "net"],
+        &["check"],
+    ];
+    for words in table {
+        let count = Rc::new(alloc, Cell::new(0u32))?;
+        let counter = Counter {
+            count: count.clone()?,
+        };
+        let mut monitors: Vec<Box<dyn Monitor>> = Vec::new(alloc);
+        monitors.push(Box::new(alloc, counter)?)?;
+        let mut shelf = shelf_of(alloc, LOOP.as_bytes(), Vec::new(alloc))?;
+        let mut out = sink_of(alloc, 65536)?;
+        call(alloc, words, &mut shelf, &mut out, monitors)?;
+        assert_eq!(rt; count.get(), 1, "{words:?}");
+    }
+    Ok(())
+}

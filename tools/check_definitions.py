@@ -1,0 +1,158 @@
+#!/usr/bin/env python3
+"""Tells whether docs/DEFINITIONS*.md list each definition that a public contract rests on, and no other.
+
+    tools/check_definitions.py [--draft]
+
+Public are the calls, types and traits that a crate's src/lib.rt exports. Their clauses, the ghost members of
+their traits and impls, and the views of their types name definitions of specs/; these name others. Each that
+is reached so must have a row in the section of its crate, with its file. Each that lacks one is told, with the
+line that stands above it; --draft tells it as a row. Laws that proofs alone need are not definitions.
+
+It reads by text, not by the grammar of Rattle: what it tells is to be looked at.
+"""
+import re
+import sys
+from pathlib import Path
+
+TOP = Path(__file__).resolve().parent.parent
+WORD = re.compile(r"[^\W\d][\w'\-]*")
+DEFINED = re.compile(r"^ *(?:pub )?(abbrev|unfoldable|record|data) (?:pub )?([^\W\d][\w'\-]*)(.*)$")
+MUTUAL = re.compile(r"^(?:abbrev |unfoldable )?mutual$")
+IN_MUTUAL = re.compile(r"^  (pub )([^\W\d][\w'\-]*)( :.*)$")
+LAW = re.compile(r"^ {0,2}(?:pub )?([^\W\d][\w'\-]*) :(.*)$")
+
+
+def imports_of(text):
+    """What a file's `use` lines bring in: for each name the crate and file of specs/ that it is from, and its name there."""
+    found = {}
+    for crate, file, names in re.findall(r"use Rattle\.(\w+)\.specs\.(\w+)\.\{([^}]*)\}", text):
+        for name in filter(None, (it.strip() for it in names.split(","))):
+            there, _, here = name.partition(" as ")
+            found[here.strip() or there] = (crate, file, there)
+    return found
+
+
+class Specs:
+    """The definitions of all crates, by crate, file and name: of each the line above it, and what it names."""
+
+    def __init__(self):
+        self.words, self.body, self.imports, self.made_by = {}, {}, {}, {}
+        for path in sorted(TOP.glob("crates/*/specs/*.antt")):
+            self.read(path.parts[-3], path.stem, path.read_text())
+
+    def read(self, crate, file, text):
+        self.imports[crate, file] = imports_of(text)
+        above, at, is_data, block = [], None, False, None
+        for line in text.splitlines():
+            bare = line.strip()
+            if bare.startswith("-- ") and "----" not in bare:
+                above.append(bare[3:])
+                continue
+            if line and not line.startswith(" "):
+                block = " ".join(above) if MUTUAL.match(line) else None
+            defined = None if MUTUAL.match(line) else DEFINED.match(line) or (block is not None and IN_MUTUAL.match(line))
+            law = LAW.match(line)
+            if defined:
+                at, is_data = (crate, file, defined[2]), defined[1] == "data"
+                self.words[at], self.body[at] = " ".join(above) or block or "", defined[3]
+            elif law and not (at and line.startswith("  ") and (is_data or bare.startswith("pub "))):
+                at = None
+            elif at:
+                self.body[at] += "\n" + line.partition("--")[0]
+                case = re.match(r" +([^\W\d][\w'\-]*) :", line)
+                if is_data and case:
+                    self.made_by[crate, file, case[1]] = at
+            above = []
+
+    def named(self, text, imports, crate=None, file=None):
+        """The definitions that a text names, where these imports stand, in that file or in code."""
+        found = set()
+        for name in set(WORD.findall(text)):
+            for at in ((crate, file, name), imports.get(name)):
+                at = self.made_by.get(at, at)
+                if at in self.words:
+                    found.add(at)
+                    break
+        return found
+
+    def below(self, roots):
+        """All that these definitions rest on, with them."""
+        reached, left = set(), list(roots)
+        while left:
+            at = left.pop()
+            if at not in reached:
+                reached.add(at)
+                left += self.named(self.body[at], self.imports[at[:2]], *at[:2])
+        return reached
+
+
+def exported(crate):
+    """The names that the crate's root file exports."""
+    root = TOP / f"crates/{crate}/src/lib.rt"
+    text = root.read_text() if root.is_file() else ""
+    lists = re.findall(r"^pub use [\w:]+::\{([^}]*)\}", text, re.M)
+    single = re.findall(r"^pub (?:use [\w:]+::|fn |struct |enum |trait )(\w+)", text, re.M)
+    return {name.strip() for it in lists for name in it.split(",")} | set(single)
+
+
+def clauses_of(block, depth, of_all):
+    """The clauses of the public functions at this depth of a block, or of all of them."""
+    head = " " * depth + (r"(?:pub )?" if of_all else "pub ") + r"fn \w+"
+    return "\n".join(re.findall(rf"^{head}[^\n]*\n((?:(?! *\{{$| *fn )[^\n]*\n)*)", block, re.M))
+
+
+def public_text(crate, text):
+    """The parts of a source file that a public contract consists of, each with what its imports bring in."""
+    names, outer = exported(crate), imports_of(text)
+    for block in re.findall(r"^(?:pub trait|impl)\b.*?^\}", text, re.M | re.S):
+        head = re.sub(r"^impl *(<(?:[^<>]|<[^<>]*>)*>)? *", "", block.partition("{")[0])
+        kind = re.match(r"(pub trait )?(?:(\w+)(?:<.*?>)? for )?&?(\w+)", head)
+        if not kind or kind[3] not in names:
+            continue
+        inner = outer | imports_of(block)
+        if kind[1]:
+            yield re.sub(r"ghost use [^;]*;|//.*", "", block), inner
+        else:
+            ghosts = re.findall(r"^ +ghost (\w+) = \{(.*\};$|.*\n(?:.*\n)*?    \} *\};$)", block, re.M)
+            meanings = "\n".join(it for name, it in ghosts if "law" not in name and name != "closed")
+            yield meanings + clauses_of(block, 4, of_all=bool(kind[2])), inner
+    for name in re.findall(r"^pub fn (\w+)", text, re.M):
+        if name in names:
+            start = re.search(rf"^pub fn {name}\b", text, re.M).start()
+            yield clauses_of(text[start:].partition("\n{\n")[0] + "\n", 0, of_all=False), outer
+
+
+def listed():
+    """The rows of the documents: for each crate and name the files that its rows give."""
+    found, crates = {}, []
+    for line in "".join(path.read_text() for path in sorted(TOP.glob("docs/DEFINITIONS*.md"))).splitlines():
+        if line.startswith("#"):
+            crates = re.findall(r"`(\w+)`", line)
+        elif line.startswith("| `"):
+            cells = [it.strip() for it in re.split(r"(?<!\\)\|", line)[1:-1]]
+            for name in re.findall(r"`([^`]+)`", cells[0]):
+                for crate in crates:
+                    found.setdefault((crate, name), set()).update(re.split(r", *", cells[1]))
+    return found
+
+
+def main(is_draft):
+    specs, roots = Specs(), set()
+    for path in sorted(TOP.glob("crates/*/src/**/*.rt")):
+        crate = path.relative_to(TOP).parts[1]
+        for text, imports in public_text(crate, path.read_text()):
+            roots |= specs.named(text, imports)
+    reached, rows = specs.below(roots), listed()
+    lacking = sorted(at for at in reached if at[1] not in rows.get((at[0], at[2]), ()))
+    odd = sorted(at for at in rows if not any((it[0], it[2]) == at for it in reached))
+    for crate, file, name in lacking:
+        words = specs.words[crate, file, name]
+        print(f"| `{name}` | {file} | {words} | |" if is_draft else f"{crate}: {name} of {file} has no row: {words}")
+    for crate, name in odd:
+        print(f"{crate}: no public contract rests on {name}")
+    print(f"{len(reached)} definitions; {len(lacking)} without a row, {len(odd)} rows of others")
+    return 1 if lacking or odd else 0
+
+
+if __name__ == "__main__":
+    sys.exit(main("--draft" in sys.argv[1:]))

@@ -1,0 +1,110 @@
+#!/usr/bin/env python3
+"""Runs the guide for planners: what docs/GUIDE.md shows is what the program prints.
+
+    tools/run_guide.py [PROGRAM]
+
+PROGRAM is the built teg; where none is named it is the one that `rt ci` leaves. The guide's commands
+are run by bash, in order, in a folder that has the program as ./teg and the nets as examples/:
+
+- In a fenced block, a line that begins with `$ ` is a command. The lines below it, up to the next
+  command or the end of the block, are what it prints.
+- A fenced block of toml whose first line is `# NAME.toml` is a file of that name for the commands below.
+
+Each net of examples/ is named by a command of the guide, and each command that takes a net alone, by the
+usage, answers for it: with status 0, or, where the net is refused, as `check` does.
+
+A difference is told. The last line is 'N passed, M failed', and the exit status 0 where M is 0.
+"""
+import os
+import re
+import subprocess
+import sys
+import tempfile
+
+TOP = os.path.dirname(os.path.dirname(os.path.abspath(__file__)))
+
+
+def blocks_of(text):
+    """The fenced blocks of a Markdown text: the line at which each begins, its language and its lines."""
+    begun = None
+    for number, line in enumerate(text.splitlines(), 1):
+        if line.startswith("```"):
+            if begun:
+                yield begun
+                begun = None
+            else:
+                begun = number + 1, line[3:].strip(), []
+        elif begun:
+            begun[2].append(line)
+
+
+def commands_of(block):
+    """The commands of a block: the line of each, what it is, and what it prints."""
+    found = []
+    for number, line in enumerate(block[2], block[0]):
+        if line.startswith("$ "):
+            found.append((number, line[2:], []))
+        elif found:
+            found[-1][2].append(line + "\n")
+    return [(number, command, "".join(lines)) for number, command, lines in found]
+
+
+def run(words, folder):
+    """The status and the text of a run. What goes to standard error is told with the text, since nothing may."""
+    ran = subprocess.run(words, cwd=folder, stdin=subprocess.DEVNULL, stdout=subprocess.PIPE, stderr=subprocess.STDOUT)
+    return ran.returncode, ran.stdout.decode(errors="replace")
+
+
+def indented(text):
+    return "".join(f"    {line}\n" for line in text.splitlines()) or "    (nothing)\n"
+
+
+def run_blocks(guide, folder):
+    """Runs the guide's commands, and tells for each whether it prints what the guide shows."""
+    for block in blocks_of(guide):
+        name = re.fullmatch(r"# (\w+\.toml)", block[2][0]) if block[2] else None
+        if block[1] == "toml" and name:
+            with open(f"{folder}/{name[1]}", "w", encoding="utf-8") as file:
+                file.write("".join(f"{line}\n" for line in block[2]))
+        for number, command, wanted in commands_of(block):
+            printed = run(["bash", "-c", command], folder)[1]
+            well = printed == wanted
+            if not well:
+                print(f"docs/GUIDE.md:{number}: {command}\n  the guide shows\n{indented(wanted)}  it prints\n{indented(printed)}", end="")
+            yield well
+
+
+def run_nets(guide, folder):
+    """Runs the commands that take a net alone on each net of examples/."""
+    usage = run(["./teg"], folder)[1]
+    of_net = re.findall(r"^(?:usage:| {6}) teg (\w+) NET(?: \[.*)?$", usage, re.M)
+    shown = "\n".join(command for block in blocks_of(guide) for _, command, _ in commands_of(block))
+    for net in sorted(os.listdir(f"{folder}/examples")):
+        first = run(["./teg", "check", f"examples/{net}"], folder)
+        others = {command: run(["./teg", command, f"examples/{net}"], folder) for command in of_net}
+        odd = [command for command, said in others.items() if said != first and (said[0] or first[0])]
+        for command in odd:
+            print(f"examples/{net}: {command} ends with {others[command][0]}, and check with {first[0]}")
+        if f"examples/{net}" not in shown:
+            print(f"examples/{net}: no command of the guide names it")
+        yield not odd and f"examples/{net}" in shown
+
+
+def main(program):
+    if not os.access(program, os.X_OK):
+        print(f"{program} is no program: `rt ci` or ./teg builds it\n0 passed, 1 failed")
+        return 1
+    with open(f"{TOP}/docs/GUIDE.md", encoding="utf-8") as file:
+        guide = file.read()
+    with tempfile.TemporaryDirectory(prefix="teg-guide-") as folder:
+        os.symlink(os.path.abspath(program), f"{folder}/teg")
+        os.symlink(f"{TOP}/examples", f"{folder}/examples")
+        shown, nets = list(run_blocks(guide, folder)), list(run_nets(guide, folder))
+    passed = shown.count(True) + nets.count(True)
+    failed = len(shown) + len(nets) - passed
+    print(f"the guide: {len(shown)} commands, and {len(nets)} nets of examples/\n{passed} passed, {failed} failed")
+    return 1 if failed or not shown or not nets else 0
+
+
+if __name__ == "__main__":
+    sys.exit(main(sys.argv[1] if len(sys.argv) > 1 else f"{TOP}/crates/teg/out/teg"))
