@@ -33,22 +33,6 @@ pub record ToldBelow (net : NetLists) (r : Fraction) (e k : ℕ) (slacks : List 
   pub later : (p : PlaceId) → p.index < length net.places → to_of net p ≡ e → k ≤ p.index → slack_at slacks p ≡ NoCircuit
   pub others : (p : PlaceId) → p.index < length net.places → e < to_of net p → slack_at slacks p ≡ NoCircuit
 
-pub below_begin : (net : NetLists) (r : Fraction) (e : ℕ) (slacks : List Slack) → AreToldUpTo net r e slacks → ToldBelow net r e 0 slacks
-below_begin net r e slacks h = record {
-  each = h.each;
-  told = h.told;
-  here = λ p l m n. absurd (omega arith);
-  later = λ p l m n. h.others p l (omega arith);
-  others = λ p l m. h.others p l (omega arith);
-}
-
-pub below_end : (net : NetLists) (r : Fraction) (e : ℕ) (slacks : List Slack) → ToldBelow net r e (length net.places) slacks → AreToldUpTo net r (e + 1) slacks
-below_end net r e slacks h = record {
-  each = h.each;
-  told = λ p l m. ⊎_elim (λ (low : to_of net p < e). h.told p l low) (λ (high : e ≤ to_of net p). h.here p l (omega arith) l) (cases_lt (to_of net p) e);
-  others = λ p l m. h.others p l (omega arith);
-}
-
 -- a place that keeps its NoCircuit, since it ends elsewhere or no circuit passes it
 pub below_past : (net : NetLists) (r : Fraction) (e k : ℕ) (slacks : List Slack) → ToldBelow net r e k slacks
     → ((p : PlaceId) → p.index ≡ k → p.index < length net.places → to_of net p ≡ e → IsOnCircuit net p → ⊥) → ToldBelow net r e (k + 1) slacks
@@ -99,14 +83,6 @@ below_more net r e k slacks s h in_range there is =
           let low : k < length slacks = omega arith in
           let read : slack_at (set slacks k s) p ≡ s = ap (λ (z : ℕ). get_or (set slacks k s) z NoCircuit) f ∙ get_or-set_same slacks k s NoCircuit low in
           subst (IsSlackOf net r p) (sym read) (subst (λ (z : PlaceId). IsSlackOf net r z s) (sym (same_id p (record { index = k }) f)) is)
-
--- nothing is told yet
-pub told_begin : (net : NetLists) (r : Fraction) (slacks : List Slack) → length slacks ≡ length net.places → ((p : PlaceId) → slack_at slacks p ≡ NoCircuit) → AreToldUpTo net r 0 slacks
-told_begin net r slacks each none = record { each = each; told = λ p l m. absurd (omega arith); others = λ p l m. none p }
-
--- each end has been gone through
-pub told_end : (net : NetLists) (r : Fraction) (slacks : List Slack) → IsNet net → AreToldUpTo net r (length net.transitions) slacks → AreSlacks net r slacks
-told_end net r slacks ok h = record { each = h.each; told = λ p l. h.told p l (let rules : IsPlaceOf net (place_at net p) = ok.each_place p.index no_place l in rules.to_in) }
 
 -- ---- what the losses tell of the place with number k
 

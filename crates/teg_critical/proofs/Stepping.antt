@@ -48,14 +48,6 @@ still_any P xs x any =
 last_any : {X : Type 0} (P : X → Type 0) (xs : List X) (x : X) → P x → Any P (xs ++ (x ∷ []))
 last_any P xs x here = let long = length-append xs (x ∷ []) in (length xs + 0, x, omega arith, get_or-append-add xs (x ∷ []) 0 x, here)
 
-pub steps_begin : (net : NetLists) (losses : List (Option Loss)) (t : ℕ) → StepsUpTo net losses t [] 0
-steps_begin net losses t = record {
-  sound = λ i d l. absurd (omega arith);
-  complete = λ p l. absurd (omega arith);
-  ends = λ i d l. absurd (omega arith);
-  small = λ i d l. absurd (omega arith);
-}
-
 -- a place that is no step
 pub steps_past : (net : NetLists) (losses : List (Option Loss)) (t : ℕ) (steps : List Step) (k : ℕ) → StepsUpTo net losses t steps k
     → ((p : PlaceId) → p.index ≡ k → from_of net p ≡ t → IsSome (loss_at losses p) → ⊥) → StepsUpTo net losses t steps (k + 1)
@@ -122,9 +114,6 @@ steps_skip net losses t steps k q told h q_is told_is none = steps_past net loss
       not_both : (o : Option Loss) → o ≡ None → IsSome o → ⊥
       not_both o e f = (let g : is_some {T = Loss} None ≡ true = sym (ap (is_some {T = Loss}) e) ∙ f in cc)
 
-pub steps_end : (net : NetLists) (losses : List (Option Loss)) (t : ℕ) (steps : List Step) → StepsUpTo net losses t steps (length net.places) → AreStepsFrom net losses t steps
-steps_end net losses t steps h = record { sound = h.sound; complete = h.complete; ends = h.ends; small = h.small }
-
 -- ---- the steps from each transition
 
 pub record AllStepsUpTo (net : NetLists) (losses : List (Option Loss)) (steps : List (List Step)) (k : ℕ) : Type 0 where
@@ -190,14 +179,8 @@ some_found least settled (Some near) h = h
 some_none : (near : Near) → Some near ≡ None → ⊥
 some_none near e = cc
 
-none_near : (near : Near) → None ≡ Some near → ⊥
-none_near near e = cc
-
 same_near : (near other : Near) → Some near ≡ Some other → near ≡ other
 same_near near other e = cc
-
-pub nearest_begin : (least : List (Option ℕ)) (settled : List Bool) → NearestUpTo least settled 0 None
-nearest_begin least settled = record { none = λ e u l. absurd (omega arith); some = λ near e. absurd (none_near near e); no_nearer = λ near u d e l. absurd (omega arith) }
 
 -- a transition that is settled, or is told nothing, or no less than the nearest so far
 pub nearest_past : (least : List (Option ℕ)) (settled : List Bool) (k : ℕ) (nearest : Option Near) → NearestUpTo least settled k nearest
@@ -281,63 +264,3 @@ pub record RelaxedUpTo (steps : List Step) (base k : ℕ) (old new : List (Optio
   pub offered : (i : ℕ) (d : Step) → i < k → i < length steps → IsWithin (told_at new (get_or steps i d).to) (base + (get_or steps i d).loss)
   pub lowered : (t x : ℕ) → IsWithin (told_at old t) x → IsWithin (told_at new t) x
   pub by_step : (t d : ℕ) → told_at new t ≡ Some d → (told_at old t ≡ Some d) ⊎ Any (λ s. (s.to ≡ t) × (base + s.loss ≡ d)) steps
-
-pub relaxed_begin : (steps : List Step) (base : ℕ) (old : List (Option ℕ)) → RelaxedUpTo steps base 0 old old
-relaxed_begin steps base old = record { count = refl; offered = λ i d l. absurd (omega arith); lowered = λ t x h. h; by_step = λ t d e. inl e }
-
-pub relaxed_end : (steps : List Step) (base : ℕ) (old new : List (Option ℕ)) → RelaxedUpTo steps base (length steps) old new → IsRelaxed steps base old new
-relaxed_end steps base old new h = record { count = h.count; offered = λ i d l. h.offered i d l l; lowered = h.lowered; by_step = h.by_step }
-
--- a step that offers no less
-pub relaxed_past : (steps : List Step) (base k : ℕ) (old new : List (Option ℕ)) (s : Step) → RelaxedUpTo steps base k old new → k < length steps → get_or steps k s ≡ s
-    → IsWithin (told_at new s.to) (base + s.loss) → RelaxedUpTo steps base (k + 1) old new
-relaxed_past steps base k old new s h l is there = record {
-  count = h.count;
-  offered = λ i d m n. ⊎_elim
-      (λ (low : i < k). h.offered i d low n)
-      (λ (high : k ≤ i).
-      let same : i ≡ k = omega arith in
-      let read : get_or steps i d ≡ s = ap (λ (z : ℕ). get_or steps z d) same ∙ get_or_default steps k d s l ∙ is in
-      subst (λ (z : Step). IsWithin (told_at new z.to) (base + z.loss)) (sym read) there)
-      (cases_lt i k);
-  lowered = h.lowered;
-  by_step = h.by_step;
-}
-
--- what is offered is told
-abbrev pub offer_told : List (Option ℕ) → Step → ℕ → List (Option ℕ)
-offer_told new s offer = set new s.to (Some offer)
-
--- a step that offers less
-pub relaxed_more : (steps : List Step) (base k : ℕ) (old new : List (Option ℕ)) (s : Step) → RelaxedUpTo steps base k old new → k < length steps → get_or steps k s ≡ s → s.to < length new
-    → ((d : ℕ) → told_at new s.to ≡ Some d → base + s.loss ≤ d) → RelaxedUpTo steps base (k + 1) old (offer_told new s (base + s.loss))
-relaxed_more steps base k old new s h l is end_in less = record {
-  count = length-set new s.to (Some (base + s.loss)) ∙ h.count;
-  offered = λ i d m n. ⊎_elim
-      (λ (low : i < k). fewer (get_or steps i d).to (base + (get_or steps i d).loss) (h.offered i d low n))
-      (λ (high : k ≤ i).
-      let same : i ≡ k = omega arith in
-      let read : get_or steps i d ≡ s = ap (λ (z : ℕ). get_or steps z d) same ∙ get_or_default steps k d s l ∙ is in
-      subst (λ (z : Step). IsWithin (told_at (offer_told new s (base + s.loss)) z.to) (base + z.loss)) (sym read) (within_some (told_at (offer_told new s (base + s.loss)) s.to) (base + s.loss) here))
-      (cases_lt i k);
-  lowered = λ t x w. fewer t x (h.lowered t x w);
-  by_step = λ t d e. ⊎_elim
-      (λ (same : s.to ≡ t). inr (k, s, l, is, (same, same_some (told_at (offer_told new s (base + s.loss)) s.to) (base + s.loss) d here (ap (told_at (offer_told new s (base + s.loss))) same ∙ e))))
-      (λ (ne : s.to ≢ t). h.by_step t d (sym (other t (λ f. ne (sym f))) ∙ e))
-      (cases_eq s.to t);
-} where
-  here : told_at (offer_told new s (base + s.loss)) s.to ≡ Some (base + s.loss)
-  here = get_or-set_same new s.to (Some (base + s.loss)) None end_in
-
-  other : (t : ℕ) → t ≢ s.to → told_at (offer_told new s (base + s.loss)) t ≡ told_at new t
-  other t ne = get_or-set_other new s.to t (Some (base + s.loss)) None ne
-
-  fewer : (t x : ℕ) → IsWithin (told_at new t) x → IsWithin (told_at (offer_told new s (base + s.loss)) t) x
-  fewer t x w = ⊎_elim
-      (λ (same : t ≡ s.to).
-      let was : IsTold (told_at new t) x = within_told (told_at new t) x w in
-      let low = was.low in
-      let least = less was.number (ap (told_at new) (sym same) ∙ was.is) in
-      within_more (told_at (offer_told new s (base + s.loss)) t) (base + s.loss) x (within_some (told_at (offer_told new s (base + s.loss)) t) (base + s.loss) (ap (told_at (offer_told new s (base + s.loss))) same ∙ here)) (omega arith))
-      (λ (ne : t ≢ s.to). subst (λ (z : Option ℕ). IsWithin z x) (sym (other t ne)) w)
-      (cases_eq t s.to)

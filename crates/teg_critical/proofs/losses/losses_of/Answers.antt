@@ -1,6 +1,4 @@
-use Rattle.std.proofs.Common.{List, ◌≡◌, length, ap, subst, arith}
-use Rattle.teg_net.specs.declared.entries.Place.{Place}
-use Rattle.teg_critical.proofs.Listed.{LossesUpTo, losses_more, losses_end}
+use Rattle.teg_critical.proofs.Listed.{losses_more}
 use Rattle.teg_critical.proofs.losses.losses_of.Goals as goal
 
 pub loop-index-preserved : goal.loop-index-preserved
