@@ -1,14 +1,14 @@
 -- What is written as an expression is read as its tree.
-use Rattle.std.proofs.Common.{◌≡◌, refl, ap, sym, ◌∙◌, arith, rules, subst, ℕ, zero, suc, ◌+◌, ◌*◌, ◌<◌, ◌≤◌, Bool, true, false, List, [], ◌∷◌, ◌++◌, length, codes, replicate, Option, Some, None}
-use Rattle.std.specs.Prelude.{◌==◌, nat_lt, option_map, if◌then◌else◌}
+use Rattle.std.proofs.Common.{◌≡◌, refl, ap, sym, ◌∙◌, arith, ℕ, zero, suc, ◌+◌, ◌*◌, ◌<◌, ◌≤◌, Bool, true, false, List, [], ◌∷◌, ◌++◌, length, codes, Option, Some, None}
+use Rattle.std.specs.Prelude.{◌==◌, nat_lt, if◌then◌else◌}
 use Rattle.std.proofs.lemmas.Bool.Decides.{nat_tests}
 use Rattle.std.specs.Char.{digit_value}
 use Rattle.std.specs.Str.Parse.{AllDigits, digits_value, digits_value_after}
 use Rattle.teg_calc.specs.declared.brackets.Call.{Call}
 use Rattle.teg_calc.specs.declared.brackets.Call.TheVariants.{Text, Group, Star as StarCall, Least as LeastCall, Left as LeftCall}
 use Rattle.teg_calc.specs.declared.tokens.Part.{Part}
-use Rattle.teg_calc.specs.declared.tokens.Part.TheVariants.{Letters, Unit as UnitPart, Name, Shift, Delta, Date}
-use Rattle.teg_calc.specs.Trees.{Tree, mono, epsilon, unit, never, plus, times, star, least, left}
+use Rattle.teg_calc.specs.declared.tokens.Part.TheVariants.{Unit as UnitPart, Name, Shift, Delta, Date}
+use Rattle.teg_calc.specs.Trees.{Tree, mono, epsilon, unit, never, plus, star, least, left}
 use Rattle.teg_calc.specs.Grammar.{Blanks, AreDigits, ExprText, TermText, FactorText, term, plus_term, factor, times_factor, mono_token, eps_word, e_word, never_word, bracketed, star_of, min_of, left_of, blanks, spaced, minus_text, mono_text, expr_text, term_text, factor_text, expr_tree, term_tree, factor_tree, IsExpression}
 use Rattle.teg_calc.specs.Readers.{Level, level, opened, State, state, start, operand, within, operator, step, run, nested, joined, multiplied, closed, takes_comma, digit_of, date_on, factored, operator_step, finish}
 use Rattle.teg_calc.proofs.Runs.{runs_then, runs_both, operand_blanks, operator_blanks, name_blanks}

@@ -1,24 +1,21 @@
 -- Behind a factor or a term the text that was read leads to the reader's state.
-use Rattle.std.proofs.Common.{◌≡◌, refl, ap, sym, ◌∙◌, arith, subst, ℕ, ◌+◌, ◌<◌, ◌≤◌, Bool, true, false, List, [], ◌∷◌, ◌++◌, length, take, codes, replicate, Option, Some, None, append_assoc}
-use Rattle.std.specs.Prelude.{◌==◌, nat_lt, slice_get, option_map, option_and_then, if◌then◌else◌}
+use Rattle.std.proofs.Common.{◌≡◌, refl, ap, sym, ◌∙◌, arith, subst, ℕ, ◌+◌, List, [], ◌∷◌, ◌++◌, length, codes, Option, Some, None, append_assoc}
+use Rattle.std.specs.Prelude.{◌==◌, option_and_then}
 use Rattle.std.proofs.lemmas.Bool.Decides.{nat_tests}
-use Rattle.std.proofs.lemmas.List.{append-nil, replicate_more, take_all}
+use Rattle.std.proofs.lemmas.List.{append-nil, replicate_more}
 use Rattle.std.specs.Str.Parse.{digits_value}
 use Rattle.teg_calc.specs.declared.bytes.Sign.{Sign}
 use Rattle.teg_calc.specs.declared.bytes.Sign.TheVariants.{Blank, Open, Close, Comma, Plus, Dot, Other}
 use Rattle.teg_calc.specs.declared.brackets.Call.{Call}
 use Rattle.teg_calc.specs.declared.brackets.Call.TheVariants.{Text, Group, Star as StarCall, Least as LeastCall, Left as LeftCall}
-use Rattle.teg_calc.specs.declared.tokens.Word.{Word}
-use Rattle.teg_calc.specs.declared.tokens.Word.TheVariants.{Eps, Never as NeverWord, Star as StarWord, Min, Left as LeftWord}
 use Rattle.teg_calc.specs.declared.tokens.Part.{Part}
 use Rattle.teg_calc.specs.declared.tokens.Part.TheVariants.{Letters, Unit as UnitPart, Name, Shift, Delta, Date}
-use Rattle.teg_calc.specs.Trees.{Tree, mono, epsilon, unit, never}
-use Rattle.teg_calc.specs.Grammar.{Blanks, AreDigits, FactorText, ExprText, TermText, mono_token, eps_word, e_word, never_word, blanks, spaced, mono_text, minus_text, expr_text, term_text, factor_text, expr_tree, term_tree, factor_tree}
-use Rattle.teg_calc.specs.Readers.{Level, level, opened, Stand, State, state, start, operand, within, operator, step, run, nested, joined, multiplied, closed, takes_comma, sign_of, begun_by, letters_of, gone_on, factor_of, factored, factored_outside, behind_step, comma_step, close_step, within_step, operand_by, operator_by, word_end, word_on, letter_by, name_by, token_by, step_by}
-use Rattle.teg_calc.proofs.Signs.{IsSign, is_blank, is_open, is_close, is_comma, is_plus, is_dot, is_other, sign_is, decide, is_eq}
-use Rattle.teg_calc.proofs.Holding.{IsHead, IsHeads, IsInside, IsDeeper, IsBottom, IsSumText, IsProductText, IsPartText, IsCallHead, IsSecondHead, IsNameText, IsLetters, IsAtOperand, IsInPart, IsBehindTerm, IsStandText, Holds}
+use Rattle.teg_calc.specs.Trees.{Tree, mono, unit}
+use Rattle.teg_calc.specs.Grammar.{Blanks, AreDigits, FactorText, mono_token, e_word, blanks, spaced, mono_text, expr_text, term_text, factor_text, term_tree, factor_tree}
+use Rattle.teg_calc.specs.Readers.{Level, level, State, state, operand, within, operator, nested, joined, multiplied, closed, factor_of, factored, factored_outside, comma_step, close_step, operator_by}
+use Rattle.teg_calc.proofs.Signs.{IsSign, is_blank, is_close, is_comma, is_plus, is_dot, decide}
+use Rattle.teg_calc.proofs.Holding.{IsHead, IsHeads, IsInside, IsDeeper, IsSumText, IsProductText, IsPartText, IsCallHead, IsSecondHead, Holds}
 use Rattle.teg_calc.proofs.Written.{IsFactorOf, IsTermOf, IsExprOf, with_product, with_sum, tight, closes, term_longer}
-use Rattle.teg_calc.proofs.TokenSteps.{IfPart, begun_text, gone_text, letters_more}
 
 -- the one state that a byte leads to
 pub reached : (x t : State) (w : List ℕ) → Some x ≡ Some t → Holds x w → Holds t w

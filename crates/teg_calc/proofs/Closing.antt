@@ -1,5 +1,5 @@
 -- The bracket around one that closes is the last of the outer ones.
-use Rattle.std.proofs.Common.{◌≡◌, refl, ap, ◌∙◌, List, [], ◌∷◌, ◌++◌, map, reverse, Some}
+use Rattle.std.proofs.Common.{◌≡◌, refl, ap, ◌∙◌, List, [], ◌∷◌, ◌++◌, map, Some}
 use Rattle.std.proofs.lemmas.List.{reverse-append, map-append}
 use Rattle.teg_calc.specs.declared.brackets.Bracket.{Bracket}
 use Rattle.teg_calc.specs.Trees.{Tree}

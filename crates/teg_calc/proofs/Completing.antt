@@ -1,19 +1,16 @@
 -- Each text that the reader takes is a prefix of an expression, and a whole one is an expression.
-use Rattle.std.proofs.Common.{◌≡◌, refl, ap, sym, ◌∙◌, arith, ℕ, zero, suc, ◌+◌, ◌<◌, ◌≤◌, Bool, true, false, List, [], ◌∷◌, ◌++◌, length, take, drop, codes, Option, Some, None, append_assoc}
-use Rattle.std.specs.Prelude.{◌==◌, option_map, if◌then◌else◌}
-use Rattle.std.proofs.lemmas.Bool.Decides.{nat_tests}
-use Rattle.std.proofs.lemmas.List.{append-nil, take-append-drop, length-append}
-use Rattle.std.proofs.lemmas.Int.Digits.{digits_push}
-use Rattle.teg_calc.specs.declared.brackets.Call.{Call}
+use Rattle.std.proofs.Common.{◌≡◌, refl, ap, sym, ◌∙◌, arith, ℕ, false, List, [], ◌∷◌, ◌++◌, length, drop, codes, Option, Some, None, append_assoc}
+use Rattle.std.specs.Prelude.{option_map}
+use Rattle.std.proofs.lemmas.List.{append-nil, take-append-drop}
 use Rattle.teg_calc.specs.declared.brackets.Call.TheVariants.{Text, Group, Star as StarCall, Least as LeastCall, Left as LeftCall}
 use Rattle.teg_calc.specs.declared.tokens.Word.{Word}
 use Rattle.teg_calc.specs.declared.tokens.Word.TheVariants.{Eps, Never as NeverWord, Star as StarWord, Min, Left as LeftWord}
 use Rattle.teg_calc.specs.declared.tokens.Part.{Part}
 use Rattle.teg_calc.specs.declared.tokens.Part.TheVariants.{Letters, Unit as UnitPart, Name, Shift, Delta, Date}
 use Rattle.teg_calc.specs.Trees.{Tree}
-use Rattle.teg_calc.specs.Grammar.{Blanks, AreDigits, FactorText, term, factor, mono_token, eps_word, e_word, never_word, star_of, min_of, left_of, blanks, spaced, minus_text, expr_text, term_text, factor_text, expr_tree, term_tree, factor_tree, IsExpression, IsBegun}
-use Rattle.teg_calc.specs.Readers.{Level, Stand, State, state, start, operand, within, operator, run, joined, multiplied, letters_of, factor_of, factored, term_of, finish_by, finish}
-use Rattle.teg_calc.proofs.Holding.{AreDigitsOf, IsPartText, IsNameText, Holds}
+use Rattle.teg_calc.specs.Grammar.{Blanks, AreDigits, FactorText, term, factor, mono_token, eps_word, e_word, never_word, star_of, min_of, left_of, blanks, expr_text, term_text, factor_text, term_tree, factor_tree, IsExpression, IsBegun}
+use Rattle.teg_calc.specs.Readers.{Level, Stand, State, state, start, operand, within, operator, run, joined, multiplied, letters_of, factor_of, term_of, finish_by, finish}
+use Rattle.teg_calc.proofs.Holding.{AreDigitsOf, IsPartText, Holds}
 use Rattle.teg_calc.proofs.Written.{IsTermOf, IsExprOf, IsCompleted, with_product, with_sum, completed, tight}
 use Rattle.teg_calc.proofs.Behind.{sum_of, ends_holds}
 use Rattle.teg_calc.proofs.Stepping.{read_holds}

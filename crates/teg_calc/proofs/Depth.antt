@@ -1,5 +1,5 @@
 -- How many brackets are open is how many outer brackets the reader keeps.
-use Rattle.std.proofs.Common.{◌≡◌, refl, ap, sym, ◌∙◌, arith, subst, ℕ, zero, suc, ◌+◌, ◌*◌, ◌<◌, ◌≤◌, Bool, true, false, cond, List, [], ◌∷◌, ◌++◌, length, codes, Option, Some, None}
+use Rattle.std.proofs.Common.{◌≡◌, refl, ap, sym, ◌∙◌, arith, ℕ, zero, suc, ◌+◌, ◌*◌, ◌<◌, ◌≤◌, Bool, true, false, cond, List, [], ◌∷◌, length, Option, Some, None}
 use Rattle.std.specs.Prelude.{◌==◌, nat_lt, slice_get, option_map, option_and_then, if◌then◌else◌}
 use Rattle.std.proofs.lemmas.List.Sums.{sum_by-append}
 use Rattle.teg_calc.specs.declared.bytes.Sign.{Sign}
@@ -11,8 +11,8 @@ use Rattle.teg_calc.specs.declared.tokens.Part.{Part}
 use Rattle.teg_calc.specs.declared.tokens.Part.TheVariants.{Letters, Unit as UnitPart, Name, Shift, Delta, Date}
 use Rattle.teg_calc.specs.Trees.{Tree}
 use Rattle.teg_calc.specs.Reading.{count_of, open_brackets}
-use Rattle.teg_calc.specs.Readers.{Level, level, Stand, State, state, start, operand, within, operator, step, run, joined, multiplied, closed, takes_comma, sign_of, digit_of, begun_by, letters_of, gone_on, date_on, shift_on, factor_of, factored_outside, operand_by, operator_by, word_end, word_on, letter_by, name_by, token_by, step_by, within_step, behind_step, comma_step, close_step}
-use Rattle.teg_calc.proofs.Signs.{IsSign, is_blank, is_open, is_close, is_comma, is_plus, is_dot, is_other, sign_is, decide, is_eq}
+use Rattle.teg_calc.specs.Readers.{Level, Stand, State, state, start, operand, within, operator, step, run, takes_comma, sign_of, digit_of, begun_by, letters_of, gone_on, date_on, shift_on, factor_of, factored_outside, operand_by, operator_by, word_end, word_on, letter_by, name_by, token_by, step_by, within_step, behind_step}
+use Rattle.teg_calc.proofs.Signs.{IsSign, is_open, is_close, sign_is, decide, is_eq}
 
 -- ---- bytes that open or close no bracket
 

@@ -1,5 +1,5 @@
 -- Numbers of few digits.
-use Rattle.std.proofs.Common.{◌≡◌, arith, ℕ, ◌+◌, ◌*◌, ◌^◌, ◌<◌, ◌≤◌}
+use Rattle.std.proofs.Common.{arith, ℕ, ◌+◌, ◌*◌, ◌^◌, ◌<◌, ◌≤◌}
 use Rattle.std.proofs.Math.Nat.{pow-le-pow_right}
 
 -- one more digit behind fewer than 19 keeps below 10^19

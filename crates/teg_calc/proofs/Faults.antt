@@ -5,8 +5,8 @@ use Rattle.std.proofs.lemmas.Bool.{cases_lt}
 use Rattle.std.proofs.lemmas.List.{take_more, take_all, length-map, length-reverse}
 use Rattle.std.proofs.lemmas.Option.{get_or_from_slice_get, slice_get-get_or}
 use Rattle.teg_calc.specs.Trees.{Tree}
-use Rattle.teg_calc.specs.Grammar.{IsExpression, IsBegun}
-use Rattle.teg_calc.specs.Reading.{open_brackets, OpensTooDeep, IsShallow, IsLongestBegun, IsParsed, IsFault, IsFirstTooDeep, IsParseOf}
+use Rattle.teg_calc.specs.Grammar.{IsBegun}
+use Rattle.teg_calc.specs.Reading.{open_brackets, IsShallow, IsParsed, IsFault, IsFirstTooDeep, IsParseOf}
 use Rattle.teg_calc.specs.declared.brackets.Bracket.{Bracket}
 use Rattle.teg_calc.specs.declared.refusals.Stop.{Stop}
 use Rattle.teg_calc.specs.declared.refusals.Stop.TheVariants.{Unexpected, TooDeep, OutOfMemory}

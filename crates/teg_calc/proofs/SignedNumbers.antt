@@ -1,5 +1,5 @@
 -- Numbers of 128 bits, written and read back.
-use Rattle.std.proofs.Common.{◌≡◌, arith, ℕ, ℤ, ◌^◌, ◌<◌, ◌≤◌, to_z, of_z}
+use Rattle.std.proofs.Common.{◌≡◌, arith, ℤ, ◌^◌, ◌<◌, to_z, of_z}
 use Rattle.std.specs.Int.{w128}
 use Rattle.std.specs.Int.RustNames.{unsigned_abs}
 use Rattle.std.proofs.lemmas.Int.{to_z-of_z, fits_signed_from_abs}

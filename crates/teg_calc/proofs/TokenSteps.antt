@@ -1,19 +1,16 @@
 -- One byte more in a token.
-use Rattle.std.proofs.Common.{◌≡◌, refl, ap, sym, ◌∙◌, arith, subst, ℕ, ◌+◌, ◌*◌, ◌<◌, ◌≤◌, Bool, true, false, List, [], ◌∷◌, ◌++◌, length, take, get_or, unwrap_or, Option, Some, None, append_assoc}
-use Rattle.std.specs.Prelude.{◌==◌, nat_lt, slice_get, option_map, if◌then◌else◌}
+use Rattle.std.proofs.Common.{◌≡◌, refl, ap, sym, ◌∙◌, arith, ℕ, ◌+◌, ◌*◌, ◌<◌, Bool, false, List, [], ◌∷◌, ◌++◌, length, take, get_or, unwrap_or, Option, Some, None, append_assoc}
+use Rattle.std.specs.Prelude.{◌==◌, nat_lt, slice_get, option_map}
 use Rattle.std.specs.Char.{digit_value}
-use Rattle.std.specs.Str.Parse.{AllDigits, digits_value}
 use Rattle.std.proofs.lemmas.Int.Digits.{digits_push, digits_value_push}
 use Rattle.std.proofs.lemmas.Bool.Decides.{nat_tests}
 use Rattle.std.proofs.lemmas.List.{length-append, take_more}
 use Rattle.std.proofs.lemmas.Option.{unwrap_or-slice_get}
 use Rattle.teg_calc.specs.declared.tokens.Part.{Part}
 use Rattle.teg_calc.specs.declared.tokens.Part.TheVariants.{Letters, Unit as UnitPart, Name, Shift, Delta, Date}
-use Rattle.teg_calc.specs.declared.tokens.Word.TheVariants.{Eps, Never as NeverWord, Star as StarWord, Min, Left as LeftWord}
-use Rattle.teg_calc.specs.Grammar.{AreDigits, minus_text}
 use Rattle.teg_calc.specs.Readers.{digit_of, begun_by, gone_on, shift_on, date_on}
 use Rattle.teg_calc.proofs.Signs.{decide, is_eq}
-use Rattle.teg_calc.proofs.Holding.{AreDigitsOf, IsPartText, IsLetters, IsShiftText, IsDeltaText, IsDateText}
+use Rattle.teg_calc.proofs.Holding.{AreDigitsOf, IsPartText, IsLetters, IsShiftText, IsDateText}
 
 -- where there is a part, its text is this
 abbrev pub IfPart : Option Part → List ℕ → Type 0

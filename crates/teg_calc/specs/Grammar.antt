@@ -7,7 +7,7 @@
 --     mono   = "g" digits "d" [ "-" ] digits
 --
 -- Digits are 1 to 19 decimal digits. Blanks may stand before and after each token. `+` and `.` group to the left.
-use Rattle.std.specs.Prelude.{◌≡◌, ℕ, ◌≤◌, Bool, true, false, List, [], ◌∷◌, ◌++◌, length, replicate, codes}
+use Rattle.std.specs.Prelude.{◌≡◌, ℕ, ◌≤◌, Bool, true, false, List, [], ◌++◌, length, replicate, codes}
 use Rattle.std.specs.Str.Parse.{IsNumeral, digits_value}
 use Rattle.teg_calc.specs.Trees.{Tree, mono, epsilon, unit, never, plus, times, star, least, left}
 

@@ -1,4 +1,4 @@
--- Answers of parts as last rounds of policy runs (chapter 3).
+-- Answers of parts as last rounds of policy runs.
 use Rattle.std.specs.Prelude.{ℕ, ◌<◌, ⊤, List, length, slice_index_or}
 use Rattle.teg_net.specs.declared.rounds.Round.{Round}
 use Rattle.teg_net.specs.declared.answers.PartAnswer.{PartAnswer}

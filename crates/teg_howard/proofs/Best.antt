@@ -5,11 +5,11 @@ use Rattle.std.proofs.lemmas.Bool.{cases_lt}
 use Rattle.teg_net.specs.declared.entries.PlaceId.{PlaceId}
 use Rattle.teg_net.specs.Nets.{NetLists, IsNet}
 use Rattle.teg_net.specs.Circuits.{IsPathBetween, IsLive, time_of, tokens_of, from_of}
-use Rattle.teg_howard.specs.declared.policy_circuits.Found.{Found}
+use Rattle.teg_howard.specs.declared.policy_circuits.FoundCircuit.{FoundCircuit}
 use Rattle.teg_net.specs.Parts.{IsMember, IsPlaceOfPart, to_of}
 use Rattle.teg_howard.specs.Policies.{Policy, IsPolicy, IsPolicyCircuit, step_back, first_id}
 use Rattle.teg_net.specs.PartAnswers.{first_transition_of}
-use Rattle.teg_howard.specs.Found.{IsFoundAt, IsMarked, IsAbove, IsBestFound}
+use Rattle.teg_howard.specs.FoundCircuits.{IsFoundAt, IsMarked, IsAbove, IsBestFound}
 use Rattle.teg_howard.proofs.Back.{trail_inside, get_or-trail}
 use Rattle.teg_howard.proofs.Sums.{own_trail}
 use Rattle.teg_howard.proofs.Turns.{circuit_trail, root_member}
@@ -29,7 +29,7 @@ Low net d = All (λ p. first_transition_of net d ≤ from_of net p) d
 abbrev pub Counts : NetLists → List Bool → List PlaceId → Type 0
 Counts net marked d = Low net d × Passes net marked d
 
-pub record BestBelow (net : NetLists) (parts : List ℕ) (part : ℕ) (π : Policy) (marked : List Bool) (i : ℕ) (f : Found) : Type 0 where
+pub record BestBelow (net : NetLists) (parts : List ℕ) (part : ℕ) (π : Policy) (marked : List Bool) (i : ℕ) (f : FoundCircuit) : Type 0 where
   pub is : IsPolicyCircuit net parts part π f.places.items
   pub through : Passes net marked f.places.items
   pub time : f.time ≡ time_of net f.places.items
@@ -40,7 +40,7 @@ pub record BestBelow (net : NetLists) (parts : List ℕ) (part : ℕ) (π : Poli
   pub greatest : (d : List PlaceId) → IsPolicyCircuit net parts part π d → Counts net marked d → first_transition_of net d < i → time_of net d * f.tokens ≤ f.time * tokens_of net d
   pub lowest : (d : List PlaceId) → IsPolicyCircuit net parts part π d → Counts net marked d → first_transition_of net d < i → time_of net d * f.tokens ≡ f.time * tokens_of net d → first_transition_of net f.places.items ≤ first_transition_of net d
 
-abbrev pub BestTo : NetLists → List ℕ → ℕ → Policy → List Bool → ℕ → Option Found → Type 0
+abbrev pub BestTo : NetLists → List ℕ → ℕ → Policy → List Bool → ℕ → Option FoundCircuit → Type 0
 BestTo net parts part π marked i None = (d : List PlaceId) → IsPolicyCircuit net parts part π d → Counts net marked d → first_transition_of net d < i → ⊥
 BestTo net parts part π marked i (Some f) = BestBelow net parts part π marked i f
 
@@ -49,7 +49,7 @@ starts net [] s t l h = absurd (omega arith)
 starts net (p ∷ ps) s t l h = sym h.1
 
 module _ (net : NetLists) (parts : List ℕ) (part : ℕ) (π : Policy) (marked : List Bool) (ok : IsPolicy net parts part π) (kept : IsNet net) (live : IsLive net) (count : length parts ≡ length net.transitions) where
-  pub found_circuit : (i : ℕ) (f : Found) → IsMember parts part i → IsFoundAt net π i f → IsPolicyCircuit net parts part π f.places.items
+  pub found_circuit : (i : ℕ) (f : FoundCircuit) → IsMember parts part i → IsFoundAt net π i f → IsPolicyCircuit net parts part π f.places.items
   found_circuit i f h c =
       let s : ℕ = c.circuit.closed.0 in
       let l = c.circuit.closed.1 in
@@ -59,7 +59,7 @@ module _ (net : NetLists) (parts : List ℕ) (part : ℕ) (π : Policy) (marked 
       record { circuit = c.circuit; inside = subst (All (IsPlaceOfPart net parts part)) (sym t.0) (trail_inside net parts part π ok (length f.places.items) s member); own = c.own }
 
   -- no circuit that counts begins at i
-  pub best_skip : (i : ℕ) (best : Option Found) → BestTo net parts part π marked i best → ((d : List PlaceId) → IsPolicyCircuit net parts part π d → Counts net marked d → first_transition_of net d ≡ i → ⊥) → BestTo net parts part π marked (i + 1) best
+  pub best_skip : (i : ℕ) (best : Option FoundCircuit) → BestTo net parts part π marked i best → ((d : List PlaceId) → IsPolicyCircuit net parts part π d → Counts net marked d → first_transition_of net d ≡ i → ⊥) → BestTo net parts part π marked (i + 1) best
   best_skip i None h none = λ d c p l. ⊎_elim (λ (q : first_transition_of net d < i). h d c p q) (λ (q : i ≤ first_transition_of net d). none d c p (omega arith)) (cases_lt (first_transition_of net d) i)
   best_skip i (Some f) h none =
       let below = λ (d : List PlaceId) (c : IsPolicyCircuit net parts part π d) (p : Counts net marked d) (l : first_transition_of net d < i + 1).
@@ -102,13 +102,13 @@ module _ (net : NetLists) (parts : List ℕ) (part : ℕ) (π : Policy) (marked 
       let down = w.2 in
       absurd (omega arith)
 
-  pub skip_other : (i : ℕ) (f : Found) → IsMember parts part i → IsFoundAt net π i f → (Passes net marked f.places.items → ⊥) → (d : List PlaceId) → IsPolicyCircuit net parts part π d → Counts net marked d → first_transition_of net d ≡ i → ⊥
+  pub skip_other : (i : ℕ) (f : FoundCircuit) → IsMember parts part i → IsFoundAt net π i f → (Passes net marked f.places.items → ⊥) → (d : List PlaceId) → IsPolicyCircuit net parts part π d → Counts net marked d → first_transition_of net d ≡ i → ⊥
   skip_other i f h c out d hd p e =
       let same : d ≡ f.places.items = same_circuit net parts part π ok kept d f.places.items hd (found_circuit i f h c) (e ∙ sym c.begins) in
       out (subst (Passes net marked) same p.1)
 
   -- the circuit at i is not above the best
-  pub best_keep : (i : ℕ) (f best : Found) → IsMember parts part i → IsFoundAt net π i f → BestBelow net parts part π marked i best → (best.time * f.tokens < f.time * best.tokens → ⊥) → BestBelow net parts part π marked (i + 1) best
+  pub best_keep : (i : ℕ) (f best : FoundCircuit) → IsMember parts part i → IsFoundAt net π i f → BestBelow net parts part π marked i best → (best.time * f.tokens < f.time * best.tokens → ⊥) → BestBelow net parts part π marked (i + 1) best
   best_keep i f best h c b low =
       let le : f.time * best.tokens ≤ best.time * f.tokens = ⊎_elim (λ (q : best.time * f.tokens < f.time * best.tokens). absurd (low q)) (λ (q : f.time * best.tokens ≤ best.time * f.tokens). q) (cases_lt (best.time * f.tokens) (f.time * best.tokens)) in
       let before = b.before in
@@ -137,14 +137,14 @@ module _ (net : NetLists) (parts : List ℕ) (part : ℕ) (π : Policy) (marked 
             (cases_lt (first_transition_of net d) i);
       }
 
-  less_than : (f : Found) (best : Option Found) (i : ℕ) → BestTo net parts part π marked i best → IsAbove f best → (d : List PlaceId) → IsPolicyCircuit net parts part π d → Counts net marked d → first_transition_of net d < i → time_of net d * f.tokens < f.time * tokens_of net d
+  less_than : (f : FoundCircuit) (best : Option FoundCircuit) (i : ℕ) → BestTo net parts part π marked i best → IsAbove f best → (d : List PlaceId) → IsPolicyCircuit net parts part π d → Counts net marked d → first_transition_of net d < i → time_of net d * f.tokens < f.time * tokens_of net d
   less_than f None i b above d hd p l = absurd (b d hd p l)
   less_than f (Some g) i b above d hd p l =
       let gt : 0 < g.tokens = subst (λ x. 0 < x) (sym b.tokens) (some_token net live g.places.items b.is.circuit) in
       ratio_trans_less (time_of net d) (tokens_of net d) g.time g.tokens f.time f.tokens gt (some_token net live d hd.circuit) (b.greatest d hd p l) above
 
   -- the circuit at i is above the best, or the first
-  pub best_take : (i : ℕ) (f : Found) (best : Option Found) → IsMember parts part i → IsFoundAt net π i f → Passes net marked f.places.items → BestTo net parts part π marked i best → IsAbove f best → BestBelow net parts part π marked (i + 1) f
+  pub best_take : (i : ℕ) (f : FoundCircuit) (best : Option FoundCircuit) → IsMember parts part i → IsFoundAt net π i f → Passes net marked f.places.items → BestTo net parts part π marked i best → IsAbove f best → BestBelow net parts part π marked (i + 1) f
   best_take i f best h c through b above =
       let circuit = found_circuit i f h c in
       let is_f = λ (d : List PlaceId) (hd : IsPolicyCircuit net parts part π d) (e : first_transition_of net d ≡ i). same_circuit net parts part π ok kept d f.places.items hd circuit (e ∙ sym c.begins) in
@@ -174,7 +174,7 @@ module _ (net : NetLists) (parts : List ℕ) (part : ℕ) (π : Policy) (marked 
             (cases_lt (first_transition_of net d) i);
       }
 
-  pub best_all : (n : ℕ) (f : Found) → length parts ≤ n → BestBelow net parts part π marked n f → IsBestFound net parts part π marked f
+  pub best_all : (n : ℕ) (f : FoundCircuit) → length parts ≤ n → BestBelow net parts part π marked n f → IsBestFound net parts part π marked f
   best_all n f l b =
       let low = λ (d : List PlaceId) (hd : IsPolicyCircuit net parts part π d). let m = (root_member net parts part π d hd).in_range in let r : first_transition_of net d < n = omega arith in r in
       record {
@@ -203,6 +203,6 @@ module _ (net : NetLists) (parts : List ℕ) (part : ℕ) (π : Policy) (marked 
       let m = (root_member net parts part π t.places t.is).in_range in
       b t.places t.is (t.low, t.any p) (omega arith)
 
-  pub best_stay : (i : ℕ) (f : Found) (best : Option Found) → IsMember parts part i → IsFoundAt net π i f → BestTo net parts part π marked i best → (IsAbove f best → ⊥) → BestTo net parts part π marked (i + 1) best
+  pub best_stay : (i : ℕ) (f : FoundCircuit) (best : Option FoundCircuit) → IsMember parts part i → IsFoundAt net π i f → BestTo net parts part π marked i best → (IsAbove f best → ⊥) → BestTo net parts part π marked (i + 1) best
   best_stay i f None h c b low = absurd (low tt)
   best_stay i f (Some best) h c b low = best_keep i f best h c b low

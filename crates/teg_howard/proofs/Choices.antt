@@ -9,7 +9,7 @@ use Rattle.teg_net.specs.declared.rounds.Round.{Round}
 use Rattle.teg_net.specs.Parts.{IsMember}
 use Rattle.teg_howard.specs.Policies.{Policy}
 use Rattle.teg_howard.specs.Rounds.{choice_in}
-use Rattle.teg_howard.specs.Found.{value_of, held, IsMade}
+use Rattle.teg_howard.specs.FoundCircuits.{value_of, value_or_zero, IsMade}
 
 pub push_some : (cs : List Choice) (c x : Choice) (t : ℕ) → choice_in cs t ≡ Some x → choice_in (cs ++ c ∷ []) t ≡ Some x
 push_some [] c x t e = cc
@@ -28,7 +28,7 @@ push_none (d ∷ cs) c t e =
     (cases_Bool (eqb d.transition.index t))
 
 abbrev pub choice_for : Policy → List (Option ℤ) → ℕ → Choice
-choice_for π vs t = record { transition = record { index = t }; place = π t; value = held (value_of vs t) }
+choice_for π vs t = record { transition = record { index = t }; place = π t; value = value_or_zero (value_of vs t) }
 
 pub record Listed (parts : List ℕ) (part : ℕ) (π : Policy) (vs : List (Option ℤ)) (cs : List Choice) (i : ℕ) : Type 0 where
   pub only : All (λ c. IsMember parts part c.transition.index) cs

@@ -5,10 +5,10 @@ use Rattle.std.proofs.lemmas.Int.{ints}
 use Rattle.teg_net.specs.declared.entries.PlaceId.{PlaceId}
 use Rattle.teg_net.specs.Nets.{NetLists}
 use Rattle.teg_net.specs.declared.rounds.Round.{Round}
-use Rattle.teg_howard.specs.declared.settling.Stand.{Stand}
+use Rattle.teg_howard.specs.declared.settling.RoundState.{RoundState}
 use Rattle.teg_howard.specs.Rounds.{potential}
 use Rattle.teg_net.specs.ReducedTimes.{IsWithin}
-use Rattle.teg_howard.specs.Standing.{Standing, RisesEach, Rises}
+use Rattle.teg_howard.specs.RoundStates.{IsRoundState, RisesEach, Rises}
 use Rattle.teg_howard.proofs.Measure.{level, level_rises, level_bound, height, height_rises, height_bound, remaining, falls_by_ratio, falls_by_sum}
 
 abbrev V : ℕ
@@ -18,10 +18,10 @@ V = 400000000000000000
 pub left_of : Round → ℕ
 left_of r = remaining (400000000000 * 400000 * 400000) (400 * (V + V)) (level 400000 r.ratio.time r.ratio.tokens) (height V (potential r) 400)
 
-potential_within : (net : NetLists) (parts : List ℕ) (part : ℕ) (policy : List PlaceId) (st : Stand) → Standing net parts part policy st → (t : ℕ) → IsWithin V (potential st.round t)
+potential_within : (net : NetLists) (parts : List ℕ) (part : ℕ) (policy : List PlaceId) (st : RoundState) → IsRoundState net parts part policy st → (t : ℕ) → IsWithin V (potential st.round t)
 potential_within net parts part policy st h t = subst (IsWithin V) (sym (h.potential_is t)) (h.within t)
 
-pub falls : (net : NetLists) (parts : List ℕ) (part : ℕ) (policy routed : List PlaceId) (st next : Stand) → Standing net parts part policy st → Standing net parts part routed next → Rises st.round next.round → left_of next.round < left_of st.round
+pub falls : (net : NetLists) (parts : List ℕ) (part : ℕ) (policy routed : List PlaceId) (st next : RoundState) → IsRoundState net parts part policy st → IsRoundState net parts part routed next → Rises st.round next.round → left_of next.round < left_of st.round
 unfolding left_of
 falls net parts part policy routed st next h g up =
     ⊎_elim

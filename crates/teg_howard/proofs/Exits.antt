@@ -8,7 +8,7 @@ use Rattle.teg_net.specs.declared.entries.PlaceId.{PlaceId}
 use Rattle.teg_net.specs.Nets.{NetLists}
 use Rattle.teg_net.specs.Parts.{IsPlaceOfPart, to_of}
 use Rattle.teg_howard.specs.Policies.{first_id}
-use Rattle.teg_howard.specs.Found.{IsMarked}
+use Rattle.teg_howard.specs.FoundCircuits.{IsMarked}
 
 pub IfOk_then : {A E : Type 0} (r : Result A E) {P Q : A → Type 0} → IfOk r P → ((x : A) → P x → Q x) → IfOk r Q
 IfOk_then (Ok x) p f = f x p

@@ -10,7 +10,7 @@ use Rattle.teg_net.specs.Nets.{NetLists}
 use Rattle.teg_net.specs.Ratios.{Fraction}
 use Rattle.teg_net.specs.Parts.{IsPlaceOfPart, to_of}
 use Rattle.teg_howard.specs.Policies.{Policy, Enters, first_id, offer_of, Improves}
-use Rattle.teg_howard.specs.Found.{given, potentials, IsMarked, IsBetter}
+use Rattle.teg_howard.specs.FoundCircuits.{policy_of, potentials, IsMarked, IsBetter}
 use Rattle.teg_howard.proofs.Turns.{same_id}
 
 -- the greatest offer to t so far, which the policy has taken
@@ -25,8 +25,8 @@ pub record Improving (net : NetLists) (parts : List ℕ) (part a b : ℕ) (v : �
   pub count : length ps ≡ length parts
   pub count_gs : length gs ≡ length parts
   pub count_cs : length cs ≡ length parts
-  pub marked : (t : ℕ) → IsMarked cs t → Greatest net parts part a b v t (given ps t) (get_or gs t (pos 0)) i
-  pub same : (t : ℕ) → (IsMarked cs t → ⊥) → given ps t ≡ first t
+  pub marked : (t : ℕ) → IsMarked cs t → Greatest net parts part a b v t (policy_of ps t) (get_or gs t (pos 0)) i
+  pub same : (t : ℕ) → (IsMarked cs t → ⊥) → policy_of ps t ≡ first t
   pub low : (t : ℕ) → (IsMarked cs t → ⊥) → (q : PlaceId) → Enters net parts part t q → q.index < i → offer_of net a b v q ≤ℤ v t
   pub in_range : All (λ p. p.index < length net.places) ps
 
@@ -115,7 +115,7 @@ module _ (net : NetLists) (parts : List ℕ) (part a b : ℕ) (v : ℕ → ℤ) 
       let ps_in : t < length ps = let k = h.count in omega arith in
       let gs_in : t < length gs = let k = h.count_gs in omega arith in
       let cs_in : t < length cs = let k = h.count_cs in omega arith in
-      let p_at : given ps' t ≡ p = get_or-set_same ps t p first_id ps_in in
+      let p_at : policy_of ps' t ≡ p = get_or-set_same ps t p first_id ps_in in
       let g_at : get_or gs' t (pos 0) ≡ new = get_or-set_same gs t new (pos 0) gs_in in
       let c_at : IsMarked cs' t = get_or-set_same cs t true false cs_in in
       -- each earlier offer to t is less than the new one
@@ -149,7 +149,7 @@ module _ (net : NetLists) (parts : List ℕ) (part a b : ℕ) (v : ℕ → ℤ) 
         count_cs = length-set cs t true ∙ h.count_cs;
         marked = λ u m.
             ⊎_elim
-            (λ (q : u ≡ t). subst (λ x. Greatest net parts part a b v x (given ps' x) (get_or gs' x (pos 0)) (i + 1)) (sym q) (rw (p_at, g_at) mine))
+            (λ (q : u ≡ t). subst (λ x. Greatest net parts part a b v x (policy_of ps' x) (get_or gs' x (pos 0)) (i + 1)) (sym q) (rw (p_at, g_at) mine))
             (λ (ne : u ≢ t).
             let g = h.marked u (sym (c_other u ne) ∙ m) in
             let k = g.before in
@@ -171,7 +171,7 @@ module _ (net : NetLists) (parts : List ℕ) (part a b : ℕ) (v : ℕ → ℤ) 
       }
 
 pub improving_start : (net : NetLists) (parts : List ℕ) (part a b : ℕ) (v : ℕ → ℤ) (ps : List PlaceId) (gs : List ℤ) (cs : List Bool) → length ps ≡ length parts → length gs ≡ length parts → length cs ≡ length parts → ((t : ℕ) → get_or cs t false ≡ false) → All (λ p. p.index < length net.places) ps
-    → Improving net parts part a b v (given ps) ps gs cs 0
+    → Improving net parts part a b v (policy_of ps) ps gs cs 0
 improving_start net parts part a b v ps gs cs p g k none in_range = record {
   count = p;
   count_gs = g;
@@ -182,7 +182,7 @@ improving_start net parts part a b v ps gs cs p g k none in_range = record {
   in_range = in_range;
 }
 
-pub improving_all : (net : NetLists) (parts : List ℕ) (part : ℕ) (r : Fraction) (values : List (Option ℤ)) (policy ps : List PlaceId) (gs : List ℤ) (cs : List Bool) (n : ℕ) → length net.places ≤ n → Improving net parts part r.time r.tokens (potentials values) (given policy) ps gs cs n
+pub improving_all : (net : NetLists) (parts : List ℕ) (part : ℕ) (r : Fraction) (values : List (Option ℤ)) (policy ps : List PlaceId) (gs : List ℤ) (cs : List Bool) (n : ℕ) → length net.places ≤ n → Improving net parts part r.time r.tokens (potentials values) (policy_of policy) ps gs cs n
     → IsBetter net parts part r values policy ps cs
 improving_all net parts part r values policy ps gs cs n long h =
     let in_all = λ (t : ℕ) (q : PlaceId) (e : Enters net parts part t q). let k = e.inside.in_range in let l : q.index < n = omega arith in l in
@@ -198,7 +198,7 @@ improving_all net parts part r values policy ps gs cs n long h =
             (λ (m : IsMarked cs t → ⊥). absurd (none t m w.0 w.1))
             (cases_marked cs t);
         kept = λ t k no_one.
-            h.same t (λ m. no_one (given ps t) (h.marked t m).improves);
+            h.same t (λ m. no_one (policy_of ps t) (h.marked t m).improves);
       };
       marks = λ t m. (h.marked t m).improves;
       rest = h.same;

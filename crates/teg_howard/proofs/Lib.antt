@@ -14,7 +14,7 @@ pub mod Values
 pub mod Choices
 pub mod Improving
 pub mod Listing
-pub mod Standing
+pub mod RoundStates
 pub mod Ending
 pub mod Runs
 pub mod Exits

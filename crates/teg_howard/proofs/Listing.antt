@@ -15,8 +15,8 @@ use Rattle.teg_net.specs.PartAnswers.{first_transition_of, transitions_of}
 use Rattle.teg_net.specs.Limits.{most_transitions}
 use Rattle.teg_howard.specs.Rounds.{choice_in, chosen_for, potential, value_in}
 use Rattle.teg_howard.specs.Runs.{sum_below, PairRises, potential_of}
-use Rattle.teg_howard.specs.Found.{ListsChoices}
-use Rattle.teg_howard.specs.Standing.{RisesEach, Rises}
+use Rattle.teg_howard.specs.FoundCircuits.{ListsChoices}
+use Rattle.teg_howard.specs.RoundStates.{RisesEach, Rises}
 
 -- what stands past the end of a list of choices
 abbrev no_choice_at : Choice

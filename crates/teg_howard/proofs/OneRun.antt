@@ -17,7 +17,7 @@ use Rattle.teg_howard.proofs.Turns.{same_id, cases_member, better_is_policy, sti
 use Rattle.teg_howard.proofs.Routing.{all_home}
 use Rattle.teg_howard.proofs.Optimum.{some_token}
 use Rattle.teg_howard.proofs.Listing.{only_members}
-use Rattle.teg_howard.proofs.Standing.{same_functions, best_kind}
+use Rattle.teg_howard.proofs.RoundStates.{same_functions, best_kind}
 use Rattle.teg_howard.proofs.Unique.{one_improvement, leads_agrees, circuit_agrees, one_best, one_routing, one_sums}
 use Rattle.teg_howard.proofs.Lowest_terms.{one_ratio}
 

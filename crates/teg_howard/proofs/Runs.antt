@@ -12,8 +12,8 @@ use Rattle.teg_net.specs.Parts.{IsMember, IsPlaceOfPart, Reaches, to_of}
 use Rattle.teg_howard.specs.Policies.{Enters, IsPolicy, Improves, first_id}
 use Rattle.teg_net.specs.PartAnswers.{first_transition_of}
 use Rattle.teg_howard.specs.Rounds.{IsFirstRound, Follows, IsRunTo, IsPolicyRun, last_of, potential}
-use Rattle.teg_howard.specs.Found.{given, potentials, AreLowest}
-use Rattle.teg_howard.specs.Standing.{Standing, HasCircuit, IsLast, Rises}
+use Rattle.teg_howard.specs.FoundCircuits.{policy_of, potentials, AreLowest}
+use Rattle.teg_howard.specs.RoundStates.{IsRoundState, HasCircuit, IsLast, Rises}
 use Rattle.teg_howard.specs.Runs.{AllRise, IsAnswerOf, KeepsLimits, potential_of}
 use Rattle.std.specs.Prelude.{map}
 use Rattle.std.proofs.lemmas.Int.{ints}
@@ -29,8 +29,8 @@ use Rattle.teg_howard.proofs.Listing.{lists_members, begins_lowest, same_transit
 use Rattle.teg_howard.proofs.Values.{path_inside}
 use Rattle.teg_howard.proofs.Turns.{cases_member}
 use Rattle.teg_howard.proofs.Optimum.{greatest_in_part, no_greater_sum, sum_attained}
-use Rattle.teg_howard.proofs.Standing.{same_functions}
-use Rattle.teg_howard.specs.declared.settling.Stand.{Stand}
+use Rattle.teg_howard.proofs.RoundStates.{same_functions}
+use Rattle.teg_howard.specs.declared.settling.RoundState.{RoundState}
 
 module _ (net : NetLists) (parts : List ℕ) (part : ℕ) where
   pub run_one : (r : Round) → IsFirstRound net parts part r → IsRunTo net parts part ([] ++ r ∷ [])
@@ -97,24 +97,24 @@ module _ (net : NetLists) (parts : List ℕ) (part : ℕ) where
       (λ (ne : length path.0 ≢ 0). last_enters path.0 u t path.1 (path_inside net parts part h.kept h.parts_ path.0 u t mu m path.1) (omega arith))
       (cases_eq (length path.0) 0)
 
-  pub lowest_policy : (ps : List PlaceId) → HasCircuit net parts part → AreLowest net parts part ps → IsPolicy net parts part (given ps)
+  pub lowest_policy : (ps : List PlaceId) → HasCircuit net parts part → AreLowest net parts part ps → IsPolicy net parts part (policy_of ps)
   lowest_policy ps h low t m = let e = entered h t m in (low.lowest t e.0 e.1).enters
 
   pub lowest_in_range : (ps : List PlaceId) → HasCircuit net parts part → AreLowest net parts part ps → All (λ p. p.index < length net.places) ps
   lowest_in_range ps h low k d l =
-      let read : get_or ps k d ≡ given ps k = get_or_default ps k d first_id l in
+      let read : get_or ps k d ≡ policy_of ps k = get_or_default ps k d first_id l in
       rw read
       (⊎_elim
       (λ (m : IsMember parts part k). (lowest_policy ps h low k m).inside.in_range)
       (λ (o : IsMember parts part k → ⊥). let some = h.inner.1.in_range in rw (low.others k (λ p e. o (subst (IsMember parts part) e.ends e.inside.to_member))) (omega arith))
       (cases_member parts part k))
 
-  pub lowest_outside : (ps : List PlaceId) → AreLowest net parts part ps → (t : ℕ) → (IsMember parts part t → ⊥) → given ps t ≡ first_id
+  pub lowest_outside : (ps : List PlaceId) → AreLowest net parts part ps → (t : ℕ) → (IsMember parts part t → ⊥) → policy_of ps t ≡ first_id
   lowest_outside ps low t o = low.others t (λ p e. o (subst (IsMember parts part) e.ends e.inside.to_member))
 
 -- the last round's answer tells the greatest ratio of the part, a circuit that has it, and the greatest sums
 pub last_answers :
-    (net : NetLists) (parts : List ℕ) (part : ℕ) (policy : List PlaceId) (st : Stand) (answer : PartAnswer) → Standing net parts part policy st → IsLast net parts part st.round → IsAnswerOf st.round answer
+    (net : NetLists) (parts : List ℕ) (part : ℕ) (policy : List PlaceId) (st : RoundState) (answer : PartAnswer) → IsRoundState net parts part policy st → IsLast net parts part st.round → IsAnswerOf st.round answer
     → IsPartAnswer net parts part answer
 last_answers net parts part policy st NoCircuit h last is = absurd is
 last_answers net parts part policy st (Best ratio circuit told) h last is =
@@ -139,7 +139,7 @@ last_answers net parts part policy st (Best ratio circuit told) h last is =
       members = subst (ListsMembers parts part) (sym (same_transitions st.round.choices.items)) (lists_members parts part st.round.choices.items h.members);
       sums = told_potentials (IsGreatestSum net parts part a b (first_transition_of net c)) st.round parts part h.members
           (λ t m. rw (h.potential_is t) (record {
-            attained = sum_attained net parts part (given policy) h.is_policy a b (first_transition_of net c) v h.sums t m (h.home t m);
+            attained = sum_attained net parts part (policy_of policy) h.is_policy a b (first_transition_of net c) v h.sums t m (h.home t m);
             greatest = λ ps l i. no_greater_sum net parts part a b v none ps (first_transition_of net c) t h.sums.start l i;
           }));
     } in
@@ -148,7 +148,7 @@ last_answers net parts part policy st (Best ratio circuit told) h last is =
     (subst (λ x. IsBestOfPart net parts part r c x) (sym is.2) best))
 
 -- and keeps the limits
-pub last_keeps : (net : NetLists) (parts : List ℕ) (part : ℕ) (policy : List PlaceId) (st : Stand) (answer : PartAnswer) → Standing net parts part policy st → IsAnswerOf st.round answer → KeepsLimits answer
+pub last_keeps : (net : NetLists) (parts : List ℕ) (part : ℕ) (policy : List PlaceId) (st : RoundState) (answer : PartAnswer) → IsRoundState net parts part policy st → IsAnswerOf st.round answer → KeepsLimits answer
 last_keeps net parts part policy st NoCircuit h is = absurd is
 last_keeps net parts part policy st (Best ratio circuit told) h is =
     let t = h.small.time_in in

@@ -19,7 +19,7 @@ use Rattle.teg_parts.specs.Partitions.{AreStrong}
 use Rattle.teg_net.specs.Parts.{IsMember, IsPlaceOfPart, Reaches, to_of}
 use Rattle.teg_howard.specs.Policies.{Policy, IsPolicy, step_back, LeadsBack, first_id, IsRouted, Joins, JoinsNext, IsRouting, AreSums}
 use Rattle.teg_net.specs.ReducedTimes.{reduced_time, IsWithin}
-use Rattle.teg_howard.specs.Found.{given, held, value_of, IsSmallRatio, IsFollower, IsJoin}
+use Rattle.teg_howard.specs.FoundCircuits.{policy_of, value_or_zero, value_of, IsSmallRatio, IsFollower, IsJoin}
 use Rattle.teg_howard.proofs.Back.{back_add}
 
 abbrev pub step_bound : ℕ
@@ -285,15 +285,15 @@ all_valued net parts part kept strong vs s hs v none t ht =
 
 -- the sums of a list of values are the potentials
 pub valued_sums : (net : NetLists) (parts : List ℕ) (part a b s : ℕ) (π : Policy) (vs : List (Option ℤ)) → Valued net parts part a b s π vs → ((t : ℕ) → IsMember parts part t → value_of vs t ≢ None)
-    → AreSums net parts part a b π s (λ t. held (value_of vs t))
+    → AreSums net parts part a b π s (λ t. value_or_zero (value_of vs t))
 valued_sums net parts part a b s π vs h all = record {
-  start = ap held h.start;
+  start = ap value_or_zero h.start;
   others = λ t i ne.
       ⊎_elim
       (λ (n : value_of vs t ≡ None). absurd (all t i n))
       (λ (w : (z : ℤ) × (value_of vs t ≡ Some z)).
       let e = h.sums t w.0 w.1 ne in
-      ap held w.1 ∙ (e.2 ∙ ap (λ x. reduced_time net a b (π t) +ℤ x) (sym (ap held e.1))))
+      ap value_or_zero w.1 ∙ (e.2 ∙ ap (λ x. reduced_time net a b (π t) +ℤ x) (sym (ap value_or_zero e.1))))
       (cases_option (value_of vs t));
 }
 
@@ -317,11 +317,11 @@ all_within net parts part a b s π vs h l t z e =
     let f = filled_in vs l in
     record { low = omega (arith, ints); high = omega (arith, ints) }
 
-pub held_within : (vs : List (Option ℤ)) (t : ℕ) → ((z : ℤ) → value_of vs t ≡ Some z → IsWithin 400000000000000000 z) → IsWithin 400000000000000000 (held (value_of vs t))
+pub held_within : (vs : List (Option ℤ)) (t : ℕ) → ((z : ℤ) → value_of vs t ≡ Some z → IsWithin 400000000000000000 z) → IsWithin 400000000000000000 (value_or_zero (value_of vs t))
 held_within vs t h =
     ⊎_elim
-    (λ (n : value_of vs t ≡ None). subst (IsWithin 400000000000000000) (sym (ap held n)) (record { low = omega (arith, ints); high = omega (arith, ints) }))
-    (λ (w : (z : ℤ) × (value_of vs t ≡ Some z)). subst (IsWithin 400000000000000000) (sym (ap held w.1)) (h w.0 w.1))
+    (λ (n : value_of vs t ≡ None). subst (IsWithin 400000000000000000) (sym (ap value_or_zero n)) (record { low = omega (arith, ints); high = omega (arith, ints) }))
+    (λ (w : (z : ℤ) × (value_of vs t ≡ Some z)). subst (IsWithin 400000000000000000) (sym (ap value_or_zero w.1)) (h w.0 w.1))
     (cases_option (value_of vs t))
 
 -- only the root has a value
@@ -360,14 +360,14 @@ follow_step net parts part s r π vs t y offered kept small ok h f e o =
 
 pub route_step :
     (net : NetLists) (parts : List ℕ) (part s : ℕ) (r : Fraction) (first : Policy) (joins : List PlaceId) (ps : List PlaceId) (vs : List (Option ℤ)) (i : ℕ) (y offered : ℤ) → IsNet net → IsSmallRatio r → length ps ≡ length parts
-    → Routed net parts part r.time r.tokens s first joins (given ps) vs → IsJoin net parts part vs (record { index = i }) → ((k : ℕ) → k < i → IsJoin net parts part vs (record { index = k }) → ⊥)
+    → Routed net parts part r.time r.tokens s first joins (policy_of ps) vs → IsJoin net parts part vs (record { index = i }) → ((k : ℕ) → k < i → IsJoin net parts part vs (record { index = k }) → ⊥)
     → value_of vs (from_of net (record { index = i })) ≡ Some y → offered ≡ (reduced_time net r.time r.tokens (record { index = i }) +ℤ y)
-    → Routed net parts part r.time r.tokens s first (joins ++ record { index = i } ∷ []) (given (set ps (to_of net (record { index = i })) (record { index = i }))) (set vs (to_of net (record { index = i })) (Some offered))
+    → Routed net parts part r.time r.tokens s first (joins ++ record { index = i } ∷ []) (policy_of (set ps (to_of net (record { index = i })) (record { index = i }))) (set vs (to_of net (record { index = i })) (Some offered))
 route_step net parts part s r first joins ps vs i y offered kept small count h j low e o =
     let p : PlaceId = record { index = i } in
     let t : ℕ = to_of net p in
     let t_in : t < length ps = let m = j.inside.to_member.in_range in omega arith in
-    rw o (routed_more net parts part r.time r.tokens s first joins (given ps) (given (set ps t p)) vs p y h j low e (count_small net r p kept small j.inside.in_range)
+    rw o (routed_more net parts part r.time r.tokens s first joins (policy_of ps) (policy_of (set ps t p)) vs p y h j low e (count_small net r p kept small j.inside.in_range)
     (get_or-set_same ps t p first_id t_in) (λ u ne. get_or-set_other ps t u p first_id ne))
 
 -- the value that a transition with one holds fits

@@ -7,11 +7,11 @@ use Rattle.std.proofs.lemmas.List.Sums.{sum_by-cons}
 use Rattle.teg_net.specs.declared.entries.PlaceId.{PlaceId}
 use Rattle.teg_net.specs.Nets.{NetLists, IsNet, IsPlaceOf}
 use Rattle.teg_net.specs.Circuits.{place_at, no_place, IsCircuit, time_of, tokens_of, from_of}
-use Rattle.teg_howard.specs.declared.policy_circuits.Found.{Found}
+use Rattle.teg_howard.specs.declared.policy_circuits.FoundCircuit.{FoundCircuit}
 use Rattle.teg_net.specs.Parts.{IsMember, to_of}
 use Rattle.teg_howard.specs.Policies.{Policy, IsPolicy, IsPolicyCircuit, step_back}
 use Rattle.teg_net.specs.PartAnswers.{first_transition_of}
-use Rattle.teg_howard.specs.Found.{IsOnPolicy, IsFoundAt, GoesBelow}
+use Rattle.teg_howard.specs.FoundCircuits.{IsOnPolicy, IsFoundAt, GoesBelow}
 use Rattle.teg_howard.proofs.Search.{pigeons}
 use Rattle.teg_howard.proofs.Back.{trail, back_add, back_member, trail_circuit}
 use Rattle.teg_howard.proofs.Turns.{circuit_trail, root_member, no_early}
@@ -134,7 +134,7 @@ found_sums_in m n time tokens a b l k = (omega arith, omega arith)
 
 -- the start has come again: a circuit is found
 pub walked_round :
-    (net : NetLists) (π : Policy) (start m at : ℕ) (backs : List PlaceId) (time tokens : ℕ) (f : Found) → IsNet net → IsOnPolicy net π start
+    (net : NetLists) (π : Policy) (start m at : ℕ) (backs : List PlaceId) (time tokens : ℕ) (f : FoundCircuit) → IsNet net → IsOnPolicy net π start
     → Walked net π start m at backs time tokens → m < length net.transitions → from_of net (π at) ≡ start
     → f.places.items ≡ reverse (backs ++ π at ∷ []) → f.time ≡ time + (place_at net (π at)).hold → f.tokens ≡ tokens + (place_at net (π at)).tokens
     → IsFoundAt net π start f

@@ -2,5 +2,5 @@ pub mod Policies
 pub mod Rounds
 pub mod Runs
 pub mod Laws
-pub mod Found
-pub mod Standing
+pub mod FoundCircuits
+pub mod RoundStates

@@ -3,26 +3,26 @@ ghost use Rattle.std.specs.Prelude.{◌≡◌, IfOk, IfSome, IfNone, map};
 ghost use Rattle.teg_net.specs.PartAnswers.{IsPartAnswer};
 ghost use Rattle.teg_howard.specs.Rounds.{IsFirstRound, IsPolicyRun};
 ghost use Rattle.teg_howard.specs.Runs.{potential_of, IsAnswerOf, IsAnswerOfLast, KeepsLimits, AllRise};
-ghost use Rattle.teg_howard.specs.Found.{AreLowest};
-ghost use Rattle.teg_howard.specs.Standing.{Standing, HasCircuit, GoesOn, IsLast};
+ghost use Rattle.teg_howard.specs.FoundCircuits.{AreLowest};
+ghost use Rattle.teg_howard.specs.RoundStates.{IsRoundState, HasCircuit, GoesOn, IsLast};
 
 use crate::policies::{improve, is_any, lowest_places};
 use crate::policy_circuits::best_circuit;
-use crate::settling::{Stand, settle};
+use crate::settling::{RoundState, settle};
 use std::alloc::{AllocError, Global};
 use teg_net::{Choice, Circuit, Net, PartAnswer, PlaceId, Potential, Ratio, Round};
 
 /// The first round: each member takes its lowest numbered place.
-fn first_stand(
+fn first_state(
     alloc: Global,
     net: &Net,
     parts: &[u32],
     part: u32,
     policy: &mut [PlaceId],
-) -> Result<Stand, AllocError>
+) -> Result<RoundState, AllocError>
     requires circuit { HasCircuit net.now parts.now part }
     requires lowest { AreLowest net.now parts.now part policy.old }
-    ensures standing { IfOk result (λ st. Standing net.now parts.now part policy.new st) }
+    ensures standing { IfOk result (λ st. IsRoundState net.now parts.now part policy.new st) }
     ensures first { IfOk result (λ st. IsFirstRound net.now parts.now part st.round) }
 {
     let everywhere = vec![in alloc; true; parts.len()]?;
@@ -32,26 +32,26 @@ fn first_stand(
 }
 
 /// The round that follows, unless no place improves.
-fn next_stand(
+fn next_state(
     alloc: Global,
     net: &Net,
     parts: &[u32],
     part: u32,
-    stand: &Stand,
+    state: &RoundState,
     policy: &mut [PlaceId],
-) -> Result<Option<Stand>, AllocError>
+) -> Result<Option<RoundState>, AllocError>
     requires circuit { HasCircuit net.now parts.now part }
-    requires standing { Standing net.now parts.now part policy.old stand.now }
-    ensures some { IfOk result (λ o. IfSome o (λ next. GoesOn net.now parts.now part policy.new stand.now next)) }
-    ensures none { IfOk result (λ o. IfNone o (IsLast net.now parts.now part stand.now.round)) }
+    requires standing { IsRoundState net.now parts.now part policy.old state.now }
+    ensures some { IfOk result (λ o. IfSome o (λ next. GoesOn net.now parts.now part policy.new state.now next)) }
+    ensures none { IfOk result (λ o. IfNone o (IsLast net.now parts.now part state.now.round)) }
 {
     let changed = improve(
         alloc,
         net,
         parts,
         part,
-        stand.round.ratio,
-        &stand.values,
+        state.round.ratio,
+        &state.values,
         policy,
     )?;
     if !is_any(&changed) {
@@ -64,8 +64,8 @@ fn next_stand(
             Ok(Some(next))
         }
         None => {
-            let circuit = stand.round.circuit.places.clone()?;
-            let next = settle(alloc, net, parts, part, policy, stand.round.ratio, circuit)?;
+            let circuit = state.round.circuit.places.clone()?;
+            let next = settle(alloc, net, parts, part, policy, state.round.ratio, circuit)?;
             Ok(Some(next))
         }
     }
@@ -112,20 +112,20 @@ pub(crate) fn policy_run(
     ensures rises { IfOk result (λ w. AllRise w.1.items) }
 {
     let mut policy = lowest_places(alloc, net, parts, part)?;
-    let mut stand = first_stand(alloc, net, parts, part, &mut policy)?;
+    let mut state = first_state(alloc, net, parts, part, &mut policy)?;
     let mut rounds = Vec::new(alloc);
-    'rounds: while let Some(next) = next_stand(alloc, net, parts, part, &stand, &mut policy)? {
-        let Stand {
+    'rounds: while let Some(next) = next_state(alloc, net, parts, part, &state, &mut policy)? {
+        let RoundState {
             round,
             values: _values,
-        } = stand;
+        } = state;
         rounds.push(round)?;
-        stand = next;
+        state = next;
     }
-    let Stand {
+    let RoundState {
         round,
         values: _values,
-    } = stand;
+    } = state;
     let answer = answer_of(alloc, &round)?;
     rounds.push(round)?;
     Ok((answer, rounds))

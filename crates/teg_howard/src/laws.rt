@@ -1,7 +1,7 @@
 //! The law of policy runs. It is a function that does nothing when it runs: its contract is the law.
 ghost use Rattle.teg_howard.specs.Laws.{PolicyRunsAreOne};
 
-/// A part of a live net has one policy run only (chapter 3): what two calls tell of it is the same.
+/// A part of a live net has one policy run only: what two calls tell of it is the same.
 pub fn policy_runs_are_one()
     ensures { PolicyRunsAreOne }
 {}

@@ -1,4 +1,4 @@
-//! The greatest ratio of a part of a net, by policy iteration (Howard's algorithm, chapter 3).
+//! The greatest ratio of a part of a net (chapter 3), by policy iteration (Howard's algorithm).
 //!
 //! [`howard`] gives the rounds of the part and the answer of the last: its greatest ratio of
 //! holding time to tokens, a circuit that has it, and potentials. The rounds are a policy run

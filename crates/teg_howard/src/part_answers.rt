@@ -13,8 +13,8 @@ use teg_check::Live;
 use teg_net::{Net, OutOfMemory, PartAnswer, Round};
 use teg_parts::Parts;
 
-/// The greatest ratio of a part that has a circuit, by policy iteration (Howard's algorithm,
-/// chapter 3), and the rounds that led to it.
+/// The greatest ratio of a part that has a circuit (chapter 3), by policy iteration (Howard's
+/// algorithm), and the rounds that led to it.
 ///
 /// The rounds are the policy run of the part: each follows from the one before, no place improves
 /// the last, and in each step the pair of ratio and sum of potentials rises. A part has one policy

@@ -1,6 +1,6 @@
 //! Policies of a part: the first one, and the better one that the potentials give (policy improvement).
 ghost use Rattle.std.specs.Prelude.{◌≡◌, ◌↔◌, ℕ, length, IsTrue, IfOk};
-ghost use Rattle.teg_howard.specs.Found.{AreLowest, IsMarked, CanImprove, IsBetter};
+ghost use Rattle.teg_howard.specs.FoundCircuits.{AreLowest, IsMarked, CanImprove, IsBetter};
 
 use crate::inside::is_inside;
 use crate::settling::offer;

@@ -5,14 +5,14 @@ ghost use Rattle.teg_net.specs.Circuits.{IsLive, AreInRange};
 ghost use Rattle.teg_net.specs.Parts.{to_of};
 ghost use Rattle.teg_howard.specs.Policies.{IsPolicy, IsPolicyCircuit};
 ghost use Rattle.teg_net.specs.declared.entries.PlaceId.{PlaceId};
-ghost use Rattle.teg_howard.specs.Found.{given, IsOnPolicy, IsFoundAt, IsMarked, IsAbove, AreSmall, IsBestFound, GoesBelow};
+ghost use Rattle.teg_howard.specs.FoundCircuits.{policy_of, IsOnPolicy, IsFoundAt, IsMarked, IsAbove, AreSmall, IsBestFound, GoesBelow};
 
 use std::alloc::{AllocError, Global};
 use teg_net::{Net, PlaceId};
 
 /// A circuit of a policy, with its sums.
 #[derive(Debug, Drop)]
-pub(crate) struct Found {
+pub(crate) struct FoundCircuit {
     pub(crate) places: Vec<PlaceId>,
     pub(crate) time: u64,
     pub(crate) tokens: u64,
@@ -25,13 +25,13 @@ fn circuit_through(
     net: &Net,
     policy: &[PlaceId],
     start: usize,
-) -> Result<Option<Found>, AllocError>
+) -> Result<Option<FoundCircuit>, AllocError>
     requires count { length policy.now ≡ length net.now.transitions }
     requires starts { start < length policy.now }
-    requires on_policy { IsOnPolicy net.now (given policy.now) start }
+    requires on_policy { IsOnPolicy net.now (policy_of policy.now) start }
     requires in_range { All (λ p. p.index < length net.now.places) policy.now }
-    ensures some { IfOk result (λ found. IfSome found (λ f. IsFoundAt net.now (given policy.now) start f)) }
-    ensures none { IfOk result (λ found. IfNone found (GoesBelow net.now (given policy.now) start (length policy.now))) }
+    ensures some { IfOk result (λ found. IfSome found (λ f. IsFoundAt net.now (policy_of policy.now) start f)) }
+    ensures none { IfOk result (λ found. IfNone found (GoesBelow net.now (policy_of policy.now) start (length policy.now))) }
 {
     let places = net.places();
     let mut back = Vec::new(alloc);
@@ -47,7 +47,7 @@ fn circuit_through(
         at = place.from.index as usize;
         if at == start {
             back.reverse();
-            return Ok(Some(Found {
+            return Ok(Some(FoundCircuit {
                 places: back,
                 time,
                 tokens,
@@ -76,7 +76,7 @@ fn passes(net: &Net, circuit: &[PlaceId], marked: &[bool]) -> bool
 }
 
 /// Whether the circuit has a greater ratio than the best so far.
-fn is_greater(circuit: &Found, best: &Option<Found>) -> bool
+fn is_greater(circuit: &FoundCircuit, best: &Option<FoundCircuit>) -> bool
     requires small { AreSmall (Some circuit.now) }
     requires best_small { AreSmall best.now }
     ensures { IsTrue result ↔ IsAbove circuit.now best.now }
@@ -96,16 +96,16 @@ pub(crate) fn best_circuit(
     part: u32,
     policy: &[PlaceId],
     marked: &[bool],
-) -> Result<Option<Found>, AllocError>
+) -> Result<Option<FoundCircuit>, AllocError>
     requires kept { IsNet net.now }
     requires live { IsLive net.now }
     requires parts { length parts.now ≡ length net.now.transitions }
     requires count { length policy.now ≡ length parts.now }
     requires count_marked { length marked.now ≡ length parts.now }
-    requires policy { IsPolicy net.now parts.now part (given policy.now) }
+    requires policy { IsPolicy net.now parts.now part (policy_of policy.now) }
     requires in_range { All (λ p. p.index < length net.now.places) policy.now }
-    ensures some { IfOk result (λ found. IfSome found (λ f. IsBestFound net.now parts.now part (given policy.now) marked.now f)) }
-    ensures none { IfOk result (λ found. IfNone found ((d : List PlaceId) → IsPolicyCircuit net.now parts.now part (given policy.now) d → Any (λ p. IsMarked marked.now (to_of net.now p)) d → ⊥)) }
+    ensures some { IfOk result (λ found. IfSome found (λ f. IsBestFound net.now parts.now part (policy_of policy.now) marked.now f)) }
+    ensures none { IfOk result (λ found. IfNone found ((d : List PlaceId) → IsPolicyCircuit net.now parts.now part (policy_of policy.now) d → Any (λ p. IsMarked marked.now (to_of net.now p)) d → ⊥)) }
 {
     let mut best = None;
     for start in 0..parts.len() {

@@ -2,7 +2,7 @@
 ghost use Rattle.std.specs.Prelude.{◌≡◌, ◌≢◌, ◌*◌, ◌<◌, ◌≤◌, ◌+ℤ◌, ◌-ℤ◌, pos, ℕ, ℤ, length, All, IfOk, IfSome, IfNone, None};
 ghost use Rattle.teg_net.specs.Parts.{IsMember};
 ghost use Rattle.teg_net.specs.ReducedTimes.{IsWithin};
-ghost use Rattle.teg_howard.specs.Found.{given, value_of, IsSmallRatio, IsFollower, IsJoin, IsMade, CanSettle, IsSettled};
+ghost use Rattle.teg_howard.specs.FoundCircuits.{policy_of, value_of, IsSmallRatio, IsFollower, IsJoin, IsMade, CanSettle, IsSettled};
 
 use crate::inside::is_inside;
 use std::alloc::{AllocError, Global};
@@ -10,7 +10,7 @@ use teg_net::{Choice, Circuit, Net, Place, PlaceId, Ratio, Round, TransitionId};
 
 /// A round, and the members' potentials by transition.
 #[derive(Debug, Drop)]
-pub(crate) struct Stand {
+pub(crate) struct RoundState {
     pub(crate) round: Round,
     pub(crate) values: Vec<Option<i128>>,
 }
@@ -40,8 +40,8 @@ fn next_follower(
     requires count { length policy.now ≡ length parts.now }
     requires values { length values.now ≡ length parts.now }
     requires in_range { All (λ p. p.index < length net.now.places) policy.now }
-    ensures some { IfSome result (λ t. IsFollower net.now parts.now part (given policy.now) values.now t) }
-    ensures none { IfNone result ((t : ℕ) → IsFollower net.now parts.now part (given policy.now) values.now t → ⊥) }
+    ensures some { IfSome result (λ t. IsFollower net.now parts.now part (policy_of policy.now) values.now t) }
+    ensures none { IfNone result ((t : ℕ) → IsFollower net.now parts.now part (policy_of policy.now) values.now t → ⊥) }
 {
     let places = net.places();
     for member in 0..parts.len() {
@@ -89,7 +89,7 @@ fn round_of(
     requires has { (t : ℕ) → IsMember parts.now part t → value_of values.now t ≢ None }
     ensures ratio { IfOk result (λ round. round.ratio ≡ ratio) }
     ensures circuit { IfOk result (λ round. round.circuit.places.items ≡ circuit.items) }
-    ensures made { IfOk result (λ round. IsMade parts.now part (given policy.now) values.now round) }
+    ensures made { IfOk result (λ round. IsMade parts.now part (policy_of policy.now) values.now round) }
 {
     let mut choices = Vec::new(alloc);
     for member in 0..parts.len() {
@@ -120,9 +120,9 @@ pub(crate) fn settle(
     policy: &mut [PlaceId],
     ratio: Ratio,
     circuit: Vec<PlaceId>,
-) -> Result<Stand, AllocError>
+) -> Result<RoundState, AllocError>
     requires { CanSettle net.now parts.now part policy.old ratio circuit.items }
-    ensures { IfOk result (λ stand. IsSettled net.now parts.now part policy.old policy.new ratio circuit.items stand) }
+    ensures { IfOk result (λ state. IsSettled net.now parts.now part policy.old policy.new ratio circuit.items state) }
 {
     let places = net.places();
     let first = circuit[0];
@@ -144,5 +144,5 @@ pub(crate) fn settle(
         values[member] = Some(offer(ratio, place, value));
     }
     let round = round_of(alloc, parts, part, ratio, circuit, policy, &values)?;
-    Ok(Stand { round, values })
+    Ok(RoundState { round, values })
 }

@@ -1,7 +1,7 @@
-use Rattle.std.proofs.Common.{◌≡◌, ◌≤◌, arith, sym, length, Some}
+use Rattle.std.proofs.Common.{◌≤◌, arith, sym, length, Some}
 use Rattle.teg_calc.specs.Trees.{tree_of}
 use Rattle.teg_calc.specs.Reading.{IsParsed}
-use Rattle.teg_calc.specs.Readers.{state_of, levels_of}
+use Rattle.teg_calc.specs.Readers.{state_of}
 use Rattle.teg_calc.proofs.Accepting.{one_tree}
 use Rattle.teg_calc.proofs.Sizes.{has_few, has_short}
 use Rattle.teg_calc.proofs.Faults.{levels_length, next_run, next_shallow, parsed, told_at, told_at_end, whole_read, whole_shallow}

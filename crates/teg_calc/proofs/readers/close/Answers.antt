@@ -1,4 +1,4 @@
-use Rattle.std.proofs.Common.{◌≡◌, Option, Some, sym, subst}
+use Rattle.std.proofs.Common.{Option, sym, subst}
 use Rattle.teg_calc.specs.Trees.{tree_of}
 use Rattle.teg_calc.specs.Readers.{State, IsReached, level_of}
 use Rattle.teg_calc.proofs.Closing.{close_is}

@@ -1,4 +1,4 @@
-use Rattle.std.proofs.Common.{◌*◌, ◌+◌, ◌^◌, ◌≤◌, arith}
+use Rattle.std.proofs.Common.{arith}
 use Rattle.teg_calc.proofs.Digits.{one_more}
 use Rattle.teg_calc.proofs.readers.shift_on.Goals as goal
 

@@ -1,6 +1,6 @@
 use Rattle.std.proofs.Common.{◌≡◌, ◌∙◌}
 use Rattle.teg_check.proofs.Liveness.{ranking_is_live}
-use Rattle.teg_howard.specs.Standing.{HasCircuit}
+use Rattle.teg_howard.specs.RoundStates.{HasCircuit}
 use Rattle.teg_howard.proofs.part_answers.howard.Goals as goal
 
 pub policy_run-requires : goal.policy_run-requires

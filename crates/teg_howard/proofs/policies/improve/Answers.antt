@@ -10,7 +10,7 @@ use Rattle.teg_net.specs.Circuits.{no_place, place_at, from_of}
 use Rattle.teg_net.specs.Parts.{IsMember, IsPlaceOfPart, to_of}
 use Rattle.teg_net.specs.ReducedTimes.{reduced_time, IsWithin}
 use Rattle.teg_howard.specs.Policies.{offer_of}
-use Rattle.teg_howard.specs.Found.{given, held, value_of, potentials}
+use Rattle.teg_howard.specs.FoundCircuits.{policy_of, value_or_zero, value_of, potentials}
 use Rattle.teg_howard.proofs.Values.{fits_within}
 use Rattle.teg_howard.proofs.Improving.{improving_all, improving_take, improving_keep, improving_skip, bar}
 use Rattle.teg_howard.proofs.policies.improve.Goals.{then-is_inside+then-offered-end, then-index, else-index, then-is_inside+else-offered-end, else-is_inside}
@@ -35,10 +35,10 @@ loop-index-preserved c =
           let both : IsMember parts part (from_of net p) × IsMember parts part (to_of net p) = rw item at (c.is_inside.ensures.0 w.if-is_inside.true) in
           let inside : IsPlaceOfPart net parts part p = record { in_range = in'; from_member = both.0; to_member = both.1 } in
           let start : value_of values (from_of net p) ≡ Some w.unwrap-start.result = rw item at w.unwrap-start.ensures in
-          let within : IsWithin 400000000000000000 w.unwrap-start.result = subst (IsWithin 400000000000000000) (ap held start) (c.requires.within (from_of net p)) in
+          let within : IsWithin 400000000000000000 w.unwrap-start.result = subst (IsWithin 400000000000000000) (ap value_or_zero start) (c.requires.within (from_of net p)) in
           let same : to_z w128 (of_z w128 w.unwrap-start.result) ≡ w.unwrap-start.result = to_z-of_z w128 w.unwrap-start.result (fits_within w.unwrap-start.result within) in
           let made : w.offer-offered.result ≡ (reduced_time net a b p +ℤ w.unwrap-start.result) = rw (item, same) at w.offer-offered.ensures in
-          let offered : w.offer-offered.result ≡ offer_of net a b v p = made ∙ ap (λ x. reduced_time net a b p +ℤ x) (sym (ap held start)) in
+          let offered : w.offer-offered.result ≡ offer_of net a b v p = made ∙ ap (λ x. reduced_time net a b p +ℤ x) (sym (ap value_or_zero start)) in
           let z : ℤ = to_z w128 w.if-index.end-bits in
           let t : ℕ = to_of net p in
           let gs = c.loop-index.greatest.items in
@@ -54,22 +54,22 @@ loop-index-preserved c =
                 (λ m. u.end-is ∙ (to_z-of_z w128 u.index-then-index.result.now fit ∙ value), λ n. absurd (n (sym mark ∙ u.if-index.true)))
             | else-index u ↦
                 let end : value_of values t ≡ Some u.unwrap-end.result = rw item at u.unwrap-end.ensures in
-                let end_within : IsWithin 400000000000000000 u.unwrap-end.result = subst (IsWithin 400000000000000000) (ap held end) (c.requires.within t) in
-                (λ m. let no_mark = u.if-index.false in let f : ⊥ = cc in absurd f, λ n. u.end-is ∙ (to_z-of_z w128 u.unwrap-end.result (fits_within u.unwrap-end.result end_within) ∙ sym (ap held end)))
+                let end_within : IsWithin 400000000000000000 u.unwrap-end.result = subst (IsWithin 400000000000000000) (ap value_or_zero end) (c.requires.within t) in
+                (λ m. let no_mark = u.if-index.false in let f : ⊥ = cc in absurd f, λ n. u.end-is ∙ (to_z-of_z w128 u.unwrap-end.result (fits_within u.unwrap-end.result end_within) ∙ sym (ap value_or_zero end)))
           ] in
           let fits : SFits w128 w.offer-offered.result = search rules in
           let less : z <ℤ w.offer-offered.result = omega (arith, ints, w.if-offered-end.true) in
           let more : z <ℤ offer_of net a b v p = rw (← offered) less in
           rw (w.policy-is, w.greatest-is, w.changed-is, item, to_z-of_z w128 w.offer-offered.result fits, offered)
-          (improving_take net parts part a b v (given c.args.policy.now) c.loop-index.policy gs cs i h p z refl inside at more)
+          (improving_take net parts part a b v (policy_of c.args.policy.now) c.loop-index.policy gs cs i h p z refl inside at more)
       | then-is_inside+else-offered-end w ↦
           let both : IsMember parts part (from_of net p) × IsMember parts part (to_of net p) = rw item at (c.is_inside.ensures.0 w.if-is_inside.true) in
           let inside : IsPlaceOfPart net parts part p = record { in_range = in'; from_member = both.0; to_member = both.1 } in
           let start : value_of values (from_of net p) ≡ Some w.unwrap-start.result = rw item at w.unwrap-start.ensures in
-          let within : IsWithin 400000000000000000 w.unwrap-start.result = subst (IsWithin 400000000000000000) (ap held start) (c.requires.within (from_of net p)) in
+          let within : IsWithin 400000000000000000 w.unwrap-start.result = subst (IsWithin 400000000000000000) (ap value_or_zero start) (c.requires.within (from_of net p)) in
           let same : to_z w128 (of_z w128 w.unwrap-start.result) ≡ w.unwrap-start.result = to_z-of_z w128 w.unwrap-start.result (fits_within w.unwrap-start.result within) in
           let made : w.offer-offered.result ≡ (reduced_time net a b p +ℤ w.unwrap-start.result) = rw (item, same) at w.offer-offered.ensures in
-          let offered : w.offer-offered.result ≡ offer_of net a b v p = made ∙ ap (λ x. reduced_time net a b p +ℤ x) (sym (ap held start)) in
+          let offered : w.offer-offered.result ≡ offer_of net a b v p = made ∙ ap (λ x. reduced_time net a b p +ℤ x) (sym (ap value_or_zero start)) in
           let z : ℤ = to_z w128 w.if-index.end-bits in
           let t : ℕ = to_of net p in
           let gs = c.loop-index.greatest.items in
@@ -85,14 +85,14 @@ loop-index-preserved c =
                 (λ m. u.end-is ∙ (to_z-of_z w128 u.index-then-index.result.now fit ∙ value), λ n. absurd (n (sym mark ∙ u.if-index.true)))
             | else-index u ↦
                 let end : value_of values t ≡ Some u.unwrap-end.result = rw item at u.unwrap-end.ensures in
-                let end_within : IsWithin 400000000000000000 u.unwrap-end.result = subst (IsWithin 400000000000000000) (ap held end) (c.requires.within t) in
-                (λ m. let no_mark = u.if-index.false in let f : ⊥ = cc in absurd f, λ n. u.end-is ∙ (to_z-of_z w128 u.unwrap-end.result (fits_within u.unwrap-end.result end_within) ∙ sym (ap held end)))
+                let end_within : IsWithin 400000000000000000 u.unwrap-end.result = subst (IsWithin 400000000000000000) (ap value_or_zero end) (c.requires.within t) in
+                (λ m. let no_mark = u.if-index.false in let f : ⊥ = cc in absurd f, λ n. u.end-is ∙ (to_z-of_z w128 u.unwrap-end.result (fits_within u.unwrap-end.result end_within) ∙ sym (ap value_or_zero end)))
           ] in
           let fits : SFits w128 w.offer-offered.result = search rules in
           let less : w.offer-offered.result ≤ℤ z = omega (arith, ints, w.if-offered-end.false) in
           let low : offer_of net a b v p ≤ℤ z = rw (← offered) less in
-          rw (w.policy-is, w.greatest-is, w.changed-is) (improving_keep net parts part a b v (given c.args.policy.now) c.loop-index.policy gs cs i h p z refl at low)
-      | else-is_inside w ↦ rw (w.policy-is, w.greatest-is, w.changed-is) (improving_skip net parts part a b v (given c.args.policy.now) c.loop-index.policy c.loop-index.greatest.items c.loop-index.changed.items i h p refl (λ k. iff_false c.is_inside.ensures w.if-is_inside.false (rw item (k.from_member, k.to_member))))
+          rw (w.policy-is, w.greatest-is, w.changed-is) (improving_keep net parts part a b v (policy_of c.args.policy.now) c.loop-index.policy gs cs i h p z refl at low)
+      | else-is_inside w ↦ rw (w.policy-is, w.greatest-is, w.changed-is) (improving_skip net parts part a b v (policy_of c.args.policy.now) c.loop-index.policy c.loop-index.greatest.items c.loop-index.changed.items i h p refl (λ k. iff_false c.is_inside.ensures w.if-is_inside.false (rw item (k.from_member, k.to_member))))
     ]
 
 pub returns : goal.returns

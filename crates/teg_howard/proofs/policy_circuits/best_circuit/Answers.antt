@@ -2,10 +2,10 @@ use Rattle.std.proofs.Common.{ℕ, List, Option, Some, None, ◌≡◌, ◌≤�
 use Rattle.std.specs.Prelude.{IfSome, IfNone}
 use Rattle.teg_net.specs.declared.entries.PlaceId.{PlaceId}
 use Rattle.std.proofs.lemmas.Bool.{iff_false}
-use Rattle.teg_howard.specs.declared.policy_circuits.Found.{Found}
+use Rattle.teg_howard.specs.declared.policy_circuits.FoundCircuit.{FoundCircuit}
 use Rattle.teg_net.specs.Parts.{IsMember}
 use Rattle.teg_howard.specs.Policies.{IsPolicy, IsPolicyCircuit, Policy}
-use Rattle.teg_howard.specs.Found.{given, IsFoundAt, IsBestFound}
+use Rattle.teg_howard.specs.FoundCircuits.{policy_of, IsFoundAt, IsBestFound}
 use Rattle.teg_net.specs.Nets.{NetLists, IsNet}
 use Rattle.teg_net.specs.Circuits.{IsLive}
 use Rattle.teg_howard.proofs.Best.{Passes, BestTo, best_skip, skip_outside, skip_none, skip_other, best_stay, best_take, best_all, none_all, found_circuit}
@@ -17,7 +17,7 @@ loop-start-preserved c =
     let net = c.args.net.now in
     let parts = c.args.parts.now in
     let part = c.args.part in
-    let π = given c.args.policy.now in
+    let π = policy_of c.args.policy.now in
     let marked = c.args.marked.now in
     let i = c.loop-start.start in
     let r = c.requires in
@@ -57,11 +57,11 @@ passes-requires-clause-in_range c =
     let net = c.args.net.now in
     let member : IsMember c.args.parts.now c.args.part c.loop-start.start = record { in_range = c.loop-start-test.true; here = c.if-parts-start.true } in
     let r = c.requires in
-    let found : IsFoundAt net (given c.args.policy.now) c.loop-start.start c.in-Some.circuit = rw c.in-Some.is at c.in_ok-circuit.ensures.some in
+    let found : IsFoundAt net (policy_of c.args.policy.now) c.loop-start.start c.in-Some.circuit = rw c.in-Some.is at c.in_ok-circuit.ensures.some in
     rw c.deref.ensures.value
-    (λ k d l. ((found_circuit net c.args.parts.now c.args.part (given c.args.policy.now) c.args.marked.now r.policy r.kept r.live r.parts c.loop-start.start c.in-Some.circuit member found).inside k d l).in_range)
+    (λ k d l. ((found_circuit net c.args.parts.now c.args.part (policy_of c.args.policy.now) c.args.marked.now r.policy r.kept r.live r.parts c.loop-start.start c.in-Some.circuit member found).inside k d l).in_range)
 
-best_some : (net : NetLists) (parts : List ℕ) (part : ℕ) (π : Policy) (marked : List Bool) (ok : IsPolicy net parts part π) (kept : IsNet net) (live : IsLive net) (count : length parts ≡ length net.transitions) (n : ℕ) (best : Option Found)
+best_some : (net : NetLists) (parts : List ℕ) (part : ℕ) (π : Policy) (marked : List Bool) (ok : IsPolicy net parts part π) (kept : IsNet net) (live : IsLive net) (count : length parts ≡ length net.transitions) (n : ℕ) (best : Option FoundCircuit)
     → length parts ≤ n → BestTo net parts part π marked n best → IfSome best (λ f. IsBestFound net parts part π marked f)
 best_some net parts part π marked ok kept live count n None l b = tt
 best_some net parts part π marked ok kept live count n (Some f) l b = best_all net parts part π marked ok kept live count n f l b
@@ -69,9 +69,9 @@ best_some net parts part π marked ok kept live count n (Some f) l b = best_all 
 pub returns-clause-some : goal.returns-clause-some
 returns-clause-some c =
     let r = c.requires in
-    best_some c.args.net.now c.args.parts.now c.args.part (given c.args.policy.now) c.args.marked.now r.policy r.kept r.live r.parts c.loop-start.start c.loop-start.best (omega arith) c.loop-start.invariant
+    best_some c.args.net.now c.args.parts.now c.args.part (policy_of c.args.policy.now) c.args.marked.now r.policy r.kept r.live r.parts c.loop-start.start c.loop-start.best (omega arith) c.loop-start.invariant
 
-best_none : (net : NetLists) (parts : List ℕ) (part : ℕ) (π : Policy) (marked : List Bool) (ok : IsPolicy net parts part π) (kept : IsNet net) (live : IsLive net) (count : length parts ≡ length net.transitions) (n : ℕ) (best : Option Found)
+best_none : (net : NetLists) (parts : List ℕ) (part : ℕ) (π : Policy) (marked : List Bool) (ok : IsPolicy net parts part π) (kept : IsNet net) (live : IsLive net) (count : length parts ≡ length net.transitions) (n : ℕ) (best : Option FoundCircuit)
     → length parts ≤ n → BestTo net parts part π marked n best → IfNone best ((d : List PlaceId) → IsPolicyCircuit net parts part π d → Passes net marked d → ⊥)
 best_none net parts part π marked ok kept live count n None l b = none_all net parts part π marked ok kept live count n l b
 best_none net parts part π marked ok kept live count n (Some f) l b = tt
@@ -79,4 +79,4 @@ best_none net parts part π marked ok kept live count n (Some f) l b = tt
 pub returns-clause-none : goal.returns-clause-none
 returns-clause-none c =
     let r = c.requires in
-    best_none c.args.net.now c.args.parts.now c.args.part (given c.args.policy.now) c.args.marked.now r.policy r.kept r.live r.parts c.loop-start.start c.loop-start.best (omega arith) c.loop-start.invariant
+    best_none c.args.net.now c.args.parts.now c.args.part (policy_of c.args.policy.now) c.args.marked.now r.policy r.kept r.live r.parts c.loop-start.start c.loop-start.best (omega arith) c.loop-start.invariant

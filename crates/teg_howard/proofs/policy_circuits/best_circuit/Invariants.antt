@@ -1,6 +1,6 @@
-use Rattle.teg_howard.specs.Found.{given}
+use Rattle.teg_howard.specs.FoundCircuits.{policy_of}
 use Rattle.teg_howard.proofs.Best.{BestTo}
 use Rattle.teg_howard.proofs.policy_circuits.best_circuit.Given as goal
 
 abbrev pub invariant-loop-start : goal.invariant-loop-start
-invariant-loop-start l = BestTo l.net l.parts l.part (given l.policy) l.marked l.start l.best
+invariant-loop-start l = BestTo l.net l.parts l.part (policy_of l.policy) l.marked l.start l.best

@@ -1,5 +1,5 @@
 use Rattle.std.proofs.Common.{ℕ, ◌<◌}
-use Rattle.teg_howard.specs.Found.{IsJoin}
+use Rattle.teg_howard.specs.FoundCircuits.{IsJoin}
 use Rattle.teg_howard.proofs.settling.next_join.Given as goal
 
 abbrev pub invariant-loop-index : goal.invariant-loop-index

@@ -13,7 +13,7 @@ use Rattle.teg_net.specs.Parts.{to_of}
 use Rattle.teg_net.specs.PartAnswers.{first_transition_of}
 use Rattle.teg_howard.specs.Policies.{first_id}
 use Rattle.teg_net.specs.ReducedTimes.{reduced_time}
-use Rattle.teg_howard.specs.Found.{given, value_of, IsFollower}
+use Rattle.teg_howard.specs.FoundCircuits.{policy_of, value_of, IsFollower}
 use Rattle.teg_howard.proofs.Values.{followed_start, follow_step, route_step, held_fits, all_within, held_within, routed_none, all_valued, valued_sums, routed_routing, some_apart, only_members}
 use Rattle.teg_howard.proofs.Turns.{root_member}
 use Rattle.teg_howard.proofs.settling.settle.Goals as goal
@@ -41,13 +41,13 @@ follow-init c =
     let long : length vs ≡ length c.args.parts.now = omega (arith, c.in_ok-values.ensures.len, ok.0) in
     let read = get_or_default net.places (get_or circuit 0 first_id).index c.index-places-first.result no_place (r.circuit.inside 0 first_id r.circuit.circuit.not_empty).in_range in
     rw (c.places-places.ensures.value, first, read)
-    (followed_start net c.args.parts.now c.args.part c.args.ratio.time c.args.ratio.tokens (first_transition_of net circuit) (given c.args.policy.now) vs (root_member net c.args.parts.now c.args.part (given c.args.policy.now) circuit r.circuit) long none)
+    (followed_start net c.args.parts.now c.args.part c.args.ratio.time c.args.ratio.tokens (first_transition_of net circuit) (policy_of c.args.policy.now) vs (root_member net c.args.parts.now c.args.part (policy_of c.args.policy.now) circuit r.circuit) long none)
 
 pub follow-preserved : goal.follow-preserved
 follow-preserved c =
     let net = c.args.net.now in
     let r = c.requires in
-    let π = given c.args.policy.now in
+    let π = policy_of c.args.policy.now in
     let vs = c.follow.values.items in
     let t = c.in-Some.member in
     let h = c.follow.invariant in
@@ -69,7 +69,7 @@ pub offer-requires-clause-within : goal.offer-requires-clause-within
 offer-requires-clause-within c =
     let net = c.args.net.now in
     let r = c.requires in
-    let π = given c.args.policy.now in
+    let π = policy_of c.args.policy.now in
     let vs = c.follow.values.items in
     let t = c.in-Some.member in
     let h = c.follow.invariant in
@@ -89,7 +89,7 @@ route-init c =
     let r = c.requires in
     record {
       in_range = r.in_range;
-      routed = ([], routed_none c.args.net.now c.args.parts.now c.args.part c.args.ratio.time c.args.ratio.tokens (first_transition_of c.args.net.now c.args.circuit.items) (given c.args.policy.now) r.is_policy c.follow.values.items c.follow.invariant (rw c.deref.ensures.value at c.in_default.ensures.none));
+      routed = ([], routed_none c.args.net.now c.args.parts.now c.args.part c.args.ratio.time c.args.ratio.tokens (first_transition_of c.args.net.now c.args.circuit.items) (policy_of c.args.policy.now) r.is_policy c.follow.values.items c.follow.invariant (rw c.deref.ensures.value at c.in_default.ensures.none));
     }
 
 pub offer-requires-in-Some-next_join-clause-within : goal.offer-requires-in-Some-next_join-clause-within
@@ -106,7 +106,7 @@ offer-requires-in-Some-next_join-clause-within c =
     let from_in : from_of net p < length vs = let m = j.0.inside.from_member.in_range in let k = h.valued.count in omega arith in
     let read : c.index-in-Some-next_join.result.now ≡ value_of vs (from_of net p) = get_or_read vs (from_of net p) c.index-in-Some-next_join.result.now from_in (rw item at c.index-in-Some-next_join.ensures) None in
     let e : value_of vs (from_of net p) ≡ Some c.unwrap-value-in-Some-next_join.result = sym read ∙ c.unwrap-value-in-Some-next_join.ensures in
-    let fit = held_fits net c.args.parts.now c.args.part c.args.ratio.time c.args.ratio.tokens (first_transition_of net c.args.circuit.items) (given c.route.policy) vs h.valued (omega (arith, r.parts_.count)) (from_of net p) c.unwrap-value-in-Some-next_join.result e in
+    let fit = held_fits net c.args.parts.now c.args.part c.args.ratio.time c.args.ratio.tokens (first_transition_of net c.args.circuit.items) (policy_of c.route.policy) vs h.valued (omega (arith, r.parts_.count)) (from_of net p) c.unwrap-value-in-Some-next_join.result e in
     rw fit.1 fit.0
 
 pub route-preserved : goal.route-preserved
@@ -125,7 +125,7 @@ route-preserved c =
     let from_in : from_of net p < length vs = let m = j.0.inside.from_member.in_range in let k = h.valued.count in omega arith in
     let read : c.index-in-Some-next_join.result.now ≡ value_of vs (from_of net p) = get_or_read vs (from_of net p) c.index-in-Some-next_join.result.now from_in (rw item at c.index-in-Some-next_join.ensures) None in
     let e : value_of vs (from_of net p) ≡ Some c.unwrap-value-in-Some-next_join.result = sym read ∙ c.unwrap-value-in-Some-next_join.ensures in
-    let fit = held_fits net c.args.parts.now c.args.part c.args.ratio.time c.args.ratio.tokens (first_transition_of net c.args.circuit.items) (given c.route.policy) vs h.valued (omega (arith, r.parts_.count)) (from_of net p) c.unwrap-value-in-Some-next_join.result e in
+    let fit = held_fits net c.args.parts.now c.args.part c.args.ratio.time c.args.ratio.tokens (first_transition_of net c.args.circuit.items) (policy_of c.route.policy) vs h.valued (omega (arith, r.parts_.count)) (from_of net p) c.unwrap-value-in-Some-next_join.result e in
     let offered = c.offer-in-Some-next_join.result in
     let fits : SFits w128 offered = search rules in
     let same = to_z-of_z w128 offered fits in
@@ -134,7 +134,7 @@ route-preserved c =
     rw (item, same)
     (record {
       in_range = All-set (λ q. q.index < length net.places) c.route.policy (to_of net p) p j.0.inside.in_range c.route.invariant.in_range;
-      routed = (joins ++ p ∷ [], route_step net c.args.parts.now c.args.part (first_transition_of net c.args.circuit.items) c.args.ratio (given c.args.policy.now) joins c.route.policy vs i c.unwrap-value-in-Some-next_join.result offered r.kept r.small count h j.0 j.1 e o);
+      routed = (joins ++ p ∷ [], route_step net c.args.parts.now c.args.part (first_transition_of net c.args.circuit.items) c.args.ratio (policy_of c.args.policy.now) joins c.route.policy vs i c.unwrap-value-in-Some-next_join.result offered r.kept r.small count h j.0 j.1 e o);
     })
 
 pub round_of-requires-clause-has : goal.round_of-requires-clause-has
@@ -144,7 +144,7 @@ round_of-requires-clause-has c =
     let h = c.route.invariant.routed.1 in
     let root = first_transition_of net c.args.circuit.items in
     rw c.deref-2.ensures.value
-    (all_valued net c.args.parts.now c.args.part r.kept r.parts_ c.route.values.items root (root_member net c.args.parts.now c.args.part (given c.args.policy.now) c.args.circuit.items r.circuit) (some_apart _ _ h.valued.start)
+    (all_valued net c.args.parts.now c.args.part r.kept r.parts_ c.route.values.items root (root_member net c.args.parts.now c.args.part (policy_of c.args.policy.now) c.args.circuit.items r.circuit) (some_apart _ _ h.valued.start)
     (rw c.deref-in-route.ensures.value at c.in_default-next_join.ensures.none))
 
 pub returns : goal.returns
@@ -154,19 +154,19 @@ returns c =
     let h = c.route.invariant.routed.1 in
     let vs = c.route.values.items in
     let root = first_transition_of net c.args.circuit.items in
-    let all = all_valued net c.args.parts.now c.args.part r.kept r.parts_ vs root (root_member net c.args.parts.now c.args.part (given c.args.policy.now) c.args.circuit.items r.circuit) (some_apart _ _ h.valued.start) (rw c.deref-in-route.ensures.value at c.in_default-next_join.ensures.none) in
+    let all = all_valued net c.args.parts.now c.args.part r.kept r.parts_ vs root (root_member net c.args.parts.now c.args.part (policy_of c.args.policy.now) c.args.circuit.items r.circuit) (some_apart _ _ h.valued.start) (rw c.deref-in-route.ensures.value at c.in_default-next_join.ensures.none) in
     let few = r.kept.few_transitions in
     let short : length vs ≤ 400 = omega (arith, h.valued.count, r.parts_.count) in
     record {
       ratio = c.in_ok-round.ensures.ratio;
       circuit = c.in_ok-round.ensures.circuit;
-      routing = (c.route.invariant.routed.0, routed_routing net c.args.parts.now c.args.part c.args.ratio.time c.args.ratio.tokens root (given c.args.policy.now) c.route.invariant.routed.0 (given c.route.policy) vs h all);
-      sums = valued_sums net c.args.parts.now c.args.part c.args.ratio.time c.args.ratio.tokens root (given c.route.policy) vs h.valued all;
+      routing = (c.route.invariant.routed.0, routed_routing net c.args.parts.now c.args.part c.args.ratio.time c.args.ratio.tokens root (policy_of c.args.policy.now) c.route.invariant.routed.0 (policy_of c.route.policy) vs h all);
+      sums = valued_sums net c.args.parts.now c.args.part c.args.ratio.time c.args.ratio.tokens root (policy_of c.route.policy) vs h.valued all;
       made = rw c.deref-2.ensures.value at c.in_ok-round.ensures.made;
       outside = λ t out. h.outside t out;
       in_range = c.route.invariant.in_range;
       count = h.valued.count;
       has = all;
-      only = λ t out. only_members net c.args.parts.now c.args.part c.args.ratio.time c.args.ratio.tokens root (given c.route.policy) vs h.valued t out;
-      within = λ t. held_within vs t (λ z e. all_within net c.args.parts.now c.args.part c.args.ratio.time c.args.ratio.tokens root (given c.route.policy) vs h.valued short t z e);
+      only = λ t out. only_members net c.args.parts.now c.args.part c.args.ratio.time c.args.ratio.tokens root (policy_of c.route.policy) vs h.valued t out;
+      within = λ t. held_within vs t (λ z e. all_within net c.args.parts.now c.args.part c.args.ratio.time c.args.ratio.tokens root (policy_of c.route.policy) vs h.valued short t z e);
     }

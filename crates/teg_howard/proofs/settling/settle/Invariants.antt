@@ -2,12 +2,12 @@ use Rattle.std.proofs.Common.{List, ◌<◌, length, count_by, is_none}
 use Rattle.std.specs.Prelude.{All}
 use Rattle.teg_net.specs.declared.entries.PlaceId.{PlaceId}
 use Rattle.teg_net.specs.PartAnswers.{first_transition_of}
-use Rattle.teg_howard.specs.Found.{given}
+use Rattle.teg_howard.specs.FoundCircuits.{policy_of}
 use Rattle.teg_howard.proofs.Values.{Followed, Routed}
 use Rattle.teg_howard.proofs.settling.settle.Given as goal
 
 abbrev pub invariant-follow : goal.invariant-follow
-invariant-follow l = Followed l.net l.parts l.part l.ratio.time l.ratio.tokens (first_transition_of l.net l.circuit.items) (given l.policy) l.values.items
+invariant-follow l = Followed l.net l.parts l.part l.ratio.time l.ratio.tokens (first_transition_of l.net l.circuit.items) (policy_of l.policy) l.values.items
 
 abbrev pub decreases-follow : goal.decreases-follow
 decreases-follow l = count_by is_none l.values.items
@@ -15,7 +15,7 @@ decreases-follow l = count_by is_none l.values.items
 abbrev pub invariant-route : goal.invariant-route
 invariant-route l = record {
   in_range : All (λ p. p.index < length l.net.places) l.policy;
-  routed : (joins : List PlaceId) × Routed l.net l.parts l.part l.ratio.time l.ratio.tokens (first_transition_of l.net l.circuit.items) (given l.fn.policy) joins (given l.policy) l.values.items;
+  routed : (joins : List PlaceId) × Routed l.net l.parts l.part l.ratio.time l.ratio.tokens (first_transition_of l.net l.circuit.items) (policy_of l.fn.policy) joins (policy_of l.policy) l.values.items;
 }
 
 abbrev pub decreases-route : goal.decreases-route

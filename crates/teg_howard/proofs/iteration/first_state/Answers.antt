@@ -2,12 +2,12 @@ use Rattle.std.proofs.Common.{true, ◌≡◌, length, ◌∙◌, rules}
 use lib.ListN.{replicate}
 use Rattle.teg_net.specs.Parts.{to_of}
 use Rattle.teg_howard.specs.Policies.{step_back}
-use Rattle.teg_howard.specs.Found.{given, IsBestFound}
+use Rattle.teg_howard.specs.FoundCircuits.{policy_of, IsBestFound}
 use Rattle.teg_howard.proofs.Exits.{IfOk_then, some_by, all_marked, any_marked}
 use Rattle.teg_howard.proofs.Back.{to_a_circuit, trail}
 use Rattle.teg_howard.proofs.Runs.{lowest_policy, lowest_in_range, lowest_outside, entered}
-use Rattle.teg_howard.proofs.Standing.{can_settle, settled_stands, first_stands}
-use Rattle.teg_howard.proofs.iteration.first_stand.Goals as goal
+use Rattle.teg_howard.proofs.RoundStates.{can_settle, settled_stands, first_stands}
+use Rattle.teg_howard.proofs.iteration.first_state.Goals as goal
 
 pub best_circuit-requires-clause-policy : goal.best_circuit-requires-clause-policy
 best_circuit-requires-clause-policy c = lowest_policy c.args.net.now c.args.parts.now c.args.part c.args.policy.now c.requires.circuit c.requires.lowest
@@ -20,7 +20,7 @@ unwrap-found-requires c =
     let net = c.args.net.now in
     let parts = c.args.parts.now in
     let part = c.args.part in
-    let π = given c.args.policy.now in
+    let π = policy_of c.args.policy.now in
     let ok = lowest_policy net parts part c.args.policy.now c.requires.circuit c.requires.lowest in
     let inner = c.requires.circuit.inner in
     let way = to_a_circuit net parts part π ok (to_of net inner.0) inner.1.to_member in
@@ -35,7 +35,7 @@ settle-requires c =
     let parts = c.args.parts.now in
     let part = c.args.part in
     let ps = c.args.policy.now in
-    let best : IsBestFound net parts part (given ps) c.deref.result.now c.unwrap-found.result = rw c.unwrap-found.ensures at c.in_ok-best_circuit.ensures.some in
+    let best : IsBestFound net parts part (policy_of ps) c.deref.result.now c.unwrap-found.result = rw c.unwrap-found.ensures at c.in_ok-best_circuit.ensures.some in
     let e = c.of-ratio.ensures in
     can_settle net parts part ps c.of-ratio.result c.unwrap-found.result c.deref.result.now c.requires.circuit c.requires.lowest.count (lowest_policy net parts part ps c.requires.circuit c.requires.lowest) (lowest_in_range net parts part ps c.requires.circuit c.requires.lowest) best e.ratio e.time e.tokens
 
@@ -45,7 +45,7 @@ returns-clause-standing c =
     let parts = c.args.parts.now in
     let part = c.args.part in
     let ps = c.args.policy.now in
-    let best : IsBestFound net parts part (given ps) c.deref.result.now c.unwrap-found.result = rw c.unwrap-found.ensures at c.in_ok-best_circuit.ensures.some in
+    let best : IsBestFound net parts part (policy_of ps) c.deref.result.now c.unwrap-found.result = rw c.unwrap-found.ensures at c.in_ok-best_circuit.ensures.some in
     let e = c.of-ratio.ensures in
     let can = can_settle net parts part ps c.of-ratio.result c.unwrap-found.result c.deref.result.now c.requires.circuit c.requires.lowest.count (lowest_policy net parts part ps c.requires.circuit c.requires.lowest) (lowest_in_range net parts part ps c.requires.circuit c.requires.lowest) best e.ratio e.time e.tokens in
     IfOk_then c.settle.result c.settle.ensures (λ st h.
@@ -57,7 +57,7 @@ returns-clause-first c =
     let parts = c.args.parts.now in
     let part = c.args.part in
     let ps = c.args.policy.now in
-    let best : IsBestFound net parts part (given ps) c.deref.result.now c.unwrap-found.result = rw c.unwrap-found.ensures at c.in_ok-best_circuit.ensures.some in
+    let best : IsBestFound net parts part (policy_of ps) c.deref.result.now c.unwrap-found.result = rw c.unwrap-found.ensures at c.in_ok-best_circuit.ensures.some in
     let e = c.of-ratio.ensures in
     let can = can_settle net parts part ps c.of-ratio.result c.unwrap-found.result c.deref.result.now c.requires.circuit c.requires.lowest.count (lowest_policy net parts part ps c.requires.circuit c.requires.lowest) (lowest_in_range net parts part ps c.requires.circuit c.requires.lowest) best e.ratio e.time e.tokens in
     let filled : c.in_ok-everywhere.everywhere.items ≡ replicate (length parts) true = c.in_ok-everywhere.ensures.items_if_clones_equal (search rules) in

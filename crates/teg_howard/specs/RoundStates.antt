@@ -4,7 +4,7 @@ use Rattle.teg_net.specs.declared.entries.PlaceId.{PlaceId}
 use Rattle.teg_net.specs.Nets.{NetLists, IsNet}
 use Rattle.teg_net.specs.Circuits.{IsLive, time_of, tokens_of, from_of}
 use Rattle.teg_net.specs.declared.rounds.Round.{Round}
-use Rattle.teg_howard.specs.declared.settling.Stand.{Stand}
+use Rattle.teg_howard.specs.declared.settling.RoundState.{RoundState}
 use Rattle.teg_parts.specs.Partitions.{AreStrong}
 use Rattle.teg_net.specs.Parts.{IsMember, IsPlaceOfPart}
 use Rattle.teg_howard.specs.Policies.{IsPolicy, IsPolicyCircuit, LeadsBack, AreSums, Improves, first_id}
@@ -12,26 +12,26 @@ use Rattle.teg_net.specs.ReducedTimes.{IsWithin}
 use Rattle.teg_net.specs.PartAnswers.{first_transition_of}
 use Rattle.teg_howard.specs.Rounds.{chosen, potential, Follows}
 use Rattle.teg_net.specs.Ratios.{IsRatioOf}
-use Rattle.teg_howard.specs.Found.{given, potentials, value_of, held, IsSmallRatio, ListsChoices}
+use Rattle.teg_howard.specs.FoundCircuits.{policy_of, potentials, value_of, value_or_zero, IsSmallRatio, ListsChoices}
 
 -- a round stands on the policy that the list gives
-pub record Standing (net : NetLists) (parts : List ℕ) (part : ℕ) (policy : List PlaceId) (st : Stand) : Type 0 where
+pub record IsRoundState (net : NetLists) (parts : List ℕ) (part : ℕ) (policy : List PlaceId) (st : RoundState) : Type 0 where
   pub members : ListsChoices parts part st.round.choices.items
-  pub chosen_is : (t : ℕ) → chosen st.round t ≡ given policy t
+  pub chosen_is : (t : ℕ) → chosen st.round t ≡ policy_of policy t
   pub potential_is : (t : ℕ) → potential st.round t ≡ potentials st.values.items t
-  pub is_policy : IsPolicy net parts part (given policy)
-  pub circuit : IsPolicyCircuit net parts part (given policy) st.round.circuit.places.items
+  pub is_policy : IsPolicy net parts part (policy_of policy)
+  pub circuit : IsPolicyCircuit net parts part (policy_of policy) st.round.circuit.places.items
   pub lowest_first : All (λ p. first_transition_of net st.round.circuit.places.items ≤ from_of net p) st.round.circuit.places.items
   pub ratio : IsRatioOf (time_of net st.round.circuit.places.items) (tokens_of net st.round.circuit.places.items) st.round.ratio
-  pub sums : AreSums net parts part st.round.ratio.time st.round.ratio.tokens (given policy) (first_transition_of net st.round.circuit.places.items) (potentials st.values.items)
-  pub home : (t : ℕ) → IsMember parts part t → LeadsBack net (given policy) t (first_transition_of net st.round.circuit.places.items)
+  pub sums : AreSums net parts part st.round.ratio.time st.round.ratio.tokens (policy_of policy) (first_transition_of net st.round.circuit.places.items) (potentials st.values.items)
+  pub home : (t : ℕ) → IsMember parts part t → LeadsBack net (policy_of policy) t (first_transition_of net st.round.circuit.places.items)
   pub small : IsSmallRatio st.round.ratio
   pub count : length policy ≡ length parts
   pub count_values : length st.values.items ≡ length parts
   pub in_range : All (λ p. p.index < length net.places) policy
   pub has : (t : ℕ) → IsMember parts part t → value_of st.values.items t ≢ None
-  pub within : (t : ℕ) → IsWithin 400000000000000000 (held (value_of st.values.items t))
-  pub outside : (t : ℕ) → (IsMember parts part t → ⊥) → given policy t ≡ first_id
+  pub within : (t : ℕ) → IsWithin 400000000000000000 (value_or_zero (value_of st.values.items t))
+  pub outside : (t : ℕ) → (IsMember parts part t → ⊥) → policy_of policy t ≡ first_id
   pub no_value : (t : ℕ) → (IsMember parts part t → ⊥) → value_of st.values.items t ≡ None
 
 -- the ratio stays, no potential falls, and one rises
@@ -52,8 +52,8 @@ pub record HasCircuit (net : NetLists) (parts : List ℕ) (part : ℕ) : Type 0 
   pub inner : (p : PlaceId) × IsPlaceOfPart net parts part p
 
 -- the next round, from one that stands
-pub record GoesOn (net : NetLists) (parts : List ℕ) (part : ℕ) (policy : List PlaceId) (st next : Stand) : Type 0 where
-  pub standing : Standing net parts part policy next
+pub record GoesOn (net : NetLists) (parts : List ℕ) (part : ℕ) (policy : List PlaceId) (st next : RoundState) : Type 0 where
+  pub standing : IsRoundState net parts part policy next
   pub follows : Follows net parts part st.round next.round
   pub rises : Rises st.round next.round
 

@@ -3,11 +3,11 @@ use Rattle.std.specs.Prelude.{ℕ, ℤ, pos, ◌*◌, ◌<◌, ◌≤◌, ◌≡
 use Rattle.teg_net.specs.declared.entries.PlaceId.{PlaceId}
 use Rattle.teg_net.specs.Nets.{NetLists, IsNet}
 use Rattle.teg_net.specs.Circuits.{IsCircuit, time_of, tokens_of, from_of}
-use Rattle.teg_howard.specs.declared.policy_circuits.Found.{Found}
+use Rattle.teg_howard.specs.declared.policy_circuits.FoundCircuit.{FoundCircuit}
 use Rattle.teg_net.specs.Ratios.{Fraction, IsRatioOf}
 use Rattle.teg_net.specs.declared.rounds.Round.{Round}
 use Rattle.teg_net.specs.declared.rounds.Choice.{Choice}
-use Rattle.teg_howard.specs.declared.settling.Stand.{Stand}
+use Rattle.teg_howard.specs.declared.settling.RoundState.{RoundState}
 use Rattle.teg_parts.specs.Partitions.{AreStrong}
 use Rattle.teg_net.specs.Parts.{IsMember, IsPlaceOfPart, to_of}
 use Rattle.teg_net.specs.ReducedTimes.{IsWithin}
@@ -16,13 +16,13 @@ use Rattle.teg_net.specs.PartAnswers.{first_transition_of}
 use Rattle.teg_howard.specs.Rounds.{IsLowestInto, choice_in}
 
 -- the policy that a list gives by transition
-abbrev pub given : List PlaceId → Policy
-given ps t = slice_index_or ps t first_id
+abbrev pub policy_of : List PlaceId → Policy
+policy_of ps t = slice_index_or ps t first_id
 
 pub record AreLowest (net : NetLists) (parts : List ℕ) (part : ℕ) (ps : List PlaceId) : Type 0 where
   pub count : length ps ≡ length parts
-  pub lowest : (t : ℕ) (p : PlaceId) → Enters net parts part t p → IsLowestInto net parts part t (given ps t)
-  pub others : (t : ℕ) → ((p : PlaceId) → Enters net parts part t p → ⊥) → given ps t ≡ first_id
+  pub lowest : (t : ℕ) (p : PlaceId) → Enters net parts part t p → IsLowestInto net parts part t (policy_of ps t)
+  pub others : (t : ℕ) → ((p : PlaceId) → Enters net parts part t p → ⊥) → policy_of ps t ≡ first_id
 
 -- following the policy backwards stays among transitions that have a place
 pub record IsOnPolicy (net : NetLists) (policy : Policy) (start : ℕ) : Type 0 where
@@ -33,7 +33,7 @@ pub record IsOnPolicy (net : NetLists) (policy : Policy) (start : ℕ) : Type 0 
   pub kept : IsPolicy net parts part policy
 
 -- a circuit of the policy's places that begins at start, with its sums
-pub record IsFoundAt (net : NetLists) (policy : Policy) (start : ℕ) (f : Found) : Type 0 where
+pub record IsFoundAt (net : NetLists) (policy : Policy) (start : ℕ) (f : FoundCircuit) : Type 0 where
   pub circuit : IsCircuit net f.places.items
   pub own : All (λ p. policy (to_of net p) ≡ p) f.places.items
   pub begins : first_transition_of net f.places.items ≡ start
@@ -51,16 +51,16 @@ abbrev pub IsMarked : List Bool → ℕ → Type 0
 IsMarked marked t = slice_index_or marked t false ≡ true
 
 -- whether a circuit with these sums has a greater ratio than the best so far
-abbrev pub IsAbove : Found → Option Found → Type 0
+abbrev pub IsAbove : FoundCircuit → Option FoundCircuit → Type 0
 IsAbove c None = ⊤
 IsAbove c (Some best) = best.time * c.tokens < c.time * best.tokens
 
-abbrev pub AreSmall : Option Found → Type 0
+abbrev pub AreSmall : Option FoundCircuit → Type 0
 AreSmall None = ⊤
 AreSmall (Some f) = (f.time ≤ 400000000000) × (f.tokens ≤ 400000)
 
 -- the best circuit, with its sums
-pub record IsBestFound (net : NetLists) (parts : List ℕ) (part : ℕ) (policy : Policy) (marked : List Bool) (f : Found) : Type 0 where
+pub record IsBestFound (net : NetLists) (parts : List ℕ) (part : ℕ) (policy : Policy) (marked : List Bool) (f : FoundCircuit) : Type 0 where
   pub best : IsBestCircuit net parts part policy (IsMarked marked) f.places.items
   pub time : f.time ≡ time_of net f.places.items
   pub tokens : f.tokens ≡ tokens_of net f.places.items
@@ -86,9 +86,9 @@ pub record IsJoin (net : NetLists) (parts : List ℕ) (part : ℕ) (values : Lis
   pub starts : value_of values (from_of net p) ≢ None
   pub without : value_of values (to_of net p) ≡ None
 
-abbrev pub held : Option ℤ → ℤ
-held None = pos 0
-held (Some z) = z
+abbrev pub value_or_zero : Option ℤ → ℤ
+value_or_zero None = pos 0
+value_or_zero (Some z) = z
 
 -- one choice for each member, in order
 pub record ListsChoices (parts : List ℕ) (part : ℕ) (cs : List Choice) : Type 0 where
@@ -99,7 +99,7 @@ pub record ListsChoices (parts : List ℕ) (part : ℕ) (cs : List Choice) : Typ
 -- a round that has the places and the values of the members
 pub record IsMade (parts : List ℕ) (part : ℕ) (policy : Policy) (values : List (Option ℤ)) (r : Round) : Type 0 where
   pub lists : ListsChoices parts part r.choices.items
-  pub inside : (t : ℕ) → IsMember parts part t → choice_in r.choices.items t ≡ Some (record { transition = record { index = t }; place = policy t; value = held (value_of values t) })
+  pub inside : (t : ℕ) → IsMember parts part t → choice_in r.choices.items t ≡ Some (record { transition = record { index = t }; place = policy t; value = value_or_zero (value_of values t) })
   pub outside : (t : ℕ) → (IsMember parts part t → ⊥) → choice_in r.choices.items t ≡ None
 
 -- what `settle` needs of a policy and one of its circuits
@@ -107,30 +107,30 @@ pub record CanSettle (net : NetLists) (parts : List ℕ) (part : ℕ) (policy : 
   pub kept : IsNet net
   pub parts_ : AreStrong net parts
   pub count : length policy ≡ length parts
-  pub is_policy : IsPolicy net parts part (given policy)
+  pub is_policy : IsPolicy net parts part (policy_of policy)
   pub in_range : All (λ p. p.index < length net.places) policy
-  pub circuit : IsPolicyCircuit net parts part (given policy) c
+  pub circuit : IsPolicyCircuit net parts part (policy_of policy) c
   pub lowest_first : All (λ p. first_transition_of net c ≤ from_of net p) c
   pub ratio : IsRatioOf (time_of net c) (tokens_of net c) r
   pub small : IsSmallRatio r
 
 -- a round that stands: the policy routed to the circuit, with the potentials from it
-pub record IsSettled (net : NetLists) (parts : List ℕ) (part : ℕ) (policy routed : List PlaceId) (r : Fraction) (c : List PlaceId) (s : Stand) : Type 0 where
+pub record IsSettled (net : NetLists) (parts : List ℕ) (part : ℕ) (policy routed : List PlaceId) (r : Fraction) (c : List PlaceId) (s : RoundState) : Type 0 where
   pub ratio : s.round.ratio ≡ r
   pub circuit : s.round.circuit.places.items ≡ c
-  pub routing : (joins : List PlaceId) × IsRouting net parts part (given policy) (first_transition_of net c) joins (given routed)
-  pub sums : AreSums net parts part r.time r.tokens (given routed) (first_transition_of net c) (λ t. held (value_of s.values.items t))
-  pub made : IsMade parts part (given routed) s.values.items s.round
-  pub outside : (t : ℕ) → (IsMember parts part t → ⊥) → given routed t ≡ given policy t
+  pub routing : (joins : List PlaceId) × IsRouting net parts part (policy_of policy) (first_transition_of net c) joins (policy_of routed)
+  pub sums : AreSums net parts part r.time r.tokens (policy_of routed) (first_transition_of net c) (λ t. value_or_zero (value_of s.values.items t))
+  pub made : IsMade parts part (policy_of routed) s.values.items s.round
+  pub outside : (t : ℕ) → (IsMember parts part t → ⊥) → policy_of routed t ≡ policy_of policy t
   pub in_range : All (λ p. p.index < length net.places) routed
   pub count : length s.values.items ≡ length parts
   pub has : (t : ℕ) → IsMember parts part t → value_of s.values.items t ≢ None
   pub only : (t : ℕ) → (IsMember parts part t → ⊥) → value_of s.values.items t ≡ None
-  pub within : (t : ℕ) → IsWithin 400000000000000000 (held (value_of s.values.items t))
+  pub within : (t : ℕ) → IsWithin 400000000000000000 (value_or_zero (value_of s.values.items t))
 
 -- the potentials that a list of values gives
 abbrev pub potentials : List (Option ℤ) → ℕ → ℤ
-potentials values t = held (value_of values t)
+potentials values t = value_or_zero (value_of values t)
 
 -- values and a policy that can be improved
 pub record CanImprove (net : NetLists) (parts : List ℕ) (part : ℕ) (r : Fraction) (values : List (Option ℤ)) (policy : List PlaceId) : Type 0 where
@@ -138,15 +138,15 @@ pub record CanImprove (net : NetLists) (parts : List ℕ) (part : ℕ) (r : Frac
   pub count : length policy ≡ length parts
   pub count_values : length values ≡ length parts
   pub has : (t : ℕ) → IsMember parts part t → value_of values t ≢ None
-  pub within : (t : ℕ) → IsWithin 400000000000000000 (held (value_of values t))
+  pub within : (t : ℕ) → IsWithin 400000000000000000 (value_or_zero (value_of values t))
   pub small : IsSmallRatio r
   pub in_range : All (λ p. p.index < length net.places) policy
 
 -- the better policy, with the members that a place improves marked
 pub record IsBetter (net : NetLists) (parts : List ℕ) (part : ℕ) (r : Fraction) (values : List (Option ℤ)) (policy better : List PlaceId) (marked : List Bool) : Type 0 where
-  pub improves : IsImprovement net parts part r.time r.tokens (given policy) (potentials values) (given better)
-  pub marks : (t : ℕ) → IsMarked marked t → Improves net parts part r.time r.tokens (potentials values) t (given better t)
-  pub rest : (t : ℕ) → (IsMarked marked t → ⊥) → given better t ≡ given policy t
+  pub improves : IsImprovement net parts part r.time r.tokens (policy_of policy) (potentials values) (policy_of better)
+  pub marks : (t : ℕ) → IsMarked marked t → Improves net parts part r.time r.tokens (potentials values) t (policy_of better t)
+  pub rest : (t : ℕ) → (IsMarked marked t → ⊥) → policy_of better t ≡ policy_of policy t
   pub none : (t : ℕ) → (IsMarked marked t → ⊥) → (p : PlaceId) → Improves net parts part r.time r.tokens (potentials values) t p → ⊥
   pub count : length marked ≡ length parts
   pub in_range : All (λ p. p.index < length net.places) better

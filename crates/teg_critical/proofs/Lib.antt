@@ -1,0 +1,13 @@
+pub mod Raised
+pub mod GapLaws
+pub mod SameRatio
+pub mod Certified
+pub mod Rounds
+pub mod Searching
+pub mod Settling
+pub mod Stepping
+pub mod Listed
+pub mod LossFacts
+pub mod Reading
+pub mod Telling
+pub mod EachPlace

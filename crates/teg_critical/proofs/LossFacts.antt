@@ -1,0 +1,157 @@
+-- What a certificate gives for the loss of one place.
+use Rattle.std.proofs.Common.{ℕ, ℤ, pos, zero, suc, ◌+◌, ◌-◌, ◌*◌, ◌<◌, ◌≤◌, ◌≡◌, ◌≢◌, ◌+ℤ◌, ◌-ℤ◌, List, length, get_or, Option, Some, None, refl, sym, ap, subst, ◌∙◌, arith, ⊎_elim}
+use Rattle.std.specs.Prelude.{All, ◌≤ℤ◌, slice_index, slice_index_or}
+use Rattle.std.specs.Int.Signed.{pos-nat_abs, yes_non_neg}
+use Rattle.std.proofs.Math.IntN.{nat_abs}
+use Rattle.std.proofs.Math.Nat.{mul-le-mul_left, mul-le-mul_right}
+use Rattle.std.proofs.lemmas.Bool.{cases_lt}
+use Rattle.std.proofs.lemmas.Int.{ints}
+use Rattle.std.proofs.lemmas.List.{get_or_past, get_or_read}
+use Rattle.teg_net.specs.declared.entries.PlaceId.{PlaceId}
+use Rattle.teg_net.specs.declared.entries.Place.{Place}
+use Rattle.teg_net.specs.declared.answers.Potential.{Potential}
+use Rattle.teg_net.specs.declared.answers.PartAnswer.{PartAnswer}
+use Rattle.teg_net.specs.declared.answers.PartAnswer.TheVariants.{NoCircuit, Best}
+use Rattle.teg_net.specs.declared.answers.CycleAnswer.{CycleAnswer}
+use Rattle.teg_net.specs.declared.circuits.Circuit.{Circuit}
+use Rattle.teg_net.specs.Limits.{greatest_potential, greatest_ratio, greatest_hold, most_tokens}
+use Rattle.teg_net.specs.Nets.{NetLists, IsNet, IsPlaceOf}
+use Rattle.teg_net.specs.Ratios.{Fraction}
+use Rattle.teg_net.specs.Circuits.{no_place, place_at, from_of, IsCircuit, time_of, tokens_of}
+use Rattle.teg_net.specs.Parts.{to_of, IsPlaceOfPart}
+use Rattle.teg_net.specs.ReducedTimes.{IsWithin}
+use Rattle.teg_net.specs.GreatestRatios.{ratio_in, ratio_at, IsFirstGreatest, IsFirstGreatestAt}
+use Rattle.teg_net.specs.Certificates.{potential_at, IsBestCertificate, IsPartCertificate, IsCertificate}
+use Rattle.teg_critical.specs.declared.losses.Loss.{Loss}
+use Rattle.teg_critical.specs.Losses.{most_lost, most_loss, count_of, IsLost, CanLose, loss_at_best, ratio_of, potentials_of, IsLossOf, IsLossIn, part_at, part_of, IsPlaceLoss}
+use Rattle.teg_critical.specs.Told.{IsSmallRatio, IsBestOf}
+use Rattle.teg_critical.proofs.Listed.{potential_within}
+
+-- what lies between two whole numbers
+gap_of : (x y : ℤ) → x ≤ℤ y → (n : ℕ) × ((pos n +ℤ x) ≡ y)
+gap_of x y h =
+    let e : pos (nat_abs (y -ℤ x)) ≡ (y -ℤ x) = pos-nat_abs (y -ℤ x) (yes_non_neg (omega (arith, ints, h))) in
+    (nat_abs (y -ℤ x), omega (arith, ints, e))
+
+lost_low : (n gain cost : ℕ) (s t : ℤ) → ((pos n +ℤ (pos gain -ℤ pos cost)) +ℤ s) ≡ t → IsWithin greatest_potential s → IsWithin greatest_potential t → cost ≤ 1000000000000000 → n ≤ most_lost
+lost_low n gain cost s t e f g l = omega (arith, ints, e, f.low, g.high, l)
+
+-- a ratio within the limits that some circuit has
+pub record IsToldBy (net : NetLists) (r : Fraction) : Type 0 where
+  pub small : IsSmallRatio r
+  pub some : 1 ≤ r.tokens
+  pub places : List PlaceId
+  pub circuit : IsCircuit net places
+  pub attains : time_of net places * r.tokens ≡ r.time * tokens_of net places
+
+-- a told ratio is such a ratio
+told_facts : (net : NetLists) (part_of : List ℕ) (k : ℕ) (q : PartAnswer) (r : Fraction) → IsPartCertificate net part_of k q → ratio_in q ≡ Some r
+    → IsToldBy net r
+told_facts net part_of k NoCircuit r h e = absurd (none_told r e) where
+  none_told : (r : Fraction) → None ≡ Some r → ⊥
+  none_told r e = cc
+told_facts net part_of k (Best ratio circuit potentials) r h e =
+    let same : ratio ≡ r = cc in
+    subst (IsToldBy net) same (record { small = record { time = h.time_in; tokens = h.tokens_in }; some = h.terms.some; places = circuit.places.items; circuit = h.circuit; attains = h.attains })
+
+module _ (net : NetLists) (answer : CycleAnswer) (h : IsCertificate net answer) (best : Fraction) (b : IsBestOf answer best) where
+  part_in : b.part < length answer.parts.items
+  part_in = ⊎_elim
+      (λ (l : b.part < length answer.parts.items). l)
+      (λ (l : length answer.parts.items ≤ b.part). absurd (let past : part_at answer b.part ≡ NoCircuit = get_or_past answer.parts.items b.part NoCircuit l in none best (sym (ap ratio_in past) ∙ b.told)))
+      (cases_lt b.part (length answer.parts.items)) where
+        none : (r : Fraction) → ratio_in NoCircuit ≡ Some r → ⊥
+        none r e = cc
+
+  -- the best ratio is such a ratio
+  pub best_told : IsToldBy net best
+  best_told = told_facts net answer.part_of.items b.part (part_at answer b.part) best (h.parts b.part part_in) b.told
+
+  -- no part tells a greater one
+  pub below_best : (k : ℕ) (r : Fraction) → ratio_at answer.parts.items k ≡ Some r → r.time * best.tokens ≤ best.time * r.tokens
+  below_best k r e =
+      let first : IsFirstGreatest answer.parts.items (Some b.part) = subst (IsFirstGreatest answer.parts.items) b.best h.best in
+      let same : first.0 ≡ best = same_told (ratio_at answer.parts.items b.part) first.0 best first.1.here b.told in
+      subst (λ (z : Fraction). r.time * z.tokens ≤ z.time * r.tokens) same (first.1.greatest k r e) where
+        same_told : (o : Option Fraction) (x y : Fraction) → o ≡ Some x → o ≡ Some y → x ≡ y
+        same_told o x y f g = (let z : Some x ≡ Some y = sym f ∙ g in cc)
+
+  -- the part of a place, and its answer, as they are read
+  pub read_part : IsNet net → (p : PlaceId) → p.index < length net.places → (q : Place) → q ≡ place_at net p → (k : ℕ) → k ≡ get_or answer.part_of.items q.from.index k → (to : ℕ) → to ≡ get_or answer.part_of.items q.to.index to → to ≡ k
+      → (read : PartAnswer) → read ≡ get_or answer.parts.items k read → (k ≡ part_of answer q.from.index) × (part_of answer q.to.index ≡ k) × (read ≡ part_at answer k)
+  read_part ok p l q q_is k k_read to to_read same read is =
+      let rules : IsPlaceOf net q = subst (IsPlaceOf net) (sym q_is) (ok.each_place p.index no_place l) in
+      let count = h.count in
+      let from_in = rules.from_in in
+      let to_in = rules.to_in in
+      let from_low : q.from.index < length answer.part_of.items = omega arith in
+      let to_low : q.to.index < length answer.part_of.items = omega arith in
+      let k_is : k ≡ part_of answer q.from.index = get_or_read answer.part_of.items q.from.index k from_low k_read 0 in
+      let to_is : to ≡ part_of answer q.to.index = get_or_read answer.part_of.items q.to.index to to_low to_read 0 in
+      let below : part_of answer q.from.index < length answer.parts.items = h.below q.from.index 0 from_low in
+      (k_is, sym to_is ∙ same, get_or_read answer.parts.items k read (omega arith) is NoCircuit)
+
+  -- a place with both ends in part k, whose answer tells a ratio
+  module _ (ok : IsNet net) (p : PlaceId) (l : p.index < length net.places) (q : Place) (q_is : q ≡ place_at net p) (k : ℕ) (k_is : k ≡ part_of answer q.from.index) (to_is : part_of answer q.to.index ≡ k)
+      (r : Fraction) (c : Circuit) (vs : List Potential) (told : PartAnswer) (told_is : told ≡ part_at answer k) (certificate : k < length answer.parts.items → IsPartCertificate net answer.part_of.items k told → IsBestCertificate net answer.part_of.items k r c.places.items vs)
+      (ratio_is : ratio_of told ≡ r) (ratio_told : ratio_in told ≡ Some r) (potentials_is : potentials_of told ≡ vs) where
+    rules : IsPlaceOf net q
+    rules = subst (IsPlaceOf net) (sym q_is) (ok.each_place p.index no_place l)
+
+    from_is : part_of answer (from_of net p) ≡ k
+    from_is = ap (λ (z : Place). part_of answer z.from.index) (sym q_is) ∙ sym k_is
+
+    there : part_of answer (to_of net p) ≡ k
+    there = ap (λ (z : Place). part_of answer z.to.index) (sym q_is) ∙ to_is
+
+    inside : IsPlaceOfPart net answer.part_of.items k p
+    inside =
+        let own : IsPlaceOf net (place_at net p) = ok.each_place p.index no_place l in
+        let count = h.count in
+        let from_in = own.from_in in
+        let to_in = own.to_in in
+        record { in_range = l; from_member = record { in_range = omega arith; here = from_is }; to_member = record { in_range = omega arith; here = there } }
+
+    part_low : k < length answer.parts.items
+    part_low =
+        let low : part_of answer (from_of net p) < length answer.parts.items = h.below (from_of net p) 0 (let m = inside.from_member.in_range in m) in
+        subst (λ (z : ℕ). z < length answer.parts.items) from_is low
+
+    facts : IsBestCertificate net answer.part_of.items k r c.places.items vs
+    facts = certificate part_low (subst (IsPartCertificate net answer.part_of.items k) (sym told_is) (h.parts k part_low))
+
+    pub small_own : IsSmallRatio r
+    small_own = record { time = facts.time_in; tokens = facts.tokens_in }
+
+    pub below_own : r.time * best.tokens ≤ best.time * r.tokens
+    below_own = below_best k r (ap ratio_in (sym told_is) ∙ ratio_told)
+
+    pub can_lose : CanLose (count_of r q) (potential_at vs q.from.index) (potential_at vs q.to.index)
+    can_lose =
+        let keeps : (count_of r (place_at net p) +ℤ potential_at vs (from_of net p)) ≤ℤ potential_at vs (to_of net p) = facts.potentials p inside in
+        let own : (count_of r q +ℤ potential_at vs q.from.index) ≤ℤ potential_at vs q.to.index = subst (λ (z : Place). (count_of r z +ℤ potential_at vs z.from.index) ≤ℤ potential_at vs z.to.index) (sym q_is) keeps in
+        let gap = gap_of (count_of r q +ℤ potential_at vs q.from.index) (potential_at vs q.to.index) own in
+        let is : IsLost (count_of r q) (potential_at vs q.from.index) (potential_at vs q.to.index) gap.0 = grouped gap.0 (count_of r q) (potential_at vs q.from.index) (potential_at vs q.to.index) gap.1 in
+        let start = potential_within vs q.from.index facts.within in
+        let above = potential_within vs q.to.index facts.within in
+        let few = rules.tokens_in in
+        let small = facts.time_in in
+        let one : r.time * q.tokens ≤ r.time * 1000 = mul-le-mul_left {m = q.tokens} {n = 1000} r.time (omega arith) in
+        record { lost = gap.0; is = is; small = lost_low gap.0 (r.tokens * q.hold) (r.time * q.tokens) (potential_at vs q.from.index) (potential_at vs q.to.index) is start above (omega arith); start_in = start; above_in = above } where
+          grouped : (n : ℕ) (w s t : ℤ) → (pos n +ℤ (w +ℤ s)) ≡ t → ((pos n +ℤ w) +ℤ s) ≡ t
+          grouped n w s t e = omega (arith, ints, e)
+
+    -- what the place is told is its loss
+    pub is_loss : (lost : ℕ) → IsLost (count_of r q) (potential_at vs q.from.index) (potential_at vs q.to.index) lost → (loss : Loss) → loss.amount ≡ loss_at_best best r lost q.tokens → loss.scale ≡ r.tokens → loss.amount ≤ most_loss
+        → IsPlaceLoss net answer best p (Some loss)
+    is_loss lost is loss amount scale small =
+        let one : IsLossOf best r (potential_at vs q.from.index) (potential_at vs q.to.index) q loss = record { scale = scale; some = facts.terms.some; below = below_own; lost = lost; is_lost = is; amount = amount; small = small } in
+        let P : Fraction → List Potential → Place → Type 0 = λ f us z. IsLossOf best f (potential_at us z.from.index) (potential_at us z.to.index) z loss in
+        let two : P (ratio_of told) vs q = subst (λ (f : Fraction). P f vs q) (sym ratio_is) one in
+        let three : P (ratio_of told) (potentials_of told) q = subst (λ (us : List Potential). P (ratio_of told) us q) (sym potentials_is) two in
+        let four : P (ratio_of told) (potentials_of told) (place_at net p) = subst (λ (z : Place). P (ratio_of told) (potentials_of told) z) q_is three in
+        let five : IsLossIn net answer best k p (Some loss) = subst (λ (z : PartAnswer). P (ratio_of z) (potentials_of z) (place_at net p)) told_is four in
+        record {
+          inside = λ e. subst (λ (z : ℕ). IsLossIn net answer best z p (Some loss)) (sym from_is) five;
+          apart = λ ne. absurd (ne (from_is ∙ sym there));
+        }

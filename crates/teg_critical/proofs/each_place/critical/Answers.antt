@@ -1,0 +1,11 @@
+use Rattle.teg_critical.proofs.EachPlace.{each_way, no_ratio, unnamed}
+use Rattle.teg_critical.proofs.each_place.critical.Goals as goal
+
+pub returns-in_ok-slacks_at-in-Some-clause-slacks : goal.returns-in_ok-slacks_at-in-Some-clause-slacks
+returns-in_ok-slacks_at-in-Some-clause-slacks c = λ r top.
+    rw c.new.ensures
+    (each_way c.args.net.now c.requires.live c.in-Some.best c.in_ok-slacks_at-in-Some.ensures.greatest c.in_ok-slacks_at-in-Some.field-0.items c.in_ok-slacks_at-in-Some.ensures.slacks r top)
+
+pub returns-in_ok-no_slacks-in-None-clause-slacks : goal.returns-in_ok-no_slacks-in-None-clause-slacks
+returns-in_ok-no_slacks-in-None-clause-slacks c = λ r top.
+    no_ratio c.args.net.now r top (unnamed c.args.net.now c.in_ok-no_slacks-in-None.ensures.rules c.args.answer.now c.requires.certificate c.in-None.ensures.none)

@@ -1,0 +1,6 @@
+pub mod Slacks
+pub mod Gaps
+pub mod Laws
+pub mod Losses
+pub mod Searches
+pub mod Told

@@ -1,0 +1,121 @@
+-- Least sums of losses along paths, from one transition on, and how they are searched (Dijkstra's algorithm).
+use Rattle.std.specs.Prelude.{ℕ, ◌+◌, ◌*◌, ◌<◌, ◌≤◌, ◌≡◌, ◌≢◌, ◌⊎◌, Bool, true, false, List, [], length, All, Any, IsSome, Option, Some, None, sum_by, slice_index_or, nat_lt, if◌then◌else◌}
+use Rattle.teg_net.specs.declared.entries.PlaceId.{PlaceId}
+use Rattle.teg_net.specs.declared.entries.Place.{Place}
+use Rattle.teg_net.specs.Limits.{most_transitions}
+use Rattle.teg_net.specs.Nets.{NetLists}
+use Rattle.teg_net.specs.Circuits.{from_of, IsPathBetween}
+use Rattle.teg_net.specs.Parts.{to_of}
+use Rattle.teg_critical.specs.declared.losses.Loss.{Loss}
+use Rattle.teg_critical.specs.declared.searches.Step.{Step}
+use Rattle.teg_critical.specs.declared.searches.Near.{Near}
+use Rattle.teg_critical.specs.Losses.{most_loss, loss_at}
+
+-- the amount of a loss, 0 where there is none
+abbrev pub amount_in : Option Loss → ℕ
+amount_in None = 0
+amount_in (Some l) = l.amount
+
+-- what the places of a path lose together
+abbrev pub loss_of : List (Option Loss) → List PlaceId → ℕ
+loss_of losses ps = sum_by (λ p. amount_in (loss_at losses p)) ps
+
+-- a path of places that are told a loss
+pub record IsWay (net : NetLists) (losses : List (Option Loss)) (a : ℕ) (ps : List PlaceId) (b : ℕ) : Type 0 where
+  pub path : IsPathBetween net a ps b
+  pub along : All (λ p. IsSome (loss_at losses p)) ps
+
+-- the least that such a path loses; none where there is no such path
+abbrev pub IsLeastLoss : NetLists → List (Option Loss) → ℕ → ℕ → Option ℕ → Type 0
+IsLeastLoss net losses a b None = (ps : List PlaceId) → IsWay net losses a ps b → ⊥
+IsLeastLoss net losses a b (Some d) = ((ps : List PlaceId) × IsWay net losses a ps b × (loss_of losses ps ≡ d)) × ((ps : List PlaceId) → IsWay net losses a ps b → d ≤ loss_of losses ps)
+
+-- what is told of the transition
+abbrev pub told_at : List (Option ℕ) → ℕ → Option ℕ
+told_at least t = slice_index_or least t None
+
+-- the least losses of the paths from one transition to each
+pub record AreLeastLosses (net : NetLists) (losses : List (Option Loss)) (start : ℕ) (least : List (Option ℕ)) : Type 0 where
+  pub count : length least ≡ length net.transitions
+  pub each : (t : ℕ) → t < length net.transitions → IsLeastLoss net losses start t (told_at least t)
+  pub small : (t d : ℕ) → told_at least t ≡ Some d → d ≤ most_transitions * most_loss
+
+-- ---- steps
+
+-- a place of the net that leaves the transition, with this end and this loss
+pub record IsStepBy (net : NetLists) (losses : List (Option Loss)) (t : ℕ) (p : PlaceId) (s : Step) : Type 0 where
+  pub in_range : p.index < length net.places
+  pub from : from_of net p ≡ t
+  pub to : to_of net p ≡ s.to
+  pub told : IsSome (loss_at losses p)
+  pub loss : amount_in (loss_at losses p) ≡ s.loss
+
+-- the same of a place by itself, and of what it is told
+pub record IsStepOf (p : Place) (told : Option Loss) (t : ℕ) (s : Step) : Type 0 where
+  pub from : p.from.index ≡ t
+  pub to : p.to.index ≡ s.to
+  pub some : IsSome told
+  pub loss : amount_in told ≡ s.loss
+
+-- the steps from a transition: each is by a place, and each place with a loss that leaves it has one
+pub record AreStepsFrom (net : NetLists) (losses : List (Option Loss)) (t : ℕ) (steps : List Step) : Type 0 where
+  pub sound : All (λ s. (p : PlaceId) × IsStepBy net losses t p s) steps
+  pub complete : (p : PlaceId) → p.index < length net.places → from_of net p ≡ t → IsSome (loss_at losses p)
+      → Any (λ s. (s.to ≡ to_of net p) × (s.loss ≡ amount_in (loss_at losses p))) steps
+  pub ends : All (λ s. s.to < length net.transitions) steps
+  pub small : All (λ s. s.loss ≤ most_loss) steps
+
+-- the steps from each transition, in order
+pub record AreSteps (net : NetLists) (losses : List (Option Loss)) (steps : List (List Step)) : Type 0 where
+  pub count : length steps ≡ length net.transitions
+  pub each : (t : ℕ) → t < length net.transitions → AreStepsFrom net losses t (slice_index_or steps t [])
+
+-- ---- the search
+
+-- a number is told, and it is at most this
+abbrev pub IsWithin : Option ℕ → ℕ → Type 0
+IsWithin None x = ⊥
+IsWithin (Some d) x = d ≤ x
+
+-- how many are not settled
+abbrev pub unsettled : List Bool → ℕ
+unsettled settled = sum_by (λ s. if s then 0 else 1) settled
+
+-- the transition is settled, or not
+abbrev pub is_settled : List Bool → ℕ → Bool
+is_settled settled t = slice_index_or settled t true
+
+-- what is told is the loss of some path; settled transitions are told no more than others, and their steps are taken
+pub record IsSearching (net : NetLists) (losses : List (Option Loss)) (start : ℕ) (least : List (Option ℕ)) (settled : List Bool) : Type 0 where
+  pub count : length least ≡ length net.transitions
+  pub marks : length settled ≡ length net.transitions
+  pub begins : IsWithin (told_at least start) 0
+  pub sound : (t d : ℕ) → told_at least t ≡ Some d → (ps : List PlaceId) × IsWay net losses start ps t × (loss_of losses ps ≡ d)
+  pub before : (t u d : ℕ) → t < length settled → is_settled settled t ≡ true → is_settled settled u ≡ false → told_at least u ≡ Some d → IsWithin (told_at least t) d
+  pub taken : (p : PlaceId) (d : ℕ) → p.index < length net.places → IsSome (loss_at losses p) → is_settled settled (from_of net p) ≡ true → told_at least (from_of net p) ≡ Some d
+      → IsWithin (told_at least (to_of net p)) (d + amount_in (loss_at losses p))
+  pub small : (t d : ℕ) → told_at least t ≡ Some d → d + unsettled settled * most_loss ≤ length settled * most_loss
+
+-- the nearer of two, where the second is told a loss
+abbrev pub nearer_of : Option Near → ℕ → Option ℕ → Option Near
+nearer_of nearest at None = nearest
+nearer_of None at (Some d) = Some (record { at = at; loss = d })
+nearer_of (Some near) at (Some d) = if nat_lt d near.loss then Some (record { at = at; loss = d }) else Some near
+
+-- the unsettled transition of least loss
+pub record IsNearest (least : List (Option ℕ)) (settled : List Bool) (near : Near) : Type 0 where
+  pub in_range : near.at < length settled
+  pub open_ : is_settled settled near.at ≡ false
+  pub told : told_at least near.at ≡ Some near.loss
+  pub no_nearer : (u d : ℕ) → is_settled settled u ≡ false → told_at least u ≡ Some d → near.loss ≤ d
+
+-- no unsettled transition is told a loss
+abbrev pub IsOver : List (Option ℕ) → List Bool → Type 0
+IsOver least settled = (u : ℕ) → is_settled settled u ≡ false → told_at least u ≡ None
+
+-- the steps are taken from this loss on: what they offer is told where it is less
+pub record IsRelaxed (steps : List Step) (base : ℕ) (old new : List (Option ℕ)) : Type 0 where
+  pub count : length new ≡ length old
+  pub offered : All (λ s. IsWithin (told_at new s.to) (base + s.loss)) steps
+  pub lowered : (t x : ℕ) → IsWithin (told_at old t) x → IsWithin (told_at new t) x
+  pub by_step : (t d : ℕ) → told_at new t ≡ Some d → (told_at old t ≡ Some d) ⊎ Any (λ s. (s.to ≡ t) × (base + s.loss ≡ d)) steps

@@ -1,0 +1,52 @@
+-- How each place is told its slack.
+use Rattle.std.specs.Prelude.{ℕ, ◌/◌, ◌+◌, ◌<◌, ◌≤◌, ◌≡◌, List, length, Option, Some, slice_index_or}
+use Rattle.teg_net.specs.declared.entries.PlaceId.{PlaceId}
+use Rattle.teg_net.specs.declared.answers.CycleAnswer.{CycleAnswer}
+use Rattle.teg_net.specs.Limits.{greatest_ratio}
+use Rattle.teg_net.specs.Nets.{NetLists}
+use Rattle.teg_net.specs.Ratios.{Fraction}
+use Rattle.teg_net.specs.Circuits.{IsLive}
+use Rattle.teg_net.specs.Parts.{to_of}
+use Rattle.teg_net.specs.GreatestRatios.{ratio_at, IsGreatestRatio, IsAnyPlace}
+use Rattle.teg_net.specs.Certificates.{IsCertificate}
+use Rattle.teg_critical.specs.declared.losses.Loss.{Loss}
+use Rattle.teg_critical.specs.declared.slacks.Slack.{Slack}
+use Rattle.teg_critical.specs.declared.slacks.Slack.TheVariants.{NoCircuit, Critical, Rise}
+use Rattle.teg_critical.specs.Slacks.{IsSlackOf}
+use Rattle.teg_critical.specs.Losses.{AreLosses}
+
+-- time and tokens keep the limit of a ratio in an answer
+pub record IsSmallRatio (r : Fraction) : Type 0 where
+  pub time : r.time ≤ greatest_ratio
+  pub tokens : r.tokens ≤ greatest_ratio
+
+-- the ratio that the answer tells as the greatest
+pub record IsBestOf (answer : CycleAnswer) (r : Fraction) : Type 0 where
+  pub part : ℕ
+  pub best : answer.best ≡ Some part
+  pub told : ratio_at answer.parts.items part ≡ Some r
+
+-- the slack that a gap tells, given the gap times the scale
+abbrev pub IsSlackOfGap : ℕ → ℕ → Fraction → Slack → Type 0
+IsSlackOfGap total scale r NoCircuit = ⊥
+IsSlackOfGap total scale r Critical = total / scale ≡ 0
+IsSlackOfGap total scale r (Rise by) = (0 < total / scale) × (by ≡ total / scale / r.tokens)
+
+-- the losses are those of a certified answer, against the greatest ratio of a live net
+pub record CanTell (net : NetLists) (r : Fraction) (losses : List (Option Loss)) : Type 0 where
+  pub answer : CycleAnswer
+  pub certificate : IsCertificate net answer
+  pub lost : AreLosses net answer r losses
+  pub live : IsLive net
+  pub greatest : IsGreatestRatio net IsAnyPlace r
+  pub small : IsSmallRatio r
+
+-- what is told of the place
+abbrev pub slack_at : List Slack → PlaceId → Slack
+slack_at slacks p = slice_index_or slacks p.index NoCircuit
+
+-- the places that end below transition e are told their slack, and of the others nothing is told yet
+pub record AreToldUpTo (net : NetLists) (r : Fraction) (e : ℕ) (slacks : List Slack) : Type 0 where
+  pub each : length slacks ≡ length net.places
+  pub told : (p : PlaceId) → p.index < length net.places → to_of net p < e → IsSlackOf net r p (slack_at slacks p)
+  pub others : (p : PlaceId) → p.index < length net.places → e ≤ to_of net p → slack_at slacks p ≡ NoCircuit

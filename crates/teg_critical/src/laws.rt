@@ -1,0 +1,19 @@
+//! The laws of slack. Each is a function that does nothing when it runs: its contract is the law.
+ghost use Rattle.teg_critical.specs.Laws.{GapsTellSlacks, SlacksAreOne, SlacksAreOfTheNet};
+
+/// A place is critical exactly where the best path back from its end to its start lacks nothing,
+/// with the place, to the greatest ratio; otherwise what it lacks, over the ratio's tokens and
+/// rounded down, is its slack (chapters 2 and 3).
+pub fn gaps_tell_slacks()
+    ensures { GapsTellSlacks }
+{}
+
+/// A place has one slack.
+pub fn slacks_are_one()
+    ensures { SlacksAreOne }
+{}
+
+/// In a live net the slack of a place does not depend on how the greatest ratio is written.
+pub fn slacks_are_of_the_net()
+    ensures { SlacksAreOfTheNet }
+{}

@@ -1,0 +1,20 @@
+//! Critical places and slack: by how much each hold may rise without a slower cycle (chapters 2
+//! and 3).
+//!
+//! Its one contract: [`critical`] tells each place of a live net whether a circuit of the greatest
+//! ratio passes it, or else by how much its hold may rise, and no more, so that the net with that
+//! hold raised has the same greatest ratio, or that no circuit passes it. The condition is an
+//! answer on cycle times that `check_cycle` accepts; its potentials turn the search for the best
+//! paths back into a search for shortest paths. The crate stands on `teg_net`, and on `teg_loops`
+//! for the laws of paths and circuits.
+#![tactic(auto)]
+
+mod each_place;
+mod laws;
+mod losses;
+mod searches;
+mod slacks;
+
+pub use each_place::critical;
+pub use laws::{gaps_tell_slacks, slacks_are_of_the_net, slacks_are_one};
+pub use slacks::{Slack, Slacks};

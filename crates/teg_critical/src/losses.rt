@@ -1,0 +1,118 @@
+//! What places lose against the net's greatest ratio: by the potentials of the answer no place
+//! gains, so that the best path back is one that loses least (chapter 3).
+ghost use Rattle.std.specs.Prelude.{◌≡◌, ◌≤◌, ◌<◌, ◌*◌, length, IfOk};
+ghost use Rattle.teg_net.specs.Limits.{greatest_hold, most_tokens};
+ghost use Rattle.teg_net.specs.Certificates.{potential_at, IsCertificate};
+ghost use Rattle.teg_critical.specs.Losses.{most_lost, most_loss, count_of, IsLost, CanLose, loss_at_best, IsPlaceLoss, AreLosses};
+ghost use Rattle.teg_critical.specs.Told.{IsSmallRatio, IsBestOf};
+
+use std::alloc::{AllocError, Global};
+use teg_net::{CycleAnswer, Net, PartAnswer, Place, PlaceId, Potential, Ratio, TransitionId};
+
+/// What a place loses against the greatest ratio, times `scale`, the tokens of its part's ratio.
+#[derive(Clone, Copy, Debug, PartialEq, Eq)]
+pub(crate) struct Loss {
+    pub(crate) amount: u128,
+    pub(crate) scale: u64,
+}
+
+/// The potential of a transition, 0 where none is told.
+fn potential_of(potentials: &[Potential], transition: TransitionId) -> i128
+    ensures { result ≡ potential_at potentials.now transition.index }
+{
+    for potential in potentials {
+        if potential.transition.index == transition.index {
+            return potential.value;
+        }
+    }
+    0
+}
+
+/// What a place counts at a ratio: the ratio's tokens times its hold, less the ratio's time times
+/// its tokens.
+fn count_at(ratio: Ratio, place: &Place) -> i128
+    requires ratio { IsSmallRatio ratio }
+    requires hold { place.now.hold ≤ greatest_hold }
+    requires tokens { place.now.tokens ≤ most_tokens }
+    ensures { result ≡ count_of ratio place.now }
+{
+    let gain = i128::from(ratio.tokens()) * i128::from(place.hold);
+    let cost = i128::from(ratio.time()) * i128::from(place.tokens);
+    gain - cost
+}
+
+/// By how much a count, from one potential on, stays below another.
+fn lost_between(count: i128, start: i128, end: i128) -> u128
+    requires { CanLose count start end }
+    ensures lost { IsLost count start end result }
+    ensures small { result ≤ most_lost }
+{
+    (end - start - count) as u128
+}
+
+/// What a place loses at the greatest ratio, times the tokens of its part's, where it loses so much
+/// at that.
+fn loss_against(best: Ratio, own: Ratio, lost: u128, tokens: u32) -> u128
+    requires best { IsSmallRatio best }
+    requires own { IsSmallRatio own }
+    requires below { own.time * best.tokens ≤ best.time * own.tokens }
+    requires lost { lost ≤ most_lost }
+    requires tokens { tokens ≤ most_tokens }
+    ensures amount { result ≡ loss_at_best best own lost tokens }
+    ensures small { result ≤ most_loss }
+{
+    let greatest = u128::from(best.time()) * u128::from(own.tokens());
+    let slower = greatest - u128::from(own.time()) * u128::from(best.tokens());
+    u128::from(best.tokens()) * lost + slower * u128::from(tokens)
+}
+
+/// What a place loses; none where its ends lie in two parts.
+fn loss_of(net: &Net, answer: &CycleAnswer, best: Ratio, place: PlaceId) -> Option<Loss>
+    requires certificate { IsCertificate net.now answer.now }
+    requires best { IsBestOf answer.now best }
+    requires place { place.index < length net.now.places }
+    ensures { IsPlaceLoss net.now answer.now best place result }
+{
+    let place = &net.places()[place.index as usize];
+    let part = answer.part_of[place.from.index as usize];
+    if answer.part_of[place.to.index as usize] != part {
+        return None;
+    }
+    match &answer.parts[part as usize] {
+        PartAnswer::NoCircuit => None,
+        PartAnswer::Best {
+            ratio,
+            potentials,
+            ..
+        } => {
+            let start = potential_of(potentials, place.from);
+            let end = potential_of(potentials, place.to);
+            let lost = lost_between(count_at(*ratio, place), start, end);
+            Some(Loss {
+                amount: loss_against(best, *ratio, lost, place.tokens),
+                scale: ratio.tokens(),
+            })
+        }
+    }
+}
+
+/// What each place loses.
+pub(crate) fn losses_of(
+    alloc: Global,
+    net: &Net,
+    answer: &CycleAnswer,
+    best: Ratio,
+) -> Result<Vec<Option<Loss>>, AllocError>
+    requires certificate { IsCertificate net.now answer.now }
+    requires best { IsBestOf answer.now best }
+    ensures { IfOk result (λ losses. AreLosses net.now answer.now best losses.items) }
+{
+    let mut losses = Vec::new(alloc);
+    for index in 0..net.places().len() {
+        let place = PlaceId {
+            index: index as u32,
+        };
+        losses.push(loss_of(net, answer, best, place))?;
+    }
+    Ok(losses)
+}

@@ -1,0 +1,8 @@
+pub mod Stops
+pub mod Straight
+pub mod Taking
+pub mod Splitting
+pub mod Through
+pub mod Pigeons
+pub mod Again
+pub mod Visits
