@@ -1,0 +1,10 @@
+pub mod Repeating
+pub mod Telling
+pub mod Deciding
+pub mod Shortest
+pub mod Everywhere
+pub mod Tails
+pub mod Settling
+pub mod Rising
+pub mod Driven
+pub mod Seen
