@@ -7,22 +7,26 @@ ghost use Rattle.teg_net.specs.Nets.{IsInput, IsNet, EndsOrGoesOn};
 use crate::entries::{InputList, TransitionId};
 use crate::net::Net;
 
-/// The date of this firing by the list; none is never.
-fn list_date(list: &InputList, number: u64) -> Option<u128>
-    requires number { 1 ≤ number }
-    requires again { EndsOrGoesOn list.now.dates list.now.again }
-    ensures { result ≡ list_date list.now.dates list.now.again number }
-{
-    let dates = list.dates.as_slice();
-    let length = dates.len() as u64;
-    if number <= length {
-        return Some(u128::from(dates[number as usize - 1]));
+impl InputList {
+    /// The date, in the user's unit, that the list gives to the firing of this number, counted from
+    /// 1; none is never. It takes no memory and looks nothing up: who needs the dates of many firings
+    /// of one input finds its list once.
+    pub fn date(&self, number: u64) -> Option<u128>
+        requires number { 1 ≤ number }
+        requires again { EndsOrGoesOn self.now.dates self.now.again }
+        ensures value { result ≡ list_date self.now.dates self.now.again number }
+    {
+        let dates = self.dates.as_slice();
+        let length = dates.len() as u64;
+        if number <= length {
+            return Some(u128::from(dates[number as usize - 1]));
+        }
+        let again = self.again?;
+        let every = u64::from(again.every);
+        let rounds = (number - length - 1) / every + 1;
+        let first = number - rounds * every;
+        Some(u128::from(dates[first as usize - 1]) + u128::from(rounds) * u128::from(again.gap))
     }
-    let again = list.again?;
-    let every = u64::from(again.every);
-    let rounds = (number - length - 1) / every + 1;
-    let first = number - rounds * every;
-    Some(u128::from(dates[first as usize - 1]) + u128::from(rounds) * u128::from(again.gap))
 }
 
 /// The list of the transition, if it has one.
@@ -47,7 +51,7 @@ impl Net {
         ensures most { IfSome result (λ date. date ≤ greatest_date * (number + 1)) }
     {
         match list_of(self, transition) {
-            Some(list) => list_date(list, number),
+            Some(list) => list.date(number),
             None => Some(0),
         }
     }

@@ -1,4 +1,4 @@
-//! Rounds of policy iteration: what is told of each (Howard's algorithm, chapter 3).
+//! Rounds of policy iteration: what is told of each (Howard's algorithm; the book has none).
 use crate::circuits::Circuit;
 use crate::entries::{PlaceId, TransitionId};
 use crate::ratios::Ratio;
