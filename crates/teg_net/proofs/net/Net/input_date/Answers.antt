@@ -12,7 +12,7 @@ date-requires-clause-again c =
 pub returns-in-Some-clause-meaning : goal.returns-in-Some-clause-meaning
 returns-in-Some-clause-meaning c =
     let first = rw c.in-Some.is at c.list_of.ensures.first in
-    let is : c.date.result ≡ input_date c.args.self.now c.args.transition.index c.args.number = c.date.ensures ∙ ap (λ o. date_by o c.args.number) first in
+    let is : c.date.result ≡ input_date c.args.self.now c.args.transition.index c.args.number = c.date.ensures.value ∙ ap (λ o. date_by o c.args.number) first in
     subst (IsInputDate c.args.self.now c.args.transition.index c.args.number) (sym is)
     (IsInputDate-input_date c.args.self.now c.args.transition.index c.args.number c.list_of.ensures.rules c.requires.first)
 
@@ -20,7 +20,7 @@ pub returns-in-Some-clause-most : goal.returns-in-Some-clause-most
 returns-in-Some-clause-most c =
     let first = rw c.in-Some.is at c.list_of.ensures.first in
     let rules = found_rules c.args.self.now c.args.self.now.inputs c.args.transition.index c.in-Some.list.now c.list_of.ensures.rules.each_input first in
-    rw c.date.ensures (list_date-most c.in-Some.list.now.dates c.in-Some.list.now.again c.args.number rules.dates_in rules.again)
+    rw c.date.ensures.value (list_date-most c.in-Some.list.now.dates c.in-Some.list.now.again c.args.number rules.dates_in rules.again)
 
 pub returns-in-None-clause-meaning : goal.returns-in-None-clause-meaning
 returns-in-None-clause-meaning c =
