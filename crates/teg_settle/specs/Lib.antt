@@ -1,2 +1,7 @@
 pub mod Kept
 pub mod Refusals
+pub mod Releases
+pub mod Windows
+pub mod Searches
+pub mod Copies
+pub mod Transfers

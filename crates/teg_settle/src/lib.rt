@@ -8,7 +8,12 @@
 #![tactic(auto)]
 
 mod refusals;
+mod releases;
+mod search;
+mod settle;
 mod settled;
+mod window;
 
 pub use refusals::SettleRefusal;
+pub use settle::settle_within;
 pub use settled::Settled;
