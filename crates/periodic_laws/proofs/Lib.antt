@@ -1,10 +1,10 @@
-pub mod Values
-pub mod Entries
-pub mod Fixed
-pub mod Lists
-pub mod Multiples
-pub mod Forms
-pub mod Inside
-pub mod Released
-pub mod Columns
-pub mod OfNet
+mod Values
+mod Entries
+mod Fixed
+mod Lists
+mod Multiples
+mod Forms
+mod Inside
+mod Released
+mod Columns
+mod OfNet

@@ -23,13 +23,13 @@ abbrev pub stair_gain : ℕ → Date → Gain
 stair_gain c d = gain_of (canonical_of (stair c d) c 1)
 
 -- the monomial of a place from j to i
-unfoldable pub way : Place → ℕ → ℕ → Gain
-way p i j = cond (eqb p.to.index i && eqb p.from.index j) (stair_gain p.tokens (At (pos p.hold))) gain_zero
+unfoldable pub place_gain : Place → ℕ → ℕ → Gain
+place_gain p i j = cond (eqb p.to.index i && eqb p.from.index j) (stair_gain p.tokens (At (pos p.hold))) gain_zero
 
 -- the entry: the sum over the places from j to i
 unfoldable pub entry_of_places : List Place → ℕ → ℕ → Gain
 entry_of_places [] i j = gain_zero
-entry_of_places (p ∷ ps) i j = gain_sum (way p i j) (entry_of_places ps i j)
+entry_of_places (p ∷ ps) i j = gain_sum (place_gain p i j) (entry_of_places ps i j)
 
 -- the first m tokens of a place
 unfoldable pub tokens_gain : (ℕ → Date) → ℕ → Gain
@@ -37,13 +37,13 @@ tokens_gain dates zero = gain_zero
 tokens_gain dates (suc m) = gain_sum (tokens_gain dates m) (stair_gain m (dates (m + 1)))
 
 -- the initial tokens of a place into i
-unfoldable pub start_way : (Place → ℕ → Date) → Place → ℕ → Gain
-start_way initial p i = cond (eqb p.to.index i) (tokens_gain (initial p) p.tokens) gain_zero
+unfoldable pub start_place : (Place → ℕ → Date) → Place → ℕ → Gain
+start_place initial p i = cond (eqb p.to.index i) (tokens_gain (initial p) p.tokens) gain_zero
 
 -- the same of all places into i
 unfoldable pub start_of_places : (Place → ℕ → Date) → List Place → ℕ → Gain
 start_of_places initial [] i = gain_zero
-start_of_places initial (p ∷ ps) i = gain_sum (start_way initial p i) (start_of_places initial ps i)
+start_of_places initial (p ∷ ps) i = gain_sum (start_place initial p i) (start_of_places initial ps i)
 
 -- the right side: the initial tokens and the release
 unfoldable pub right_side : (Place → ℕ → Date) → List Place → (ℕ → Gain) → ℕ → Gain

@@ -11,7 +11,7 @@ use Rattle.series_laws.specs.Forms.{value_at, monomial_at}
 use Rattle.series_ops.specs.declared.gains.Gain.{Gain}
 use Rattle.series_ops.specs.Gains.{IsCanonicalGain, gain_zero, gain_one, gain_sum, gain_product, gain_star, SumFits, ProductFits, StarFits}
 
--- ---- the model of gains
+-- ---- the model of gains, in the words of their implementation
 
 abbrev pub gains : DioidOf Gain
 gains = record {
@@ -35,13 +35,13 @@ abbrev pub stair : ℕ → Date → ℕ → Date
 stair c d k = cond (ltb k c) Early d
 
 -- what a place adds to the entry for firings of i that wait for firings of j: the monomial of its tokens and its hold
-abbrev pub way_at : Place → ℕ → ℕ → ℕ → Date
-way_at p i j k = cond (eqb p.to.index i && eqb p.from.index j) (monomial_at p.tokens (pos p.hold) k) Early
+abbrev pub place_at : Place → ℕ → ℕ → ℕ → Date
+place_at p i j k = cond (eqb p.to.index i && eqb p.from.index j) (monomial_at p.tokens (pos p.hold) k) Early
 
 -- the entry: the sum over the places from j to i, Early where there is none
 abbrev pub entry_at : List Place → ℕ → ℕ → ℕ → Date
 entry_at [] i j k = Early
-entry_at (p ∷ ps) i j k = later_of (way_at p i j k) (entry_at ps i j k)
+entry_at (p ∷ ps) i j k = later_of (place_at p i j k) (entry_at ps i j k)
 
 -- the first m tokens of a place: the latest date of those that are taken up to shift k
 abbrev pub tokens_at : (ℕ → Date) → ℕ → ℕ → Date
@@ -49,13 +49,13 @@ tokens_at dates zero k = Early
 tokens_at dates (suc m) k = later_of (tokens_at dates m k) (stair m (dates (m + 1)) k)
 
 -- what the initial tokens of a place add to the right side for i
-abbrev pub start_way_at : (Place → ℕ → Date) → Place → ℕ → ℕ → Date
-start_way_at initial p i k = cond (eqb p.to.index i) (tokens_at (initial p) p.tokens k) Early
+abbrev pub start_place_at : (Place → ℕ → Date) → Place → ℕ → ℕ → Date
+start_place_at initial p i k = cond (eqb p.to.index i) (tokens_at (initial p) p.tokens k) Early
 
 -- the same of the places into i
 abbrev pub start_at : (Place → ℕ → Date) → List Place → ℕ → ℕ → Date
 start_at initial [] i k = Early
-start_at initial (p ∷ ps) i k = later_of (start_way_at initial p i k) (start_at initial ps i k)
+start_at initial (p ∷ ps) i k = later_of (start_place_at initial p i k) (start_at initial ps i k)
 
 -- the gains of the linear system of a system of places: an entry for each two transitions, and the right side of the initial
 -- tokens and the releases
