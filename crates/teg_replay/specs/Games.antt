@@ -1,6 +1,5 @@
 -- What a game keeps, and for which net it stands.
 use Rattle.std.specs.Prelude.{ℕ, ◌<◌, ◌≡◌, ◌==◌, List, [], Option, Some, None, length, All, AllPairs, Contains, count_by, slice_get, slice_index_or}
-use Rattle.teg_net.specs.declared.entries.Place.{Place}
 use Rattle.teg_net.specs.declared.entries.PlaceId.{PlaceId}
 use Rattle.teg_net.specs.declared.entries.InputList.{InputList}
 use Rattle.teg_net.specs.Nets.{NetLists, IsNet}

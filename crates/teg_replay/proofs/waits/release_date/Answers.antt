@@ -1,5 +1,5 @@
-use Rattle.std.proofs.Common.{◌≡◌, ◌∙◌, Some, sym, ap}
-use Rattle.teg_net.specs.Inputs.{date_by, input_date}
+use Rattle.std.proofs.Common.{◌∙◌, ap}
+use Rattle.teg_net.specs.Inputs.{date_by}
 use Rattle.teg_net.proofs.InputDates.{found_rules}
 use Rattle.teg_replay.proofs.waits.release_date.Goals as goal
 
