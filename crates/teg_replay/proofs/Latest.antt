@@ -1,12 +1,12 @@
 -- The dates by which the tokens of a firing are there, as the first i places into its transition have them.
-use Rattle.std.proofs.Common.{ℕ, ◌+◌, ◌<◌, ◌≤◌, ◌≡◌, ◌≢◌, List, [], ◌∷◌, Option, Some, None, true, false, eqb, length, get_or, max, sym, ap, subst, ◌∙◌, arith, ⊎_elim}
-use Rattle.std.proofs.lemmas.Bool.{cases_eq, cases_lt, cases_Bool}
+use Rattle.std.proofs.Common.{ℕ, ◌+◌, ◌<◌, ◌≤◌, ◌≡◌, ◌≢◌, List, Option, Some, length, get_or, max, sym, ap, subst, ◌∙◌, arith, ⊎_elim}
+use Rattle.std.proofs.lemmas.Bool.{cases_eq, cases_lt}
 use Rattle.std.proofs.lemmas.List.{get_or_default}
 use Rattle.teg_net.specs.declared.entries.PlaceId.{PlaceId}
 use Rattle.teg_net.specs.Nets.{NetLists}
 use Rattle.teg_net.specs.Circuits.{no_place, place_at}
 use Rattle.run_laws.specs.declared.fired.Fired.{Fired}
-use Rattle.run_laws.specs.Runs.{dates_of, next_number, token_date, IsThereBy, HasTokensBy}
+use Rattle.run_laws.specs.Runs.{next_number, token_date, IsThereBy, HasTokensBy}
 use Rattle.run_laws.specs.Failures.{IsFirstLate}
 use Rattle.run_laws.proofs.Dates.{later_there}
 use Rattle.teg_replay.specs.Games.{AreInto}

@@ -7,11 +7,11 @@ use Rattle.teg_outside.specs.declared.monitor.Firing.{Firing}
 use Rattle.run_laws.specs.declared.fired.Fired.{Fired}
 use Rattle.teg_due.specs.declared.rows.LogRow.{LogRow}
 use Rattle.teg_replay.specs.declared.replayed.Replayed.{Replayed}
-use Rattle.std.specs.Prelude.{Result, Ok, Err, Some, IfOk}
+use Rattle.std.specs.Prelude.{Result, Ok, Err, Some, IfOk, IfSome}
 use Rattle.teg_replay.specs.declared.refusal.FireRefusal.{FireRefusal}
 use Rattle.teg_replay.specs.declared.refusal.FireRefusal.TheVariants.{Illegal, BackInTime, BeforeRelease, OutOfMemory}
 use Rattle.run_laws.specs.Runs.{IsLegalAfter}
-use Rattle.teg_replay.specs.Failures.{Fails, IsRightRefusal, IsFailure}
+use Rattle.teg_replay.specs.Failures.{Fails, IsRightRefusal, IsFailure, NamesPlaceOf}
 use Rattle.teg_replay.specs.Firings.{IsFiringOf}
 use Rattle.teg_replay.specs.Replays.{fired_of, run_of, AreFiringsOf, WereShown, Replays}
 use Rattle.run_laws.proofs.Prefixes.{legal_begins, legal_push}
@@ -80,3 +80,16 @@ replay_refused net rows before now firings i accepted run row why (Ok replayed) 
       shown,
     )
 replay_refused net rows before now firings i accepted run row why (Err x) h shown e a l is r right told failed = (firings, h, shown)
+
+names_place : (net : NetLists) (run : List Fired) (f : Fired) (why : FireRefusal) → IsRightRefusal net run f why → NamesPlaceOf net why
+names_place net run f (Illegal id date) h = h.in_range
+names_place net run f (BackInTime last) h = tt
+names_place net run f (BeforeRelease release) h = tt
+names_place net run f OutOfMemory h = tt
+
+-- and the place that it names
+pub refused_named : {E : Type 0} (net : NetLists) (run : List Fired) (row : LogRow) (accepted : ℕ) (why : FireRefusal) (result : Result Replayed E) → IsRightRefusal net run (fired_of row) why
+    → IfOk result (λ replayed. replayed ≡ record { accepted = accepted; refused = Some (record { row = row.row; why = why }) })
+    → IfOk result (λ replayed. IfSome replayed.refused (λ refused. NamesPlaceOf net refused.why))
+refused_named net run row accepted why (Ok replayed) right told = rw told (names_place net run (fired_of row) why right)
+refused_named net run row accepted why (Err x) right told = tt
