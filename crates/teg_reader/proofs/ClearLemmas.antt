@@ -173,7 +173,7 @@ few top good =
 
 -- the numbers of a place keep their ranges
 abbrev pub has_small_numbers : Data → Bool
-has_small_numbers d = is_between_at key.Hold 0 greatest_hold d && is_between_at key.Tokens 0 most_tokens d
+has_small_numbers d = is_between_at key.Hold 0 greatest_hold d && (is_between_at key.Tokens 0 most_tokens d && list_all (is_between 0 greatest_date) (list_at key.Ready d))
 
 place_in_range : (n : ℕ) (d : Data) → out_of_range (spot_at section.Place n) d ≡ None → has_small_numbers d ≡ true
 unfolding fields_of in_range
@@ -181,7 +181,8 @@ place_in_range n d h =
     let all = fields_in_range section.Place n d h in
     let a = and_parts (is_between_at key.Hold 0 greatest_hold d) _ all in
     let b = and_parts (is_between_at key.Tokens 0 most_tokens d) _ a.1 in
-    rw (a.0, b.0)
+    let c = and_parts (list_all (is_between 0 greatest_date) (list_at key.Ready d)) _ b.1 in
+    rw (a.0, b.0, c.0)
 
 pub places_in_range : (top : Data) → AreGood top → list_all has_small_numbers (list_at key.Place top) ≡ true
 places_in_range top good = all_clear out_of_range section.Place has_small_numbers place_in_range 1 (list_at key.Place top) (clear out_of_range top good.ranges).places

@@ -1,5 +1,5 @@
 -- The net of a tree without a finding keeps the rules of a net.
-use Rattle.std.proofs.Common.{◌≡◌, ◌≢◌, ℕ, suc, inl, ◌+◌, ◌<◌, ◌≤◌, Bool, true, false, not, cond, ◌||◌, List, [], ◌∷◌, length, map, bytes_eq, None, IsTrue, refl, ap, sym, ◌∙◌, subst, arith}
+use Rattle.std.proofs.Common.{◌≡◌, ◌≢◌, ℕ, suc, ◌+◌, ◌<◌, ◌≤◌, Bool, true, false, not, cond, ◌||◌, List, [], ◌∷◌, length, map, bytes_eq, None, IsTrue, refl, ap, sym, ◌∙◌, subst, arith}
 use Rattle.std.proofs.lemmas.Bool.{and_parts, false≢true}
 use Rattle.std.proofs.lemmas.Slice.Eq.{bytes_eq-Decides}
 use Rattle.std.proofs.lemmas.List.{length-map, get_or-map}
@@ -24,13 +24,15 @@ use Rattle.teg_reader.specs.EventGraphs.{end_at}
 use Rattle.teg_reader.specs.InputLists.{bad_input}
 use Rattle.teg_reader.specs.NetOf.{transition_of, place_of, input_of, id_of, net_of}
 use Rattle.teg_reader.specs.Sound.{is_sound_place, is_sound_input}
-use Rattle.teg_reader.specs.Documents.{refused, bad_entries, bad_graph}
+use Rattle.teg_reader.specs.ReadyDates.{ready_of, has_ready_for_each}
+use Rattle.teg_reader.specs.Documents.{refused, bad_entries, bad_graph, bad_places}
 use Rattle.teg_reader.proofs.Facts.{negated, or_false, differs, le_test}
 use Rattle.teg_reader.proofs.NumberLemmas.{TextKey}
 use Rattle.teg_reader.proofs.ClearLemmas.{neither, AreGood, good_entries, transitions_named, places_named, distinct, few, has_small_numbers, places_in_range, has_numbers_in_range, inputs_in_range, number_up_to}
 use Rattle.teg_reader.proofs.GraphLemmas.{IsGraph, good_graph, at_least_one, both_pass, has_known_texts, places_known, has_known_owner, owners_known, has_one_end, places_joined, has_known_ends, ends_known, enters_no_input, places_free}
 use Rattle.teg_reader.proofs.RoleLemmas.{number_in, is_input-from_named, named-from_is_input}
-use Rattle.teg_reader.proofs.InputLemmas.{IsGoodInput, good_input, every_small}
+use Rattle.teg_reader.proofs.InputLemmas.{IsGoodInput, good_input, every_small, dates_in}
+use Rattle.teg_reader.proofs.ReadyLemmas.{ready_for_each, places_ready}
 
 position_within : {A : Type 0} (p : A → Bool) (xs : List A) → list_any p xs ≡ true → position_or_len p xs < length xs
 position_within p [] h = absurd (false≢true h)
@@ -87,34 +89,37 @@ record IsGoodPlace (ts : List Data) (p : Data) : Type 0 where
   known : has_known_ends (names_of ts) p ≡ true
   free : enters_no_input ts p ≡ true
   numbers : has_small_numbers p ≡ true
+  ready : has_ready_for_each p ≡ true
 
 -- such a place keeps the rules in a net of these transitions
 place_fits : (net : NetLists) (ts : List Data) (p : Data) → net.transitions ≡ map transition_of ts → IsGoodPlace ts p → IsPlaceOf net (place_of (names_of ts) p)
-unfolding place_of id_of
+unfolding place_of id_of ready_of
 place_fits net ts p same good =
     let known = and_parts (is_among (names_of ts) (end_at key.From p)) _ good.known in
     let numbers = and_parts (is_between_at key.Hold 0 greatest_hold p) _ good.numbers in
+    let tokens = and_parts (is_between_at key.Tokens 0 most_tokens p) _ numbers.1 in
     let count : length (names_of ts) ≡ length net.transitions = length-map ts (text_at key.Name) ∙ (sym (length-map ts transition_of) ∙ ap length (sym same)) in
     record {
       from_in = subst (λ n. number_in ts (end_at key.From p) < n) count (position_within _ _ known.0);
       to_in = subst (λ n. number_in ts (end_at key.To p) < n) count (position_within _ _ known.1);
       enters_no_input = λ input. false≢true (sym (negated _ good.free) ∙ named-from_is_input (end_at key.To p) ts (rw same at input));
       hold_in = number_up_to key.Hold greatest_hold p numbers.0;
-      tokens_in = number_up_to key.Tokens most_tokens p numbers.1;
-      ready_all = inl refl;
-      ready_in = λ i d l. absurd (omega arith);
+      tokens_in = number_up_to key.Tokens most_tokens p tokens.0;
+      ready_all = ready_for_each p good.ready;
+      ready_in = dates_in (list_at key.Ready p) tokens.1;
     }
 
 places_fit : (net : NetLists) (ts ps : List Data) → net.transitions ≡ map transition_of ts
-    → list_all (has_known_ends (names_of ts)) ps ≡ true → list_all (enters_no_input ts) ps ≡ true → list_all has_small_numbers ps ≡ true
+    → list_all (has_known_ends (names_of ts)) ps ≡ true → list_all (enters_no_input ts) ps ≡ true → list_all has_small_numbers ps ≡ true → list_all has_ready_for_each ps ≡ true
     → All (IsPlaceOf net) (map (place_of (names_of ts)) ps)
-places_fit net ts [] same known free numbers = All-nil (IsPlaceOf net)
-places_fit net ts (p ∷ ps) same known free numbers =
+places_fit net ts [] same known free numbers ready = All-nil (IsPlaceOf net)
+places_fit net ts (p ∷ ps) same known free numbers ready =
     let a = and_parts (has_known_ends (names_of ts) p) _ known in
     let b = and_parts (enters_no_input ts p) _ free in
     let c = and_parts (has_small_numbers p) _ numbers in
+    let d = and_parts (has_ready_for_each p) _ ready in
     All-cons (IsPlaceOf net) (place_of (names_of ts) p) (map (place_of (names_of ts)) ps)
-    (place_fits net ts p same (record { known = a.0; free = b.0; numbers = c.0 })) (places_fit net ts ps same a.1 b.1 c.1)
+    (place_fits net ts p same (record { known = a.0; free = b.0; numbers = c.0; ready = d.0 })) (places_fit net ts ps same a.1 b.1 c.1 d.1)
 
 -- an input list without a fault keeps the rules in a net of these transitions
 input_fits : (net : NetLists) (ts : List Data) (l : Data) → net.transitions ≡ map transition_of ts → IsGoodInput ts l → IsInputOf net (input_of (names_of ts) l)
@@ -172,12 +177,14 @@ one_list names (l ∷ ls) distinct owners =
 pub record IsAccepted (top : Data) : Type 0 where
   pub entries : AreGood top
   pub graph : IsGraph top
+  pub ready : list_all has_ready_for_each (list_at key.Place top) ≡ true
 
 pub accepted : (top : Data) → refused top ≡ None → IsAccepted top
 unfolding refused
 accepted top h =
-    let both = neither (bad_entries top) (bad_graph top) h in
-    record { entries = good_entries top both.0; graph = good_graph top both.1 }
+    let a = neither (bad_entries top) _ h in
+    let b = neither (bad_graph top) (bad_places top) a.1 in
+    record { entries = good_entries top a.0; graph = good_graph top b.0; ready = places_ready top b.1 }
 
 pub joined : (top : Data) → IsAccepted top → list_all (has_known_ends (names_of (list_at key.Transition top))) (list_at key.Place top) ≡ true
 joined top h =
@@ -204,7 +211,7 @@ net_rules top none =
       place_names = all_places_named (names_of ts) ps (places_named top h.entries);
       distinct_transitions = pairs_of_map (λ (t : Transition). t.name) (map transition_of ts) (subst (AllPairs (λ a b. a ≢ b)) (sym (transition_names ts)) (distinct_pairs (names_of ts) distinct_names.transitions));
       distinct_places = pairs_of_map (λ (p : Place). p.name) (map (place_of (names_of ts)) ps) (subst (AllPairs (λ a b. a ≢ b)) (sym (place_names (names_of ts) ps)) (distinct_pairs (names_of ps) distinct_names.places));
-      each_place = places_fit _ ts ps refl (joined top h) (places_free top h.graph) (places_in_range top h.entries);
+      each_place = places_fit _ ts ps refl (joined top h) (places_free top h.graph) (places_in_range top h.entries) h.ready;
       one_list = one_list (names_of ts) ls distinct_names.inputs (owners_known top h.graph.known);
       each_input = inputs_fit _ ts ls refl h.graph.inputs (inputs_in_range top h.entries);
     }
@@ -214,7 +221,8 @@ unfolding is_sound_place
 sound_place names d name numbers known =
     let a = and_parts (is_between_at key.Hold 0 greatest_hold d) _ numbers in
     let b = and_parts (is_among names (end_at key.From d)) _ known in
-    rw (name, le_test _ _ (number_up_to key.Tokens most_tokens d a.1), b.0, b.1)
+    let c = and_parts (is_between_at key.Tokens 0 most_tokens d) _ a.1 in
+    rw (name, le_test _ _ (number_up_to key.Tokens most_tokens d c.0), b.0, b.1)
 
 sound_places_of : (names : List (List ℕ)) (ps : List Data) → list_all has_good_name ps ≡ true → list_all has_small_numbers ps ≡ true → list_all (has_known_ends names) ps ≡ true → list_all (is_sound_place names) ps ≡ true
 sound_places_of names [] good numbers known = refl

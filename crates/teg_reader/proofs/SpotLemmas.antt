@@ -1,5 +1,5 @@
 -- Each pass tells plain spots.
-use Rattle.std.proofs.Common.{◌≡◌, ◌≢◌, ℕ, ◌+◌, Bool, true, false, if◌then◌else◌, List, [], ◌∷◌, Option, Some, None, option_map, Result, Ok, Err, refl, subst}
+use Rattle.std.proofs.Common.{◌≢◌, ℕ, ◌+◌, Bool, true, false, if◌then◌else◌, List, [], ◌∷◌, Option, Some, None, option_map, Err, refl, subst}
 use Rattle.std.specs.Prelude.{IfSome, IfErr}
 use Rattle.std.specs.Option.{option_map_or}
 use Rattle.toml.specs.Data.{Data, Members, table}
@@ -22,7 +22,8 @@ use Rattle.teg_reader.specs.Ranges.{out_of_range}
 use Rattle.teg_reader.specs.UnknownTransitions.{unknown_transition}
 use Rattle.teg_reader.specs.EventGraphs.{no_transitions, not_event_graph, input_has_upstream}
 use Rattle.teg_reader.specs.InputLists.{bad_input}
-use Rattle.teg_reader.specs.Documents.{tree_of, bad_entries, bad_graph, refused, verdict, tree_document, document}
+use Rattle.teg_reader.specs.ReadyDates.{bad_ready}
+use Rattle.teg_reader.specs.Documents.{tree_of, bad_entries, bad_graph, bad_places, refused, verdict, tree_document, document}
 use Rattle.teg_reader.specs.Spots.{IsPlainSpot, IsPlainRefusal, RefusalsArePlain}
 
 -- what is found, if anything, is plain
@@ -118,6 +119,10 @@ bad_input_plain : (ts : List Data) (d : Data) → IsPlainFinding (bad_input ts d
 unfolding bad_input
 bad_input_plain ts d = plain_mapped _ _ (λ p. record { spot = tt; no_memory = refl })
 
+bad_ready_plain : (d : Data) → IsPlainFinding (bad_ready d)
+unfolding bad_ready
+bad_ready_plain d = plain_unless _ _ (record { spot = tt; no_memory = refl })
+
 bad_entries_plain : (top : Data) → IsPlainFinding (bad_entries top)
 unfolding bad_entries
 bad_entries_plain top =
@@ -137,9 +142,15 @@ bad_graph_plain top =
     (plain_either (first_of (input_has_upstream ts) (list_at key.Place top)) _ (plain_of (input_has_upstream ts) (list_at key.Place top) (entered_plain ts))
     (plain_of (bad_input ts) (list_at key.Input top) (bad_input_plain ts)))))
 
+bad_places_plain : (top : Data) → IsPlainFinding (bad_places top)
+unfolding bad_places
+bad_places_plain top = plain_of bad_ready (list_at key.Place top) bad_ready_plain
+
 refused_plain : (top : Data) → IsPlainFinding (refused top)
 unfolding refused
-refused_plain top = plain_either (bad_entries top) (bad_graph top) (bad_entries_plain top) (bad_graph_plain top)
+refused_plain top =
+    plain_either (bad_entries top) _ (bad_entries_plain top)
+    (plain_either (bad_graph top) (bad_places top) (bad_graph_plain top) (bad_places_plain top))
 
 verdict_plain : (found : Option ReadRefusal) (net : NetLists) → IsPlainFinding found → IfErr (verdict found net) IsPlainRefusal
 verdict_plain None net h = tt

@@ -19,6 +19,7 @@ use Rattle.teg_reader.specs.Ranges.{out_of_range}
 use Rattle.teg_reader.specs.UnknownTransitions.{unknown_transition}
 use Rattle.teg_reader.specs.EventGraphs.{no_transitions, not_event_graph, input_has_upstream}
 use Rattle.teg_reader.specs.InputLists.{bad_input}
+use Rattle.teg_reader.specs.ReadyDates.{bad_ready}
 use Rattle.teg_reader.specs.NetOf.{net_of}
 
 -- the table that the bytes are, where they are a text that the grammar of TOML reads
@@ -42,9 +43,13 @@ bad_graph top =
     (or_else (first_of (input_has_upstream (list_at key.Transition top)) (list_at key.Place top))
     (first_of (bad_input (list_at key.Transition top)) (list_at key.Input top)))))
 
+-- what is wrong with the tokens of the places
+unfoldable pub bad_places : Data → Option ReadRefusal
+bad_places top = first_of bad_ready (list_at key.Place top)
+
 -- the first finding of the passes over the tree
 unfoldable pub refused : Data → Option ReadRefusal
-refused top = or_else (bad_entries top) (bad_graph top)
+refused top = or_else (bad_entries top) (or_else (bad_graph top) (bad_places top))
 
 -- the first finding of the passes, or the net
 abbrev pub verdict : Option ReadRefusal → NetLists → Result NetLists ReadRefusal

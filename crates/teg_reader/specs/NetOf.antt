@@ -1,5 +1,5 @@
 -- The net of a tree: its entries in order.
-use Rattle.std.specs.Prelude.{ℕ, if◌then◌else◌, List, [], map, bytes_eq, codes}
+use Rattle.std.specs.Prelude.{ℕ, if◌then◌else◌, List, map, bytes_eq, codes}
 use Rattle.std.specs.List.{position_or_len}
 use Rattle.toml.specs.Data.{Data}
 use Rattle.teg_net.specs.Nets.{NetLists}
@@ -13,6 +13,7 @@ use Rattle.teg_reader.specs.declared.keys.Key.TheVariants as key
 use Rattle.teg_reader.specs.Trees.{text_at, list_at, number_at, names_of}
 use Rattle.teg_reader.specs.EventGraphs.{end_at}
 use Rattle.teg_reader.specs.InputLists.{dates_of, again_of}
+use Rattle.teg_reader.specs.ReadyDates.{ready_of}
 
 -- the role of this text; without one a transition is internal
 unfoldable pub role_of : List ℕ → Role
@@ -26,7 +27,7 @@ transition_of d = record { name = text_at key.Name d; role = role_of (text_at ke
 unfoldable pub id_of : List (List ℕ) → List ℕ → TransitionId
 id_of names text = record { index = position_or_len (bytes_eq text) names }
 
--- the place of an entry: hold and tokens are 0 where they are not there, and all tokens are ready at 0
+-- the place of an entry: hold and tokens are 0 where they are not there, and without ready dates all tokens are ready at 0
 unfoldable pub place_of : List (List ℕ) → Data → Place
 place_of names d = record {
   name = text_at key.Name d;
@@ -34,7 +35,7 @@ place_of names d = record {
   to = id_of names (end_at key.To d);
   hold = number_at key.Hold d;
   tokens = number_at key.Tokens d;
-  ready = [];
+  ready = ready_of d;
 }
 
 -- the input list of an entry

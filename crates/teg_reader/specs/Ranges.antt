@@ -38,6 +38,7 @@ in_range section.Top top key.Place = nat_le (length (list_at key.Place top)) mos
 in_range section.Transition d key.Role = has_role d
 in_range section.Place d key.Hold = is_between_at key.Hold 0 greatest_hold d
 in_range section.Place d key.Tokens = is_between_at key.Tokens 0 most_tokens d
+in_range section.Place d key.Ready = list_all (is_between 0 greatest_date) (list_at key.Ready d)
 in_range section.Input d key.Dates = has_dates_in_range d
 in_range section.Input d key.Every = is_between_at key.Every 1 most_every d
 in_range section.Input d key.Gap = is_between_at key.Gap 0 greatest_date d

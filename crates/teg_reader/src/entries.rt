@@ -57,20 +57,32 @@ fn make_transitions(alloc: Global, entries: &[Value]) -> Result<Vec<Transition>,
     Ok(transitions)
 }
 
-/// The place of an entry, all of whose tokens are ready at 0.
-#[tactic(auto, unfolding(crate::specs::NetOf::place_of))]
+/// The numbers of the values in order.
+fn make_dates(alloc: Global, values: &[Value]) -> Result<Vec<u64>, AllocError>
+    ensures { IfOk result (λ ds. ds.items ≡ map as_number (map view values.now)) }
+{
+    let mut dates = Vec::new(alloc);
+    for value in values {
+        dates.push(as_number(value))?;
+    }
+    Ok(dates)
+}
+
+/// The place of an entry.
+#[tactic(auto, unfolding(crate::specs::NetOf::place_of, crate::specs::ReadyDates::ready_of))]
 fn make_place(alloc: Global, names: &IndexSet<&str>, entry: &Value) -> Result<Place, AllocError>
     requires sound { is_sound_place (map deref names.now.keys) (view entry.now) ≡ true }
     requires few { length names.now.keys < 2 ^ 32 }
     ensures { IfOk result (λ p. p ≡ place_of (map deref names.now.keys) (view entry.now)) }
 {
+    let ready = make_dates(alloc, list_at(entry, Key::Ready))?;
     Ok(Place {
         name: copy_name(alloc, text_at(entry, Key::Name))?,
         from: number_of(names, end_at(entry, Key::From)),
         to: number_of(names, end_at(entry, Key::To)),
         hold: number_at(entry, Key::Hold),
         tokens: number_at(entry, Key::Tokens) as u32,
-        ready: DateList::new(Vec::new(alloc)),
+        ready: DateList::new(ready),
     })
 }
 
@@ -89,17 +101,6 @@ fn make_places(
         places.push(make_place(alloc, names, entry)?)?;
     }
     Ok(places)
-}
-
-/// The numbers of the values in order.
-fn make_dates(alloc: Global, values: &[Value]) -> Result<Vec<u64>, AllocError>
-    ensures { IfOk result (λ ds. ds.items ≡ map as_number (map view values.now)) }
-{
-    let mut dates = Vec::new(alloc);
-    for value in values {
-        dates.push(as_number(value))?;
-    }
-    Ok(dates)
 }
 
 /// How the input entry goes on past its list, if it does.

@@ -90,6 +90,11 @@ pub(crate) fn fields_of(section: Section) -> &'static [Field]
                 kind: Kind::Integer,
                 needed: false,
             },
+            Field {
+                key: Key::Ready,
+                kind: Kind::Integers,
+                needed: false,
+            },
         ],
         Section::Input => &[
             Field {

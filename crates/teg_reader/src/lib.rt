@@ -15,6 +15,7 @@ mod missing_keys;
 mod numbers;
 mod ranges;
 mod reader;
+mod ready_dates;
 mod refusals;
 mod repeats;
 #[cfg(test)]

@@ -92,6 +92,7 @@ fn in_range(section: Section, entry: &Value, key: Key) -> bool
         Section::Place => match key {
             Key::Hold => is_between_at(entry, key, 0, 1_000_000_000),
             Key::Tokens => is_between_at(entry, key, 0, 1000),
+            Key::Ready => are_dates(list_at(entry, key)),
             _ => true,
         },
         Section::Input => match key {

@@ -6,7 +6,7 @@ ghost use Rattle.toml.specs.View.{view, table_view};
 ghost use Rattle.teg_reader.specs.declared.keys.Key.TheVariants as key;
 ghost use Rattle.teg_reader.specs.Trees.{list_at, names_of};
 ghost use Rattle.teg_reader.specs.Walks.{Finds};
-ghost use Rattle.teg_reader.specs.Documents.{bad_entries, bad_graph, tree_document, document, Answers};
+ghost use Rattle.teg_reader.specs.Documents.{bad_entries, bad_graph, bad_places, tree_document, document, Answers};
 ghost use Rattle.teg_reader.specs.Spots.{RefusalsArePlain};
 
 use crate::bad_names::BadNames;
@@ -17,6 +17,7 @@ use crate::keys::Key;
 use crate::missing_keys::MissingKeys;
 use crate::numbers::number_names;
 use crate::ranges::OutOfRanges;
+use crate::ready_dates::look_for_bad_ready;
 use crate::refusals::ReadRefusal;
 use crate::repeats::look_for_repeats;
 use crate::trees::list_at;
@@ -58,6 +59,15 @@ fn look_at_graph(alloc: Global, names: &IndexSet<&str>, top: &Value) -> Result<(
     look_for_bad_inputs(alloc, names, transitions, list_at(top, Key::Input))
 }
 
+/// Looks at the tokens of the places.
+#[tactic(auto, unfolding(crate::specs::Documents::bad_places))]
+fn look_at_places(alloc: Global, top: &Value) -> Result<(), ReadRefusal>
+    requires { bad_entries (view top.now) ≡ None }
+    ensures { Finds (bad_places (view top.now)) result }
+{
+    look_for_bad_ready(alloc, list_at(top, Key::Place))
+}
+
 /// The net of a tree.
 #[tactic(auto, unfolding(crate::specs::Documents::tree_document, crate::specs::Documents::refused))]
 fn read_tree(alloc: Global, top: &Value) -> Result<Net, ReadRefusal>
@@ -68,6 +78,7 @@ fn read_tree(alloc: Global, top: &Value) -> Result<Net, ReadRefusal>
         return Err(ReadRefusal::OutOfMemory);
     };
     look_at_graph(alloc, &names, top)?;
+    look_at_places(alloc, top)?;
     match make_net(alloc, &names, top) {
         Ok(net) => Ok(net),
         Err(_) => Err(ReadRefusal::OutOfMemory),

@@ -80,6 +80,12 @@ pub enum ReadRefusal {
         transition: Name,
         position: u32,
     },
+    /// The place has another number of ready dates than of tokens.
+    BadReady {
+        place: Name,
+        given: u32,
+        tokens: u32,
+    },
     /// No memory was found.
     OutOfMemory,
 }

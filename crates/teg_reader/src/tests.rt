@@ -46,8 +46,8 @@ const KEYS: [(&str, &str); 21] = [
         "UnknownKey { spot: Spot { section: Input, position: 1 }, key: Label { text: \"name\" } }",
     ),
     (
-        "transition = [{name = \"a\"}]\nplace = [{name = \"p\", from = \"a\", to = \"a\", tokens = 1, ready = [0]}]\n",
-        "UnknownKey { spot: Spot { section: Place, position: 1 }, key: Label { text: \"ready\" } }",
+        "transition = [{name = \"a\"}]\nplace = [{name = \"p\", from = \"a\", to = \"a\", tokens = 1, readies = [0]}]\n",
+        "UnknownKey { spot: Spot { section: Place, position: 1 }, key: Label { text: \"readies\" } }",
     ),
     (
         "[[transition]]\n",
@@ -335,6 +335,57 @@ const GRAPHS: [(&str, &str); 19] = [
     ),
 ];
 
+const READY: [(&str, &str); 12] = [
+    (
+        "transition = [{name = \"a\"}]\nplace = [{name = \"p\", from = \"a\", to = \"a\", tokens = 1, ready = 4}]\n",
+        "WrongKind { spot: Spot { section: Place, position: 1 }, key: Ready }",
+    ),
+    (
+        "transition = [{name = \"a\"}]\nplace = [{name = \"p\", from = \"a\", to = \"a\", tokens = 1, ready = \"4\"}]\n",
+        "WrongKind { spot: Spot { section: Place, position: 1 }, key: Ready }",
+    ),
+    (
+        "transition = [{name = \"a\"}]\nplace = [{name = \"p\", from = \"a\", to = \"a\", tokens = 2, ready = [1, \"2\"]}]\n",
+        "WrongKind { spot: Spot { section: Place, position: 1 }, key: Ready }",
+    ),
+    (
+        "transition = [{name = \"a\"}]\nplace = [{name = \"p\", from = \"a\", to = \"a\", tokens = 1, ready = [-1]}]\n",
+        "OutOfRange { spot: Spot { section: Place, position: 1 }, key: Ready }",
+    ),
+    (
+        "transition = [{name = \"a\"}]\nplace = [{name = \"p\", from = \"a\", to = \"a\", tokens = 2, ready = [0, 1000000000001]}]\n",
+        "OutOfRange { spot: Spot { section: Place, position: 1 }, key: Ready }",
+    ),
+    (
+        "transition = [{name = \"a\"}]\nplace = [{name = \"p\", from = \"a\", to = \"a\", tokens = 2, ready = [1000000000000, 0]}]\n",
+        "accepted",
+    ),
+    (
+        "transition = [{name = \"a\"}]\nplace = [{name = \"p\", from = \"a\", to = \"a\", ready = []}]\n",
+        "accepted",
+    ),
+    (
+        "transition = [{name = \"a\"}, {name = \"b\"}]\nplace = [{name = \"ab\", from = \"a\", to = \"b\", hold = 3}, {name = \"ba\", from = \"b\", to = \"a\", hold = 2, tokens = 1, ready = [4]}]\n",
+        "accepted",
+    ),
+    (
+        "transition = [{name = \"a\"}, {name = \"b\"}]\nplace = [{name = \"ab\", from = \"a\", to = \"b\", hold = 3}, {name = \"ba\", from = \"b\", to = \"a\", hold = 2, tokens = 1, ready = [4, 5]}]\n",
+        "BadReady { place: Name { text: \"ba\" }, given: 2, tokens: 1 }",
+    ),
+    (
+        "transition = [{name = \"a\"}, {name = \"b\"}]\nplace = [{name = \"ab\", from = \"a\", to = \"b\", hold = 3}, {name = \"ba\", from = \"b\", to = \"a\", hold = 2, tokens = 1, ready = []}]\n",
+        "BadReady { place: Name { text: \"ba\" }, given: 0, tokens: 1 }",
+    ),
+    (
+        "transition = [{name = \"a\"}, {name = \"b\"}]\nplace = [{name = \"ab\", from = \"a\", to = \"b\", hold = 3, ready = [7]}, {name = \"ba\", from = \"b\", to = \"a\", hold = 2, tokens = 1, ready = [4, 5]}]\n",
+        "BadReady { place: Name { text: \"ab\" }, given: 1, tokens: 0 }",
+    ),
+    (
+        "transition = [{name = \"a\"}, {name = \"b\"}]\nplace = [{name = \"ab\", from = \"a\", to = \"b\", hold = 3}, {name = \"ba\", from = \"b\", to = \"a\", hold = 2, tokens = 1, ready = [4, 5]}]\ninput = [{transition = \"a\", dates = [0]}]\n",
+        "BadInput { transition: Name { text: \"a\" }, position: 0 }",
+    ),
+];
+
 #[test]
 fn keys_and_names(rt: HostRuntime) {
     assert!(rt; first_other_answer(rt.alloc(), &KEYS) == KEYS.len());
@@ -353,6 +404,28 @@ fn ranges(rt: HostRuntime) {
 #[test]
 fn graphs_and_input_lists(rt: HostRuntime) {
     assert!(rt; first_other_answer(rt.alloc(), &GRAPHS) == GRAPHS.len());
+}
+
+#[test]
+fn ready_dates(rt: HostRuntime) {
+    assert!(rt; first_other_answer(rt.alloc(), &READY) == READY.len());
+}
+
+#[test]
+fn ready_dates_are_kept(rt: HostRuntime) {
+    let file =
+        "transition = [{name = \"a\"}]\nplace = [{name = \"p\", from = \"a\", to = \"a\"}, {name = \"q\", from = \"a\", to = \"a\", tokens = 2, ready = [9, 4]}]\n";
+    let Ok(net) = read_net(rt.alloc(), file.as_bytes()) else {
+        panic!(rt; "it is a net");
+    };
+    assert!(rt; net.places().len() == 2);
+    for place in net.places() {
+        if place.tokens == 2 {
+            assert!(rt; place.ready.as_slice() == [9, 4].as_slice());
+        } else {
+            assert!(rt; place.ready.as_slice().is_empty());
+        }
+    }
 }
 
 #[test]
