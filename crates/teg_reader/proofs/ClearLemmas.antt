@@ -17,7 +17,7 @@ use Rattle.teg_reader.specs.Texts.{is_among, is_distinct}
 use Rattle.teg_reader.specs.Trees.{value_at, text_at, list_at, number_at, as_number, is_between, names_of, or_else}
 use Rattle.teg_reader.specs.Walks.{Look, spot_at, first_finding, first_of, finding}
 use Rattle.teg_reader.specs.WrongKinds.{first_failing}
-use Rattle.teg_reader.specs.UnknownKeys.{unknown_key}
+use Rattle.teg_reader.specs.UnknownKeys.{is_second, unknown_key}
 use Rattle.teg_reader.specs.WrongKinds.{wrong_kind}
 use Rattle.teg_reader.specs.MissingKeys.{missing_key}
 use Rattle.teg_reader.specs.BadNames.{bad_name, has_good_name}
@@ -81,7 +81,7 @@ pub record AreGood (top : Data) : Type 0 where
 pub good_entries : (top : Data) → bad_entries top ≡ None → AreGood top
 unfolding bad_entries
 good_entries top h =
-    let a = neither (finding unknown_key top) _ h in
+    let a = neither (finding (unknown_key (is_second top)) top) _ h in
     let b = neither (finding wrong_kind top) _ a.1 in
     let c = neither (finding missing_key top) _ b.1 in
     let d = neither (finding bad_name top) _ c.1 in
@@ -166,7 +166,7 @@ pub few : (top : Data) → AreGood top → AreFew top
 unfolding fields_of in_range
 few top good =
     let all = fields_in_range section.Top 0 top (clear out_of_range top good.ranges).at_top in
-    let a = and_parts (is_between_at key.Version 1 1 top) _ all in
+    let a = and_parts (is_between_at key.Version 1 2 top) _ all in
     let b = and_parts (nat_le (length (list_at key.Transition top)) most_transitions) _ a.1 in
     let c = and_parts (nat_le (length (list_at key.Place top)) most_places) _ b.1 in
     record { transitions = le_of _ _ b.0; places = le_of _ _ c.0 }

@@ -13,6 +13,7 @@ pub mod UnknownTransitions
 pub mod EventGraphs
 pub mod InputLists
 pub mod ReadyDates
+pub mod Holds
 pub mod NetOf
 pub mod Sound
 pub mod Documents

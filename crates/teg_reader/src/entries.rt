@@ -12,6 +12,7 @@ ghost use Rattle.teg_reader.specs.Documents.{refused};
 ghost use Rattle.teg_reader.specs.declared.keys.Key.TheVariants as key;
 
 use crate::event_graph::{copy_name, end_at};
+use crate::holds::hold_of;
 use crate::keys::Key;
 use crate::numbers::number_of;
 use crate::trees::{as_number, list_at, number_at, text_at, value_at};
@@ -70,17 +71,23 @@ fn make_dates(alloc: Global, values: &[Value]) -> Result<Vec<u64>, AllocError>
 
 /// The place of an entry.
 #[tactic(auto, unfolding(crate::specs::NetOf::place_of, crate::specs::ReadyDates::ready_of))]
-fn make_place(alloc: Global, names: &IndexSet<&str>, entry: &Value) -> Result<Place, AllocError>
+fn make_place(
+    alloc: Global,
+    names: &IndexSet<&str>,
+    transitions: &[Value],
+    entry: &Value,
+) -> Result<Place, AllocError>
+    requires same { map deref names.now.keys ≡ names_of (map view transitions.now) }
     requires sound { is_sound_place (map deref names.now.keys) (view entry.now) ≡ true }
     requires few { length names.now.keys < 2 ^ 32 }
-    ensures { IfOk result (λ p. p ≡ place_of (map deref names.now.keys) (view entry.now)) }
+    ensures { IfOk result (λ p. p ≡ place_of (map view transitions.now) (view entry.now)) }
 {
     let ready = make_dates(alloc, list_at(entry, Key::Ready))?;
     Ok(Place {
         name: copy_name(alloc, text_at(entry, Key::Name))?,
         from: number_of(names, end_at(entry, Key::From)),
         to: number_of(names, end_at(entry, Key::To)),
-        hold: number_at(entry, Key::Hold),
+        hold: hold_of(names, transitions, entry),
         tokens: number_at(entry, Key::Tokens) as u32,
         ready: DateList::new(ready),
     })
@@ -90,15 +97,17 @@ fn make_place(alloc: Global, names: &IndexSet<&str>, entry: &Value) -> Result<Pl
 fn make_places(
     alloc: Global,
     names: &IndexSet<&str>,
+    transitions: &[Value],
     entries: &[Value],
 ) -> Result<Vec<Place>, AllocError>
+    requires same { map deref names.now.keys ≡ names_of (map view transitions.now) }
     requires sound { list_all (is_sound_place (map deref names.now.keys)) (map view entries.now) ≡ true }
     requires few { length names.now.keys < 2 ^ 32 }
-    ensures { IfOk result (λ ps. ps.items ≡ map (place_of (map deref names.now.keys)) (map view entries.now)) }
+    ensures { IfOk result (λ ps. ps.items ≡ map (place_of (map view transitions.now)) (map view entries.now)) }
 {
     let mut places = Vec::new(alloc);
     for entry in entries {
-        places.push(make_place(alloc, names, entry)?)?;
+        places.push(make_place(alloc, names, transitions, entry)?)?;
     }
     Ok(places)
 }
@@ -162,8 +171,9 @@ pub(crate) fn make_net(
     requires names { map deref names.now.keys ≡ names_of (list_at key.Transition (view top.now)) }
     ensures { IfOk result (λ n. n ≡ net_of (view top.now)) }
 {
-    let transitions = make_transitions(alloc, list_at(top, Key::Transition))?;
-    let places = make_places(alloc, names, list_at(top, Key::Place))?;
+    let entries = list_at(top, Key::Transition);
+    let transitions = make_transitions(alloc, entries)?;
+    let places = make_places(alloc, names, entries, list_at(top, Key::Place))?;
     let inputs = make_inputs(alloc, names, list_at(top, Key::Input))?;
     Ok(Net::new(transitions, places, inputs))
 }

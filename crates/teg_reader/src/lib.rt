@@ -9,6 +9,7 @@ mod bad_names;
 mod entries;
 mod event_graph;
 mod fields;
+mod holds;
 mod input_lists;
 mod keys;
 mod missing_keys;

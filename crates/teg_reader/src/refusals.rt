@@ -86,6 +86,10 @@ pub enum ReadRefusal {
         given: u32,
         tokens: u32,
     },
+    /// The place's hold and the duration of its upstream transition are together too great.
+    TooSlow {
+        place: Name,
+    },
     /// No memory was found.
     OutOfMemory,
 }
