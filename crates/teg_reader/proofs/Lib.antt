@@ -9,6 +9,7 @@ pub mod ClearLemmas
 pub mod GraphLemmas
 pub mod RoleLemmas
 pub mod InputLemmas
+pub mod PlaceLemmas
 pub mod RuleLemmas
 pub mod SoundLemmas
 pub mod DateLemmas

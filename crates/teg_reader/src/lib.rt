@@ -9,12 +9,14 @@ mod bad_names;
 mod entries;
 mod event_graph;
 mod fields;
+mod holds;
 mod input_lists;
 mod keys;
 mod missing_keys;
 mod numbers;
 mod ranges;
 mod reader;
+mod ready_dates;
 mod refusals;
 mod repeats;
 #[cfg(test)]

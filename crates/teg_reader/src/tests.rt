@@ -46,8 +46,8 @@ const KEYS: [(&str, &str); 21] = [
         "UnknownKey { spot: Spot { section: Input, position: 1 }, key: Label { text: \"name\" } }",
     ),
     (
-        "transition = [{name = \"a\"}]\nplace = [{name = \"p\", from = \"a\", to = \"a\", tokens = 1, ready = [0]}]\n",
-        "UnknownKey { spot: Spot { section: Place, position: 1 }, key: Label { text: \"ready\" } }",
+        "transition = [{name = \"a\"}]\nplace = [{name = \"p\", from = \"a\", to = \"a\", tokens = 1, readies = [0]}]\n",
+        "UnknownKey { spot: Spot { section: Place, position: 1 }, key: Label { text: \"readies\" } }",
     ),
     (
         "[[transition]]\n",
@@ -184,15 +184,16 @@ const KINDS: [(&str, &str); 19] = [
     ),
 ];
 
-const RANGES: [(&str, &str); 18] = [
+const RANGES: [(&str, &str); 19] = [
     (
         "version = 0\ntransition = [{name = \"a\"}]\n",
         "OutOfRange { spot: Spot { section: Top, position: 0 }, key: Version }",
     ),
     (
-        "version = 2\ntransition = [{name = \"a\"}]\n",
+        "version = 3\ntransition = [{name = \"a\"}]\n",
         "OutOfRange { spot: Spot { section: Top, position: 0 }, key: Version }",
     ),
+    ("version = 2\ntransition = [{name = \"a\"}]\n", "accepted"),
     ("version = 1\ntransition = [{name = \"a\"}]\n", "accepted"),
     (
         "transition = [{name = \"a\", role = \"Input\"}]\n",
@@ -335,6 +336,112 @@ const GRAPHS: [(&str, &str); 19] = [
     ),
 ];
 
+const READY: [(&str, &str); 12] = [
+    (
+        "transition = [{name = \"a\"}]\nplace = [{name = \"p\", from = \"a\", to = \"a\", tokens = 1, ready = 4}]\n",
+        "WrongKind { spot: Spot { section: Place, position: 1 }, key: Ready }",
+    ),
+    (
+        "transition = [{name = \"a\"}]\nplace = [{name = \"p\", from = \"a\", to = \"a\", tokens = 1, ready = \"4\"}]\n",
+        "WrongKind { spot: Spot { section: Place, position: 1 }, key: Ready }",
+    ),
+    (
+        "transition = [{name = \"a\"}]\nplace = [{name = \"p\", from = \"a\", to = \"a\", tokens = 2, ready = [1, \"2\"]}]\n",
+        "WrongKind { spot: Spot { section: Place, position: 1 }, key: Ready }",
+    ),
+    (
+        "transition = [{name = \"a\"}]\nplace = [{name = \"p\", from = \"a\", to = \"a\", tokens = 1, ready = [-1]}]\n",
+        "OutOfRange { spot: Spot { section: Place, position: 1 }, key: Ready }",
+    ),
+    (
+        "transition = [{name = \"a\"}]\nplace = [{name = \"p\", from = \"a\", to = \"a\", tokens = 2, ready = [0, 1000000000001]}]\n",
+        "OutOfRange { spot: Spot { section: Place, position: 1 }, key: Ready }",
+    ),
+    (
+        "transition = [{name = \"a\"}]\nplace = [{name = \"p\", from = \"a\", to = \"a\", tokens = 2, ready = [1000000000000, 0]}]\n",
+        "accepted",
+    ),
+    (
+        "transition = [{name = \"a\"}]\nplace = [{name = \"p\", from = \"a\", to = \"a\", ready = []}]\n",
+        "accepted",
+    ),
+    (
+        "transition = [{name = \"a\"}, {name = \"b\"}]\nplace = [{name = \"ab\", from = \"a\", to = \"b\", hold = 3}, {name = \"ba\", from = \"b\", to = \"a\", hold = 2, tokens = 1, ready = [4]}]\n",
+        "accepted",
+    ),
+    (
+        "transition = [{name = \"a\"}, {name = \"b\"}]\nplace = [{name = \"ab\", from = \"a\", to = \"b\", hold = 3}, {name = \"ba\", from = \"b\", to = \"a\", hold = 2, tokens = 1, ready = [4, 5]}]\n",
+        "BadReady { place: Name { text: \"ba\" }, given: 2, tokens: 1 }",
+    ),
+    (
+        "transition = [{name = \"a\"}, {name = \"b\"}]\nplace = [{name = \"ab\", from = \"a\", to = \"b\", hold = 3}, {name = \"ba\", from = \"b\", to = \"a\", hold = 2, tokens = 1, ready = []}]\n",
+        "BadReady { place: Name { text: \"ba\" }, given: 0, tokens: 1 }",
+    ),
+    (
+        "transition = [{name = \"a\"}, {name = \"b\"}]\nplace = [{name = \"ab\", from = \"a\", to = \"b\", hold = 3, ready = [7]}, {name = \"ba\", from = \"b\", to = \"a\", hold = 2, tokens = 1, ready = [4, 5]}]\n",
+        "BadReady { place: Name { text: \"ab\" }, given: 1, tokens: 0 }",
+    ),
+    (
+        "transition = [{name = \"a\"}, {name = \"b\"}]\nplace = [{name = \"ab\", from = \"a\", to = \"b\", hold = 3}, {name = \"ba\", from = \"b\", to = \"a\", hold = 2, tokens = 1, ready = [4, 5]}]\ninput = [{transition = \"a\", dates = [0]}]\n",
+        "BadInput { transition: Name { text: \"a\" }, position: 0 }",
+    ),
+];
+
+const DURATIONS: [(&str, &str); 13] = [
+    (
+        "version = 1\ntransition = [{name = \"a\", duration = 1}, {name = \"b\"}]\nplace = [{name = \"ab\", from = \"a\", to = \"b\"}, {name = \"ba\", from = \"b\", to = \"a\", tokens = 1}]\n",
+        "UnknownKey { spot: Spot { section: Transition, position: 1 }, key: Label { text: \"duration\" } }",
+    ),
+    (
+        "version = 3\ntransition = [{name = \"a\", duration = 1}, {name = \"b\"}]\nplace = [{name = \"ab\", from = \"a\", to = \"b\"}, {name = \"ba\", from = \"b\", to = \"a\", tokens = 1}]\n",
+        "UnknownKey { spot: Spot { section: Transition, position: 1 }, key: Label { text: \"duration\" } }",
+    ),
+    (
+        "version = 2.0\ntransition = [{name = \"a\", duration = 1}, {name = \"b\"}]\nplace = [{name = \"ab\", from = \"a\", to = \"b\"}, {name = \"ba\", from = \"b\", to = \"a\", tokens = 1}]\n",
+        "UnknownKey { spot: Spot { section: Transition, position: 1 }, key: Label { text: \"duration\" } }",
+    ),
+    (
+        "transition = [{name = \"a\", duration = 0}]\n",
+        "UnknownKey { spot: Spot { section: Transition, position: 1 }, key: Label { text: \"duration\" } }",
+    ),
+    (
+        "version = 2\ntransition = [{name = \"a\"}]\nplace = [{name = \"p\", duration = 0}]\n",
+        "UnknownKey { spot: Spot { section: Place, position: 1 }, key: Label { text: \"duration\" } }",
+    ),
+    (
+        "version = 2\ntransition = [{name = \"a\"}, {name = \"b\", duration = \"1\"}]\nplace = [{name = \"ab\", from = \"a\", to = \"b\"}, {name = \"ba\", from = \"b\", to = \"a\", tokens = 1}]\n",
+        "WrongKind { spot: Spot { section: Transition, position: 2 }, key: Duration }",
+    ),
+    (
+        "version = 2\ntransition = [{name = \"a\", duration = -1}, {name = \"b\"}]\nplace = [{name = \"ab\", from = \"a\", to = \"b\"}, {name = \"ba\", from = \"b\", to = \"a\", tokens = 1}]\n",
+        "OutOfRange { spot: Spot { section: Transition, position: 1 }, key: Duration }",
+    ),
+    (
+        "version = 2\ntransition = [{name = \"a\"}, {name = \"b\", duration = 1000000001}]\nplace = [{name = \"ab\", from = \"a\", to = \"b\"}, {name = \"ba\", from = \"b\", to = \"a\", tokens = 1}]\n",
+        "OutOfRange { spot: Spot { section: Transition, position: 2 }, key: Duration }",
+    ),
+    (
+        "version = 2\ntransition = [{name = \"a\", duration = 1}, {name = \"b\"}]\nplace = [{name = \"ab\", from = \"a\", to = \"b\", hold = 1000000000}, {name = \"ba\", from = \"b\", to = \"a\", tokens = 1}]\n",
+        "TooSlow { place: Name { text: \"ab\" } }",
+    ),
+    (
+        "version = 2\ntransition = [{name = \"a\", duration = 1}, {name = \"b\"}]\nplace = [{name = \"ab\", from = \"a\", to = \"b\", hold = 999999999}, {name = \"ba\", from = \"b\", to = \"a\", tokens = 1}]\n",
+        "accepted",
+    ),
+    (
+        "version = 2\ntransition = [{name = \"a\"}, {name = \"b\", duration = 1000000000}]\nplace = [{name = \"ab\", from = \"a\", to = \"b\", hold = 1000000000}, {name = \"ba\", from = \"b\", to = \"a\", tokens = 1}]\n",
+        "accepted",
+    ),
+    (
+        "version = 2\ntransition = [{name = \"a\"}, {name = \"b\", duration = 1000000000}]\nplace = [{name = \"ab\", from = \"a\", to = \"b\"}, {name = \"ba\", from = \"b\", to = \"a\", tokens = 1, hold = 1}]\n",
+        "TooSlow { place: Name { text: \"ba\" } }",
+    ),
+    (
+        "version = 2\ntransition = [{name = \"a\", duration = 1}, {name = \"b\"}]\nplace = [{name = \"ab\", from = \"a\", to = \"b\", hold = 1000000000}, {name = \"ba\", from = \"b\", to = \"a\", tokens = 1, ready = []}]\n",
+        "BadReady { place: Name { text: \"ba\" }, given: 0, tokens: 1 }",
+    ),
+];
+
 #[test]
 fn keys_and_names(rt: HostRuntime) {
     assert!(rt; first_other_answer(rt.alloc(), &KEYS) == KEYS.len());
@@ -353,6 +460,44 @@ fn ranges(rt: HostRuntime) {
 #[test]
 fn graphs_and_input_lists(rt: HostRuntime) {
     assert!(rt; first_other_answer(rt.alloc(), &GRAPHS) == GRAPHS.len());
+}
+
+#[test]
+fn ready_dates(rt: HostRuntime) {
+    assert!(rt; first_other_answer(rt.alloc(), &READY) == READY.len());
+}
+
+#[test]
+fn durations(rt: HostRuntime) {
+    assert!(rt; first_other_answer(rt.alloc(), &DURATIONS) == DURATIONS.len());
+}
+
+#[test]
+fn durations_are_added_to_holds(rt: HostRuntime) {
+    let file =
+        "version = 2\ntransition = [{name = \"a\", duration = 3}, {name = \"b\", duration = 2}]\nplace = [{name = \"ab\", from = \"a\", to = \"b\"}, {name = \"ba\", from = \"b\", to = \"a\", hold = 5, tokens = 1}]\n";
+    let Ok(net) = read_net(rt.alloc(), file.as_bytes()) else {
+        panic!(rt; "it is a net");
+    };
+    let holds = net.places().iter().map(|place| place.hold);
+    assert!(rt; holds.eq([3, 7]));
+}
+
+#[test]
+fn ready_dates_are_kept(rt: HostRuntime) {
+    let file =
+        "transition = [{name = \"a\"}]\nplace = [{name = \"p\", from = \"a\", to = \"a\"}, {name = \"q\", from = \"a\", to = \"a\", tokens = 2, ready = [9, 4]}]\n";
+    let Ok(net) = read_net(rt.alloc(), file.as_bytes()) else {
+        panic!(rt; "it is a net");
+    };
+    assert!(rt; net.places().len() == 2);
+    for place in net.places() {
+        if place.tokens == 2 {
+            assert!(rt; place.ready.as_slice() == [9, 4].as_slice());
+        } else {
+            assert!(rt; place.ready.as_slice().is_empty());
+        }
+    }
 }
 
 #[test]
