@@ -1,7 +1,7 @@
 -- One more row of a log.
 use Rattle.std.proofs.Common.{ℕ, ◌+◌, ◌<◌, ◌≤◌, ◌≡◌, List, [], ◌∷◌, ◌++◌, length, take, get_or, sym, ap, ◌∙◌, arith, ⊎_elim}
 use Rattle.std.proofs.lemmas.Bool.{cases_lt}
-use Rattle.std.proofs.lemmas.List.{take_more, map-append, length_push, get_or_append_left, get_or_push, length-map, length-take-le}
+use Rattle.std.proofs.lemmas.List.{take_more, map-append, length_push, get_or_append_left, get_or_push}
 use Rattle.teg_net.specs.Nets.{NetLists}
 use Rattle.teg_outside.specs.declared.monitor.Firing.{Firing}
 use Rattle.run_laws.specs.declared.fired.Fired.{Fired}
@@ -31,9 +31,6 @@ firings_begin net rows = record {
 
 pub run_more : (rows : List LogRow) (i : ℕ) (d : LogRow) → i < length rows → run_of (take (i + 1) rows) ≡ run_of (take i rows) ++ fired_of (get_or rows i d) ∷ []
 run_more rows i d l = rw (take_more rows i d l) (map-append fired_of (take i rows) (get_or rows i d ∷ []))
-
-pub run_length : (rows : List LogRow) (i : ℕ) → i ≤ length rows → length (run_of (take i rows)) ≡ i
-run_length rows i l = length-map (take i rows) fired_of ∙ length-take-le i rows l
 
 pub firings_more : (net : NetLists) (rows : List LogRow) (firings : List Firing) (i : ℕ) (row : LogRow) (firing : Firing) → AreFiringsOf net rows firings → length firings ≡ i → i < length rows
     → ((d : LogRow) → get_or rows i d ≡ row) → IsLegalAfter net (run_of (take i rows)) (fired_of row) → IsFiringOf net (run_of (take i rows)) (fired_of row) firing
