@@ -5,3 +5,4 @@ pub mod Tested
 pub mod Copying
 pub mod Owning
 pub mod Limiting
+pub mod Reaching

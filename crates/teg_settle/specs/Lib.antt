@@ -5,3 +5,4 @@ pub mod Windows
 pub mod Searches
 pub mod Copies
 pub mod Transfers
+pub mod Endless

@@ -7,13 +7,15 @@
 //! and on `dioid` for dates.
 #![tactic(auto)]
 
+mod endless;
+mod limited;
 mod refusals;
 mod releases;
 mod search;
-mod settle;
 mod settled;
 mod window;
 
+pub use endless::settle;
+pub use limited::settle_within;
 pub use refusals::SettleRefusal;
-pub use settle::settle_within;
 pub use settled::Settled;

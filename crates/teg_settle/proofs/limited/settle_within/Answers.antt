@@ -3,8 +3,8 @@ use Rattle.settled_laws.specs.Forms.{IsSettledFormOf, NetSettlesPast}
 use Rattle.teg_settle.specs.Refusals.{IsRightRefusal}
 use Rattle.teg_settle.specs.Windows.{IsLeastForm, LeastSettlesPast}
 use Rattle.teg_settle.proofs.Limiting.{refusal_weaker}
-use Rattle.teg_settle.proofs.Owning.{own_least, own_waits}
-use Rattle.teg_settle.proofs.settle.settle_within.Goals as goal
+use Rattle.teg_settle.proofs.Owning.{own_least}
+use Rattle.teg_settle.proofs.limited.settle_within.Goals as goal
 
 pub returns-clause-form : goal.returns-clause-form
 returns-clause-form c =
