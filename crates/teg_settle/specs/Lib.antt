@@ -6,3 +6,4 @@ pub mod Searches
 pub mod Copies
 pub mod Transfers
 pub mod Endless
+pub mod Slopes

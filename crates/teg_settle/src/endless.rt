@@ -4,6 +4,7 @@ ghost use Rattle.settled_laws.specs.Forms.{IsSettledFormOf};
 ghost use Rattle.teg_check.specs.Ranks.{IsRanking};
 ghost use Rattle.teg_settle.specs.Endless.{HasFormBy};
 ghost use Rattle.teg_settle.specs.Searches.{IsFound};
+ghost use Rattle.teg_settle.specs.Slopes.{HasSlopes};
 ghost use Rattle.teg_settle.specs.Windows.{IsReady};
 
 use crate::releases::Releases;
@@ -11,11 +12,12 @@ use crate::search::{Found, form_of, grow, most_tokens, seen};
 use crate::settled::Settled;
 use periodic_laws::least_datings_repeat;
 use std::alloc::Global;
-use teg_check::{Live, ranked_nets_are_live};
+use teg_check::Live;
 use teg_dates::{PlaceOrder, Rows};
 use teg_net::{Net, OutOfMemory};
 
-/// The rows beyond which no row is added: no memory holds so many.
+/// Where more rows than this show no form, no further ones are made: the dates of so many fill more
+/// than 48 bits of addresses tell apart.
 const MOST_ROWS: u64 = 20_000_000_000_000;
 
 /// Rows that show the shortest form, where a form is known to be: they are doubled until they show one.
@@ -57,8 +59,8 @@ fn endless(
 pub fn settle(alloc: Global, net: &Net, live: &Live) -> Result<Settled, OutOfMemory>
     requires stands { IsRanking net.now live.now }
     ensures form { IfOk result (IsSettledFormOf net.now) }
+    ensures slopes { IfOk result (HasSlopes net.now) }
 {
-    ranked_nets_are_live();
     least_datings_repeat();
     let most = most_tokens(net);
     let releases = Releases::of_net(alloc, net)?;

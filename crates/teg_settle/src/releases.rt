@@ -2,7 +2,7 @@
 //! lists, or one input alone.
 ghost use Rattle.std.specs.Prelude.{◌≡◌, ◌<◌, ◌≤◌, ◌^◌, length, IfOk};
 ghost use Rattle.teg_net.specs.Limits.{most_dates, most_every};
-ghost use Rattle.teg_net.specs.Nets.{IsInput};
+ghost use Rattle.teg_net.specs.Nets.{IsNet};
 ghost use Rattle.teg_model.specs.Bounds.{IsWithin};
 ghost use Rattle.teg_dates.specs.Rows.{most_rows};
 ghost use Rattle.teg_settle.specs.Releases.{AreWaits, HasSpan, date_of_list, list_number, release_by, wait_by_role, wait_from, wait_in, wait_of};
@@ -89,6 +89,7 @@ impl Releases {
     pub(crate) fn of_net(alloc: Global, net: &Net) -> Result<Releases, AllocError>
         ensures tokens { IfOk result (λ r. r.tokens ≡ Tokens.Ready) }
         ensures waits { IfOk result (λ r. AreWaits net.now (wait_of net.now) r.waits.items) }
+        ensures rules { IsNet net.now }
     {
         let mut waits = Vec::new(alloc);
         for (index, transition) in net.transitions().iter().enumerate() {
@@ -111,6 +112,7 @@ impl Releases {
     ) -> Result<Releases, AllocError>
         ensures tokens { IfOk result (λ r. r.tokens ≡ Tokens.Absent) }
         ensures waits { IfOk result (λ r. AreWaits net.now (wait_from net.now input.index) r.waits.items) }
+        ensures rules { IsNet net.now }
     {
         let none = net.inputs().len();
         let mut waits = Vec::new(alloc);
