@@ -3,7 +3,7 @@ use Rattle.settled_laws.specs.Forms.{IsSettledFormOf, NetSettlesPast}
 use Rattle.teg_settle.specs.Refusals.{IsRightRefusal}
 use Rattle.teg_settle.specs.Windows.{IsLeastForm, LeastSettlesPast}
 use Rattle.teg_settle.proofs.Limiting.{refusal_weaker}
-use Rattle.teg_settle.proofs.Owning.{own_least, own_waits}
+use Rattle.teg_settle.proofs.Owning.{own_least}
 use Rattle.teg_check.proofs.Liveness.{ranking_is_live}
 use Rattle.slope_laws.proofs.FormSlopes.{settled_forms_have_slopes}
 use Rattle.teg_settle.specs.Slopes.{HasSlopes}

@@ -1,4 +1,4 @@
-use Rattle.std.proofs.Common.{◌≡◌, ◌+◌, ◌*◌, ◌<◌, ◌≤◌, refl, arith}
+use Rattle.std.proofs.Common.{◌+◌, ◌*◌, refl, arith}
 use Rattle.teg_settle.proofs.Limiting.{ready, past_unseen, past_seen, told, least_form}
 use Rattle.teg_settle.proofs.Leasts.{least, least_is}
 use Rattle.teg_settle.proofs.Tested.{window_of}
