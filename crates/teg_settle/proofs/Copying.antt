@@ -1,16 +1,14 @@
 -- A settled form that is copied from rows of the least dating stands for it.
-use Rattle.std.proofs.Common.{ℕ, zero, suc, ◌+◌, ◌-◌, ◌<◌, ◌≤◌, ◌≡◌, List, [], ◌∷◌, ◌++◌, map, Vec, length, get_or, refl, sym, ap, subst, ◌∙◌, arith, ⊎_elim}
+use Rattle.std.proofs.Common.{ℕ, zero, suc, ◌+◌, ◌-◌, ◌<◌, ◌≤◌, ◌≡◌, List, [], ◌∷◌, ◌++◌, map, Vec, length, get_or, refl, ap, ◌∙◌, arith, ⊎_elim}
 use Rattle.std.specs.declared.alloc.Global.{Global}
-use Rattle.std.specs.Prelude.{ℤ, pos, All, ◌⊎◌}
+use Rattle.std.specs.Prelude.{ℤ, pos}
 use Rattle.std.proofs.lemmas.List.{get_or_default, length-map}
 use Rattle.dioid.specs.declared.dates.Date.{Date}
 use Rattle.dioid.specs.declared.dates.Date.TheVariants.{Early, Never}
 use Rattle.dioid.specs.Dates.{move}
-use Rattle.teg_net.specs.Limits.{greatest_number}
 use Rattle.teg_net.specs.Nets.{NetLists, IsNet}
 use Rattle.teg_model.specs.Systems.{Dating}
-use Rattle.teg_model.specs.Bounds.{IsWithin, greatest_least_date}
-use Rattle.settled_laws.specs.Forms.{RepeatsAfter, IsTail, SettledForm, settled_length, row_of, step_of, row_date, date_of, HasSizes, StandsFor}
+use Rattle.settled_laws.specs.Forms.{IsTail, SettledForm, row_of, step_of, HasSizes, StandsFor}
 use Rattle.settled_laws.specs.Windows.{between}
 use Rattle.settled_laws.proofs.Shortest.{tail_on}
 use Rattle.settled_laws.proofs.Telling.{form_tells}

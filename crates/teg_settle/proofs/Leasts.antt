@@ -1,6 +1,6 @@
 -- The least dating of the system of a net and its releases: it climbs, follows its releases, and stays within a bound.
-use Rattle.std.proofs.Common.{ℕ, ◌+◌, ◌-◌, ◌*◌, ◌<◌, ◌≤◌, ◌≡◌, List, length, get_or, refl, sym, ap, subst, ◌∙◌, arith, ⊎_elim, inl, inr}
-use Rattle.std.specs.Prelude.{ℤ, pos, All, ◌⊎◌, slice_get}
+use Rattle.std.proofs.Common.{ℕ, ◌+◌, ◌*◌, ◌<◌, ◌≤◌, ◌≡◌, List, length, get_or, refl, sym, ap, subst, arith, ⊎_elim, inl, inr}
+use Rattle.std.specs.Prelude.{pos, All, ◌⊎◌, slice_get}
 use Rattle.std.proofs.lemmas.Bool.{cases_lt}
 use Rattle.std.proofs.lemmas.Int.{ints}
 use Rattle.std.proofs.lemmas.List.{get_or_past}
@@ -8,7 +8,6 @@ use Rattle.dioid.specs.declared.dates.Date.{Date}
 use Rattle.dioid.specs.declared.dates.Date.TheVariants.{Early, At}
 use Rattle.dioid.specs.Dates.{IsAtMostDate}
 use Rattle.dioid.proofs.DateOrder.{at_most_early}
-use Rattle.teg_net.specs.declared.entries.Place.{Place}
 use Rattle.teg_net.specs.Limits.{greatest_hold, greatest_number}
 use Rattle.teg_net.specs.Nets.{NetLists, IsNet, IsInput, IsInputOf}
 use Rattle.teg_net.specs.Circuits.{no_place}

@@ -5,4 +5,6 @@ pub mod Tested
 pub mod Copying
 pub mod Owning
 pub mod Limiting
+pub mod OwnForms
+pub mod Reaching
 pub mod Transferring

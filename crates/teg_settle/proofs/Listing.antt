@@ -1,18 +1,17 @@
 -- The dates that input lists give: they are from 0 on, never fall, and stay within a bound.
-use Rattle.std.proofs.Common.{ℕ, zero, suc, ◌+◌, ◌-◌, ◌*◌, ◌<◌, ◌≤◌, ◌≡◌, List, [], ◌∷◌, length, get_or, Option, Some, None, refl, sym, ap, ◌∙◌, arith, ⊎_elim}
-use Rattle.std.specs.Prelude.{ℤ, pos, All, IfSome, slice_get}
+use Rattle.std.proofs.Common.{ℕ, zero, suc, ◌+◌, ◌-◌, ◌*◌, ◌<◌, ◌≤◌, ◌≡◌, List, [], ◌∷◌, length, get_or, Option, Some, None, ap, ◌∙◌, arith, ⊎_elim}
+use Rattle.std.specs.Prelude.{pos, All, IfSome, slice_get}
 use Rattle.std.specs.List.Sorted.{IsNonDecreasing}
 use Rattle.std.proofs.lemmas.Bool.{cases_lt}
 use Rattle.std.proofs.lemmas.Int.{ints}
-use Rattle.dioid.specs.declared.dates.Date.{Date}
-use Rattle.dioid.specs.declared.dates.Date.TheVariants.{Early, At, Never}
+use Rattle.dioid.specs.declared.dates.Date.TheVariants.{At}
 use Rattle.dioid.specs.Dates.{IsAtMostDate, delayed}
 use Rattle.dioid.proofs.DateOrder.{never_last, delayed_rises}
 use Rattle.teg_net.specs.declared.entries.Again.{Again}
 use Rattle.teg_net.specs.declared.entries.InputList.{InputList}
 use Rattle.teg_net.specs.Limits.{greatest_date}
-use Rattle.teg_net.specs.Nets.{NetLists, IsNet, IsInputOf, GoesOn, EndsOrGoesOn}
-use Rattle.teg_net.specs.Inputs.{moved_by, GoOnBy, IsInputDates, date_by, list_date}
+use Rattle.teg_net.specs.Nets.{NetLists, IsInputOf, GoesOn, EndsOrGoesOn}
+use Rattle.teg_net.specs.Inputs.{moved_by, GoOnBy, date_by, list_date}
 use Rattle.teg_net.proofs.InputDates.{IsInputDates-list_date, list_date-most}
 use Rattle.teg_model.specs.Bounds.{IsWithin}
 use Rattle.teg_model.specs.Datings.{as_date}

@@ -1,22 +1,19 @@
 -- The system of a net's own releases has the least dating of the net.
-use Rattle.std.proofs.Common.{ℕ, ◌+◌, ◌<◌, ◌≤◌, ◌≡◌, length, get_or, Option, Some, None, refl, sym, ap, subst, ◌∙◌, arith, ⊎_elim}
-use Rattle.std.specs.Prelude.{pos, slice_get, IsSomeAnd, find, ◌==◌}
+use Rattle.std.proofs.Common.{ℕ, ◌<◌, ◌≤◌, ◌≡◌, length, Option, Some, None, refl, sym, ap, subst, ◌∙◌, arith, ⊎_elim}
+use Rattle.std.specs.Prelude.{slice_get, IsSomeAnd, ◌==◌}
 use Rattle.std.proofs.lemmas.Bool.{cases_lt}
 use Rattle.std.proofs.lemmas.List.{get_or_past}
 use Rattle.std.proofs.lemmas.List.Folds.{find_at}
 use Rattle.std.proofs.lemmas.Option.{slice_get_past}
-use Rattle.dioid.specs.declared.dates.Date.{Date}
 use Rattle.dioid.specs.declared.dates.Date.TheVariants.{Early}
-use Rattle.dioid.specs.Dates.{IsAtMostDate}
 use Rattle.teg_net.specs.declared.entries.Role.{Role}
 use Rattle.teg_net.specs.declared.entries.Role.TheVariants.{Internal, Input, Output}
 use Rattle.teg_net.specs.declared.entries.Transition.{Transition}
 use Rattle.teg_net.specs.Nets.{NetLists, IsInput}
-use Rattle.teg_net.specs.Inputs.{date_by, input_date}
+use Rattle.teg_net.specs.Inputs.{date_by}
 use Rattle.teg_model.specs.Systems.{Dating, InitialDates, IsFeasibleIn, IsLeastIn}
-use Rattle.teg_model.specs.Datings.{as_date, listed, by_role, by_transition, at_input, system_with, system_of, IsLeastDating}
+use Rattle.teg_model.specs.Datings.{as_date, listed, by_role, by_transition, at_input, system_with, IsLeastDating}
 use Rattle.teg_model.proofs.OfNet.{least_of_system}
-use Rattle.teg_settle.specs.declared.releases.Tokens.{Tokens}
 use Rattle.teg_settle.specs.declared.releases.Tokens.TheVariants.{Ready}
 use Rattle.teg_settle.specs.declared.releases.Wait.{Wait}
 use Rattle.teg_settle.specs.declared.releases.Wait.TheVariants.{Nothing, Dates}

@@ -1,14 +1,12 @@
 -- What firings wait for: the dates of lists go on evenly, and the tables of what transitions wait for.
-use Rattle.std.proofs.Common.{ℕ, zero, suc, not, ◌+◌, ◌-◌, ◌<◌, ◌≤◌, ◌≡◌, List, [], ◌∷◌, ◌++◌, Bool, true, false, cond, eqb, ltb, length, get_or, Option, Some, None, refl, sym, ap, subst, ◌∙◌, arith, ⊎_elim}
-use Rattle.std.specs.Prelude.{ℤ, pos, slice_get}
+use Rattle.std.proofs.Common.{ℕ, zero, suc, not, ◌+◌, ◌-◌, ◌<◌, ◌≤◌, ◌≡◌, List, [], ◌∷◌, Bool, true, false, cond, ltb, length, get_or, Option, Some, None, refl, sym, ap, subst, ◌∙◌, arith, ⊎_elim}
+use Rattle.std.specs.Prelude.{slice_get}
 use Rattle.std.specs.List.{position_or_len}
-use Rattle.std.proofs.lemmas.Bool.{cases_lt, cases_Bool}
+use Rattle.std.proofs.lemmas.Bool.{cases_Bool}
 use Rattle.std.proofs.lemmas.Bool.Decides.{nat_tests}
 use Rattle.std.proofs.lemmas.Int.{ints}
-use Rattle.std.proofs.lemmas.List.{get_or_append_left, get_or-append-add}
 use Rattle.std.proofs.lemmas.List.Sums.{prefix_len-le-length}
-use Rattle.dioid.specs.declared.dates.Date.{Date}
-use Rattle.dioid.specs.declared.dates.Date.TheVariants.{Early, At, Never}
+use Rattle.dioid.specs.declared.dates.Date.TheVariants.{At}
 use Rattle.dioid.specs.Dates.{delayed}
 use Rattle.teg_net.specs.declared.entries.Again.{Again}
 use Rattle.teg_net.specs.declared.entries.InputList.{InputList}
@@ -16,9 +14,7 @@ use Rattle.teg_net.specs.Nets.{NetLists, EndsOrGoesOn}
 use Rattle.teg_net.specs.Inputs.{moved_by, GoOnBy, date_by, list_date}
 use Rattle.teg_net.proofs.InputDates.{IsInputDates-list_date}
 use Rattle.teg_model.specs.Datings.{as_date}
-use Rattle.teg_settle.specs.declared.releases.Wait.{Wait}
-use Rattle.teg_settle.specs.declared.releases.Wait.TheVariants.{Nothing, Dates}
-use Rattle.teg_settle.specs.Releases.{HasSpan, date_of_list, wait_in}
+use Rattle.teg_settle.specs.Releases.{HasSpan, date_of_list}
 
 -- what is read at a place within the list
 pub got : {X : Type 0} (xs : List X) (i : ℕ) (x : X) → i < length xs → ((d : X) → x ≡ get_or xs i d) → slice_get xs i ≡ Some x

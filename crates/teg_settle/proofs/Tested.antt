@@ -4,26 +4,24 @@ use Rattle.std.specs.Prelude.{ℤ, All, ◌⊎◌, ◌≤ℤ◌}
 use Rattle.std.proofs.lemmas.Bool.{cases_lt}
 use Rattle.std.proofs.lemmas.Int.{ints}
 use Rattle.std.proofs.lemmas.List.{get_or_default}
-use Rattle.dioid.specs.declared.dates.Date.{Date}
 use Rattle.dioid.specs.declared.dates.Date.TheVariants.{Early, Never}
 use Rattle.dioid.specs.Dates.{move}
 use Rattle.teg_net.specs.declared.entries.Place.{Place}
 use Rattle.teg_net.specs.Nets.{NetLists, IsPlaceOf}
 use Rattle.teg_net.specs.Circuits.{no_place}
-use Rattle.teg_model.specs.Systems.{Dating, System, IsLeastIn}
+use Rattle.teg_model.specs.Systems.{Dating, System}
 use Rattle.teg_model.specs.Bounds.{greatest_least_date}
 use Rattle.teg_model.proofs.LeastOver.{only_least_in}
 use Rattle.teg_model.proofs.Within.{within_more}
 use Rattle.teg_model.proofs.OfNet.{all_extended, extended_has}
 use Rattle.settled_laws.specs.Forms.{RepeatsAfter}
 use Rattle.settled_laws.specs.Windows.{between}
-use Rattle.settled_laws.proofs.Everywhere.{Repeats, Climbing, everywhere, on_first, same_repeats}
+use Rattle.settled_laws.proofs.Everywhere.{Repeats, everywhere, on_first, same_repeats}
 use Rattle.settled_laws.proofs.Settling.{HasNoRelease, FollowsRelease}
 use Rattle.settled_laws.proofs.Seen.{IsRisingAt, accepted_repeats, read_steps, form_is_rising_at, form_is_alike}
 use Rattle.settled_laws.proofs.Repeating.{later_form, period_least, after_least}
 use Rattle.teg_dates.specs.Tables.{TableDates, HasDatesOf, date_at}
 use Rattle.teg_settle.specs.declared.releases.Releases.{Releases}
-use Rattle.teg_settle.specs.declared.releases.Repetition.{Repetition}
 use Rattle.teg_settle.specs.Releases.{system_for}
 use Rattle.teg_settle.specs.Windows.{read_step, IsRisingPlace, IsMovedAt, IsMovedPast, AreReleasedAlike, IsReady, IsWindow, AreRowsOf, IsRefuted, IsSeenFrom, IsSeen}
 use Rattle.teg_settle.proofs.Leasts.{rank_of, ranks_on, least, least_is, release_outside, outside, climbs, tokens_on, releases_on, dates_on}

@@ -5,4 +5,5 @@ pub mod Windows
 pub mod Searches
 pub mod Copies
 pub mod Transfers
+pub mod Endless
 pub mod Slopes

@@ -7,9 +7,9 @@ use Rattle.teg_net.specs.declared.entries.Place.{Place}
 use Rattle.teg_net.specs.Limits.{greatest_number}
 use Rattle.teg_net.specs.Nets.{NetLists, IsNet}
 use Rattle.teg_check.specs.Ranks.{IsRanking}
-use Rattle.teg_model.specs.Systems.{System, IsLeastIn}
+use Rattle.teg_model.specs.Systems.{IsLeastIn}
 use Rattle.teg_model.specs.Bounds.{IsWithin, greatest_least_date}
-use Rattle.settled_laws.specs.Forms.{SettledForm, settled_length, RepeatsAfter, IsShortest, SettlesPast}
+use Rattle.settled_laws.specs.Forms.{SettledForm, RepeatsAfter, IsShortest, SettlesPast}
 use Rattle.settled_laws.specs.Windows.{between}
 use Rattle.teg_dates.specs.Tables.{TableDates, HasDatesOf, date_at}
 use Rattle.teg_dates.specs.Rows.{IsRows, AreLeastRows}

@@ -2,11 +2,13 @@
 ghost use Rattle.std.specs.Prelude.{◌≡◌, ◌+◌, ◌<◌, ◌≤◌, All, IfOk, MatchOption, ℕ};
 ghost use Rattle.teg_net.specs.Nets.{IsNet};
 ghost use Rattle.teg_check.specs.Ranks.{IsRanking};
+ghost use Rattle.settled_laws.specs.Forms.{settled_length};
 ghost use Rattle.teg_dates.specs.Order.{OrdersPlaces};
 ghost use Rattle.teg_settle.specs.Searches.{IsFound};
-ghost use Rattle.teg_settle.specs.Windows.{AreRowsOf, IsReady, IsRefuted, IsSeen, IsSeenFrom, most_window};
+ghost use Rattle.teg_settle.specs.Windows.{AreRowsOf, IsLeastForm, IsReady, IsRefuted, IsSeen, IsSeenFrom, most_window};
 
 use crate::releases::{Releases, Repetition};
+use crate::settled::Settled;
 use crate::window::{are_released_alike, is_rising, moved_past};
 use std::alloc::Global;
 use teg_check::Live;
@@ -44,7 +46,7 @@ fn seen_from(net: &Net, releases: &Releases, rows: &Rows, most: u64, period: u64
 }
 
 /// The least number and the least period by which the dates go on, if the rows are enough to see them.
-fn seen(net: &Net, releases: &Releases, rows: &Rows, most: u64) -> Option<Repetition>
+pub(crate) fn seen(net: &Net, releases: &Releases, rows: &Rows, most: u64) -> Option<Repetition>
     requires ready { IsReady net.now releases.now most }
     requires rows { AreRowsOf net.now releases.now rows.now }
     ensures { MatchOption result ((period : ℕ) → IsRefuted net.now releases.now most rows.now.count period) (IsSeen net.now releases.now rows.now) }
@@ -63,7 +65,7 @@ fn seen(net: &Net, releases: &Releases, rows: &Rows, most: u64) -> Option<Repeti
 }
 
 /// As many rows as asked, from fewer on.
-fn grow(
+pub(crate) fn grow(
     net: &Net,
     releases: &Releases,
     order: &PlaceOrder,
@@ -127,4 +129,19 @@ pub(crate) fn search(
         stage = (2 * stage).min(last);
     }
     Ok(None)
+}
+
+/// The form that the rows show.
+pub(crate) fn form_of(
+    alloc: Global,
+    net: &Net,
+    releases: &Releases,
+    found: &Found,
+) -> Result<Settled, OutOfMemory>
+    requires ready { (most : ℕ) × IsReady net.now releases.now most }
+    requires found { IsFound net.now releases.now found.now }
+    ensures form { IfOk result (IsLeastForm net.now releases.now) }
+    ensures length { IfOk result (λ form. settled_length form ≡ found.now.form.after + found.now.form.period) }
+{
+    Ok(Settled::of_rows(alloc, net, &found.rows, found.form)?)
 }

@@ -1,7 +1,6 @@
-use Rattle.std.proofs.Common.{◌≡◌, ◌≤◌, ◌+◌, ◌*◌, ◌∙◌, Option, Some, None, ap, sym, subst, arith, get_or}
+use Rattle.std.proofs.Common.{◌≡◌, ◌≤◌, ◌+◌, ◌*◌, ◌∙◌, Some, None, ap, sym, subst, arith}
 use Rattle.std.specs.Prelude.{slice_get, IfSome, pos}
 use Rattle.std.proofs.lemmas.Int.{ints}
-use Rattle.dioid.specs.declared.dates.Date.{Date}
 use Rattle.dioid.specs.declared.dates.Date.TheVariants.{At}
 use Rattle.teg_net.specs.Limits.{greatest_date}
 use Rattle.teg_net.specs.Nets.{IsInputOf}

@@ -1,4 +1,4 @@
-use Rattle.std.proofs.Common.{◌≡◌, Option, Some, sym, subst}
+use Rattle.std.proofs.Common.{◌≡◌, Some, sym, subst}
 use Rattle.std.specs.Prelude.{slice_get}
 use Rattle.teg_net.specs.Nets.{IsInputOf}
 use Rattle.teg_settle.proofs.Releasing.{got, span_list}

@@ -1,4 +1,4 @@
-use Rattle.std.proofs.Common.{◌≤◌, ◌+◌, arith}
+use Rattle.std.proofs.Common.{arith}
 use Rattle.teg_settle.proofs.search.search.Goals as goal
 
 pub returns : goal.returns

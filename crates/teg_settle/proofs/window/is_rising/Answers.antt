@@ -1,7 +1,6 @@
-use Rattle.std.proofs.Common.{◌<◌, ◌≤◌, ◌≡◌, get_or, arith, ⊎_elim}
+use Rattle.std.proofs.Common.{◌<◌, ◌≤◌, ◌≡◌, arith, ⊎_elim}
 use Rattle.std.proofs.lemmas.Bool.{cases_lt}
-use Rattle.std.proofs.lemmas.List.{get_or_read, get_or_default}
-use Rattle.teg_net.specs.Circuits.{no_place}
+use Rattle.std.proofs.lemmas.List.{get_or_read}
 use Rattle.teg_settle.specs.Windows.{IsRisingPlace}
 use Rattle.teg_settle.proofs.window.is_rising.Goals as goal
 

@@ -1,4 +1,4 @@
-use Rattle.std.proofs.Common.{ℕ, ◌+◌, ◌≤◌}
+use Rattle.std.proofs.Common.{◌+◌, ◌≤◌}
 use Rattle.teg_settle.specs.Windows.{IsMovedPast}
 use Rattle.teg_settle.proofs.window.moved_past.Given as goal
 

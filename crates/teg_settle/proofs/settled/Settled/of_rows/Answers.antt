@@ -1,12 +1,11 @@
-use Rattle.std.proofs.Common.{ℕ, ◌≡◌, ◌+◌, ◌<◌, ◌≤◌, List, [], map, length, get_or, pos, sym, ap, subst, ◌∙◌, arith, rules}
+use Rattle.std.proofs.Common.{◌≡◌, ◌+◌, [], length, pos, arith, rules}
 use Rattle.std.specs.Prelude.{FitsSigned}
 use Rattle.std.specs.Int.{w128}
 use Rattle.std.proofs.lemmas.Int.{to_z-of_z}
 use Rattle.std.proofs.lemmas.Grind.{common_steps}
-use Rattle.settled_laws.specs.Forms.{SettledForm}
 use Rattle.teg_settle.specs.Copies.{AreDatesOf}
 use Rattle.teg_settle.specs.Windows.{read_step}
-use Rattle.teg_settle.proofs.Copying.{IsCopy, copied, more, mapped_more, copy_stands, copy_kept}
+use Rattle.teg_settle.proofs.Copying.{copied, more, mapped_more, copy_stands, copy_kept}
 use Rattle.teg_settle.proofs.settled.Settled.of_rows.Goals as goal
 
 pub loop-index-preserved : goal.loop-index-preserved

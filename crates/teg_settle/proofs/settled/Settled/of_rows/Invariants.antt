@@ -1,4 +1,4 @@
-use Rattle.std.proofs.Common.{ℕ, ◌+◌, ◌≡◌, ◌<◌, List, [], map, length, get_or, pos}
+use Rattle.std.proofs.Common.{ℕ, ◌+◌, ◌≡◌, ◌<◌, [], map, length, get_or, pos}
 use Rattle.teg_settle.specs.Copies.{AreDatesOf}
 use Rattle.teg_settle.specs.Windows.{read_step}
 use Rattle.teg_settle.proofs.settled.Settled.of_rows.Given as goal

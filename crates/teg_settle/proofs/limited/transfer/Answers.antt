@@ -4,7 +4,7 @@ use Rattle.teg_settle.specs.Transfers.{IsTransferOf, TransferSettlesPast}
 use Rattle.teg_settle.specs.Windows.{IsLeastForm, LeastSettlesPast}
 use Rattle.teg_settle.proofs.Limiting.{refusal_weaker}
 use Rattle.teg_settle.proofs.Transferring.{alone_least, alone_waits}
-use Rattle.teg_settle.proofs.settle.transfer.Goals as goal
+use Rattle.teg_settle.proofs.limited.transfer.Goals as goal
 
 pub within-requires-clause-waits : goal.within-requires-clause-waits
 within-requires-clause-waits c = alone_waits c.args.net.now c.in_ok-releases.releases c.args.input.index c.requires.input c.in_ok-releases.ensures.waits

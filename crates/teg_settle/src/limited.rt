@@ -11,7 +11,7 @@ ghost use Rattle.teg_settle.specs.Windows.{IsLeastForm, LeastSettlesPast};
 
 use crate::refusals::SettleRefusal;
 use crate::releases::Releases;
-use crate::search::{most_tokens, search};
+use crate::search::{form_of, most_tokens, search};
 use crate::settled::Settled;
 use std::alloc::Global;
 use teg_check::Live;
@@ -40,7 +40,7 @@ fn within(
             if found.form.after + found.form.period > u64::from(limit) {
                 return Err(SettleRefusal::TooLong { limit });
             }
-            Ok(Settled::of_rows(alloc, net, &found.rows, found.form)?)
+            Ok(form_of(alloc, net, releases, &found)?)
         }
         None => Err(SettleRefusal::TooLong { limit }),
     }
