@@ -1,7 +1,6 @@
 -- Series and their refusals are read back from their lines.
-use Rattle.std.proofs.Common.{◌≡◌, ℕ, zero, suc, ◌+◌, ◌-◌, ◌<◌, ◌≤◌, ◌^◌, true, List, [], ◌∷◌, ◌++◌, All, map, take, drop, length, get_or, refl, ap, sym, subst, ◌∙◌, arith, codes}
+use Rattle.std.proofs.Common.{◌≡◌, ℕ, suc, ◌+◌, ◌-◌, List, [], ◌∷◌, ◌++◌, map, take, length, get_or, refl, ap, subst, ◌∙◌, arith, codes}
 use Rattle.std.specs.Fmt.{decimal, signed_decimal}
-use Rattle.std.specs.List.{list_all}
 use Rattle.std.specs.Prelude.{⊤}
 use Rattle.std.proofs.lemmas.Bool.{and_from}
 use Rattle.std.proofs.lemmas.List.{get_or_default, length-append}
@@ -20,7 +19,7 @@ use Rattle.teg_report.specs.Answers.{Calc, Parse, Series}
 use Rattle.teg_report.specs.Kept.{IsSeriesKept, IsParseKept, IsSeriesRefusalKept}
 use Rattle.teg_report.specs.Series.{parse_line, series_refused_line}
 use Rattle.teg_report.proofs.IsRead.{IsRead}
-use Rattle.teg_text.specs.Lines.{is_word, is_line}
+use Rattle.teg_text.specs.Lines.{is_word}
 use Rattle.teg_text.specs.Reading.{date_in, number_in, signed_in}
 use Rattle.teg_text.specs.Words.{IsDate, date_word}
 use Rattle.teg_text.proofs.Back.{number_back, word32_back, word64_back, signed_back, date_back}
@@ -28,11 +27,11 @@ use Rattle.teg_text.proofs.Rows.{map_back, map_passes}
 use Rattle.teg_text.proofs.Words.{all_append, decimal_is_word, date_is_word, signed_is_word}
 
 -- the words before and those behind
-before_back : (words more : List (List ℕ)) → take (length words) (words ++ more) ≡ words
+pub before_back : (words more : List (List ℕ)) → take (length words) (words ++ more) ≡ words
 before_back [] more = refl
 before_back (w ∷ words) more = ap (λ (l : List (List ℕ)). w ∷ l) (before_back words more)
 
-behind_back : (words more : List (List ℕ)) (i : ℕ) → get_or (words ++ more) (length words + i) [] ≡ get_or more i []
+pub behind_back : (words more : List (List ℕ)) (i : ℕ) → get_or (words ++ more) (length words + i) [] ≡ get_or more i []
 behind_back [] more i = let same : 0 + i ≡ i = omega arith in ap (λ (j : ℕ). get_or more j []) same
 behind_back (w ∷ words) more i = let same : suc (length words) + i ≡ suc (length words + i) = omega arith in ap (λ (j : ℕ). get_or (w ∷ (words ++ more)) j []) same ∙ behind_back words more i
 
