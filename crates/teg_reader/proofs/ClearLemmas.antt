@@ -103,7 +103,7 @@ pub places_named : (top : Data) → AreGood top → list_all has_good_name (list
 places_named top good = all_clear bad_name section.Place has_good_name place_named 1 (list_at key.Place top) (clear bad_name top good.names).places
 
 -- entries of which none repeats an earlier one have distinct texts
-front_of : (front rest : List Data) → take ((length front + 1) - 1) (front ++ rest) ≡ front
+pub front_of : (front rest : List Data) → take ((length front + 1) - 1) (front ++ rest) ≡ front
 front_of front rest = rw (one_less (length front)) (taken front) where
   taken : (xs : List Data) → take (length xs) (xs ++ rest) ≡ xs
   taken [] = refl

@@ -14,3 +14,10 @@ pub mod RuleLemmas
 pub mod SoundLemmas
 pub mod DateLemmas
 pub mod SpotLemmas
+pub mod WrittenLemmas
+pub mod MigratedTrees
+pub mod MigratedNames
+pub mod MigratedEntries
+pub mod MigratedRanges
+pub mod MigratedGraphs
+pub mod MigratedNets

@@ -17,4 +17,6 @@ pub mod Holds
 pub mod NetOf
 pub mod Sound
 pub mod Documents
+pub mod Migrated
+pub mod Written
 pub mod Spots

@@ -1,5 +1,5 @@
 //! What files are answered. The refusals are compared as `Debug` writes them.
-use crate::{ReadRefusal, read_net};
+use crate::{ReadRefusal, read_net, write_net};
 use std::alloc::Global;
 use std::test::Fail;
 
@@ -566,7 +566,7 @@ fn widest(alloc: Global) -> Result<String, Fail> {
 }
 
 #[test]
-fn a_net_at_its_limits_is_read_and_copied(rt: HostRuntime) -> Result<(), Fail> {
+fn a_net_at_its_limits_is_read_copied_and_written(rt: HostRuntime) -> Result<(), Fail> {
     let file = widest(rt.alloc())?;
     let Ok(net) = read_net(rt.alloc(), file.as_bytes()) else {
         panic!(rt; "it is a net");
@@ -578,5 +578,71 @@ fn a_net_at_its_limits_is_read_and_copied(rt: HostRuntime) -> Result<(), Fail> {
         copy.find_place(last)
             .is_some_and(|place| place.index == 3999)
     );
+    let bytes = write_net(rt.alloc(), &net)?;
+    assert!(rt; bytes.len() > 400 * 64 + 4000 * 3 * 64);
+    Ok(())
+}
+
+/// Files whose nets are written.
+const WRITTEN: [&str; 6] = [
+    "[[transition]]\nname = \"a\"\n",
+    "transition = [{name = \"a\"}, {name = \"b\"}]\nplace = [{name = \"ab\", from = \"a\", to = \"b\", hold = 3}, {name = \"ba\", from = \"b\", to = \"a\", hold = 2, tokens = 1}]\n",
+    "transition = [{name = \"u\", role = \"input\"}, {name = \"a\"}]\nplace = [{name = \"ua\", from = \"u\", to = \"a\", hold = 2}]\ninput = [{transition = \"u\", dates = [0, 4]}]\n",
+    "transition = [{name = \"a\"}, {name = \"b\"}]\nplace = [{name = \"ab\", from = \"a\", to = \"b\", hold = 3}, {name = \"ba\", from = \"b\", to = \"a\", hold = 2, tokens = 1, ready = [4]}]\n",
+    "version = 2\ntransition = [{name = \"a\", duration = 3}, {name = \"b\", duration = 2}]\nplace = [{name = \"ab\", from = \"a\", to = \"b\"}, {name = \"ba\", from = \"b\", to = \"a\", tokens = 1}]\n",
+    "transition = [{name = \"\u{e9}\", role = \"input\"}, {name = \"v\", role = \"input\"}, {name = \"y\", role = \"output\"}]\nplace = [{name = \"#=[]\", from = \"v\", to = \"y\", tokens = 2, ready = [9, 1000000000000]}]\ninput = [{transition = \"v\", dates = []}, {transition = \"\u{e9}\", dates = [0, 4], every = 2, gap = 9}]\n",
+];
+
+/// Whether the net of the file is read from what is written for it.
+fn is_written(alloc: Global, file: &str) -> Result<bool, Fail> {
+    let Ok(net) = read_net(alloc, file.as_bytes()) else {
+        return Ok(false);
+    };
+    let bytes = write_net(alloc, &net)?;
+    let Ok(again) = read_net(alloc, bytes.as_slice()) else {
+        return Ok(false);
+    };
+    let (first, second) = (
+        format!(in alloc; "{net:?}")?,
+        format!(in alloc; "{again:?}")?,
+    );
+    Ok(first.as_str() == second.as_str())
+}
+
+#[test]
+fn nets_are_written(rt: HostRuntime) -> Result<(), Fail> {
+    for file in WRITTEN {
+        assert!(rt; is_written(rt.alloc(), file)?);
+    }
+    Ok(())
+}
+
+/// A file of 20,000 ready dates.
+fn of_many_ready_dates(alloc: Global) -> Result<String, Fail> {
+    let mut dates = String::new(alloc);
+    for _ in 0u32..1_000 {
+        dates.push_str("0,")?;
+    }
+    let mut file = String::from_str(alloc, "transition = [{name = \"a\"}]\nplace = [")?;
+    let dates = dates.as_str();
+    for number in 0u32..20 {
+        let entry = format!(in alloc;
+            "{{name = \"{number}\", from = \"a\", to = \"a\", tokens = 1000, ready = [{dates}]}}, "
+        )?;
+        file.push_str(entry.as_str())?;
+    }
+    file.push_str("]\n")?;
+    Ok(file)
+}
+
+#[test]
+fn a_file_of_many_ready_dates_is_read_and_written(rt: HostRuntime) -> Result<(), Fail> {
+    let file = of_many_ready_dates(rt.alloc())?;
+    let Ok(net) = read_net(rt.alloc(), file.as_bytes()) else {
+        panic!(rt; "it is a net");
+    };
+    assert!(rt; net.places().len() == 20);
+    let bytes = write_net(rt.alloc(), &net)?;
+    assert!(rt; bytes.len() > 20 * 1_000 * 2);
     Ok(())
 }

@@ -12,9 +12,9 @@ use Rattle.teg_net.specs.declared.rounds.Choice.{Choice}
 use Rattle.teg_net.specs.Nets.{NetLists}
 use Rattle.teg_net.specs.Ratios.{Fraction}
 use Rattle.teg_reader.specs.declared.keys.Key.{Key}
-use Rattle.teg_reader.specs.declared.keys.Key.TheVariants.{Version, Transition as TransitionKey, Place as PlaceKey, Input as InputKey, Name, Role, From, To, Hold, Tokens, Dates, Every, Gap}
+use Rattle.teg_reader.specs.declared.keys.Key.TheVariants.{Version, Transition as TransitionKey, Place as PlaceKey, Input as InputKey, Name, Role, Duration, From, To, Hold, Tokens, Ready, Dates, Every, Gap}
 use Rattle.teg_reader.specs.declared.refusals.ReadRefusal.{ReadRefusal}
-use Rattle.teg_reader.specs.declared.refusals.ReadRefusal.TheVariants.{NotToml, UnknownKey, WrongKind, MissingKey, BadName, Repeated, OutOfRange, NoTransitions, UnknownTransition, NotEventGraph, InputHasUpstream, BadInput}
+use Rattle.teg_reader.specs.declared.refusals.ReadRefusal.TheVariants.{NotToml, UnknownKey, WrongKind, MissingKey, BadName, Repeated, OutOfRange, NoTransitions, UnknownTransition, NotEventGraph, InputHasUpstream, BadInput, BadReady, TooSlow}
 use Rattle.teg_reader.specs.declared.refusals.Section.{Section}
 use Rattle.teg_reader.specs.declared.refusals.Section.TheVariants.{Top, Transition, Place, Input}
 use Rattle.teg_reader.specs.declared.refusals.Spot.{Spot}
@@ -244,10 +244,12 @@ key_in word =
     else if bytes_eq word (codes "input") then InputKey
     else if bytes_eq word (codes "name") then Name
     else if bytes_eq word (codes "role") then Role
+    else if bytes_eq word (codes "duration") then Duration
     else if bytes_eq word (codes "from") then From
     else if bytes_eq word (codes "to") then To
     else if bytes_eq word (codes "hold") then Hold
     else if bytes_eq word (codes "tokens") then Tokens
+    else if bytes_eq word (codes "ready") then Ready
     else if bytes_eq word (codes "dates") then Dates
     else if bytes_eq word (codes "every") then Every
     else Gap
@@ -274,8 +276,10 @@ refusal_in line =
     else if stands_at 1 line (codes "no") then NoTransitions
     else if stands_at 1 line (codes "top") then fault_in (record { section = Top; position = 0 }) (drop 2 line)
     else if stands_at 1 line (codes "input") && not (is_numeral (word 2 line)) then BadInput (word 3 line) (number_in (word 6 line))
+    else if stands_at 3 line (codes "has") && stands_at 5 line (codes "ready") then BadReady (word 2 line) (number_in (word 4 line)) (number_in (word 8 line))
     else if stands_at 3 line (codes "has") then NotEventGraph (word 2 line) (number_in (word 4 line)) (number_in (word 7 line))
     else if stands_at 3 line (codes "enters") then InputHasUpstream (word 2 line)
+    else if stands_at 3 line (codes "hold") then TooSlow (word 2 line)
     else fault_in (record { section = section_in (word 1 line); position = number_in (word 2 line) }) (drop 3 line)
 
 -- the answer that these lines tell, by the names of the net

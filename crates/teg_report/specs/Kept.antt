@@ -22,7 +22,7 @@ use Rattle.teg_net.specs.Nets.{NetLists, IsNet}
 use Rattle.teg_net.specs.Ratios.{Fraction}
 use Rattle.teg_reader.specs.Spots.{IsPlainSpot, HasPlainSpot}
 use Rattle.teg_reader.specs.declared.refusals.ReadRefusal.{ReadRefusal}
-use Rattle.teg_reader.specs.declared.refusals.ReadRefusal.TheVariants.{NotToml, UnknownKey, WrongKind, MissingKey, BadName, Repeated, OutOfRange, NoTransitions, UnknownTransition, NotEventGraph, InputHasUpstream, BadInput, OutOfMemory}
+use Rattle.teg_reader.specs.declared.refusals.ReadRefusal.TheVariants.{NotToml, UnknownKey, WrongKind, MissingKey, BadName, Repeated, OutOfRange, NoTransitions, UnknownTransition, NotEventGraph, InputHasUpstream, BadInput, BadReady, TooSlow, OutOfMemory}
 use Rattle.teg_reader.specs.declared.refusals.Spot.{Spot}
 use Rattle.teg_report.specs.Answers.{Answer, Usage, Live, Listed, Form, NoCircuit, Cycle, Dates, Date, Slack, Transfer, Replayed, Refused, Calc, Trial, Read, TooLarge, TokenFree, NoTransition, Due, Log, TooLong, Parse, Series, Fault}
 use Rattle.teg_report.specs.Reports.{IsAbout}
@@ -58,6 +58,8 @@ IsRefusal (UnknownTransition spot name) = IsSpot spot × AreBytes name
 IsRefusal (NotEventGraph place producers consumers) = IsTrue (is_name place) × IsWord32 producers × IsWord32 consumers
 IsRefusal (InputHasUpstream place) = IsTrue (is_name place)
 IsRefusal (BadInput transition position) = IsTrue (is_name transition) × IsWord32 position
+IsRefusal (BadReady place given tokens) = IsTrue (is_name place) × IsWord32 given × IsWord32 tokens
+IsRefusal (TooSlow place) = IsTrue (is_name place)
 IsRefusal OutOfMemory = ⊥
 
 -- the numbers of a star entry
