@@ -1,0 +1,4 @@
+pub mod Rounds
+pub mod Paths
+pub mod Surpluses
+pub mod Sizings
