@@ -5,3 +5,4 @@ pub mod Traces
 pub mod Looping
 pub mod Straightening
 pub mod Enough
+pub mod Reading
