@@ -4,7 +4,7 @@ use Rattle.dioid.specs.declared.dates.Date.{Date}
 use Rattle.teg_jit.specs.declared.answers.LatestDate.{LatestDate}
 use Rattle.teg_jit.specs.declared.answers.LatestDate.TheVariants.{Free, At}
 use Rattle.teg_jit.specs.declared.answers.Onward.TheVariants.{Due, By, Next}
-use Rattle.teg_jit.specs.Plans.{HasOnward, IsPlanFor, PlanDates, latest_in}
+use Rattle.teg_jit.specs.Plans.{HasOnward, IsPlanFor, PlanDates, dates_in, latest_in}
 use Rattle.teg_net.specs.declared.walks.Walk.{Walk}
 use Rattle.teg_net.specs.Nets.{NetLists}
 use Rattle.teg_net.specs.Walks.{IsWalk}
@@ -21,7 +21,7 @@ plan_told net due plan h = record {
   width = h.width;
   each = λ t k l o m.
       subst (λ (w : ℕ). IsLatestIn net (latest_in w plan.dates t k)) (sym h.width)
-      (latest_told net due _ t k (latest_in (length net.transitions) plan.dates t k) (h.onward t k (omega (arith, l, h.width)) o));
+      (latest_told net due (dates_in (length net.transitions) plan.dates) t k (latest_in (length net.transitions) plan.dates t k) (h.onward t k (omega (arith, l, h.width)) o));
 }
 
 pub path_told : (net : NetLists) (walk : Walk) → IsWalk net walk → IsPathIn net walk.start walk.number walk.steps.items

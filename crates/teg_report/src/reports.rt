@@ -42,7 +42,7 @@ fn text(alloc: Global, net: Option<&Net>, answer: &Answer<'_>) -> Result<Vec<u8>
         ) => texts::date(alloc, net, *transition, *number, *date),
         (Answer::Jit { plan }, Some(net)) => plans::jit(alloc, net, plan),
         (Answer::Late { refusal }, Some(net)) => plans::late(alloc, net, refusal),
-        (Answer::Slack { ratio, slacks }, Some(net)) => slacks::slack(alloc, net, *ratio, slacks),
+        (Answer::Slack { ratio, slacks }, Some(net)) => slacks::slack(alloc, net, **ratio, slacks),
         (Answer::Transfer { inputs }, Some(net)) => settled::transfer(alloc, net, inputs),
         (Answer::Replayed { accepted, lines }, _) => file_rows::replayed(alloc, *accepted, lines),
         (
@@ -63,7 +63,7 @@ fn text(alloc: Global, net: Option<&Net>, answer: &Answer<'_>) -> Result<Vec<u8>
                 last,
             },
             _,
-        ) => slacks::trial(alloc, *machines, *places, *ratio, *critical, *last),
+        ) => slacks::trial(alloc, *machines, *places, **ratio, *critical, *last),
         (Answer::Read { refusal }, _) => refusals::read(alloc, refusal),
         (Answer::TooLarge { file }, _) => texts::too_large(alloc, *file),
         (Answer::TokenFree { circuit }, Some(net)) => texts::token_free(alloc, net, circuit),
