@@ -4,14 +4,15 @@ use Rattle.teg_net.specs.Nets.{NetLists}
 use Rattle.teg_outside.specs.declared.shelf.ShelfFault.{ShelfFault}
 use Rattle.teg_outside.specs.Shelves.{ShelfState}
 use Rattle.teg_run.specs.declared.status.Status.{Status}
-use Rattle.teg_run.specs.declared.status.Verdict.{Verdict}
+use Rattle.teg_commands.specs.declared.outcome.Verdict.{Verdict}
+use Rattle.teg_commands.specs.Outcomes.{Tells}
 use Rattle.teg_report.specs.declared.answer.Which.{Which}
 use Rattle.teg_report.specs.declared.answer.Which.TheVariants.{Net as NetFile}
 use Rattle.teg_run.specs.Endings.{Ending, Whole, Lost, ending_of}
 use Rattle.teg_run.specs.Openings.{Opening, Accepted, Refused, OpensNet}
 use Rattle.teg_run.specs.Reads.{GoesOn, ReadsAll, OpenedBy}
 use Rattle.teg_run.specs.Runs.{Answered}
-use Rattle.teg_run.specs.Says.{SaysFile, SaysOutcome, Tells}
+use Rattle.teg_run.specs.Says.{SaysFile, SaysOutcome}
 
 -- memory ran out at the first file
 pub lost_at : (A : Type 0) (which : Which) (name : List ℕ) (files : List (Which × List ℕ)) (old new : ShelfState) →
@@ -51,9 +52,3 @@ came_to says files state (Some outcome) h = ([], refl, (refl, (outcome.0, refl, 
 pub closed_with : (says : Verdict → List ℕ → Type 0) (files : List (Which × List ℕ)) (state : ShelfState) (outcome : Option (Verdict × List ℕ)) (ending : Ending) →
     ending ≡ ending_of outcome → Tells says outcome → Answered (SaysOutcome says) files state state ending
 closed_with says files state outcome ending e h = subst (λ (x : Ending). Answered (SaysOutcome says) files state state x) (sym e) (came_to says files state outcome h)
-
--- what is told is told of weaker claims too
-pub tells_weaker : (says claims : Verdict → List ℕ → Type 0) (outcome : Option (Verdict × List ℕ)) →
-    ((verdict : Verdict) (text : List ℕ) → says verdict text → claims verdict text) → Tells says outcome → Tells claims outcome
-tells_weaker says claims None weaker h = tt
-tells_weaker says claims (Some outcome) weaker h = weaker outcome.0 outcome.1 h

@@ -15,7 +15,7 @@ use Rattle.teg_run.specs.declared.status.Status.{Status}
 use Rattle.teg_run.specs.declared.status.Status.TheVariants.{Text, Net, ReadFault}
 use Rattle.teg_run.specs.Headline.{IsTooLong, NetIsNoText, NetIsRefused, Opens, IsAccepted, IsNoText, IsNoNet}
 use Rattle.teg_run.specs.Limits.{most_bytes}
-use Rattle.teg_run.specs.Texts.{read_text, token_free_text, too_large_text, fault_text}
+use Rattle.teg_commands.specs.Texts.{read_text, token_free_text, too_large_text, fault_text}
 use Rattle.teg_run.proofs.Verdicts.{IsOwn, IsSaid}
 
 -- how the file is refused, with this status and text

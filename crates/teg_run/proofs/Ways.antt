@@ -11,14 +11,14 @@ use Rattle.teg_outside.specs.Shelves.{ShelfState, IsFile, Reads}
 use Rattle.teg_report.specs.declared.answer.Which.{Which}
 use Rattle.teg_report.specs.declared.answer.Which.TheVariants.{Net as NetFile}
 use Rattle.teg_run.specs.declared.status.Status.{Status}
-use Rattle.teg_run.specs.declared.status.Verdict.{Verdict}
+use Rattle.teg_commands.specs.declared.outcome.Verdict.{Verdict}
 use Rattle.teg_run.specs.Limits.{most_bytes}
 use Rattle.teg_run.specs.Openings.{Opening, Accepted, Refused, OpensNet, OpensDocument, read_status}
 use Rattle.teg_run.specs.Reads.{ReadsAll}
 use Rattle.teg_run.specs.Requests.{Request, OfNet, ValueOf, files_of}
 use Rattle.teg_run.specs.Says.{Says, SaysFile, SaysNet, SaysOpening, SaysOutcome}
-use Rattle.teg_run.specs.Values.{SaysValue}
-use Rattle.teg_run.specs.Texts.{read_text}
+use Rattle.teg_commands.specs.Values.{SaysValue}
+use Rattle.teg_commands.specs.Texts.{read_text}
 use Rattle.teg_run.proofs.ReadOrder.{none_left}
 use Rattle.teg_run.proofs.Refusals.{Accepts, Refusal, Unread, Overlong, NoToml, NoNet, NotLive}
 use Rattle.teg_run.proofs.Verdicts.{IsOwn, verdict_is_own}

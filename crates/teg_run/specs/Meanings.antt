@@ -1,11 +1,9 @@
 -- What values of the code mean.
-use Rattle.std.specs.Prelude.{ℕ, ◌≡◌, List, Option, Some, None, Result, Ok, Err, map}
+use Rattle.std.specs.Prelude.{ℕ, ◌≡◌, List, Option, Some, None, Result, Ok, Err}
 use Rattle.std.specs.Global.{Vec}
-use Rattle.teg_net.specs.declared.rounds.Round.{Round}
 use Rattle.teg_net.specs.declared.memory.OutOfMemory.{OutOfMemory}
 use Rattle.teg_run.specs.declared.ending.Ending.{Ending as CodedEnding}
 use Rattle.teg_run.specs.declared.ending.Ending.TheVariants.{Whole as CodedWhole, Lost as CodedLost}
-use Rattle.teg_run.specs.declared.ending.Outcome.{Outcome}
 use Rattle.teg_run.specs.declared.opening.Opened.{Opened}
 use Rattle.teg_run.specs.declared.opening.Opened.TheVariants.{Accepted as OpenedAccepted, Refused as OpenedRefused, Lost as OpenedLost}
 use Rattle.teg_run.specs.declared.request.NetCommand.{NetCommand as CodedCommand}
@@ -13,7 +11,6 @@ use Rattle.teg_run.specs.declared.request.NetCommand.TheVariants.{Check, Cycle, 
 use Rattle.teg_run.specs.declared.request.Request.{Request as CodedRequest}
 use Rattle.teg_run.specs.declared.request.Request.TheVariants.{OfNet as CodedOfNet, ValueOf as CodedValueOf}
 use Rattle.teg_run.specs.declared.status.Status.{Status}
-use Rattle.teg_run.specs.declared.status.Verdict.{Verdict}
 use Rattle.teg_run.specs.Endings.{Ending, Whole, Lost}
 use Rattle.teg_run.specs.Openings.{Opening, Accepted, Refused}
 use Rattle.teg_run.specs.Requests.{NetCommand, CheckNet, ListNet, FormNet, CycleNet, Request, OfNet, ValueOf}
@@ -30,19 +27,10 @@ abbrev pub asked : CodedRequest → Request
 asked (CodedOfNet command net) = OfNet (command_asked command) net.now
 asked (CodedValueOf text) = ValueOf text.now
 
--- rounds, a list for each part
-abbrev pub rounds_in : List (Vec Round) → List (List Round)
-rounds_in runs = map (λ run. run.items) runs
-
 -- the ending of the work
 abbrev pub ended : CodedEnding → Ending
 ended (CodedWhole status text) = Whole status text.items
 ended CodedLost = Lost
-
--- what a command comes to, if it found memory
-abbrev pub outcome_of : Result Outcome OutOfMemory → Option (Verdict × List ℕ)
-outcome_of (Ok outcome) = Some (outcome.verdict, outcome.text.items)
-outcome_of (Err e) = None
 
 -- what a file opens, if memory was found
 abbrev pub opened : {A : Type 0} → Opened A → Option (Opening A)

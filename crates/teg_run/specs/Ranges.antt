@@ -1,7 +1,7 @@
 -- The numbers that commands take.
 use Rattle.std.specs.Prelude.{◌≤◌, length}
 use Rattle.teg_dates.specs.Tables.{most_numbers}
-use Rattle.teg_run.specs.Limits.{most_expression}
+use Rattle.teg_commands.specs.Limits.{most_expression}
 use Rattle.teg_run.specs.Requests.{NetCommand, CheckNet, ListNet, FormNet, CycleNet, Request, OfNet, ValueOf}
 
 -- the numbers that the command takes keep their limits

@@ -4,7 +4,7 @@ use Rattle.std.specs.Option.{option_map}
 use Rattle.teg_dates.specs.Tables.{most_numbers}
 use Rattle.teg_words.specs.Numbers.{number_of}
 use Rattle.teg_words.specs.Words.{Given, given_of}
-use Rattle.teg_run.specs.Limits.{most_expression}
+use Rattle.teg_commands.specs.Limits.{most_expression}
 use Rattle.teg_report.specs.declared.answer.Which.{Which}
 use Rattle.teg_report.specs.declared.answer.Which.TheVariants.{Net as NetFile}
 

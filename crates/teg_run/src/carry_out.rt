@@ -14,8 +14,8 @@ use crate::net_commands::of_net;
 use crate::net_file::open_net;
 use crate::opening::Opened;
 use crate::request::{NetCommand, Request};
-use crate::values::tell_value;
 use std::alloc::Global;
+use teg_commands::tell_value;
 use teg_outside::{Monitor, Shelf};
 use teg_report::Which;
 

@@ -12,16 +12,13 @@
 
 mod call;
 mod carry_out;
-mod cycle_times;
 mod ending;
 mod fetching;
-mod live_net;
 mod net_commands;
 mod net_file;
 mod opening;
 mod request;
 mod status;
-mod values;
 mod writing;
 
 pub use call::workbench;

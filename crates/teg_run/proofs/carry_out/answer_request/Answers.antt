@@ -1,5 +1,5 @@
 use Rattle.std.proofs.Common.{[]}
-use Rattle.teg_run.specs.Values.{SaysValue}
+use Rattle.teg_commands.specs.Values.{SaysValue}
 use Rattle.teg_run.proofs.Answering.{closed_with}
 use Rattle.teg_run.proofs.carry_out.answer_request.Goals as goal
 

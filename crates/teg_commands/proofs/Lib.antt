@@ -1,0 +1,6 @@
+pub mod CycleTold
+pub mod Formed
+pub mod Listed
+pub mod Paths
+pub mod Rounds
+pub mod Telling
