@@ -17,3 +17,7 @@ one_line_append first rest h k = rw (list_any-append, h, k) refl
 pub one_line_decimal : (n : ℕ) → n < 2 ^ 64 → IsOneLine (decimal n)
 one_line_decimal = decimal_by_steps (λ m digits. IsOneLine digits) (λ m small. digit_one_line m)
     (λ m digits large before. one_line_append digits _ before (digit_one_line _))
+
+-- a text without a line feed, and a number in digits
+pub one_line_number : (first : List ℕ) (n : ℕ) → IsOneLine first → n < 2 ^ 64 → IsOneLine (first ++ decimal n)
+one_line_number first n h small = one_line_append first (decimal n) h (one_line_decimal n small)

@@ -5,15 +5,20 @@
 //! where it failed. A shelf tells its files and its reads, a sink its bytes, or nothing of them; a
 //! count never falls. `MemoryShelf` and `MemorySink` tell everything and fail exactly at the calls
 //! that they were given. `FileShelf` and `WriterSink` stand before the real files and the real
-//! output: they tell nothing of content.
+//! output: they tell nothing of content. Of the monitors `FiringCount`, `HighWater` and `Lateness`
+//! print a number each of the firings seen, and `NoLine` never finds memory for a line.
 //!
 //! It stands on std alone.
 #![tactic(auto)]
 
 mod file_shelf;
+mod firing_count;
+mod high_water;
+mod lateness;
 mod memory_shelf;
 mod memory_sink;
 mod monitor;
+mod no_line;
 mod shelf;
 mod sink;
 #[cfg(test)]
@@ -21,9 +26,13 @@ mod tests;
 mod writer_sink;
 
 pub use file_shelf::FileShelf;
+pub use firing_count::FiringCount;
+pub use high_water::HighWater;
+pub use lateness::Lateness;
 pub use memory_shelf::MemoryShelf;
 pub use memory_sink::MemorySink;
 pub use monitor::{Firing, Monitor, OutOfMemory};
+pub use no_line::NoLine;
 pub use shelf::{Shelf, ShelfFault};
 pub use sink::{Sink, SinkFault};
 pub use writer_sink::WriterSink;

@@ -1,8 +1,10 @@
-//! A monitor of the tests' own, any shelf at a file beyond the limit, files and output.
+//! Monitors, one of them the tests' own, any shelf at a file beyond the limit, files and output.
 ghost use Rattle.std.specs.Prelude.{◌||◌, nat_lt, length, codes, if◌then◌else◌};
 ghost use Rattle.teg_outside.specs.Shelves.{LongIsTooLarge, replied};
 
-use crate::{Firing, Monitor, OutOfMemory, Shelf, ShelfFault};
+use crate::{
+    Firing, FiringCount, HighWater, Lateness, Monitor, NoLine, OutOfMemory, Shelf, ShelfFault,
+};
 use std::alloc::Global;
 use std::test::Fail;
 
@@ -37,6 +39,33 @@ fn a_monitor_prints_what_it_saw(rt: HostRuntime) -> Result<(), Fail> {
         tokens: 1,
     });
     assert_eq!(rt; monitor.line(rt.alloc())?.as_str(), "fired");
+    Ok(())
+}
+
+// What the monitor prints after two firings: one late, and one in time that leaves fewer tokens.
+fn line_after_two<M: Monitor>(monitor: &mut M, alloc: Global) -> Result<String, OutOfMemory> {
+    for (number, date, earliest, tokens) in [(1, 7, 2, 5), (2, 8, 8, 4)] {
+        monitor.see(Firing {
+            transition: 0,
+            number,
+            date,
+            earliest,
+            tokens,
+        });
+    }
+    monitor.line(alloc)
+}
+
+#[test]
+fn each_monitor_prints_its_number(rt: HostRuntime) -> Result<(), Fail> {
+    let count = line_after_two(&mut FiringCount::new(), rt.alloc())?;
+    assert_eq!(rt; count.as_str(), "firings 2");
+    let tokens = line_after_two(&mut HighWater::new(), rt.alloc())?;
+    assert_eq!(rt; tokens.as_str(), "high water 5");
+    let late = line_after_two(&mut Lateness::new(), rt.alloc())?;
+    assert_eq!(rt; late.as_str(), "greatest lateness 5");
+    let none = line_after_two(&mut NoLine::new(), rt.alloc()).err();
+    assert_eq!(rt; none, Some(OutOfMemory));
     Ok(())
 }
 

@@ -1,0 +1,7 @@
+pub mod Counting
+pub mod Dates
+pub mod Earliest
+pub mod Failing
+pub mod InOrder
+pub mod Least
+pub mod Prefixes

@@ -1,0 +1,27 @@
+//! The laws of legal runs. Each is a function that does nothing when it runs: its contract is the
+//! law.
+ghost use Rattle.run_laws.specs.EarliestRuns.{EarliestRunsAreLegal, PartsOfEarliestRunsAreLegal};
+ghost use Rattle.run_laws.specs.Laws.{EarliestIsLeast, FailuresAreNotLegal, FailuresAreOne, LegalRunsAreNotEarly};
+
+/// In a live net no firing of a legal run comes before its least date.
+pub fn legal_runs_are_not_early()
+    ensures { LegalRunsAreNotEarly }
+{}
+
+/// Where all firings so far came at their least dates, the earliest date of the next is its least
+/// date.
+pub fn earliest_is_least()
+    ensures { EarliestIsLeast }
+{}
+
+/// The earliest runs of the least dating are legal, and so are their first parts.
+pub fn earliest_runs_are_legal()
+    ensures whole { EarliestRunsAreLegal }
+    ensures parts { PartsOfEarliestRunsAreLegal }
+{}
+
+/// A firing that fails in one of the three ways may not follow the run, and fails in no other way.
+pub fn failures_are_not_legal()
+    ensures not_legal { FailuresAreNotLegal }
+    ensures one { FailuresAreOne }
+{}

@@ -1,0 +1,37 @@
+-- One more firing of a run, in its columns of dates.
+use Rattle.std.proofs.Common.{ℕ, ◌<◌, ◌≡◌, ◌≢◌, List, [], ◌∷◌, ◌++◌, true, false, eqb, length, get_or, set, refl, sym, ◌∙◌, arith, ⊎_elim}
+use Rattle.std.specs.Prelude.{replicate}
+use Rattle.std.proofs.lemmas.Bool.{cases_eq, cases_Bool}
+use Rattle.std.proofs.lemmas.Bool.Decides.{nat_tests}
+use Rattle.std.proofs.lemmas.List.{length-set, get_or-set_same, get_or-set_other, get_or-replicate, length-replicate}
+use Rattle.std.proofs.lemmas.List.Elements.{All-append}
+use Rattle.run_laws.specs.declared.fired.Fired.{Fired}
+use Rattle.run_laws.specs.Runs.{dates_of}
+use Rattle.run_laws.proofs.Dates.{dates_of_own, dates_of_other}
+use Rattle.teg_replay.specs.Games.{AreColumns}
+
+pub columns_begin : (width : ℕ) → AreColumns [] (replicate width [])
+columns_begin width = record {
+  same = λ t l. get_or-replicate width t [] [] (let e : length (replicate {A = List ℕ} width []) ≡ width = length-replicate width [] in omega (arith, l, e));
+  known = λ i d l. absurd (omega arith);
+}
+
+pub columns_more : (run : List Fired) (columns : List (List ℕ)) (f : Fired) → AreColumns run columns → f.transition.index < length columns
+    → AreColumns (run ++ f ∷ []) (set columns f.transition.index (get_or columns f.transition.index [] ++ f.date ∷ []))
+columns_more run columns f h in' =
+    let own : ℕ = f.transition.index in
+    let column : List ℕ = get_or columns own [] ++ f.date ∷ [] in
+    let long : length (set columns own column) ≡ length columns = length-set columns own column in
+    record {
+      same = λ t l.
+          ⊎_elim
+          (λ (e : own ≡ t).
+          let here = get_or-set_same columns own column [] in' in
+          let was = h.same own in' in
+          rw (dates_of_own run f t e, ← e, here, was) refl)
+          (λ (e : own ≢ t).
+          let e2 : t ≢ own = λ q. e (sym q) in
+          get_or-set_other columns own t column [] e2 ∙ h.same t (rw long at l) ∙ sym (dates_of_other run f t e))
+          (cases_eq own t);
+      known = rw long (All-append (λ g. g.transition.index < length columns) run (f ∷ []) h.known (λ i d l. let z : i ≡ 0 = omega arith in rw z in'));
+    }

@@ -1,0 +1,54 @@
+-- What a game keeps, and for which net it stands.
+use Rattle.std.specs.Prelude.{ℕ, ◌<◌, ◌≡◌, ◌==◌, List, [], length, All, AllPairs, Contains, count_by, slice_index_or}
+use Rattle.teg_net.specs.declared.entries.Place.{Place}
+use Rattle.teg_net.specs.declared.entries.PlaceId.{PlaceId}
+use Rattle.teg_net.specs.Nets.{NetLists, IsNet}
+use Rattle.teg_net.specs.Circuits.{place_at}
+use Rattle.run_laws.specs.declared.fired.Fired.{Fired}
+use Rattle.run_laws.specs.Runs.{dates_of, IsLegalRun}
+use Rattle.run_laws.specs.Earliest.{tokens_after}
+
+-- a run, and how many transitions its columns of dates are kept for
+pub record Past : Type 0 where
+  pub width : ℕ
+  pub run : List Fired
+
+-- the columns are the dates of the firings of each transition
+pub record AreColumns (run : List Fired) (columns : List (List ℕ)) : Type 0 where
+  pub same : (t : ℕ) → t < length columns → slice_index_or columns t [] ≡ dates_of run t
+  pub known : All (λ f. f.transition.index < length columns) run
+
+-- of each transition the places that lead into it, and how many leave it
+pub record Ends : Type 0 where
+  pub into : List (List PlaceId)
+  pub leaving : List ℕ
+
+-- the places into transition t, lowest first
+pub record AreInto (net : NetLists) (t : ℕ) (ids : List PlaceId) : Type 0 where
+  pub known : All (λ id. id.index < length net.places) ids
+  pub right : All (λ id. (place_at net id).to.index ≡ t) ids
+  pub all : (id : PlaceId) → id.index < length net.places → (place_at net id).to.index ≡ t → Contains ids id
+  pub rising : AllPairs (λ p q. p.index < q.index) ids
+  pub count : length ids ≡ count_by (λ p. p.to.index == t) net.places
+
+-- the ends of the net's places
+pub record AreEnds (net : NetLists) (ends : Ends) : Type 0 where
+  pub into_width : length ends.into ≡ length net.transitions
+  pub into : (t : ℕ) → t < length net.transitions → AreInto net t (slice_index_or ends.into t [])
+  pub leaving_width : length ends.leaving ≡ length net.transitions
+  pub leaving : (t : ℕ) → t < length net.transitions → slice_index_or ends.leaving t 0 ≡ count_by (λ p. p.from.index == t) net.places
+
+-- a game as contracts see it: the run so far, with what it keeps beside it for its net
+pub record GameState : Type 0 where
+  pub run : List Fired
+  pub width : ℕ
+  pub ends : Ends
+  pub tokens : ℕ
+
+-- the game stands for the net: its run is a legal one, and what it keeps beside it is that of the net
+pub record IsGameOf (net : NetLists) (game : GameState) : Type 0 where
+  pub rules : IsNet net
+  pub legal : IsLegalRun net game.run
+  pub width : game.width ≡ length net.transitions
+  pub ends : AreEnds net game.ends
+  pub tokens : game.tokens ≡ tokens_after net game.run

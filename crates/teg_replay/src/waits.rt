@@ -1,0 +1,129 @@
+//! What a firing waits for: the tokens of the places into its transition, the firings before it, and a release.
+ghost use Rattle.std.specs.Prelude.{◌≡◌, ◌<◌, ◌≤◌, ◌+◌, ◌^◌, IfOk, IfErr, length, option_map, ◌-◌, ℕ, slice_get};
+ghost use Rattle.teg_net.specs.Limits.{most_tokens, greatest_hold, greatest_number};
+ghost use Rattle.teg_net.specs.Circuits.{place_at};
+ghost use Rattle.teg_net.specs.Nets.{IsPlaceOf, IsInput, IsNet};
+ghost use Rattle.teg_net.specs.Inputs.{input_date};
+ghost use Rattle.run_laws.specs.Runs.{dates_of, next_number, firing_date, token_date, IsThereBy, HasTokensBy, IsReleasedBy, last_date, IsNotBefore};
+ghost use Rattle.run_laws.specs.Earliest.{last_of};
+ghost use Rattle.teg_replay.specs.Failures.{Fails};
+ghost use Rattle.teg_replay.specs.Games.{AreInto};
+ghost use Rattle.teg_replay.specs.Waits.{IsLatestToken, IsLatestRelease, IsBackTo, IsUnreleased};
+
+use crate::history::History;
+use crate::refusal::FireRefusal;
+use run_laws::Fired;
+use teg_net::{Net, PlaceId, Role, TransitionId};
+
+/// The number that the next firing of the transition has.
+pub(crate) fn next_number(history: &History, transition: TransitionId) -> u64
+    requires transition { transition.index < history.now.width }
+    requires few { length history.now.run < 2 ^ 40 }
+    ensures number { result ≡ next_number history.now.run transition.index }
+    ensures few { result ≤ 2 ^ 40 }
+{
+    history.dates_of(transition).len() as u64 + 1
+}
+
+/// The date of the transition's last firing, and 0 where there is none.
+pub(crate) fn date_before(history: &History, transition: TransitionId) -> u64
+    requires { transition.index < history.now.width }
+    ensures { result ≡ last_of (dates_of history.now.run transition.index) }
+{
+    match history.dates_of(transition).last() {
+        Some(date) => *date,
+        None => 0,
+    }
+}
+
+/// The date from which the place has its token for the firing of this number; none where the firing
+/// that brings it is missing.
+fn token_date(history: &History, net: &Net, id: PlaceId, number: u64) -> Option<u128>
+    requires width { history.now.width ≡ length net.now.transitions }
+    requires place { id.index < length net.now.places }
+    requires first { 1 ≤ number }
+    ensures { result ≡ token_date history.now.run (place_at net.now id) number }
+{
+    let place = &net.places()[id.index as usize];
+    let tokens = u64::from(place.tokens);
+    if tokens < number {
+        let dates = history.dates_of(place.from);
+        let date = dates.get((number - tokens) as usize - 1)?;
+        Some(u128::from(*date) + u128::from(place.hold))
+    } else {
+        Some(u128::from(net.ready(id, number as u32)))
+    }
+}
+
+/// The date from which all places into the transition have their tokens for its next firing.
+/// `Illegal` comes exactly where that of one of them is not there by the date of the firing.
+pub(crate) fn tokens_there(
+    history: &History,
+    net: &Net,
+    into: &[PlaceId],
+    fired: Fired,
+) -> Result<u64, FireRefusal>
+    requires width { history.now.width ≡ length net.now.transitions }
+    requires transition { fired.transition.index < length net.now.transitions }
+    requires into { AreInto net.now fired.transition.index into.now }
+    requires few { length history.now.run < 2 ^ 40 }
+    ensures latest { IfOk result (λ date. IsLatestToken net.now history.now.run fired.transition.index (next_number history.now.run fired.transition.index) date) }
+    ensures tokens { IfOk result (λ _. HasTokensBy net.now history.now.run fired.transition.index (next_number history.now.run fired.transition.index) fired.date) }
+    ensures fails { IfErr result (λ why. Fails net.now history.now.run fired why) }
+{
+    let number = next_number(history, fired.transition);
+    let mut latest: u64 = 0;
+    for id in into {
+        match token_date(history, net, *id, number) {
+            Some(date) => {
+                if u128::from(fired.date) < date {
+                    return Err(FireRefusal::Illegal {
+                        place: *id,
+                        ready: Some(date),
+                    });
+                }
+                latest = latest.max(date as u64);
+            }
+            None => {
+                return Err(FireRefusal::Illegal {
+                    place: *id,
+                    ready: None,
+                });
+            }
+        }
+    }
+    Ok(latest)
+}
+
+/// Nothing, where the firing is not before the last one.
+pub(crate) fn in_order(history: &History, fired: Fired) -> Result<(), FireRefusal>
+    ensures in_order { IfOk result (λ _. IsNotBefore (last_date history.now.run) fired.date) }
+    ensures fails { IfErr result (λ why. IsBackTo history.now.run fired why) }
+{
+    match history.last_date() {
+        Some(last) if fired.date < last => Err(FireRefusal::BackInTime { last }),
+        _ => Ok(()),
+    }
+}
+
+/// The date by which the transition's next firing is released, 0 where it waits for no release.
+/// `BeforeRelease` comes exactly where the input has a later date than that of the firing, or none.
+pub(crate) fn released(net: &Net, fired: Fired, number: u64) -> Result<u64, FireRefusal>
+    requires transition { fired.transition.index < length net.now.transitions }
+    requires first { 1 ≤ number }
+    requires few { number ≤ 2 ^ 40 }
+    ensures latest { IfOk result (λ date. IsLatestRelease net.now fired.transition.index number date) }
+    ensures released { IfOk result (λ _. IsReleasedBy net.now fired.transition.index number fired.date) }
+    ensures fails { IfErr result (λ why. IsUnreleased net.now fired number why) }
+{
+    match net.transitions()[fired.transition.index as usize].role {
+        Role::Internal | Role::Output => Ok(0),
+        Role::Input => {
+            let release = net.input_date(fired.transition, number);
+            match release {
+                Some(date) if date <= u128::from(fired.date) => Ok(date as u64),
+                _ => Err(FireRefusal::BeforeRelease { release }),
+            }
+        }
+    }
+}
