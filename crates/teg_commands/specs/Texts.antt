@@ -10,13 +10,18 @@ use Rattle.series_form.specs.declared.forms.SeriesRefused.{SeriesRefused}
 use Rattle.series_laws.specs.Forms.{Form as SeriesForm}
 use Rattle.teg_calc.specs.declared.refusals.ParseRefused.{ParseRefused}
 use Rattle.teg_reader.specs.declared.refusals.ReadRefusal.{ReadRefusal}
+use Rattle.teg_due.specs.declared.rows.LogRefusal.{LogRefusal}
+use Rattle.teg_critical.specs.declared.slacks.Slack.{Slack as PlaceSlack}
+use Rattle.teg_net.specs.Ratios.{Fraction}
+use Rattle.teg_report.specs.declared.answer.Failure.{Failure}
 use Rattle.teg_report.specs.declared.answer.Which.{Which}
-use Rattle.teg_report.specs.Answers.{Answer, Usage, Live, Form, NoCircuit, Cycle, Calc, Read, TooLarge, TokenFree, Parse, Series, Fault}
+use Rattle.teg_report.specs.Answers.{Answer, Usage, Live, Form, NoCircuit, Cycle, Slack, Trial, Replayed, Refused, Calc, Read, TooLarge, TokenFree, Log, Parse, Series, Fault}
 use Rattle.teg_report.specs.Lists.{list_lines}
 use Rattle.teg_report.specs.Meanings.{cycle_lists, round_lists}
 use Rattle.teg_report.specs.Reports.{text_of}
 use Rattle.teg_report.specs.Rounds.{RoundLists}
 use Rattle.teg_text.specs.Lines.{written}
+use Rattle.trial_net.specs.Trials.{trial}
 
 -- what is written where words are refused
 abbrev pub usage : List ℕ
@@ -79,3 +84,23 @@ too_large_text which = text_of None (TooLarge which)
 -- that a file could not be read
 abbrev pub fault_text : Which → List ℕ
 fault_text which = text_of None (Fault which)
+
+-- the greatest ratio of a net, and the slack of each of its places
+abbrev pub slack_text : NetLists → Fraction → List PlaceSlack → List ℕ
+slack_text net ratio slacks = text_of (Some net) (Slack ratio slacks)
+
+-- the line of so many machines: its places, its greatest ratio, how many places are critical, and a late date
+abbrev pub trial_text : ℕ → Fraction → ℕ → Date → List ℕ
+trial_text machines ratio critical last = text_of None (Trial machines (length (trial machines).places) ratio critical last)
+
+-- why the bytes of a file say no log
+abbrev pub log_text : LogRefusal → List ℕ
+log_text refusal = text_of None (Log refusal)
+
+-- that so many firings of a log were accepted and none refused, and the lines of the monitors
+abbrev pub replayed_text : ℕ → List (List ℕ) → List ℕ
+replayed_text accepted lines = text_of None (Replayed accepted lines)
+
+-- why a row of a log was refused, and the lines of the monitors
+abbrev pub refused_text : NetLists → ℕ → Failure → List (List ℕ) → List ℕ
+refused_text net row failure lines = text_of (Some net) (Refused row failure lines)

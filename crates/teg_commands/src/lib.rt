@@ -9,11 +9,17 @@
 mod cycle_times;
 mod live_net;
 mod outcome;
+mod recorded;
 mod sizes_and_dates;
+mod slack;
+mod trial;
 mod values;
 
 pub use cycle_times::{tell_cycle, tell_rounds};
 pub use live_net::LiveNet;
 pub use outcome::{Outcome, Verdict};
+pub use recorded::tell_replay;
 pub use sizes_and_dates::{tell_dates, tell_form, tell_size};
+pub use slack::tell_slack;
+pub use trial::tell_trial;
 pub use values::tell_value;

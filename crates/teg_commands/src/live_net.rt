@@ -5,7 +5,10 @@ ghost use Rattle.teg_dates.specs.Tables.{most_numbers, HasLeastDates};
 ghost use Rattle.teg_form.specs.Forms.{IsFormOf};
 ghost use Rattle.std.specs.Option.{option_map};
 ghost use Rattle.teg_cycle.specs.LastRounds.{AreLastOfRuns, IsLastOfRun};
+ghost use Rattle.teg_critical.specs.Slacks.{AreSlacks};
 ghost use Rattle.teg_net.specs.Certificates.{IsCertificate};
+ghost use Rattle.teg_net.specs.GreatestRatios.{IsAnyPlace, IsGreatestRatio};
+ghost use Rattle.teg_net.specs.Ratios.{Fraction};
 ghost use Rattle.teg_net.specs.PartAnswers.{IsPartAnswer};
 ghost use Rattle.teg_parts.specs.Partitions.{AreParts};
 ghost use Rattle.teg_report.specs.Forms.{IsFormWithin};
@@ -14,6 +17,7 @@ ghost use Rattle.teg_commands.specs.CycleTimes.{IsCycleAnswer, IsRunOf};
 use std::alloc::Global;
 use std::marker::Model;
 use teg_check::Live;
+use teg_critical::{Slacks, critical};
 use teg_cycle::cycle;
 use teg_dates::{Table, first_dates};
 use teg_form::{Form, standard_form};
@@ -93,6 +97,15 @@ impl LiveNet {
     {
         let answer = cycle(alloc, &self.net, &self.live, parts)?;
         Ok(answer)
+    }
+
+    /// The slack of each place, by an answer on the cycle times of the net.
+    pub fn slacks(&self, alloc: Global, answer: &CycleAnswer) -> Result<Slacks, OutOfMemory>
+        requires { IsCertificate self.now answer.now }
+        ensures each { IfOk result (λ slacks. length slacks ≡ length self.now.places) }
+        ensures slacks { IfOk result (λ slacks. (r : Fraction) → IsGreatestRatio self.now IsAnyPlace r → AreSlacks self.now r slacks) }
+    {
+        critical(alloc, &self.net, answer)
     }
 
     /// The rounds of policy iteration that end in this answer of a part; none where no circuit lies

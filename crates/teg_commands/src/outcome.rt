@@ -6,6 +6,8 @@
 pub enum Verdict {
     /// The command was carried out.
     Done,
+    /// The log has a faulty row, or one that the net does not allow.
+    Log,
     /// The expression has no value within the limits.
     Calc,
 }

@@ -13,16 +13,17 @@ use Rattle.teg_commands.specs.declared.outcome.Verdict.{Verdict}
 use Rattle.teg_commands.specs.declared.outcome.Verdict.TheVariants.{Done as VerdictDone, Calc as VerdictCalc}
 use Rattle.teg_run.specs.Calls.{Call}
 use Rattle.teg_run.specs.Endings.{Ending, Whole, Lost}
-use Rattle.teg_run.specs.Headline.{Ends, EndsLost, HasFault, Follows, ComesOnly, ReadsAreCalm, WritesAreCalm, OverlongRose, WroteWhole, WrotePrefix, ReadsFirstOf, NamesLastRead, AllowsNet, Allows, EndsAsAllowed, Concerns, SaysOfNet, SaysLive, SaysLeastDates, SaysStandardForm, SaysCycleTimes, SaysPolicyRuns, SaysNoCircuit, SaysValues, KeepsPromises}
-use Rattle.teg_run.specs.Requests.{NetCommand, CheckNet, ListNet, FormNet, CycleNet, Request, OfNet, ValueOf, request_of, files_of, asked_files}
+use Rattle.teg_run.specs.Headline.{Ends, EndsLost, HasFault, Follows, ComesOnly, ReadsAreCalm, WritesAreCalm, OverlongRose, WroteWhole, WrotePrefix, ReadsFirstOf, NamesLastRead, AllowsNet, Allows, EndsAsAllowed, Concerns, ConcernsBoth, SaysOfNet, SaysOfBoth, SaysLive, SaysLeastDates, SaysStandardForm, SaysCycleTimes, SaysPolicyRuns, SaysNoCircuit, SaysValues, KeepsPromises}
+use Rattle.teg_run.specs.Requests.{NetCommand, CheckNet, ListNet, FormNet, CycleNet, FileCommand, JitNet, ReplayNet, Request, OfNet, OfFiles, ValueOf, request_of, files_of, asked_files, second_of}
 use Rattle.teg_run.specs.Runs.{Answered, CarriesOut, Finished, Runs}
-use Rattle.teg_run.specs.Says.{Asked, SaysNet, SaysOutcome}
+use Rattle.teg_run.specs.Openings.{OpensBytes}
+use Rattle.teg_run.specs.Says.{Asked, SaysFile, SaysFiles, SaysNet, SaysOutcome}
 use Rattle.teg_commands.specs.Values.{SaysValue}
 use Rattle.teg_run.specs.Statuses.{status_of}
 use Rattle.teg_commands.specs.Texts.{usage, live_text, list_text, form_text, cycle_text, no_circuit_text, runs_text, series_text, parse_text, series_refused_text, too_large_text, fault_text}
 use Rattle.teg_commands.proofs.CycleTold.{no_circuit_said}
 use Rattle.teg_run.proofs.Faults.{IsFaultOf, text_is_fault, net_is_fault, comes_only, follows, way_is_said, overlong_way, fault_way}
-use Rattle.teg_run.proofs.LiveNets.{live_goes_on}
+use Rattle.teg_run.proofs.LiveNets.{live_goes_on, held_goes_on}
 use Rattle.teg_run.proofs.ReadOrder.{none_read, reads_first}
 use Rattle.teg_run.proofs.Verdicts.{IsSaid}
 use Rattle.teg_run.proofs.Ways.{Way, way_of}
@@ -152,7 +153,7 @@ net_said call command net asks Lost h k = inr k
 net_said call command net asks (Whole said text) h k =
     let on = live_goes_on asks.files call.shelf_before call.shelf_after asks.name [] net (λ n. SaysOutcome (SaysNet command n)) h.0 said text
     asks.told asks.calm asks.opens h.1 h.2 in
-    inl (on.3.1.0, text, on.3.1.2, inl (subst (λ (s : Status). Finished call.sink_before call.sink_after (Whole s text) call.status) on.3.1.1 k))
+    inl (on.5.1.0, text, on.5.1.2, inl (subst (λ (s : Status). Finished call.sink_before call.sink_after (Whole s text) call.status) on.5.1.1 k))
 
 says_of_net : (call : Call) → Runs call → SaysOfNet call
 says_of_net call runs command net asks =
@@ -208,6 +209,24 @@ allowed FormNet net verdict text h = h.0
 allowed (CycleNet false) net verdict text h = h.0
 allowed (CycleNet true) net verdict text h = h.0
 
+-- ---- commands on a live net and a second file
+
+both_said : (call : Call) (command : FileCommand) (net : NetLists) (bytes : List ℕ) (asks : ConcernsBoth call command net bytes) (ending : Ending) →
+    Answered (Asked (Some (OfFiles command asks.name asks.second)) call.lines) (files_of (OfFiles command asks.name asks.second)) call.shelf_before call.shelf_after ending →
+    Finished call.sink_before call.sink_after ending call.status →
+    ((verdict : Verdict) × (text : List ℕ) × SaysFiles command call.lines net bytes verdict text × Ends call (status_of verdict) text) ⊎ EndsLost call
+both_said call command net bytes asks Lost h k = inr k
+both_said call command net bytes asks (Whole said text) h k =
+    let on = live_goes_on asks.files call.shelf_before call.shelf_after asks.name ((second_of command, asks.second) ∷ []) net
+    (λ n. SaysFile (OpensBytes (second_of command)) (λ b. SaysOutcome (SaysFiles command call.lines n b))) h.0 said text asks.told asks.calm asks.opens h.1 h.2 in
+    let then = held_goes_on asks.files on.0 call.shelf_after (second_of command) asks.second bytes (λ b. SaysOutcome (SaysFiles command call.lines net b)) on.1 said text
+    on.2 on.3 asks.holds on.4 on.5 in
+    inl (then.1.1.0, text, then.1.1.2, inl (subst (λ (s : Status). Finished call.sink_before call.sink_after (Whole s text) call.status) then.1.1.1 k))
+
+says_of_both : (call : Call) → Runs call → SaysOfBoth call
+says_of_both call runs command net bytes asks =
+    let h = subst (λ (asked : Option Request). CarriesOut asked call) asks.asks runs in both_said call command net bytes asks h.0 h.1 h.2
+
 -- ---- values
 
 value_said : (call : Call) (text : List ℕ) (ending : Ending) → Answered (Asked (Some (ValueOf text)) call.lines) [] call.shelf_before call.shelf_after ending →
@@ -252,6 +271,10 @@ ends_as_allowed call runs files (OfNet command name) asks told reads writes acce
     ended_as (OfNet command name) call writes
     (⊎_elim (λ (said : _). inl (said.0, said.1, allowed command accepts.0 said.0 said.1 said.2, said.3)) (λ (lost : _). inr lost)
     (says_of_net call runs command accepts.0 (record { name = name; files = files; asks = asks; told = told; calm = reads; opens = accepts.1 })))
+ends_as_allowed call runs files (OfFiles command name second) asks told reads writes accepts =
+    ended_as (OfFiles command name second) call writes
+    (⊎_elim (λ (said : _). inl (said.0, said.1, files_allowed command call.lines accepts.0.0 accepts.1.0 said.0 said.1 said.2, said.3)) (λ (lost : _). inr lost)
+    (says_of_both call runs command accepts.0.0 accepts.1.0 (record { name = name; second = second; files = files; asks = asks; told = told; calm = reads; opens = accepts.0.1; holds = accepts.1.1 })))
 ends_as_allowed call runs files (ValueOf text) asks told reads writes accepts =
     ended_as (ValueOf text) call writes
     (⊎_elim (λ (said : _). inl (said.0, said.1, (said.1, said.2), said.3)) (λ (lost : _). inr lost) (says_of_value call runs text asks))
@@ -310,6 +333,7 @@ keeps_promises call runs =
       net = fault_follows Net _ net_is_fault call runs;
       net_only = λ files told e. fault_only Net _ net_is_fault (λ w. cc) (λ w. cc) (λ w. cc) call (λ t. absurd (let bad : ⊥ = cc (t, e) in bad)) runs files told e;
       of_net = says_of_net call runs;
+      of_both = says_of_both call runs;
       check = check_follows call runs;
       list = list_follows call runs;
       form = form_follows call runs;

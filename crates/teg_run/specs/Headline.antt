@@ -25,7 +25,7 @@ use Rattle.teg_outside.specs.Causes.{Rose, Rested}
 use Rattle.teg_outside.specs.Shelves.{ShelfState, ReadsGrow, file_of}
 use Rattle.teg_outside.specs.Sinks.{BytesGrow, PrefixGrows}
 use Rattle.teg_report.specs.declared.answer.Which.{Which}
-use Rattle.teg_report.specs.declared.answer.Which.TheVariants.{Net as NetFile}
+use Rattle.teg_report.specs.declared.answer.Which.TheVariants.{Net as NetFile, Due as DueFile, Log as LogFile}
 use Rattle.teg_run.specs.declared.status.Status.{Status}
 use Rattle.teg_run.specs.declared.status.Status.TheVariants.{Done, Words, Text, Net, Calc, ReadFault, WriteFault, NoMemory}
 use Rattle.teg_commands.specs.declared.outcome.Verdict.{Verdict}
@@ -35,9 +35,9 @@ use Rattle.teg_commands.specs.CycleTimes.{IsCycleAnswer, AreRuns}
 use Rattle.teg_run.specs.Endings.{Whole, Lost}
 use Rattle.teg_run.specs.Limits.{most_bytes}
 use Rattle.teg_run.specs.Reads.{ReadsAll}
-use Rattle.teg_run.specs.Requests.{NetCommand, CheckNet, ListNet, FormNet, CycleNet, Request, OfNet, ValueOf, request_of, files_of, asked_files}
+use Rattle.teg_run.specs.Requests.{NetCommand, CheckNet, ListNet, FormNet, CycleNet, FileCommand, JitNet, ReplayNet, Request, OfNet, OfFiles, ValueOf, request_of, files_of, asked_files}
 use Rattle.teg_run.specs.Runs.{Finished, Runs}
-use Rattle.teg_run.specs.Says.{Asked, SaysNet}
+use Rattle.teg_run.specs.Says.{Asked, SaysFiles, SaysNet}
 use Rattle.teg_run.specs.Statuses.{status_of}
 use Rattle.teg_commands.specs.Values.{IsSeriesOf, SaysValue}
 use Rattle.teg_commands.specs.Texts.{usage, read_text, live_text, list_text, form_text, cycle_text, no_circuit_text, runs_text, series_text, parse_text, series_refused_text, token_free_text, too_large_text, fault_text}
@@ -88,19 +88,33 @@ NetIsRefused files name text =
     ⊎ ((bytes : List ℕ) × (net : NetLists) × (circuit : List PlaceId) × Holds files name bytes × (document bytes ≡ Ok net)
     × IsTokenFree net circuit × (text ≡ token_free_text net circuit))
 
+-- a file that is not the net is too long, and this text says so
+abbrev pub SecondIsNoText : Which → List (List ℕ × List ℕ) → List ℕ → List ℕ → Type 0
+SecondIsNoText which files name text = IsTooLong files name × (text ≡ too_large_text which)
+
+-- the file of that name has bytes, at most as many as a file may have
+abbrev pub IsThere : List (List ℕ × List ℕ) → List ℕ → Type 0
+IsThere files name = (bytes : List ℕ) × Holds files name bytes
+
 -- ---- why files are refused
 
 -- the file is accepted as such a file
 abbrev pub IsAccepted : List (List ℕ × List ℕ) → Which → List ℕ → Type 0
 IsAccepted files NetFile name = (net : NetLists) × Opens files name net
+IsAccepted files DueFile name = IsThere files name
+IsAccepted files LogFile name = IsThere files name
 
 -- the file is no text of such a file, and this text says so
 abbrev pub IsNoText : List (List ℕ × List ℕ) → Which → List ℕ → List ℕ → Type 0
 IsNoText files NetFile name text = NetIsNoText files name text
+IsNoText files DueFile name text = SecondIsNoText DueFile files name text
+IsNoText files LogFile name text = SecondIsNoText LogFile files name text
 
 -- the file is one that says no live net, and this text says so
 abbrev pub IsNoNet : List (List ℕ × List ℕ) → Which → List ℕ → List ℕ → Type 0
 IsNoNet files NetFile name text = NetIsRefused files name text
+IsNoNet files DueFile name text = ⊥
+IsNoNet files LogFile name text = ⊥
 
 -- one of these files has this fault, which this text says, and those before it are accepted
 abbrev pub HasFault : (List (List ℕ × List ℕ) → Which → List ℕ → List ℕ → Type 0) → List (List ℕ × List ℕ) → List (Which × List ℕ) → List ℕ → Type 0
@@ -167,6 +181,7 @@ NamesLastRead call named =
 -- the files of the request are accepted: its net file, where it has one, says a live net
 abbrev pub AcceptsFiles : List (List ℕ × List ℕ) → Request → Type 0
 AcceptsFiles files (OfNet command name) = (net : NetLists) × Opens files name net
+AcceptsFiles files (OfFiles command name second) = ((net : NetLists) × Opens files name net) × IsThere files second
 AcceptsFiles files (ValueOf text) = ⊤
 
 -- how a command on a net may end, once its files are accepted
@@ -180,9 +195,15 @@ AllowsNet (CycleNet rounds) verdict = verdict ≡ VerdictDone
 abbrev pub AllowsValue : List ℕ → Verdict → Type 0
 AllowsValue text verdict = (told : List ℕ) × SaysValue text verdict told
 
+-- how a command on a net and a second file may end, once its net is accepted and the bytes of the second file are there
+abbrev pub AllowsFiles : FileCommand → Verdict → Type 0
+AllowsFiles JitNet verdict = (verdict ≡ VerdictDone) ⊎ ((verdict ≡ VerdictSchedule) ⊎ (verdict ≡ VerdictLate))
+AllowsFiles ReplayNet verdict = (verdict ≡ VerdictDone) ⊎ (verdict ≡ VerdictLog)
+
 -- how a request may end, once its files are accepted
 abbrev pub Allows : Request → Verdict → Type 0
 Allows (OfNet command name) verdict = AllowsNet command verdict
+Allows (OfFiles command name second) verdict = AllowsFiles command verdict
 Allows (ValueOf text) verdict = AllowsValue text verdict
 
 -- over told files, accepted words and files and no fault lead to an ending of the command itself, or to want of memory
@@ -206,6 +227,23 @@ abbrev pub SaysOfNet : Call → Type 0
 SaysOfNet call =
     (command : NetCommand) (net : NetLists) → Concerns call command net →
     ((verdict : Verdict) × (text : List ℕ) × SaysNet command net verdict text × Ends call (status_of verdict) text) ⊎ EndsLost call
+
+-- the words ask for this command on a net and a second file, whose told files say this live net and these bytes, and no read failed
+pub record ConcernsBoth (call : Call) (command : FileCommand) (net : NetLists) (bytes : List ℕ) : Type 0 where
+  pub name : List ℕ
+  pub second : List ℕ
+  pub files : List (List ℕ × List ℕ)
+  pub asks : request_of call.words ≡ Some (OfFiles command name second)
+  pub told : call.shelf_before.files ≡ Some files
+  pub calm : ReadsAreCalm call
+  pub opens : Opens files name net
+  pub holds : Holds files second bytes
+
+-- a command on a live net and a second file ends with what it says of them, or for want of memory
+abbrev pub SaysOfBoth : Call → Type 0
+SaysOfBoth call =
+    (command : FileCommand) (net : NetLists) (bytes : List ℕ) → ConcernsBoth call command net bytes →
+    ((verdict : Verdict) × (text : List ℕ) × SaysFiles command call.lines net bytes verdict text × Ends call (status_of verdict) text) ⊎ EndsLost call
 
 -- a live net that is checked is told with its size
 abbrev pub SaysLive : Call → Type 0
@@ -278,6 +316,7 @@ pub record KeepsPromises (call : Call) : Type 0 where
   pub net_only : ComesOnly IsNoNet Net call
   -- A command on a live net: what it says of that net is written.
   pub of_net : SaysOfNet call
+  pub of_both : SaysOfBoth call
   pub check : SaysLive call
   pub list : SaysLeastDates call
   pub form : SaysStandardForm call

@@ -2,7 +2,7 @@
 use Rattle.std.specs.Prelude.{◌≤◌, length}
 use Rattle.teg_dates.specs.Tables.{most_numbers}
 use Rattle.teg_commands.specs.Limits.{most_expression}
-use Rattle.teg_run.specs.Requests.{NetCommand, CheckNet, ListNet, FormNet, CycleNet, Request, OfNet, ValueOf}
+use Rattle.teg_run.specs.Requests.{NetCommand, CheckNet, ListNet, FormNet, CycleNet, Request, OfNet, OfFiles, ValueOf}
 
 -- the numbers that the command takes keep their limits
 abbrev pub IsInRange : NetCommand → Type 0
@@ -14,4 +14,5 @@ IsInRange (CycleNet rounds) = Unit {0}
 -- the numbers of the request keep their limits
 abbrev pub IsRequestInRange : Request → Type 0
 IsRequestInRange (OfNet command net) = IsInRange command
+IsRequestInRange (OfFiles command net second) = Unit {0}
 IsRequestInRange (ValueOf text) = length text ≤ most_expression

@@ -6,7 +6,7 @@ use Rattle.teg_words.specs.Numbers.{number_of}
 use Rattle.teg_words.specs.Words.{Given, given_of}
 use Rattle.teg_commands.specs.Limits.{most_expression}
 use Rattle.teg_report.specs.declared.answer.Which.{Which}
-use Rattle.teg_report.specs.declared.answer.Which.TheVariants.{Net as NetFile}
+use Rattle.teg_report.specs.declared.answer.Which.TheVariants.{Net as NetFile, Due as DueFile, Log as LogFile}
 
 -- a command on a net, with what else it is given
 pub data NetCommand : Type 0 where
@@ -15,9 +15,16 @@ pub data NetCommand : Type 0 where
   FormNet : NetCommand
   CycleNet : (rounds : Bool) → NetCommand
 
--- what words can ask for: a command on the net in the file of this name, or the value of this expression
+-- a command on a net and on a second file
+pub data FileCommand : Type 0 where
+  JitNet : FileCommand
+  ReplayNet : FileCommand
+
+-- what words can ask for: a command on the net in the file of this name, one on the net and on the second file of these names, the
+-- value of this expression, or a line of so many machines
 pub data Request : Type 0 where
   OfNet : (command : NetCommand) (net : List ℕ) → Request
+  OfFiles : (command : FileCommand) (net second : List ℕ) → Request
   ValueOf : (text : List ℕ) → Request
 
 -- `check NET`
@@ -59,9 +66,15 @@ asked_for given =
 abbrev pub request_of : List (List ℕ) → Option Request
 request_of words = option_and_then asked_for (given_of words)
 
+-- what the second file is for
+abbrev pub second_of : FileCommand → Which
+second_of JitNet = DueFile
+second_of ReplayNet = LogFile
+
 -- the files that a request names, in the order in which they are read: what each is for, and its name
 abbrev pub files_of : Request → List (Which × List ℕ)
 files_of (OfNet command net) = (NetFile, net) ∷ []
+files_of (OfFiles command net second) = (NetFile, net) ∷ (second_of command, second) ∷ []
 files_of (ValueOf text) = []
 
 -- the files that the words name

@@ -9,8 +9,8 @@ use Rattle.teg_commands.specs.declared.outcome.Verdict.{Verdict}
 use Rattle.teg_commands.specs.CycleTimes.{SaysCycle, SaysRounds}
 use Rattle.teg_commands.specs.Sizes.{SaysCheck, SaysList, SaysForm}
 use Rattle.teg_commands.specs.Values.{SaysValue}
-use Rattle.teg_run.specs.Requests.{NetCommand, CheckNet, ListNet, FormNet, CycleNet, Request, OfNet, ValueOf}
-use Rattle.teg_run.specs.Openings.{Opening, Accepted, Refused, OpensNet}
+use Rattle.teg_run.specs.Requests.{NetCommand, CheckNet, ListNet, FormNet, CycleNet, FileCommand, JitNet, ReplayNet, Request, OfNet, OfFiles, ValueOf, second_of}
+use Rattle.teg_run.specs.Openings.{Opening, Accepted, Refused, OpensNet, OpensBytes}
 use Rattle.teg_run.specs.Statuses.{status_of}
 use Rattle.teg_commands.specs.Texts.{usage}
 
@@ -42,9 +42,16 @@ abbrev pub SaysOutcome : (Verdict → List ℕ → Type 0) → List (Result (Lis
 SaysOutcome says replies status text =
     (replies ≡ []) × ((verdict : Verdict) × (status ≡ status_of verdict) × says verdict text)
 
+-- what a command says of a live net and of the bytes of a second file, with the lines of the monitors after given firings
+abbrev pub SaysFiles : FileCommand → (List Firing → List (List ℕ)) → NetLists → List ℕ → Verdict → List ℕ → Type 0
+SaysFiles JitNet lines = SaysJit
+SaysFiles ReplayNet lines = SaysReplay lines
+
 -- what a request says, with the lines of the monitors after given firings
 abbrev pub Says : Request → (List Firing → List (List ℕ)) → List (Result (List ℕ) ShelfFault) → Status → List ℕ → Type 0
 Says (OfNet command net) lines = SaysFile OpensNet (λ file. SaysOutcome (SaysNet command file))
+Says (OfFiles command net second) lines =
+    SaysFile OpensNet (λ file. SaysFile (OpensBytes (second_of command)) (λ bytes. SaysOutcome (SaysFiles command lines file bytes)))
 Says (ValueOf text) lines = SaysOutcome (SaysValue text)
 
 -- what the words make the call say

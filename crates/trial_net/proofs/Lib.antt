@@ -1,2 +1,2 @@
 mod Lines
-mod TrialNets
+pub mod TrialNets

@@ -75,7 +75,7 @@ not_input [] k h input = input
 not_input (t ∷ ts) zero h input = let role = All-head (λ (u : Transition). u.role ≡ Internal) t ts h in let bad : ⊥ = cc (role, input) in bad
 not_input (t ∷ ts) (suc k) h input = not_input ts k (All-tail (λ (u : Transition). u.role ≡ Internal) t ts h) input
 
-width : (machines : ℕ) → length (trial machines).transitions ≡ machines
+pub width : (machines : ℕ) → length (trial machines).transitions ≡ machines
 width machines = length-map-range_with_len machine 1 machines
 
 no_input : (machines t : ℕ) → IsInput (trial machines) t → ⊥
@@ -142,7 +142,7 @@ places_apart machines few =
     (all_over (Apart (own_place i)) card_place 1 n (λ j o k same. let e = ap (λ (bytes : List ℕ). get_or bytes 0 0) same in omega (arith, e)))))
 
 -- what holds of each kind of place
-each_place : (P : Place → Type 0) (machines : ℕ) →
+pub each_place : (P : Place → Type 0) (machines : ℕ) →
     ((i : ℕ) → 1 ≤ i → i ≤ machines → P (own_place i)) → ((i : ℕ) → 1 ≤ i → i + 1 ≤ machines → P (feed_place i)) → ((i : ℕ) → 1 ≤ i → i + 1 ≤ machines → P (card_place i)) →
     All P (trial machines).places
 each_place P machines own feed card =
