@@ -90,7 +90,7 @@ made_sizes c x after period s one = record {
 }
 
 -- dates that are one in the first period past `after` are one ever after
-tail_on : (f : ℕ → Date) (after period : ℕ) (s : ℤ) (d : Date) → 1 ≤ period → move s d ≡ d → RowRepeats f after period s → IsTail f after period d → (n k : ℕ) → k ≤ n → after < k → f k ≡ d
+pub tail_on : (f : ℕ → Date) (after period : ℕ) (s : ℤ) (d : Date) → 1 ≤ period → move s d ≡ d → RowRepeats f after period s → IsTail f after period d → (n k : ℕ) → k ≤ n → after < k → f k ≡ d
 tail_on f after period s d one stays h tail zero k l m = absurd (omega arith)
 tail_on f after period s d one stays h tail (suc n) k l m =
     ⊎_elim

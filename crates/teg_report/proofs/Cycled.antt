@@ -1,5 +1,5 @@
 -- Cycle times are read back from their lines.
-use Rattle.std.proofs.Common.{◌≡◌, ◌≢◌, ℕ, suc, zero, ◌+◌, ◌<◌, ◌≤◌, ◌^◌, true, false, not, ◌==◌, ⊎_elim, Option, Some, None, IfSome, List, [], ◌∷◌, ◌++◌, All, map, refl, ap, ap₂, sym, subst, ◌∙◌, append_assoc, append-nil, length, get_or, slice_index_or, drop, arith, eq-eqb, ne_eqb}
+use Rattle.std.proofs.Common.{◌≡◌, ◌≢◌, ℕ, suc, zero, ◌+◌, ◌<◌, ◌≤◌, true, false, not, ◌==◌, ⊎_elim, Option, Some, None, IfSome, List, [], ◌∷◌, ◌++◌, All, map, refl, ap, ap₂, sym, subst, ◌∙◌, append_assoc, append-nil, length, get_or, drop, arith, eq-eqb, ne_eqb}
 use Rattle.std.proofs.lemmas.Bool.{cases_Bool}
 use Rattle.std.proofs.lemmas.Simd.{map-map}
 use Rattle.std.proofs.lemmas.List.Elements.{All-cons}
@@ -9,22 +9,20 @@ use Rattle.std.proofs.lemmas.List.Concat.{flat_map-append}
 use Rattle.std.proofs.lemmas.List.Folds.{flat_map-map}
 use Rattle.std.specs.List.{flat_map, list_all, range_with_len}
 use Rattle.teg_net.specs.declared.answers.Potential.{Potential}
-use Rattle.teg_net.specs.declared.entries.PlaceId.{PlaceId}
 use Rattle.teg_net.specs.declared.entries.TransitionId.{TransitionId}
 use Rattle.teg_net.specs.Nets.{NetLists, IsNet}
 use Rattle.teg_net.specs.Ratios.{Fraction}
-use Rattle.teg_report.specs.Answering.{place_in, transition_in, ratio_in, potential_in, part_in, members_in, is_first_round, is_member, is_part, is_part_line, told_in, parts_in, round_in, rounds_in, some_runs, cycle_in, answer_of}
+use Rattle.teg_report.specs.Answering.{transition_in, ratio_in, potential_in, part_in, members_in, is_first_round, is_member, is_part, is_part_line, told_in, parts_in, round_in, rounds_in, some_runs, cycle_in, answer_of}
 use Rattle.teg_report.specs.Answers.{Cycle}
-use Rattle.teg_report.specs.Cycles.{CycleLists, PartLists, NoCircuitIn, BestOf, members_from, member_line, potential_line, part_lines, part_at, best_lines, best_of, cycle_lines, IsPotentialIn, IsPartTold, has_ratio, IsFirstOf, HasFirst, IsCycleTold}
+use Rattle.teg_report.specs.Cycles.{CycleLists, PartLists, NoCircuitIn, BestOf, members_from, member_line, potential_line, part_lines, part_at, best_lines, cycle_lines, IsPotentialIn, IsPartTold, has_ratio, IsFirstOf, IsCycleTold}
 use Rattle.teg_report.specs.Kept.{IsRunKept}
 use Rattle.teg_report.specs.Rounds.{RoundLists, AreRoundsTold, circuits_in, runs_lines, told_runs}
 use Rattle.teg_report.proofs.IsRead.{IsRead}
 use Rattle.teg_report.proofs.Rounded.{all_pass, those_all, those_none, those_append, ratio_back, circuit_read, round_blocks, runs_read, rounds_told, rounds_back}
 use Rattle.teg_report.proofs.Words.{transition_is_word, transition_back}
-use Rattle.teg_text.specs.Lines.{is_word, is_line, are_lines}
+use Rattle.teg_text.specs.Lines.{is_line, are_lines}
 use Rattle.teg_text.specs.Reading.{line_at, word}
 use Rattle.teg_text.specs.Rows.{Blocks, is_block, blocks_in, first_where, those}
-use Rattle.teg_text.specs.Words.{ratio_word}
 use Rattle.teg_text.proofs.Back.{signed_back, ratio_is_word}
 use Rattle.teg_text.proofs.Rows.{IsReadBack, rows, map_passes, map_back, blocks_back, flat_passes, range_all, row_back, numbered_back, first_at}
 use Rattle.teg_text.proofs.Words.{all_append, decimal_is_word, signed_is_word}

@@ -1,5 +1,5 @@
 -- The members of a part, transition by transition.
-use Rattle.std.proofs.Common.{◌≡◌, ℕ, suc, ◌+◌, ◌<◌, true, false, ◌==◌, ⊎_elim, List, [], ◌∷◌, ◌++◌, take, length, get_or, append-nil, refl, ap, subst, ◌∙◌, arith}
+use Rattle.std.proofs.Common.{◌≡◌, ℕ, suc, ◌+◌, ◌<◌, true, false, ◌==◌, ⊎_elim, List, [], ◌∷◌, ◌++◌, take, length, get_or, append-nil, refl, ap, ◌∙◌, arith}
 use Rattle.std.proofs.lemmas.Bool.{cases_Bool}
 use Rattle.std.proofs.lemmas.List.{length-take-le}
 use Rattle.std.proofs.Math.Seq.{take-suc}

@@ -1,5 +1,5 @@
 -- Rounds are read back from their lines.
-use Rattle.std.proofs.Common.{◌≡◌, ℕ, zero, suc, ◌+◌, ◌<◌, ◌≤◌, ◌^◌, Bool, true, false, not, ⊎_elim, Option, Some, None, IfSome, List, [], ◌∷◌, ◌++◌, All, map, refl, ap, ap₂, sym, subst, ◌∙◌, length, get_or, slice_index_or, arith, decimal, ◌==◌, eq-eqb, ne_eqb}
+use Rattle.std.proofs.Common.{◌≡◌, ℕ, zero, suc, ◌+◌, ◌<◌, ◌≤◌, ◌^◌, Bool, true, false, not, ⊎_elim, Option, Some, None, IfSome, List, [], ◌∷◌, ◌++◌, All, map, refl, ap, ap₂, ◌∙◌, length, slice_index_or, arith, decimal, ◌==◌, eq-eqb, ne_eqb}
 use Rattle.std.proofs.lemmas.Bool.{and_from, and_parts, cases_Bool, not-true}
 use Rattle.std.proofs.lemmas.Simd.{map-map}
 use Rattle.std.proofs.lemmas.List.Elements.{All-cons, All-head, All-tail}

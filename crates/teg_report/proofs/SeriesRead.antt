@@ -1,7 +1,6 @@
 -- Series and their refusals are read back from their lines.
-use Rattle.std.proofs.Common.{◌≡◌, ℕ, zero, suc, ◌+◌, ◌-◌, ◌<◌, ◌≤◌, ◌^◌, true, List, [], ◌∷◌, ◌++◌, All, map, take, drop, length, get_or, refl, ap, sym, subst, ◌∙◌, arith, codes}
+use Rattle.std.proofs.Common.{◌≡◌, ℕ, suc, ◌+◌, ◌-◌, List, [], ◌∷◌, ◌++◌, map, take, length, get_or, refl, ap, subst, ◌∙◌, arith, codes}
 use Rattle.std.specs.Fmt.{decimal, signed_decimal}
-use Rattle.std.specs.List.{list_all}
 use Rattle.std.specs.Prelude.{⊤}
 use Rattle.std.proofs.lemmas.Bool.{and_from}
 use Rattle.std.proofs.lemmas.List.{get_or_default, length-append}
@@ -20,7 +19,7 @@ use Rattle.teg_report.specs.Answers.{Calc, Parse, Series}
 use Rattle.teg_report.specs.Kept.{IsSeriesKept, IsParseKept, IsSeriesRefusalKept}
 use Rattle.teg_report.specs.Series.{parse_line, series_refused_line}
 use Rattle.teg_report.proofs.IsRead.{IsRead}
-use Rattle.teg_text.specs.Lines.{is_word, is_line}
+use Rattle.teg_text.specs.Lines.{is_word}
 use Rattle.teg_text.specs.Reading.{date_in, number_in, signed_in}
 use Rattle.teg_text.specs.Words.{IsDate, date_word}
 use Rattle.teg_text.proofs.Back.{number_back, word32_back, word64_back, signed_back, date_back}

@@ -18,14 +18,22 @@ use Rattle.teg_reader.specs.declared.refusals.ReadRefusal.TheVariants.{NotToml, 
 use Rattle.teg_reader.specs.declared.refusals.Section.{Section}
 use Rattle.teg_reader.specs.declared.refusals.Section.TheVariants.{Top, Transition, Place, Input}
 use Rattle.teg_reader.specs.declared.refusals.Spot.{Spot}
-use Rattle.series_form.specs.declared.forms.SeriesRefused.TheVariants.{TooLong, TooGreat}
+use Rattle.series_form.specs.declared.forms.SeriesRefused.TheVariants.{TooLong as TooLongSeries, TooGreat}
 use Rattle.series_laws.specs.Forms.{Form as SeriesForm}
 use Rattle.teg_calc.specs.declared.refusals.ParseRefused.TheVariants.{Syntax, TooDeep}
-use Rattle.teg_report.specs.declared.answer.Which.TheVariants.{Net as NetFile}
-use Rattle.teg_report.specs.Answers.{Answer, Usage, Live, Listed, Form, NoCircuit, Cycle, Calc, Read, TooLarge, TokenFree, Parse, Series, Fault}
+use Rattle.teg_critical.specs.declared.slacks.Slack.{Slack as PlaceSlack}
+use Rattle.teg_critical.specs.declared.slacks.Slack.TheVariants.{NoCircuit as NoCircuitThere, Critical, Rise}
+use Rattle.teg_due.specs.declared.rows.DueRefusal.{DueRefusal}
+use Rattle.teg_due.specs.declared.rows.DueRefusal.TheVariants.{BadRow as BadDueRow, UnknownTransition as UnknownDue, NotDue, RepeatedDue, OutOfRange as DueOutOfRange}
+use Rattle.teg_due.specs.declared.rows.LogRefusal.TheVariants.{BadRow as BadLogRow, UnknownTransition as UnknownFiring, OutOfRange as LogOutOfRange}
+use Rattle.teg_report.specs.declared.answer.Failure.{Failure}
+use Rattle.teg_report.specs.declared.answer.Failure.TheVariants.{Illegal, BackInTime, BeforeRelease}
+use Rattle.teg_report.specs.declared.answer.Which.{Which}
+use Rattle.teg_report.specs.declared.answer.Which.TheVariants.{Net as NetFile, Due as DueFile, Log as LogFile}
+use Rattle.teg_report.specs.Answers.{Answer, Usage, Live, Listed, Form, NoCircuit, Cycle, Date, Slack, Replayed, Refused, Calc, Trial, Read, TooLarge, TokenFree, NoTransition, Due, Log, TooLong, Parse, Series, Fault}
 use Rattle.teg_report.specs.Cycles.{PartLists, NoCircuitIn, BestOf, CycleLists, has_ratio}
 use Rattle.teg_report.specs.Rounds.{RoundLists}
-use Rattle.teg_text.specs.Reading.{lines_in, line_at, word, stands_at, number_in, is_numeral, signed_in, before_slash, behind_slash, date_in, label_in, index_in}
+use Rattle.teg_text.specs.Reading.{lines_in, line_at, word, stands_at, number_in, is_numeral, signed_in, before_slash, behind_slash, date_in, label_in, index_in, phrase_in}
 use Rattle.teg_text.specs.Rows.{those, first_where, blocks_in, cell_in}
 
 -- the transition of this name
@@ -145,6 +153,47 @@ series_in line = record {
   step = signed_in (word (length line - 1) line);
 }
 
+-- what a place is told
+abbrev pub slack_in : List (List ℕ) → PlaceSlack
+slack_in line = if stands_at 2 line (codes "no") then NoCircuitThere else if stands_at 2 line (codes "critical") then Critical else Rise (number_in (word 3 line))
+
+-- cycle times, or slack, by the first word of the second line
+abbrev pub timed_in : NetLists → List (List (List ℕ)) → Answer
+timed_in net lines =
+    if stands_at 0 (line_at 1 lines) (codes "circuit") then Cycle (cycle_in net lines) (rounds_in net lines)
+    else Slack (ratio_in (word 2 (line_at 0 lines))) (map slack_in (drop 1 lines))
+
+-- the summary of a net that was made
+abbrev pub trial_in : List (List (List ℕ)) → Answer
+trial_in lines =
+    Trial (number_in (word 1 (line_at 0 lines))) (number_in (word 1 (line_at 1 lines))) (ratio_in (word 2 (line_at 2 lines))) (number_in (word 1 (line_at 3 lines)))
+    (date_in (word 1 (line_at 4 lines)))
+
+-- a file that is not the net, by its first word
+abbrev pub file_in : List ℕ → Which
+file_in word = if bytes_eq word (codes "net") then NetFile else if bytes_eq word (codes "due") then DueFile else LogFile
+
+-- a refused due file
+abbrev pub due_in : List (List ℕ) → DueRefusal
+due_in line =
+    if stands_at 4 line (codes "is") then BadDueRow (number_in (word 3 line))
+    else if stands_at 4 line (codes "unknown") then UnknownDue (number_in (word 3 line))
+    else if stands_at 4 line (codes "input") then NotDue (number_in (word 3 line))
+    else if stands_at 4 line (codes "repeated") then RepeatedDue (number_in (word 3 line))
+    else DueOutOfRange (number_in (word 3 line))
+
+-- why a recorded firing was refused
+abbrev pub failure_in : NetLists → List (List ℕ) → Failure
+failure_in net line = if stands_at 4 line (codes "illegal") then Illegal (place_in net (word 6 line)) else if stands_at 4 line (codes "back") then BackInTime else BeforeRelease
+
+-- a refused log, or a refused row of a log
+abbrev pub log_in : NetLists → List (List (List ℕ)) → Answer
+log_in net lines =
+    if stands_at 4 (line_at 0 lines) (codes "is") then Log (BadLogRow (number_in (word 3 (line_at 0 lines))))
+    else if stands_at 4 (line_at 0 lines) (codes "unknown") then Log (UnknownFiring (number_in (word 3 (line_at 0 lines))))
+    else if stands_at 4 (line_at 0 lines) (codes "out") then Log (LogOutOfRange (number_in (word 3 (line_at 0 lines))))
+    else Refused (number_in (word 3 (line_at 0 lines))) (failure_in net (line_at 0 lines)) (map phrase_in (drop 1 lines))
+
 -- a key of the file
 abbrev pub key_in : List ℕ → Key
 key_in word =
@@ -196,15 +245,22 @@ answer_of net lines =
     else if stands_at 0 (line_at 0 lines) (codes "dates") then Listed (table_in net lines)
     else if stands_at 0 (line_at 0 lines) (codes "form") then Form (form_in net lines)
     else if stands_at 0 (line_at 0 lines) (codes "no") then NoCircuit
-    else if stands_at 0 (line_at 0 lines) (codes "cycle") then Cycle (cycle_in net lines) (rounds_in net lines)
+    else if stands_at 0 (line_at 0 lines) (codes "cycle") then timed_in net lines
+    else if stands_at 0 (line_at 0 lines) (codes "date") then Date (transition_in net (word 1 (line_at 0 lines))) (number_in (word 2 (line_at 0 lines))) (date_in (word 3 (line_at 0 lines)))
+    else if stands_at 0 (line_at 0 lines) (codes "replayed") then Replayed (number_in (word 1 (line_at 0 lines))) (map phrase_in (drop 1 lines))
+    else if stands_at 0 (line_at 0 lines) (codes "trial") then trial_in lines
+    else if stands_at 0 (line_at 0 lines) (codes "too") then TooLong (number_in (word 6 (line_at 0 lines)))
     else if stands_at 0 (line_at 0 lines) (codes "series") then Calc (series_in (line_at 0 lines))
-    else if stands_at 0 (line_at 0 lines) (codes "fault:") then Fault NetFile
-    else if stands_at 1 (line_at 0 lines) (codes "the") then TooLarge NetFile
+    else if stands_at 0 (line_at 0 lines) (codes "fault:") then Fault (file_in (word 4 (line_at 0 lines)))
+    else if stands_at 1 (line_at 0 lines) (codes "the") then TooLarge (file_in (word 2 (line_at 0 lines)))
     else if stands_at 1 (line_at 0 lines) (codes "token-free") then TokenFree (map (place_in net) (drop 3 (line_at 0 lines)))
     else if stands_at 1 (line_at 0 lines) (codes "syntax") then Parse (Syntax (number_in (word 3 (line_at 0 lines))))
     else if stands_at 1 (line_at 0 lines) (codes "too") then Parse (TooDeep (number_in (word 4 (line_at 0 lines))))
-    else if stands_at 1 (line_at 0 lines) (codes "series") then Series (TooLong (number_in (word 3 (line_at 0 lines))))
+    else if stands_at 1 (line_at 0 lines) (codes "series") then Series (TooLongSeries (number_in (word 3 (line_at 0 lines))))
     else if stands_at 1 (line_at 0 lines) (codes "number") then Series (TooGreat (signed_in (word 2 (line_at 0 lines))))
+    else if stands_at 1 (line_at 0 lines) (codes "due") then Due (due_in (line_at 0 lines))
+    else if stands_at 1 (line_at 0 lines) (codes "log") then log_in net lines
+    else if stands_at 1 (line_at 0 lines) (codes "no") && stands_at 2 (line_at 0 lines) (codes "transition") then NoTransition (label_in (word 3 (line_at 0 lines)))
     else Read (refusal_in (line_at 0 lines))
 
 -- the answer that this text tells, by the names of the net

@@ -1,23 +1,30 @@
 -- What the values of an answer keep by their types, and where an answer is told in the one way that it has.
-use Rattle.std.specs.Prelude.{ℕ, ◌<◌, ◌≡◌, ◌^◌, List, length, Option, IfSome, All, IsTrue, ⊤}
+use Rattle.std.specs.Prelude.{ℕ, ◌<◌, ◌^◌, List, length, Option, IfSome, All, IsTrue, ⊤}
 use Rattle.std.specs.Int.RustNames.{unsigned_abs}
+use Rattle.dioid.specs.declared.dates.Date.{Date as DateOf}
+use Rattle.teg_critical.specs.declared.slacks.Slack.{Slack as PlaceSlack}
+use Rattle.teg_critical.specs.declared.slacks.Slack.TheVariants.{NoCircuit as NoCircuitThere, Critical, Rise}
 use Rattle.teg_dates.specs.Tables.{IsTable}
+use Rattle.teg_due.specs.declared.rows.DueRefusal.{DueRefusal}
+use Rattle.teg_due.specs.declared.rows.DueRefusal.TheVariants.{BadRow as BadDueRow, UnknownTransition as UnknownDue, NotDue, RepeatedDue, OutOfRange as DueOutOfRange, OutOfMemory as NoDueRoom}
+use Rattle.teg_due.specs.declared.rows.LogRefusal.{LogRefusal}
+use Rattle.teg_due.specs.declared.rows.LogRefusal.TheVariants.{BadRow as BadLogRow, UnknownTransition as UnknownFiring, OutOfRange as LogOutOfRange, OutOfMemory as NoLogRoom}
 use Rattle.teg_form.specs.declared.form.Entry.{Entry}
 use Rattle.teg_form.specs.declared.form.StarEntry.{StarEntry}
 use Rattle.series_form.specs.declared.forms.SeriesRefused.{SeriesRefused}
-use Rattle.series_form.specs.declared.forms.SeriesRefused.TheVariants.{TooLong, TooGreat, OutOfMemory as NoRoom}
+use Rattle.series_form.specs.declared.forms.SeriesRefused.TheVariants.{TooLong as TooLongSeries, TooGreat, OutOfMemory as NoRoom}
 use Rattle.series_laws.specs.Forms.{Form as SeriesForm}
 use Rattle.teg_calc.specs.declared.refusals.ParseRefused.{ParseRefused}
 use Rattle.teg_calc.specs.declared.refusals.ParseRefused.TheVariants.{Syntax, TooDeep, OutOfMemory as NoText}
 use Rattle.teg_net.specs.declared.rounds.Choice.{Choice}
 use Rattle.teg_net.specs.Names.{is_name}
 use Rattle.teg_net.specs.Nets.{NetLists, IsNet}
+use Rattle.teg_net.specs.Ratios.{Fraction}
 use Rattle.teg_reader.specs.Spots.{IsPlainSpot, HasPlainSpot}
 use Rattle.teg_reader.specs.declared.refusals.ReadRefusal.{ReadRefusal}
 use Rattle.teg_reader.specs.declared.refusals.ReadRefusal.TheVariants.{NotToml, UnknownKey, WrongKind, MissingKey, BadName, Repeated, OutOfRange, NoTransitions, UnknownTransition, NotEventGraph, InputHasUpstream, BadInput, OutOfMemory}
-use Rattle.teg_reader.specs.declared.refusals.Section.TheVariants.{Top}
 use Rattle.teg_reader.specs.declared.refusals.Spot.{Spot}
-use Rattle.teg_report.specs.Answers.{Answer, Usage, Live, Listed, Form, NoCircuit, Cycle, Calc, Read, TooLarge, TokenFree, Parse, Series, Fault}
+use Rattle.teg_report.specs.Answers.{Answer, Usage, Live, Listed, Form, NoCircuit, Cycle, Date, Slack, Replayed, Refused, Calc, Trial, Read, TooLarge, TokenFree, NoTransition, Due, Log, TooLong, Parse, Series, Fault}
 use Rattle.teg_report.specs.Reports.{IsAbout}
 use Rattle.teg_report.specs.Rounds.{RoundLists}
 use Rattle.teg_text.specs.Words.{AreBytes, IsDate}
@@ -88,9 +95,39 @@ IsParseKept NoText = ⊥
 
 -- what a refusal of an operation keeps; it is not its want of memory
 abbrev pub IsSeriesRefusalKept : SeriesRefused → Type 0
-IsSeriesRefusalKept (TooLong need) = need < 2 ^ 128
+IsSeriesRefusalKept (TooLongSeries need) = need < 2 ^ 128
 IsSeriesRefusalKept (TooGreat value) = unsigned_abs value < 2 ^ 128
 IsSeriesRefusalKept NoRoom = ⊥
+
+-- the numbers of a ratio
+abbrev pub IsRatioKept : Fraction → Type 0
+IsRatioKept ratio = IsWord64 ratio.time × IsWord64 ratio.tokens
+
+-- the number of a slack
+abbrev pub IsSlackKept : PlaceSlack → Type 0
+IsSlackKept NoCircuitThere = ⊤
+IsSlackKept Critical = ⊤
+IsSlackKept (Rise by) = IsWord64 by
+
+-- what a refusal of a due file keeps; it is not want of memory
+abbrev pub IsDueKept : DueRefusal → Type 0
+IsDueKept (BadDueRow row) = IsWord32 row
+IsDueKept (UnknownDue row) = IsWord32 row
+IsDueKept (NotDue row) = IsWord32 row
+IsDueKept (RepeatedDue row) = IsWord32 row
+IsDueKept (DueOutOfRange row) = IsWord32 row
+IsDueKept NoDueRoom = ⊥
+
+-- what a refusal of a log keeps; it is not want of memory
+abbrev pub IsLogKept : LogRefusal → Type 0
+IsLogKept (BadLogRow row) = IsWord32 row
+IsLogKept (UnknownFiring row) = IsWord32 row
+IsLogKept (LogOutOfRange row) = IsWord32 row
+IsLogKept NoLogRoom = ⊥
+
+-- the numbers of a summary
+abbrev pub IsTrialKept : ℕ → ℕ → Fraction → ℕ → DateOf → Type 0
+IsTrialKept machines places ratio critical last = IsWord32 machines × IsWord32 places × IsRatioKept ratio × IsWord32 critical × IsDate last
 
 -- what the values of an answer keep
 abbrev pub IsKept : Answer → Type 0
@@ -100,10 +137,19 @@ IsKept (Listed table) = IsTable table × All IsDate table.dates
 IsKept (Form form) = All IsStarKept form.stars × All IsEntryKept form.entries
 IsKept NoCircuit = ⊤
 IsKept (Cycle answer rounds) = IfSome rounds (λ runs. All IsRunKept runs)
+IsKept (Date transition number date) = IsWord64 number × IsDate date
+IsKept (Slack ratio slacks) = IsRatioKept ratio × All IsSlackKept slacks
+IsKept (Replayed accepted lines) = IsWord64 accepted
+IsKept (Refused row failure lines) = IsWord32 row
 IsKept (Calc series) = IsSeriesKept series
+IsKept (Trial machines places ratio critical last) = IsTrialKept machines places ratio critical last
 IsKept (Read refusal) = IsRefusal refusal
 IsKept (TooLarge file) = ⊤
 IsKept (TokenFree circuit) = ⊤
+IsKept (NoTransition word) = AreBytes word
+IsKept (Due refusal) = IsDueKept refusal
+IsKept (Log refusal) = IsLogKept refusal
+IsKept (TooLong limit) = IsWord32 limit
 IsKept (Parse refusal) = IsParseKept refusal
 IsKept (Series refusal) = IsSeriesRefusalKept refusal
 IsKept (Fault file) = ⊤

@@ -1,12 +1,14 @@
 -- The lines of the short answers.
 use Rattle.std.specs.Prelude.{ℕ, List, [], ◌∷◌, ◌++◌, map, codes}
 use Rattle.std.specs.Fmt.{decimal}
+use Rattle.dioid.specs.declared.dates.Date.{Date}
 use Rattle.teg_net.specs.declared.entries.PlaceId.{PlaceId}
 use Rattle.teg_net.specs.Nets.{NetLists}
 use Rattle.teg_net.specs.Circuits.{place_at}
 use Rattle.teg_report.specs.declared.answer.Which.{Which}
-use Rattle.teg_report.specs.declared.answer.Which.TheVariants.{Net as NetFile}
+use Rattle.teg_report.specs.declared.answer.Which.TheVariants.{Net as NetFile, Due as DueFile, Log as LogFile}
 use Rattle.teg_text.specs.Lines.{phrase}
+use Rattle.teg_text.specs.Words.{date_word, label_word}
 
 -- the commands that are built, each with what follows it
 abbrev pub command_forms : List (List ℕ)
@@ -40,6 +42,8 @@ no_circuit_line = phrase (codes "no circuit")
 -- how texts speak of a file
 abbrev pub file_words : Which → List (List ℕ)
 file_words NetFile = phrase (codes "the net")
+file_words DueFile = phrase (codes "the due file")
+file_words LogFile = phrase (codes "the log")
 
 -- that a file is longer than its limit
 abbrev pub too_large_line : Which → List (List ℕ)
@@ -56,3 +60,15 @@ name_of_place net id = (place_at net id).name
 -- a circuit without tokens, as the names of its places in order
 abbrev pub token_free_line : NetLists → List PlaceId → List (List ℕ)
 token_free_line net circuit = phrase (codes "refused: token-free circuit") ++ map (name_of_place net) circuit
+
+-- that no transition has a name
+abbrev pub no_transition_line : List ℕ → List (List ℕ)
+no_transition_line name = phrase (codes "refused: no transition") ++ label_word name ∷ []
+
+-- that no settled form is as short as the limit
+abbrev pub too_long_line : ℕ → List (List ℕ)
+too_long_line limit = phrase (codes "too long: no settled form within") ++ decimal limit ∷ []
+
+-- the date of a firing of a transition of this name
+abbrev pub date_line : List ℕ → ℕ → Date → List (List ℕ)
+date_line name number date = codes "date" ∷ name ∷ decimal number ∷ date_word date ∷ []

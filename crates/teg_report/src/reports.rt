@@ -8,7 +8,7 @@ ghost use Rattle.teg_report.specs.Meanings.{meant};
 ghost use Rattle.teg_report.specs.Reports.{IsAbout, text_of};
 
 use crate::answer::Answer;
-use crate::{cycles, forms, lists, refusals, series, texts};
+use crate::{cycles, file_rows, forms, lists, refusals, series, slacks, texts};
 use std::alloc::Global;
 use teg_net::{Net, OutOfMemory};
 
@@ -31,10 +31,42 @@ fn text(alloc: Global, net: Option<&Net>, answer: &Answer<'_>) -> Result<Vec<u8>
         (Answer::Form { form }, Some(net)) => forms::form(alloc, net, form),
         (Answer::NoCircuit, _) => texts::no_circuit(alloc),
         (Answer::Cycle { answer, rounds }, Some(net)) => cycles::cycle(alloc, net, answer, *rounds),
+        (
+            Answer::Date {
+                transition,
+                number,
+                date,
+            },
+            Some(net),
+        ) => texts::date(alloc, net, *transition, *number, *date),
+        (Answer::Slack { ratio, slacks }, Some(net)) => slacks::slack(alloc, net, *ratio, slacks),
+        (Answer::Replayed { accepted, lines }, _) => file_rows::replayed(alloc, *accepted, lines),
+        (
+            Answer::Refused {
+                row,
+                failure,
+                lines,
+            },
+            net,
+        ) => file_rows::refused(alloc, net, *row, *failure, lines),
         (Answer::Calc { series }, _) => series::calc(alloc, series),
+        (
+            Answer::Trial {
+                machines,
+                places,
+                ratio,
+                critical,
+                last,
+            },
+            _,
+        ) => slacks::trial(alloc, *machines, *places, *ratio, *critical, *last),
         (Answer::Read { refusal }, _) => refusals::read(alloc, refusal),
         (Answer::TooLarge { file }, _) => texts::too_large(alloc, *file),
         (Answer::TokenFree { circuit }, Some(net)) => texts::token_free(alloc, net, circuit),
+        (Answer::NoTransition { word }, _) => texts::no_transition(alloc, word),
+        (Answer::Due { refusal }, _) => file_rows::due(alloc, refusal),
+        (Answer::Log { refusal }, _) => file_rows::log(alloc, refusal),
+        (Answer::TooLong { limit }, _) => texts::too_long(alloc, *limit),
         (Answer::Parse { refusal }, _) => series::parse(alloc, refusal),
         (Answer::Series { refusal }, _) => series::refused(alloc, refusal),
         (Answer::Fault { file }, _) => texts::fault(alloc, *file),
@@ -42,6 +74,8 @@ fn text(alloc: Global, net: Option<&Net>, answer: &Answer<'_>) -> Result<Vec<u8>
             Answer::List { .. }
             | Answer::Form { .. }
             | Answer::Cycle { .. }
+            | Answer::Date { .. }
+            | Answer::Slack { .. }
             | Answer::TokenFree { .. },
             None,
         ) => unreachable!(),
@@ -60,10 +94,12 @@ fn know_rules(net: Option<&Net>)
 /// The bytes of an answer, one line feed after each line.
 ///
 /// The net is given wherever the text has a name that the answer does not hold itself: for `List`,
-/// `Form`, `Cycle` and `TokenFree`. What the answer names is in the net: a table has a date for each
-/// of its transitions, and the ends of entries, the places of a circuit, and the transitions and
-/// places of a round are among its own. Rounds are a list for each part with a circuit, and none of
-/// these lists is empty. A refusal is not want of memory.
+/// `Form`, `Cycle`, `Date`, `Slack` and `TokenFree`, and for `Refused` where a place is named. What
+/// the answer names is in the net: a table has a date for each of its transitions, slacks are one
+/// for each of its places, and transitions, the ends of entries, the places of a circuit, and the
+/// transitions and places of a round are among its own. Rounds are a list for each part with a
+/// circuit, and none of these lists is empty. A line of a monitor has no line feed. A refusal is not
+/// want of memory.
 ///
 /// `OutOfMemory` comes only where no memory is found. It takes time of the order of the text.
 pub fn report(alloc: Global, net: Option<&Net>, answer: &Answer<'_>) -> Result<Vec<u8>, OutOfMemory>

@@ -1,4 +1,4 @@
-use Rattle.std.proofs.Common.{rules, ◌≡◌, [], ◌++◌, List, ℕ, Option, Some, None, refl, append-nil, map, ap, sym, ◌∙◌, string_bytes}
+use Rattle.std.proofs.Common.{rules, ◌≡◌, ◌++◌, List, ℕ, Option, Some, None, refl, append-nil, map, ap, sym, ◌∙◌, string_bytes}
 use Rattle.std.specs.Option.{option_copied, option_map}
 use Rattle.teg_net.specs.declared.answers.PartAnswer.{PartAnswer}
 use Rattle.teg_report.specs.Cycles.{cycle_lines}

@@ -1,4 +1,4 @@
-use Rattle.std.proofs.Common.{◌≡◌, true, false, ◌==◌, [], ◌∷◌, ◌++◌, List, ℕ, take, eq-eqb, ne_eqb, ap, sym, ◌∙◌, string_bytes, arith}
+use Rattle.std.proofs.Common.{[], ◌++◌, List, ℕ, take, eq-eqb, ne_eqb, ap, sym, ◌∙◌, string_bytes, arith}
 use Rattle.std.proofs.lemmas.List.{flat_map_more, take_all}
 use Rattle.std.specs.List.{flat_map}
 use Rattle.teg_net.specs.declared.entries.TransitionId.{TransitionId}

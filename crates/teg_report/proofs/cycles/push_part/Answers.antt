@@ -1,4 +1,4 @@
-use Rattle.std.proofs.Common.{◌≡◌, [], ◌∷◌, ◌++◌, List, ℕ, map, ap, ◌∙◌, string_bytes}
+use Rattle.std.proofs.Common.{[], ◌∷◌, ◌++◌, List, ℕ, map, ap, ◌∙◌, string_bytes}
 use Rattle.teg_net.specs.declared.answers.Potential.{Potential}
 use Rattle.teg_report.specs.Cycles.{circuit_line, potential_line, ratio_line}
 use Rattle.teg_text.specs.Lines.{line_then, written}

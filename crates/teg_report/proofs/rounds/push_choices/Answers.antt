@@ -1,4 +1,4 @@
-use Rattle.std.proofs.Common.{◌≡◌, pos, [], ◌++◌, List, ℕ, refl, string_bytes, arith}
+use Rattle.std.proofs.Common.{pos, [], refl, string_bytes, arith}
 use Rattle.std.proofs.lemmas.List.{take_all}
 use Rattle.teg_net.specs.declared.rounds.Choice.{Choice}
 use Rattle.teg_report.specs.Kept.{IsChoiceKept}

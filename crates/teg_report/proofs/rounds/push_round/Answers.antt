@@ -1,4 +1,4 @@
-use Rattle.std.proofs.Common.{◌≡◌, [], ◌∷◌, ◌++◌, List, ℕ, map, ap, ◌∙◌, string_bytes}
+use Rattle.std.proofs.Common.{[], ◌∷◌, ◌++◌, List, ℕ, map, ap, ◌∙◌, string_bytes}
 use Rattle.teg_net.specs.declared.rounds.Choice.{Choice}
 use Rattle.teg_report.specs.Cycles.{circuit_line}
 use Rattle.teg_report.specs.Rounds.{choice_line, turn_line}

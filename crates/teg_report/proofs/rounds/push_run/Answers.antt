@@ -1,10 +1,10 @@
 use Rattle.std.proofs.Common.{rules, ◌≡◌, ◌<◌, ◌^◌, ◌++◌, List, ℕ, length, map, slice_index_or, ap, sym, subst, ◌∙◌, string_bytes, arith}
 use Rattle.std.proofs.lemmas.List.{get_or-map, length-map, take_all}
 use Rattle.std.proofs.lemmas.List.Elements.{All-more}
-use Rattle.std.specs.List.{flat_map, range_with_len}
+use Rattle.std.specs.List.{range_with_len}
 use Rattle.teg_report.specs.Kept.{IsRoundKept}
 use Rattle.teg_report.specs.Meanings.{round_lists}
-use Rattle.teg_report.specs.Rounds.{RoundLists, IsRoundIn, no_round, round_lines, run_lines}
+use Rattle.teg_report.specs.Rounds.{RoundLists, IsRoundIn, no_round, round_lines}
 use Rattle.teg_text.specs.Lines.{written}
 use Rattle.teg_text.proofs.Joining.{written_flat_map}
 use Rattle.teg_text.proofs.Listing.{more_after}

@@ -1,4 +1,4 @@
-use Rattle.std.proofs.Common.{rules, ◌≡◌, ◌<◌, ◌+◌, ◌*◌, ◌^◌, [], ◌∷◌, ◌++◌, List, ℕ, All, length, map, take, get_or, append-nil, ap, sym, subst, ◌∙◌, string_bytes, arith}
+use Rattle.std.proofs.Common.{rules, ◌≡◌, ◌<◌, ◌+◌, ◌*◌, ◌^◌, [], ◌∷◌, ◌++◌, List, ℕ, All, length, map, take, get_or, ap, sym, subst, ◌∙◌, string_bytes, arith}
 use Rattle.std.proofs.lemmas.List.{flat_map_more, get_or-map, length-map, take_all}
 use Rattle.std.proofs.lemmas.List.Elements.{All-more}
 use Rattle.std.specs.Global.{Vec}

@@ -1,0 +1,2 @@
+pub mod LatestDates
+pub mod LatestInputs

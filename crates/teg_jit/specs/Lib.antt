@@ -1,0 +1,4 @@
+pub mod DueDates
+pub mod Plans
+pub mod Refusals
+pub mod Laws
