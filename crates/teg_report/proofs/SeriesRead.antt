@@ -27,11 +27,11 @@ use Rattle.teg_text.proofs.Rows.{map_back, map_passes}
 use Rattle.teg_text.proofs.Words.{all_append, decimal_is_word, date_is_word, signed_is_word}
 
 -- the words before and those behind
-before_back : (words more : List (List ℕ)) → take (length words) (words ++ more) ≡ words
+pub before_back : (words more : List (List ℕ)) → take (length words) (words ++ more) ≡ words
 before_back [] more = refl
 before_back (w ∷ words) more = ap (λ (l : List (List ℕ)). w ∷ l) (before_back words more)
 
-behind_back : (words more : List (List ℕ)) (i : ℕ) → get_or (words ++ more) (length words + i) [] ≡ get_or more i []
+pub behind_back : (words more : List (List ℕ)) (i : ℕ) → get_or (words ++ more) (length words + i) [] ≡ get_or more i []
 behind_back [] more i = let same : 0 + i ≡ i = omega arith in ap (λ (j : ℕ). get_or more j []) same
 behind_back (w ∷ words) more i = let same : suc (length words) + i ≡ suc (length words + i) = omega arith in ap (λ (j : ℕ). get_or (w ∷ (words ++ more)) j []) same ∙ behind_back words more i
 

@@ -1,5 +1,5 @@
 -- How an answer is read back from its text. No text rests on these definitions: all that they say is that there is such a function.
-use Rattle.std.specs.Prelude.{ℕ, Bool, ◌*◌, ◌≡◌, not, ◌&&◌, ◌||◌, ◌==◌, false, List, [], ◌∷◌, map, drop, take, ◌-◌, length, codes, bytes_eq, Option, Some, None, if◌then◌else◌, ⊤}
+use Rattle.std.specs.Prelude.{ℕ, ℤ, Bool, ◌*◌, ◌≡◌, not, ◌&&◌, ◌||◌, ◌==◌, false, List, [], ◌∷◌, map, drop, take, ◌-◌, length, codes, bytes_eq, Option, Some, None, if◌then◌else◌, ⊤}
 use Rattle.std.specs.List.{range_with_len}
 use Rattle.teg_dates.specs.Tables.{TableDates}
 use Rattle.teg_form.specs.declared.form.Entry.{Entry}
@@ -18,6 +18,8 @@ use Rattle.teg_reader.specs.declared.refusals.ReadRefusal.TheVariants.{NotToml, 
 use Rattle.teg_reader.specs.declared.refusals.Section.{Section}
 use Rattle.teg_reader.specs.declared.refusals.Section.TheVariants.{Top, Transition, Place, Input}
 use Rattle.teg_reader.specs.declared.refusals.Spot.{Spot}
+use Rattle.dioid.specs.declared.dates.Date.{Date as DateOf}
+use Rattle.settled_laws.specs.Forms.{SettledForm}
 use Rattle.series_form.specs.declared.forms.SeriesRefused.TheVariants.{TooLong as TooLongSeries, TooGreat}
 use Rattle.series_laws.specs.Forms.{Form as SeriesForm}
 use Rattle.teg_calc.specs.declared.refusals.ParseRefused.TheVariants.{Syntax, TooDeep}
@@ -30,9 +32,10 @@ use Rattle.teg_report.specs.declared.answer.Failure.{Failure}
 use Rattle.teg_report.specs.declared.answer.Failure.TheVariants.{Illegal, BackInTime, BeforeRelease}
 use Rattle.teg_report.specs.declared.answer.Which.{Which}
 use Rattle.teg_report.specs.declared.answer.Which.TheVariants.{Net as NetFile, Due as DueFile, Log as LogFile}
-use Rattle.teg_report.specs.Answers.{Answer, Usage, Live, Listed, Form, NoCircuit, Cycle, Date, Slack, Replayed, Refused, Calc, Trial, Read, TooLarge, TokenFree, NoTransition, Due, Log, TooLong, Parse, Series, Fault}
+use Rattle.teg_report.specs.Answers.{Answer, Usage, Live, Listed, Form, NoCircuit, Cycle, Dates, Date, Slack, Transfer, Replayed, Refused, Calc, Trial, Read, TooLarge, TokenFree, NoTransition, Due, Log, TooLong, Parse, Series, Fault}
 use Rattle.teg_report.specs.Cycles.{PartLists, NoCircuitIn, BestOf, CycleLists, has_ratio}
 use Rattle.teg_report.specs.Rounds.{RoundLists}
+use Rattle.teg_report.specs.SettledTexts.{TimesFrom, TimesTo}
 use Rattle.teg_text.specs.Reading.{lines_in, line_at, word, stands_at, number_in, is_numeral, signed_in, before_slash, behind_slash, date_in, label_in, index_in, phrase_in}
 use Rattle.teg_text.specs.Rows.{those, first_where, blocks_in, cell_in}
 
@@ -163,6 +166,44 @@ timed_in net lines =
     if stands_at 0 (line_at 1 lines) (codes "circuit") then Cycle (cycle_in net lines) (rounds_in net lines)
     else Slack (ratio_in (word 2 (line_at 0 lines))) (map slack_in (drop 1 lines))
 
+-- the dates of a row: behind two words, and before two
+abbrev pub row_dates_in : List (List ℕ) → List DateOf
+row_dates_in line = map date_in (take (length line - 4) (drop 2 line))
+
+-- the step of a row: its last word
+abbrev pub row_step_in : List (List ℕ) → ℤ
+row_step_in line = signed_in (word (length line - 1) line)
+
+-- a settled form
+abbrev pub settled_in : List (List (List ℕ)) → SettledForm
+settled_in lines = record {
+  after = number_in (word 2 (line_at 0 lines));
+  period = number_in (word 4 (line_at 0 lines));
+  rows = map row_dates_in (drop 1 lines);
+  steps = map row_step_in (drop 1 lines);
+}
+
+-- the first line of an input
+abbrev pub is_from : List (List ℕ) → Bool
+is_from line = stands_at 0 line (codes "from")
+
+-- the times to an output
+abbrev pub times_to_in : NetLists → List (List ℕ) → TimesTo
+times_to_in net line = record { to = transition_in net (word 1 line); dates = row_dates_in line; step = row_step_in line }
+
+-- the times from an input, from its block of lines
+abbrev pub times_from_in : NetLists → List (List (List ℕ)) → TimesFrom
+times_from_in net block = record {
+  from = transition_in net (word 1 (line_at 0 block));
+  after = number_in (word 4 (line_at 0 block));
+  period = number_in (word 6 (line_at 0 block));
+  lines = map (times_to_in net) (drop 1 block);
+}
+
+-- the times from each input
+abbrev pub transfer_in : NetLists → List (List (List ℕ)) → List TimesFrom
+transfer_in net lines = map (times_from_in net) (blocks_in is_from (drop 1 lines)).blocks
+
 -- the summary of a net that was made
 abbrev pub trial_in : List (List (List ℕ)) → Answer
 trial_in lines =
@@ -246,6 +287,8 @@ answer_of net lines =
     else if stands_at 0 (line_at 0 lines) (codes "form") then Form (form_in net lines)
     else if stands_at 0 (line_at 0 lines) (codes "no") then NoCircuit
     else if stands_at 0 (line_at 0 lines) (codes "cycle") then timed_in net lines
+    else if stands_at 0 (line_at 0 lines) (codes "settled") then Dates (settled_in lines)
+    else if stands_at 0 (line_at 0 lines) (codes "transfer") then Transfer (transfer_in net lines)
     else if stands_at 0 (line_at 0 lines) (codes "date") then Date (transition_in net (word 1 (line_at 0 lines))) (number_in (word 2 (line_at 0 lines))) (date_in (word 3 (line_at 0 lines)))
     else if stands_at 0 (line_at 0 lines) (codes "replayed") then Replayed (number_in (word 1 (line_at 0 lines))) (map phrase_in (drop 1 lines))
     else if stands_at 0 (line_at 0 lines) (codes "trial") then trial_in lines

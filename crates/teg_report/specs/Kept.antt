@@ -1,5 +1,5 @@
 -- What the values of an answer keep by their types, and where an answer is told in the one way that it has.
-use Rattle.std.specs.Prelude.{ℕ, ◌<◌, ◌^◌, List, length, Option, IfSome, All, IsTrue, ⊤}
+use Rattle.std.specs.Prelude.{ℕ, ◌<◌, ◌≡◌, ◌^◌, List, length, Option, IfSome, All, IsTrue, ⊤}
 use Rattle.std.specs.Int.RustNames.{unsigned_abs}
 use Rattle.dioid.specs.declared.dates.Date.{Date as DateOf}
 use Rattle.teg_critical.specs.declared.slacks.Slack.{Slack as PlaceSlack}
@@ -24,9 +24,11 @@ use Rattle.teg_reader.specs.Spots.{IsPlainSpot, HasPlainSpot}
 use Rattle.teg_reader.specs.declared.refusals.ReadRefusal.{ReadRefusal}
 use Rattle.teg_reader.specs.declared.refusals.ReadRefusal.TheVariants.{NotToml, UnknownKey, WrongKind, MissingKey, BadName, Repeated, OutOfRange, NoTransitions, UnknownTransition, NotEventGraph, InputHasUpstream, BadInput, OutOfMemory}
 use Rattle.teg_reader.specs.declared.refusals.Spot.{Spot}
-use Rattle.teg_report.specs.Answers.{Answer, Usage, Live, Listed, Form, NoCircuit, Cycle, Date, Slack, Replayed, Refused, Calc, Trial, Read, TooLarge, TokenFree, NoTransition, Due, Log, TooLong, Parse, Series, Fault}
+use Rattle.teg_report.specs.Answers.{Answer, Usage, Live, Listed, Form, NoCircuit, Cycle, Dates, Date, Slack, Transfer, Replayed, Refused, Calc, Trial, Read, TooLarge, TokenFree, NoTransition, Due, Log, TooLong, Parse, Series, Fault}
 use Rattle.teg_report.specs.Reports.{IsAbout}
+use Rattle.settled_laws.specs.Forms.{SettledForm}
 use Rattle.teg_report.specs.Rounds.{RoundLists}
+use Rattle.teg_report.specs.SettledTexts.{TimesFrom, TimesTo}
 use Rattle.teg_text.specs.Words.{AreBytes, IsDate}
 
 -- a number of 32 bits
@@ -125,6 +127,25 @@ IsLogKept (UnknownFiring row) = IsWord32 row
 IsLogKept (LogOutOfRange row) = IsWord32 row
 IsLogKept NoLogRoom = ⊥
 
+-- the numbers of a settled form, and a step for each row
+pub record IsSettledKept (f : SettledForm) : Type 0 where
+  pub after : IsWord64 f.after
+  pub period : IsWord64 f.period
+  pub full : length f.steps ≡ length f.rows
+  pub dates : All (All IsDate) f.rows
+  pub steps : All (λ step. unsigned_abs step < 2 ^ 128) f.steps
+
+-- the numbers of times to an output
+pub record AreTimesToKept (times : TimesTo) : Type 0 where
+  pub dates : All IsDate times.dates
+  pub step : unsigned_abs times.step < 2 ^ 128
+
+-- the numbers of times from an input
+pub record AreTimesKept (times : TimesFrom) : Type 0 where
+  pub after : IsWord64 times.after
+  pub period : IsWord64 times.period
+  pub lines : All AreTimesToKept times.lines
+
 -- the numbers of a summary
 abbrev pub IsTrialKept : ℕ → ℕ → Fraction → ℕ → DateOf → Type 0
 IsTrialKept machines places ratio critical last = IsWord32 machines × IsWord32 places × IsRatioKept ratio × IsWord32 critical × IsDate last
@@ -137,8 +158,10 @@ IsKept (Listed table) = IsTable table × All IsDate table.dates
 IsKept (Form form) = All IsStarKept form.stars × All IsEntryKept form.entries
 IsKept NoCircuit = ⊤
 IsKept (Cycle answer rounds) = IfSome rounds (λ runs. All IsRunKept runs)
+IsKept (Dates settled) = IsSettledKept settled
 IsKept (Date transition number date) = IsWord64 number × IsDate date
 IsKept (Slack ratio slacks) = IsRatioKept ratio × All IsSlackKept slacks
+IsKept (Transfer inputs) = All AreTimesKept inputs
 IsKept (Replayed accepted lines) = IsWord64 accepted
 IsKept (Refused row failure lines) = IsWord32 row
 IsKept (Calc series) = IsSeriesKept series

@@ -10,11 +10,12 @@ use Rattle.teg_due.specs.declared.rows.DueRefusal.TheVariants.{OutOfMemory as No
 use Rattle.teg_due.specs.declared.rows.LogRefusal.TheVariants.{OutOfMemory as NoLogRoom}
 use Rattle.teg_reader.specs.declared.refusals.ReadRefusal.TheVariants.{OutOfMemory}
 use Rattle.teg_report.specs.Series.{parse_line, series_refused_line}
-use Rattle.teg_report.specs.Answers.{Answer, Usage, Live, Listed, Form, NoCircuit, Cycle, Date, Slack, Replayed, Refused, Calc, Trial, Read, TooLarge, TokenFree, NoTransition, Due, Log, TooLong, Parse, Series, Fault}
+use Rattle.teg_report.specs.Answers.{Answer, Usage, Live, Listed, Form, NoCircuit, Cycle, Dates, Date, Slack, Transfer, Replayed, Refused, Calc, Trial, Read, TooLarge, TokenFree, NoTransition, Due, Log, TooLong, Parse, Series, Fault}
 use Rattle.teg_report.specs.Cycles.{IsCycleTold, cycle_lines}
 use Rattle.teg_report.specs.Rounds.{AreRoundsTold, runs_lines, told_runs}
 use Rattle.teg_report.specs.FileRows.{IsFailureIn, IsOneLine, due_line, log_line, refused_lines, replayed_lines}
 use Rattle.teg_report.specs.Forms.{IsFormWithin, form_lines, name_of_transition}
+use Rattle.teg_report.specs.SettledTexts.{AreTimesIn, settled_lines, transfer_lines}
 use Rattle.teg_report.specs.Slacks.{slack_lines, trial_lines}
 use Rattle.teg_text.specs.Lines.{written}
 use Rattle.teg_report.specs.Lists.{list_lines}
@@ -34,8 +35,10 @@ lines_of net (Listed table) = list_lines net (date_at table) table.count
 lines_of net (Form form) = form_lines net form
 lines_of net NoCircuit = no_circuit_line ∷ []
 lines_of net (Cycle answer rounds) = cycle_lines net answer ++ runs_lines net (told_runs answer.parts rounds)
+lines_of net (Dates settled) = settled_lines net settled
 lines_of net (Date transition number date) = date_line (name_of_transition net transition) number date ∷ []
 lines_of net (Slack ratio slacks) = slack_lines net ratio slacks
+lines_of net (Transfer inputs) = transfer_lines net inputs
 lines_of net (Replayed accepted lines) = replayed_lines accepted lines
 lines_of net (Refused row failure lines) = refused_lines net row failure lines
 lines_of net (Calc series) = series_line series ∷ []
@@ -63,8 +66,10 @@ IsAbout net (Listed table) = IsSomeAnd net (λ n. table.width ≡ length n.trans
 IsAbout net (Form form) = IsSomeAnd net (λ n. IsFormWithin n form)
 IsAbout net NoCircuit = ⊤
 IsAbout net (Cycle answer rounds) = IsSomeAnd net (λ n. IsCycleTold n answer × AreRoundsTold n answer.parts rounds)
+IsAbout net (Dates settled) = IsSomeAnd net (λ n. length settled.rows ≡ length n.transitions)
 IsAbout net (Date transition number date) = IsSomeAnd net (λ n. transition.index < length n.transitions)
 IsAbout net (Slack ratio slacks) = IsSomeAnd net (λ n. length slacks ≡ length n.places)
+IsAbout net (Transfer inputs) = IsSomeAnd net (λ n. All (AreTimesIn n) inputs)
 IsAbout net (Replayed accepted lines) = All IsOneLine lines
 IsAbout net (Refused row failure lines) = IsFailureIn net failure × All IsOneLine lines
 IsAbout net (Calc series) = ⊤

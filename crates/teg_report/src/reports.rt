@@ -8,7 +8,7 @@ ghost use Rattle.teg_report.specs.Meanings.{meant};
 ghost use Rattle.teg_report.specs.Reports.{IsAbout, text_of};
 
 use crate::answer::Answer;
-use crate::{cycles, file_rows, forms, lists, refusals, series, slacks, texts};
+use crate::{cycles, file_rows, forms, lists, refusals, series, settled, slacks, texts};
 use std::alloc::Global;
 use teg_net::{Net, OutOfMemory};
 
@@ -31,6 +31,7 @@ fn text(alloc: Global, net: Option<&Net>, answer: &Answer<'_>) -> Result<Vec<u8>
         (Answer::Form { form }, Some(net)) => forms::form(alloc, net, form),
         (Answer::NoCircuit, _) => texts::no_circuit(alloc),
         (Answer::Cycle { answer, rounds }, Some(net)) => cycles::cycle(alloc, net, answer, *rounds),
+        (Answer::Dates { settled }, Some(net)) => settled::dates(alloc, net, settled),
         (
             Answer::Date {
                 transition,
@@ -40,6 +41,7 @@ fn text(alloc: Global, net: Option<&Net>, answer: &Answer<'_>) -> Result<Vec<u8>
             Some(net),
         ) => texts::date(alloc, net, *transition, *number, *date),
         (Answer::Slack { ratio, slacks }, Some(net)) => slacks::slack(alloc, net, *ratio, slacks),
+        (Answer::Transfer { inputs }, Some(net)) => settled::transfer(alloc, net, inputs),
         (Answer::Replayed { accepted, lines }, _) => file_rows::replayed(alloc, *accepted, lines),
         (
             Answer::Refused {
@@ -74,8 +76,10 @@ fn text(alloc: Global, net: Option<&Net>, answer: &Answer<'_>) -> Result<Vec<u8>
             Answer::List { .. }
             | Answer::Form { .. }
             | Answer::Cycle { .. }
+            | Answer::Dates { .. }
             | Answer::Date { .. }
             | Answer::Slack { .. }
+            | Answer::Transfer { .. }
             | Answer::TokenFree { .. },
             None,
         ) => unreachable!(),
@@ -94,9 +98,10 @@ fn know_rules(net: Option<&Net>)
 /// The bytes of an answer, one line feed after each line.
 ///
 /// The net is given wherever the text has a name that the answer does not hold itself: for `List`,
-/// `Form`, `Cycle`, `Date`, `Slack` and `TokenFree`, and for `Refused` where a place is named. What
-/// the answer names is in the net: a table has a date for each of its transitions, slacks are one
-/// for each of its places, and transitions, the ends of entries, the places of a circuit, and the
+/// `Form`, `Cycle`, `Dates`, `Date`, `Slack`, `Transfer` (whose outputs are also counted by it) and
+/// `TokenFree`, and for `Refused` where a place is named. What the answer names is in the net: a
+/// table and a settled form have dates for each of its transitions, slacks are one for each of its
+/// places, and transitions, the ends of entries, the places of a circuit, and the
 /// transitions and places of a round are among its own. Rounds are a list for each part with a
 /// circuit, and none of these lists is empty. A line of a monitor has no line feed. A refusal is not
 /// want of memory.
