@@ -40,11 +40,8 @@ fn text(alloc: Global, net: Option<&Net>, answer: &Answer<'_>) -> Result<Vec<u8>
             },
             Some(net),
         ) => texts::date(alloc, net, *transition, *number, *date),
-<<<<<<< HEAD
         (Answer::Jit { plan }, Some(net)) => plans::jit(alloc, net, plan),
         (Answer::Late { refusal }, Some(net)) => plans::late(alloc, net, refusal),
-=======
->>>>>>> f56c593
         (Answer::Slack { ratio, slacks }, Some(net)) => slacks::slack(alloc, net, **ratio, slacks),
         (Answer::Transfer { inputs }, Some(net)) => settled::transfer(alloc, net, inputs),
         (Answer::Replayed { accepted, lines }, _) => file_rows::replayed(alloc, *accepted, lines),
