@@ -40,7 +40,7 @@ fn text(alloc: Global, net: Option<&Net>, answer: &Answer<'_>) -> Result<Vec<u8>
             },
             Some(net),
         ) => texts::date(alloc, net, *transition, *number, *date),
-        (Answer::Slack { ratio, slacks }, Some(net)) => slacks::slack(alloc, net, *ratio, slacks),
+        (Answer::Slack { ratio, slacks }, Some(net)) => slacks::slack(alloc, net, **ratio, slacks),
         (Answer::Transfer { inputs }, Some(net)) => settled::transfer(alloc, net, inputs),
         (Answer::Replayed { accepted, lines }, _) => file_rows::replayed(alloc, *accepted, lines),
         (
@@ -61,7 +61,7 @@ fn text(alloc: Global, net: Option<&Net>, answer: &Answer<'_>) -> Result<Vec<u8>
                 last,
             },
             _,
-        ) => slacks::trial(alloc, *machines, *places, *ratio, *critical, *last),
+        ) => slacks::trial(alloc, *machines, *places, **ratio, *critical, *last),
         (Answer::Read { refusal }, _) => refusals::read(alloc, refusal),
         (Answer::TooLarge { file }, _) => texts::too_large(alloc, *file),
         (Answer::TokenFree { circuit }, Some(net)) => texts::token_free(alloc, net, circuit),
