@@ -1,3 +1,4 @@
+pub mod BestRatios
 pub mod CycleTold
 pub mod Formed
 pub mod Listed

@@ -5,7 +5,9 @@ use Rattle.std.proofs.lemmas.List.FromFn.{length-range_with_len, get_or-range_wi
 use Rattle.teg_check.specs.Ranks.{IsRanking}
 use Rattle.teg_check.proofs.Liveness.{ranking_is_live}
 use Rattle.teg_net.specs.declared.entries.Place.{Place}
-use Rattle.teg_net.specs.Circuits.{IsLive}
+use Rattle.teg_net.specs.declared.entries.PlaceId.{PlaceId}
+use Rattle.teg_net.specs.Circuits.{IsCircuit, IsLive}
+use Rattle.teg_net.specs.GreatestRatios.{HasNoCircuit, IsAnyPlace}
 use Rattle.trial_net.specs.Trials.{trial}
 use Rattle.trial_net.proofs.TrialNets.{each_place, width}
 
@@ -24,3 +26,19 @@ trial_is_ranked machines = record {
 
 pub trial_is_live : (machines : ℕ) → IsLive (trial machines)
 trial_is_live machines = ranking_is_live (trial machines) (numbers machines) (trial_is_ranked machines)
+
+-- ---- the circuit of the first machine's own place
+
+abbrev first_place : List PlaceId
+first_place = record { index = 0 } ∷ []
+
+own_circuit : (machines : ℕ) → 1 ≤ machines → IsCircuit (trial machines) first_place
+own_circuit zero some = absurd (omega (arith, some))
+own_circuit (suc machines) some = record {
+  not_empty = omega arith;
+  closed = (0, (omega arith, refl, refl));
+  leaves_once = λ i j d before within. absurd (omega (arith, before, within));
+}
+
+pub trial_has_circuit : (machines : ℕ) → 1 ≤ machines → HasNoCircuit (trial machines) IsAnyPlace → ⊥
+trial_has_circuit machines some none = none first_place (own_circuit machines some) (λ i d l. tt)

@@ -19,12 +19,16 @@ use teg_report::{Answer, Failure, report};
 fn refuse_log(alloc: Global, refusal: &LogRefusal) -> Result<Outcome, OutOfMemory>
     ensures { Tells (TellsBadLog refusal.now) (outcome_of result) }
 {
-    if matches!(refusal, LogRefusal::OutOfMemory) {
-        return Err(OutOfMemory);
+    match refusal {
+        LogRefusal::OutOfMemory => Err(OutOfMemory),
+        LogRefusal::BadRow { .. }
+        | LogRefusal::UnknownTransition { .. }
+        | LogRefusal::OutOfRange { .. } => {
+            let text = report(alloc, None, &Answer::Log { refusal })?;
+            let verdict = Verdict::Log;
+            Ok(Outcome { verdict, text })
+        }
     }
-    let text = report(alloc, None, &Answer::Log { refusal })?;
-    let verdict = Verdict::Log;
-    Ok(Outcome { verdict, text })
 }
 
 // The line of a monitor.
@@ -136,7 +140,7 @@ pub fn tell_replay(
     ensures { Tells (SaysReplay (λ firings. map (λ m. line_text m firings) monitors.items) net.now bytes.now) (outcome_of result) }
 {
     match read_log(alloc, net.net(), bytes) {
-        Ok(rows) => tell_run(alloc, net, &rows, monitors),
+        Ok(rows) => tell_run(alloc, net, rows.as_slice(), monitors),
         Err(refusal) => refuse_log(alloc, &refusal),
     }
 }

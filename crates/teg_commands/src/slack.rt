@@ -3,6 +3,7 @@ ghost use Rattle.std.specs.Prelude.{IfNone, IfSome};
 ghost use Rattle.teg_commands.specs.CycleTimes.{IsCycleAnswer};
 ghost use Rattle.teg_commands.specs.Outcomes.{Tells, outcome_of};
 ghost use Rattle.teg_commands.specs.Slacks.{IsBestRatio, SaysSlack};
+ghost use Rattle.teg_net.specs.Certificates.{IsCertificate};
 ghost use Rattle.teg_net.specs.GreatestRatios.{HasNoCircuit, IsAnyPlace};
 
 use crate::live_net::LiveNet;
@@ -24,6 +25,27 @@ pub(crate) fn best_ratio(net: &LiveNet, answer: &CycleAnswer) -> Option<Ratio>
     }
 }
 
+// The slack of each place, by the cycle times of a live net that has this greatest ratio.
+fn tell_slacks(
+    alloc: Global,
+    net: &LiveNet,
+    answer: &CycleAnswer,
+    ratio: &Ratio,
+) -> Result<Outcome, OutOfMemory>
+    requires certificate { IsCertificate net.now answer.now }
+    requires best { IsBestRatio net.now ratio.now }
+    ensures { Tells (SaysSlack net.now) (outcome_of result) }
+{
+    let slacks = net.slacks(alloc, answer)?;
+    let answer = Answer::Slack {
+        ratio,
+        slacks: &slacks,
+    };
+    let text = report(alloc, Some(net.net()), &answer)?;
+    let verdict = Verdict::Done;
+    Ok(Outcome { verdict, text })
+}
+
 /// The slack of each place of a live net, or that the net has no circuit. It takes time of order
 /// n (n^2 + p) for n transitions and p places, and that of the cycle times.
 pub fn tell_slack(alloc: Global, net: &LiveNet) -> Result<Outcome, OutOfMemory>
@@ -31,17 +53,12 @@ pub fn tell_slack(alloc: Global, net: &LiveNet) -> Result<Outcome, OutOfMemory>
 {
     let parts = net.parts(alloc)?;
     let answer = net.cycle(alloc, &parts)?;
-    let text = match best_ratio(net, &answer) {
-        None => report(alloc, None, &Answer::NoCircuit)?,
-        Some(ratio) => {
-            let slacks = net.slacks(alloc, &answer)?;
-            let answer = Answer::Slack {
-                ratio,
-                slacks: &slacks,
-            };
-            report(alloc, Some(net.net()), &answer)?
+    match best_ratio(net, &answer) {
+        Some(ratio) => tell_slacks(alloc, net, &answer, &ratio),
+        None => {
+            let text = report(alloc, None, &Answer::NoCircuit)?;
+            let verdict = Verdict::Done;
+            Ok(Outcome { verdict, text })
         }
-    };
-    let verdict = Verdict::Done;
-    Ok(Outcome { verdict, text })
+    }
 }

@@ -68,7 +68,7 @@ pub fn tell_trial(alloc: Global, machines: u32) -> Result<Outcome, OutOfMemory>
     let answer = Answer::Trial {
         machines,
         places,
-        ratio,
+        ratio: &ratio,
         critical: critical_count(&slacks, places),
         last: table.date(last, u64::from(NUMBER)),
     };

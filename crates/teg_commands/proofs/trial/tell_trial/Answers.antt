@@ -1,0 +1,11 @@
+use Rattle.teg_commands.proofs.TrialLaws.{trial_is_live, trial_has_circuit}
+use Rattle.teg_commands.proofs.trial.tell_trial.Goals as goal
+
+pub with_ranks-requires : goal.with_ranks-requires
+with_ranks-requires c = rw c.in_ok-make_trial.ensures (trial_is_live c.args.machines)
+
+pub unreachable-requires : goal.unreachable-requires
+unreachable-requires c = ?
+
+pub returns : goal.returns
+returns c = ?
