@@ -1,6 +1,6 @@
 -- The system of an input alone has as its least dating the greatest times of walks from the input's first firing.
-use Rattle.std.proofs.Common.{ℕ, zero, suc, ◌+◌, ◌-◌, ◌<◌, ◌≤◌, ◌≡◌, ◌≢◌, List, [], ◌∷◌, true, false, eqb, cond, length, Option, Some, None, refl, sym, ap, subst, ◌∙◌, arith, ⊎_elim, inl, inr}
-use Rattle.std.specs.Prelude.{pos, All, ◌⊎◌, slice_get, IsSomeAnd}
+use Rattle.std.proofs.Common.{ℕ, zero, suc, ◌+◌, ◌-◌, ◌<◌, ◌≤◌, ◌≡◌, ◌≢◌, List, ◌∷◌, true, false, eqb, cond, length, Option, Some, None, refl, sym, ap, subst, ◌∙◌, arith, ⊎_elim, inl, inr}
+use Rattle.std.specs.Prelude.{pos, ◌⊎◌, slice_get, IsSomeAnd}
 use Rattle.std.proofs.lemmas.Bool.{cases_lt, cases_eq, cases_Bool}
 use Rattle.std.proofs.lemmas.Bool.Decides.{nat_tests}
 use Rattle.std.proofs.lemmas.Int.{ints}
@@ -12,7 +12,6 @@ use Rattle.dioid.specs.declared.dates.Date.TheVariants.{Early, At}
 use Rattle.dioid.specs.Dates.{IsAtMostDate, delayed}
 use Rattle.dioid.proofs.DateOrder.{at_most_refl, at_most_early, same_by_at_most}
 use Rattle.teg_net.specs.declared.entries.Transition.{Transition}
-use Rattle.teg_net.specs.declared.entries.Place.{Place}
 use Rattle.teg_net.specs.declared.entries.Role.TheVariants.{Input}
 use Rattle.teg_net.specs.declared.walks.Step.{Step}
 use Rattle.teg_net.specs.declared.walks.Step.TheVariants.{Next}
@@ -23,7 +22,7 @@ use Rattle.teg_check.specs.Ranks.{IsRanking}
 use Rattle.teg_model.specs.Systems.{Dating, System, IsLeastIn}
 use Rattle.teg_model.specs.Starts.{IsStartIn}
 use Rattle.teg_model.specs.Datings.{as_date, system_with}
-use Rattle.teg_model.specs.WalkDates.{IsDateOfWalkFrom, IsGreatestOfWalksIn}
+use Rattle.teg_model.specs.WalkDates.{IsGreatestOfWalksIn}
 use Rattle.teg_model.proofs.OfNet.{net_ends}
 use Rattle.teg_model.proofs.SystemWalks.{least_in_is_walk}
 use Rattle.teg_settle.specs.declared.releases.Tokens.TheVariants.{Absent}

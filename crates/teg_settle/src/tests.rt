@@ -1,7 +1,7 @@
 //! Small nets whose settled forms are plain to see.
 ghost use Rattle.std.specs.Prelude.{◌<◌, length};
 
-use crate::{SettleRefusal, Settled, settle_within, transfer};
+use crate::{SettleRefusal, Settled, settle, settle_within, transfer};
 use dioid::Date;
 use sample_nets::{driven, ended, kanban, takeover};
 use std::test::Fail;
@@ -76,5 +76,20 @@ fn an_input_transfers_to_the_output(rt: HostRuntime) -> Result<(), Fail> {
     assert_eq!(rt; settled.period(), 1);
     assert_eq!(rt; settled.step(y), 3);
     assert_eq!(rt; settled.row(y), [Date::At(3)].as_slice());
+    Ok(())
+}
+
+#[test]
+fn a_takeover_settles_without_a_limit(rt: HostRuntime) -> Result<(), Fail> {
+    let alloc = rt.alloc();
+    let net = takeover(alloc)?;
+    let live = check(alloc, &net)?;
+    let settled = settle(alloc, &net, &live)?;
+    let c = TransitionId { index: 2 };
+    assert_eq!(rt; settled.after(), 100);
+    assert_eq!(rt; settled.period(), 1);
+    assert_eq!(rt; settled.step(c), 11);
+    assert_eq!(rt; settled.date(c, 101), Date::At(1_100));
+    assert_eq!(rt; settled.date(c, 1_000), Date::At(10_989));
     Ok(())
 }
