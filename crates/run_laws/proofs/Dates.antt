@@ -1,7 +1,7 @@
 -- The dates of the firings of one transition in a run, and one more firing.
-use Rattle.std.proofs.Common.{ℕ, zero, suc, ◌+◌, ◌<◌, ◌≤◌, ◌≡◌, ◌≢◌, List, [], ◌∷◌, ◌++◌, Option, Some, None, true, false, eqb, length, get_or, refl, arith, ⊎_elim}
+use Rattle.std.proofs.Common.{ℕ, zero, suc, ◌<◌, ◌≤◌, ◌≡◌, ◌≢◌, List, [], ◌∷◌, ◌++◌, Option, Some, None, true, false, eqb, length, get_or, refl, arith, ⊎_elim}
 use Rattle.std.specs.Prelude.{slice_get}
-use Rattle.std.proofs.lemmas.Bool.{cases_eq, cases_Bool}
+use Rattle.std.proofs.lemmas.Bool.{cases_Bool}
 use Rattle.std.proofs.lemmas.Bool.Decides.{nat_tests}
 use Rattle.run_laws.specs.declared.fired.Fired.{Fired}
 use Rattle.run_laws.specs.Runs.{dates_of, IsThereBy}

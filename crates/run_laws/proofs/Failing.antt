@@ -1,5 +1,5 @@
 -- A firing that fails is not legal, and fails in one way.
-use Rattle.std.proofs.Common.{ℕ, ◌≤◌, arith}
+use Rattle.std.proofs.Common.{◌≤◌, arith}
 use Rattle.teg_net.specs.Circuits.{no_place}
 use Rattle.run_laws.specs.Laws.{FailuresAreNotLegal, FailuresAreOne}
 

@@ -6,3 +6,4 @@ pub mod Sizes
 pub mod Slacks
 pub mod Texts
 pub mod Values
+pub mod Settled

@@ -3,7 +3,9 @@ use Rattle.std.specs.Prelude.{ℕ, List, Option, Some, None, length, map}
 use Rattle.dioid.specs.declared.dates.Date.{Date}
 use Rattle.teg_form.specs.Forms.{FormLists}
 use Rattle.teg_net.specs.declared.answers.CycleAnswer.{CycleAnswer}
+use Rattle.settled_laws.specs.Forms.{SettledForm}
 use Rattle.teg_net.specs.declared.entries.PlaceId.{PlaceId}
+use Rattle.teg_net.specs.declared.entries.TransitionId.{TransitionId}
 use Rattle.teg_net.specs.declared.rounds.Round.{Round}
 use Rattle.teg_net.specs.Nets.{NetLists}
 use Rattle.series_form.specs.declared.forms.SeriesRefused.{SeriesRefused}
@@ -15,7 +17,7 @@ use Rattle.teg_critical.specs.declared.slacks.Slack.{Slack as PlaceSlack}
 use Rattle.teg_net.specs.Ratios.{Fraction}
 use Rattle.teg_report.specs.declared.answer.Failure.{Failure}
 use Rattle.teg_report.specs.declared.answer.Which.{Which}
-use Rattle.teg_report.specs.Answers.{Answer, Usage, Live, Form, NoCircuit, Cycle, Slack, Trial, Replayed, Refused, Calc, Read, TooLarge, TokenFree, Log, Parse, Series, Fault}
+use Rattle.teg_report.specs.Answers.{Answer, Usage, Live, Form, NoCircuit, Cycle, Dates, Date as DateAnswer, Slack, Trial, Replayed, Refused, Calc, Read, TooLarge, TokenFree, NoTransition, Log, TooLong, Parse, Series, Fault}
 use Rattle.teg_report.specs.Lists.{list_lines}
 use Rattle.teg_report.specs.Meanings.{cycle_lists, round_lists}
 use Rattle.teg_report.specs.Reports.{text_of}
@@ -104,3 +106,19 @@ replayed_text accepted lines = text_of None (Replayed accepted lines)
 -- why a row of a log was refused, and the lines of the monitors
 abbrev pub refused_text : NetLists → ℕ → Failure → List (List ℕ) → List ℕ
 refused_text net row failure lines = text_of (Some net) (Refused row failure lines)
+
+-- a settled form of the dates of a net
+abbrev pub settled_text : NetLists → SettledForm → List ℕ
+settled_text net f = text_of (Some net) (Dates f)
+
+-- the date of one firing
+abbrev pub date_text : NetLists → TransitionId → ℕ → Date → List ℕ
+date_text net t number date = text_of (Some net) (DateAnswer t number date)
+
+-- that a settled form is longer than the limit
+abbrev pub too_long_text : ℕ → List ℕ
+too_long_text limit = text_of None (TooLong limit)
+
+-- that no transition has this name
+abbrev pub no_transition_text : List ℕ → List ℕ
+no_transition_text word = text_of None (NoTransition word)

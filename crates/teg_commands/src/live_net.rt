@@ -1,5 +1,5 @@
 //! Nets that were found live.
-ghost use Rattle.std.specs.Prelude.{◌≡◌, ◌≤◌, length, IfOk};
+ghost use Rattle.std.specs.Prelude.{◌≡◌, ◌≤◌, length, IfErr, IfOk, IfSome};
 ghost use Rattle.teg_check.specs.Ranks.{IsRanking};
 ghost use Rattle.teg_dates.specs.Tables.{most_numbers, HasLeastDates};
 ghost use Rattle.teg_form.specs.Forms.{IsFormOf};
@@ -12,6 +12,9 @@ ghost use Rattle.teg_net.specs.Ratios.{Fraction};
 ghost use Rattle.teg_net.specs.PartAnswers.{IsPartAnswer};
 ghost use Rattle.teg_parts.specs.Partitions.{AreParts};
 ghost use Rattle.teg_report.specs.Forms.{IsFormWithin};
+ghost use Rattle.settled_laws.specs.Forms.{IsSettledFormOf};
+ghost use Rattle.teg_settle.specs.Refusals.{greatest_limit};
+ghost use Rattle.teg_commands.specs.Settled.{IsWithinLimit, ExceedsLimit};
 ghost use Rattle.teg_commands.specs.CycleTimes.{IsCycleAnswer, IsRunOf};
 
 use std::alloc::Global;
@@ -24,6 +27,7 @@ use teg_form::{Form, standard_form};
 use teg_howard::{howard, policy_runs_are_one};
 use teg_net::{CycleAnswer, Net, OutOfMemory, PartAnswer, Round};
 use teg_parts::{Parts, split};
+use teg_settle::{SettleRefusal, Settled, settle, settle_within};
 
 /// A live net with its ranks. Contracts see the net.
 #[derive(Drop)]
@@ -77,6 +81,19 @@ impl LiveNet {
         // The rules of the net, by which both ends of an entry are among these.
         let _transitions = self.net.transitions();
         standard_form(alloc, &self.net, &self.live)
+    }
+
+    /// The shortest settled form of the least dates, of at most this length where there is a limit.
+    pub fn settled(&self, alloc: Global, limit: Option<u32>) -> Result<Settled, SettleRefusal>
+        requires { IfSome limit (λ most. most ≤ greatest_limit) }
+        ensures form { IfOk result (IsSettledFormOf self.now) }
+        ensures within { IfOk result (IsWithinLimit limit) }
+        ensures too_long { IfErr result (ExceedsLimit self.now limit) }
+    {
+        match limit {
+            Some(most) => settle_within(alloc, &self.net, &self.live, most),
+            None => Ok(settle(alloc, &self.net, &self.live)?),
+        }
     }
 
     /// The strong parts.

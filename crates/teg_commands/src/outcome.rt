@@ -6,6 +6,10 @@
 pub enum Verdict {
     /// The command was carried out.
     Done,
+    /// The settled form is longer than the limit.
+    TooLong,
+    /// No transition has the name that was asked for.
+    Name,
     /// The log has a faulty row, or one that the net does not allow.
     Log,
     /// The expression has no value within the limits.

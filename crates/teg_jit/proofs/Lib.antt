@@ -1,0 +1,15 @@
+mod TableCells
+mod Sorting
+mod DueRows
+mod Lowering
+mod Back
+mod Passing
+mod Begun
+mod Tight
+mod NetRanks
+mod Walking
+mod Starting
+mod LateWalks
+mod LateRows
+pub mod Excluded
+pub mod MeetOrLate

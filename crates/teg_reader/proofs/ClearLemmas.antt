@@ -17,7 +17,7 @@ use Rattle.teg_reader.specs.Texts.{is_among, is_distinct}
 use Rattle.teg_reader.specs.Trees.{value_at, text_at, list_at, number_at, as_number, is_between, names_of, or_else}
 use Rattle.teg_reader.specs.Walks.{Look, spot_at, first_finding, first_of, finding}
 use Rattle.teg_reader.specs.WrongKinds.{first_failing}
-use Rattle.teg_reader.specs.UnknownKeys.{unknown_key}
+use Rattle.teg_reader.specs.UnknownKeys.{is_second, unknown_key}
 use Rattle.teg_reader.specs.WrongKinds.{wrong_kind}
 use Rattle.teg_reader.specs.MissingKeys.{missing_key}
 use Rattle.teg_reader.specs.BadNames.{bad_name, has_good_name}
@@ -81,7 +81,7 @@ pub record AreGood (top : Data) : Type 0 where
 pub good_entries : (top : Data) → bad_entries top ≡ None → AreGood top
 unfolding bad_entries
 good_entries top h =
-    let a = neither (finding unknown_key top) _ h in
+    let a = neither (finding (unknown_key (is_second top)) top) _ h in
     let b = neither (finding wrong_kind top) _ a.1 in
     let c = neither (finding missing_key top) _ b.1 in
     let d = neither (finding bad_name top) _ c.1 in
@@ -103,7 +103,7 @@ pub places_named : (top : Data) → AreGood top → list_all has_good_name (list
 places_named top good = all_clear bad_name section.Place has_good_name place_named 1 (list_at key.Place top) (clear bad_name top good.names).places
 
 -- entries of which none repeats an earlier one have distinct texts
-front_of : (front rest : List Data) → take ((length front + 1) - 1) (front ++ rest) ≡ front
+pub front_of : (front rest : List Data) → take ((length front + 1) - 1) (front ++ rest) ≡ front
 front_of front rest = rw (one_less (length front)) (taken front) where
   taken : (xs : List Data) → take (length xs) (xs ++ rest) ≡ xs
   taken [] = refl
@@ -166,14 +166,14 @@ pub few : (top : Data) → AreGood top → AreFew top
 unfolding fields_of in_range
 few top good =
     let all = fields_in_range section.Top 0 top (clear out_of_range top good.ranges).at_top in
-    let a = and_parts (is_between_at key.Version 1 1 top) _ all in
+    let a = and_parts (is_between_at key.Version 1 2 top) _ all in
     let b = and_parts (nat_le (length (list_at key.Transition top)) most_transitions) _ a.1 in
     let c = and_parts (nat_le (length (list_at key.Place top)) most_places) _ b.1 in
     record { transitions = le_of _ _ b.0; places = le_of _ _ c.0 }
 
 -- the numbers of a place keep their ranges
 abbrev pub has_small_numbers : Data → Bool
-has_small_numbers d = is_between_at key.Hold 0 greatest_hold d && is_between_at key.Tokens 0 most_tokens d
+has_small_numbers d = is_between_at key.Hold 0 greatest_hold d && (is_between_at key.Tokens 0 most_tokens d && list_all (is_between 0 greatest_date) (list_at key.Ready d))
 
 place_in_range : (n : ℕ) (d : Data) → out_of_range (spot_at section.Place n) d ≡ None → has_small_numbers d ≡ true
 unfolding fields_of in_range
@@ -181,7 +181,8 @@ place_in_range n d h =
     let all = fields_in_range section.Place n d h in
     let a = and_parts (is_between_at key.Hold 0 greatest_hold d) _ all in
     let b = and_parts (is_between_at key.Tokens 0 most_tokens d) _ a.1 in
-    rw (a.0, b.0)
+    let c = and_parts (list_all (is_between 0 greatest_date) (list_at key.Ready d)) _ b.1 in
+    rw (a.0, b.0, c.0)
 
 pub places_in_range : (top : Data) → AreGood top → list_all has_small_numbers (list_at key.Place top) ≡ true
 places_in_range top good = all_clear out_of_range section.Place has_small_numbers place_in_range 1 (list_at key.Place top) (clear out_of_range top good.ranges).places

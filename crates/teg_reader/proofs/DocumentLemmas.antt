@@ -28,3 +28,13 @@ unfolding document tree_of
 document-not_read bytes text same valid read =
     let e : is_utf8 bytes ≡ true = is_utf8-from_IsUtf8 bytes valid in
     rw (e, ← same, read)
+
+pub tree_read : (text : List ℕ) (ms : Members) → IsUtf8 text → parse_document text ≡ Some ms → tree_of text ≡ Some ms
+unfolding tree_of
+tree_read text ms valid read =
+    let e : is_utf8 text ≡ true = is_utf8-from_IsUtf8 text valid in
+    rw e read
+
+pub document_of : (bytes : List ℕ) (ms : Members) → tree_of bytes ≡ Some ms → document bytes ≡ tree_document (table ms)
+unfolding document
+document_of bytes ms read = rw read

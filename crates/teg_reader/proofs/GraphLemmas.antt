@@ -109,7 +109,7 @@ owners_good ts (e ∷ es) good known =
 abbrev pub has_one_end : Data → Bool
 has_one_end d = (length (texts_at key.From d) == 1) && (length (texts_at key.To d) == 1)
 
-none_unless : {A : Type 0} (b : Bool) (x : A) → (if b then None else Some x) ≡ None → b ≡ true
+pub none_unless : {A : Type 0} (b : Bool) (x : A) → (if b then None else Some x) ≡ None → b ≡ true
 none_unless true x h = λ _. true
 none_unless false x h = cc
 

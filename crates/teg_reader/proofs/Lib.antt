@@ -9,7 +9,15 @@ pub mod ClearLemmas
 pub mod GraphLemmas
 pub mod RoleLemmas
 pub mod InputLemmas
+pub mod PlaceLemmas
 pub mod RuleLemmas
 pub mod SoundLemmas
 pub mod DateLemmas
 pub mod SpotLemmas
+pub mod WrittenLemmas
+pub mod MigratedTrees
+pub mod MigratedNames
+pub mod MigratedEntries
+pub mod MigratedRanges
+pub mod MigratedGraphs
+pub mod MigratedNets

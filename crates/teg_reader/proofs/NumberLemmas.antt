@@ -62,7 +62,7 @@ first_repeats : (k : List ℕ) (xs : List (List ℕ)) → is_among xs k ≡ true
 first_repeats k xs h = rw h
 
 -- a text that stands among the names makes them repeat where it stands once more
-repeats : (t : List ℕ) (ks rest : List (List ℕ)) → is_among ks t ≡ true → is_distinct (ks ++ t ∷ rest) ≡ false
+pub repeats : (t : List ℕ) (ks rest : List (List ℕ)) → is_among ks t ≡ true → is_distinct (ks ++ t ∷ rest) ≡ false
 repeats t [] rest h = cc
 repeats t (k ∷ ks) rest h =
     or_true (bytes_eq t k) (is_among ks t) h

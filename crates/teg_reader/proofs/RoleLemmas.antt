@@ -1,5 +1,5 @@
 -- The transition of a name, by its number and by its entry.
-use Rattle.std.proofs.Common.{◌≡◌, ℕ, zero, suc, ◌+◌, ◌<◌, Bool, true, false, not, cond, ◌||◌, nat_lt, if◌then◌else◌, List, [], ◌∷◌, map, length, get_or, bytes_eq, Option, Some, None, find, IsSomeAnd, slice_get, refl, ap, sym, subst, arith, codes}
+use Rattle.std.proofs.Common.{◌≡◌, ℕ, zero, suc, ◌+◌, ◌<◌, Bool, true, false, not, cond, ◌||◌, nat_lt, if◌then◌else◌, List, [], ◌∷◌, map, length, get_or, bytes_eq, Option, Some, None, IsSomeAnd, slice_get, refl, ap, sym, subst, arith, codes}
 use Rattle.std.proofs.lemmas.Bool.Decides.{nat_tests}
 use Rattle.std.specs.List.{position_or_len, position}
 use Rattle.std.proofs.lemmas.List.{length-map}
@@ -12,7 +12,7 @@ use Rattle.teg_net.specs.declared.entries.Transition.{Transition}
 use Rattle.teg_net.specs.declared.entries.Role.TheVariants.{Internal, Input, Output}
 use Rattle.teg_reader.specs.declared.keys.Key.TheVariants as key
 use Rattle.teg_reader.specs.Texts.{is_among}
-use Rattle.teg_reader.specs.Trees.{text_at, names_of}
+use Rattle.teg_reader.specs.Trees.{text_at, names_of, entry_named}
 use Rattle.teg_reader.specs.EventGraphs.{is_input_entry, is_input_named}
 use Rattle.teg_reader.specs.NetOf.{role_of, transition_of}
 use Rattle.teg_reader.proofs.NumberLemmas.{TextKey}
@@ -30,11 +30,7 @@ position_small false n i m e h = cc
 pub position_in : {A : Type 0} (p : A → Bool) (xs : List A) (i : ℕ) → position p xs ≡ Some i → i < length xs
 position_in p xs i h = position_small (nat_lt (position_or_len p xs) (length xs)) (position_or_len p xs) i (length xs) refl h
 
--- the entry of this name
-abbrev pub entry_named : List ℕ → List Data → Option Data
-entry_named text ts = find (λ t. bytes_eq text (text_at key.Name t)) ts
-
-find_at : (text : List ℕ) (es : List Value) (i : ℕ) (d : Value) → position_or_len (bytes_eq text) (names_of (map view es)) ≡ i → i < length es → entry_named text (map view es) ≡ Some (view (get_or es i d))
+pub find_at : (text : List ℕ) (es : List Value) (i : ℕ) (d : Value) → position_or_len (bytes_eq text) (names_of (map view es)) ≡ i → i < length es → entry_named text (map view es) ≡ Some (view (get_or es i d))
 find_at text [] i d h lt = absurd (omega arith)
 find_at text (e ∷ es) i d h lt = step (bytes_eq text (text_at key.Name (view e))) i h lt (find_at text es) where
   step : (b : Bool) (i : ℕ) → cond (not b) (1 + position_or_len (bytes_eq text) (names_of (map view es))) 0 ≡ i → i < suc (length es)
@@ -45,22 +41,12 @@ find_at text (e ∷ es) i d h lt = step (bytes_eq text (text_at key.Name (view e
   step false zero h lt later = absurd (omega (arith, h))
   step false (suc i) h lt later = later i d (omega (arith, h)) (omega arith)
 
--- the transition at the number of a name is an input where its entry is one
-pub input_at : (text : List ℕ) (es : List Value) (i : ℕ) (v d : Value) → position_or_len (bytes_eq text) (names_of (map view es)) ≡ i → i < length es → v ≡ get_or es i d → is_input_entry (view v) ≡ is_input_named (map view es) text
-unfolding is_input_named
-input_at text es i v d h lt is = rw (find_at text es i d h lt) (ap (λ x. is_input_entry (view x)) is)
-
-find_none : (text : List ℕ) (ts : List Data) → is_among (names_of ts) text ≡ false → entry_named text ts ≡ None
+pub find_none : (text : List ℕ) (ts : List Data) → is_among (names_of ts) text ≡ false → entry_named text ts ≡ None
 find_none text [] h = refl
 find_none text (t ∷ ts) h = step (bytes_eq text (text_at key.Name t)) (is_among (names_of ts) text) h (find_none text ts) where
   step : (b c : Bool) → (b || c) ≡ false → (c ≡ false → entry_named text ts ≡ None) → cond b (Some t) (entry_named text ts) ≡ None
   step true c h later = cc
   step false c h later = later h
-
--- a text that names no transition names no input
-pub no_input : (text : List ℕ) (ts : List Data) → is_among (names_of ts) text ≡ false → is_input_named ts text ≡ false
-unfolding is_input_named
-no_input text ts h = rw (find_none text ts h)
 
 role_input : (b c : Bool) → (if b then Input else if c then Output else Internal) ≡ Input → b ≡ true
 role_input true c h = λ _. true

@@ -1,5 +1,5 @@
 -- The net of a tree without a finding keeps the rules of a net.
-use Rattle.std.proofs.Common.{◌≡◌, ◌≢◌, ℕ, suc, inl, ◌+◌, ◌<◌, ◌≤◌, Bool, true, false, not, cond, ◌||◌, List, [], ◌∷◌, length, map, bytes_eq, None, IsTrue, refl, ap, sym, ◌∙◌, subst, arith}
+use Rattle.std.proofs.Common.{◌≡◌, ◌≢◌, ℕ, suc, ◌+◌, ◌<◌, ◌≤◌, Bool, true, false, not, cond, ◌||◌, List, [], ◌∷◌, length, map, bytes_eq, None, IsTrue, refl, ap, sym, ◌∙◌, subst, arith}
 use Rattle.std.proofs.lemmas.Bool.{and_parts, false≢true}
 use Rattle.std.proofs.lemmas.Slice.Eq.{bytes_eq-Decides}
 use Rattle.std.proofs.lemmas.List.{length-map, get_or-map}
@@ -24,13 +24,15 @@ use Rattle.teg_reader.specs.EventGraphs.{end_at}
 use Rattle.teg_reader.specs.InputLists.{bad_input}
 use Rattle.teg_reader.specs.NetOf.{transition_of, place_of, input_of, id_of, net_of}
 use Rattle.teg_reader.specs.Sound.{is_sound_place, is_sound_input}
-use Rattle.teg_reader.specs.Documents.{refused, bad_entries, bad_graph}
-use Rattle.teg_reader.proofs.Facts.{negated, or_false, differs, le_test}
+use Rattle.teg_reader.specs.ReadyDates.{ready_of, has_ready_for_each}
+use Rattle.teg_reader.specs.Documents.{refused, bad_entries, bad_graph, bad_places}
+use Rattle.teg_reader.proofs.Facts.{negated, or_false, differs, le_of, le_test}
 use Rattle.teg_reader.proofs.NumberLemmas.{TextKey}
 use Rattle.teg_reader.proofs.ClearLemmas.{neither, AreGood, good_entries, transitions_named, places_named, distinct, few, has_small_numbers, places_in_range, has_numbers_in_range, inputs_in_range, number_up_to}
 use Rattle.teg_reader.proofs.GraphLemmas.{IsGraph, good_graph, at_least_one, both_pass, has_known_texts, places_known, has_known_owner, owners_known, has_one_end, places_joined, has_known_ends, ends_known, enters_no_input, places_free}
 use Rattle.teg_reader.proofs.RoleLemmas.{number_in, is_input-from_named, named-from_is_input}
-use Rattle.teg_reader.proofs.InputLemmas.{IsGoodInput, good_input, every_small}
+use Rattle.teg_reader.proofs.InputLemmas.{IsGoodInput, good_input, every_small, dates_in}
+use Rattle.teg_reader.proofs.PlaceLemmas.{ready_for_each, has_small_hold, ArePlaces, good_places}
 
 position_within : {A : Type 0} (p : A → Bool) (xs : List A) → list_any p xs ≡ true → position_or_len p xs < length xs
 position_within p [] h = absurd (false≢true h)
@@ -63,10 +65,10 @@ unfolding transition_of
 transition_names [] = refl
 transition_names (t ∷ ts) = ap (λ ns. text_at key.Name t ∷ ns) (transition_names ts)
 
-place_names : (names : List (List ℕ)) (ps : List Data) → map (λ p. p.name) (map (place_of names) ps) ≡ names_of ps
+place_names : (ts : List Data) (ps : List Data) → map (λ p. p.name) (map (place_of ts) ps) ≡ names_of ps
 unfolding place_of
-place_names names [] = refl
-place_names names (p ∷ ps) = ap (λ ns. text_at key.Name p ∷ ns) (place_names names ps)
+place_names ts [] = refl
+place_names ts (p ∷ ps) = ap (λ ns. text_at key.Name p ∷ ns) (place_names ts ps)
 
 all_transitions_named : (ts : List Data) → list_all has_good_name ts ≡ true → All (λ t. IsTrue (is_name t.name)) (map transition_of ts)
 unfolding transition_of
@@ -75,46 +77,51 @@ all_transitions_named (t ∷ ts) h =
     let parts = and_parts (has_good_name t) _ h in
     All-cons (λ (t : Transition). IsTrue (is_name t.name)) (transition_of t) (map transition_of ts) parts.0 (all_transitions_named ts parts.1)
 
-all_places_named : (names : List (List ℕ)) (ps : List Data) → list_all has_good_name ps ≡ true → All (λ p. IsTrue (is_name p.name)) (map (place_of names) ps)
+all_places_named : (ts : List Data) (ps : List Data) → list_all has_good_name ps ≡ true → All (λ p. IsTrue (is_name p.name)) (map (place_of ts) ps)
 unfolding place_of
-all_places_named names [] h = All-nil (λ (p : Place). IsTrue (is_name p.name))
-all_places_named names (p ∷ ps) h =
+all_places_named ts [] h = All-nil (λ (p : Place). IsTrue (is_name p.name))
+all_places_named ts (p ∷ ps) h =
     let parts = and_parts (has_good_name p) _ h in
-    All-cons (λ (p : Place). IsTrue (is_name p.name)) (place_of names p) (map (place_of names) ps) parts.0 (all_places_named names ps parts.1)
+    All-cons (λ (p : Place). IsTrue (is_name p.name)) (place_of ts p) (map (place_of ts) ps) parts.0 (all_places_named ts ps parts.1)
 
 -- a place in which no pass finds a fault
 record IsGoodPlace (ts : List Data) (p : Data) : Type 0 where
   known : has_known_ends (names_of ts) p ≡ true
   free : enters_no_input ts p ≡ true
   numbers : has_small_numbers p ≡ true
+  ready : has_ready_for_each p ≡ true
+  hold : has_small_hold ts p ≡ true
 
 -- such a place keeps the rules in a net of these transitions
-place_fits : (net : NetLists) (ts : List Data) (p : Data) → net.transitions ≡ map transition_of ts → IsGoodPlace ts p → IsPlaceOf net (place_of (names_of ts) p)
-unfolding place_of id_of
+place_fits : (net : NetLists) (ts : List Data) (p : Data) → net.transitions ≡ map transition_of ts → IsGoodPlace ts p → IsPlaceOf net (place_of ts p)
+unfolding place_of id_of ready_of
 place_fits net ts p same good =
     let known = and_parts (is_among (names_of ts) (end_at key.From p)) _ good.known in
     let numbers = and_parts (is_between_at key.Hold 0 greatest_hold p) _ good.numbers in
+    let tokens = and_parts (is_between_at key.Tokens 0 most_tokens p) _ numbers.1 in
     let count : length (names_of ts) ≡ length net.transitions = length-map ts (text_at key.Name) ∙ (sym (length-map ts transition_of) ∙ ap length (sym same)) in
     record {
       from_in = subst (λ n. number_in ts (end_at key.From p) < n) count (position_within _ _ known.0);
       to_in = subst (λ n. number_in ts (end_at key.To p) < n) count (position_within _ _ known.1);
       enters_no_input = λ input. false≢true (sym (negated _ good.free) ∙ named-from_is_input (end_at key.To p) ts (rw same at input));
-      hold_in = number_up_to key.Hold greatest_hold p numbers.0;
-      tokens_in = number_up_to key.Tokens most_tokens p numbers.1;
-      ready_all = inl refl;
-      ready_in = λ i d l. absurd (omega arith);
+      hold_in = le_of _ _ good.hold;
+      tokens_in = number_up_to key.Tokens most_tokens p tokens.0;
+      ready_all = ready_for_each p good.ready;
+      ready_in = dates_in (list_at key.Ready p) tokens.1;
     }
 
 places_fit : (net : NetLists) (ts ps : List Data) → net.transitions ≡ map transition_of ts
-    → list_all (has_known_ends (names_of ts)) ps ≡ true → list_all (enters_no_input ts) ps ≡ true → list_all has_small_numbers ps ≡ true
-    → All (IsPlaceOf net) (map (place_of (names_of ts)) ps)
-places_fit net ts [] same known free numbers = All-nil (IsPlaceOf net)
-places_fit net ts (p ∷ ps) same known free numbers =
+    → list_all (has_known_ends (names_of ts)) ps ≡ true → list_all (enters_no_input ts) ps ≡ true → list_all has_small_numbers ps ≡ true → list_all has_ready_for_each ps ≡ true → list_all (has_small_hold ts) ps ≡ true
+    → All (IsPlaceOf net) (map (place_of ts) ps)
+places_fit net ts [] same known free numbers ready holds = All-nil (IsPlaceOf net)
+places_fit net ts (p ∷ ps) same known free numbers ready holds =
     let a = and_parts (has_known_ends (names_of ts) p) _ known in
     let b = and_parts (enters_no_input ts p) _ free in
     let c = and_parts (has_small_numbers p) _ numbers in
-    All-cons (IsPlaceOf net) (place_of (names_of ts) p) (map (place_of (names_of ts)) ps)
-    (place_fits net ts p same (record { known = a.0; free = b.0; numbers = c.0 })) (places_fit net ts ps same a.1 b.1 c.1)
+    let d = and_parts (has_ready_for_each p) _ ready in
+    let e = and_parts (has_small_hold ts p) _ holds in
+    All-cons (IsPlaceOf net) (place_of ts p) (map (place_of ts) ps)
+    (place_fits net ts p same (record { known = a.0; free = b.0; numbers = c.0; ready = d.0; hold = e.0 })) (places_fit net ts ps same a.1 b.1 c.1 d.1 e.1)
 
 -- an input list without a fault keeps the rules in a net of these transitions
 input_fits : (net : NetLists) (ts : List Data) (l : Data) → net.transitions ≡ map transition_of ts → IsGoodInput ts l → IsInputOf net (input_of (names_of ts) l)
@@ -172,12 +179,14 @@ one_list names (l ∷ ls) distinct owners =
 pub record IsAccepted (top : Data) : Type 0 where
   pub entries : AreGood top
   pub graph : IsGraph top
+  pub places : ArePlaces top
 
 pub accepted : (top : Data) → refused top ≡ None → IsAccepted top
 unfolding refused
 accepted top h =
-    let both = neither (bad_entries top) (bad_graph top) h in
-    record { entries = good_entries top both.0; graph = good_graph top both.1 }
+    let a = neither (bad_entries top) _ h in
+    let b = neither (bad_graph top) (bad_places top) a.1 in
+    record { entries = good_entries top a.0; graph = good_graph top b.0; places = good_places top b.1 }
 
 pub joined : (top : Data) → IsAccepted top → list_all (has_known_ends (names_of (list_at key.Transition top))) (list_at key.Place top) ≡ true
 joined top h =
@@ -195,16 +204,16 @@ net_rules top none =
     let counts = few top h.entries in
     let some : 0 < length ts = at_least_one ts h.graph.some_transition in
     let ts_len : length (map transition_of ts) ≡ length ts = length-map ts transition_of in
-    let ps_len : length (map (place_of (names_of ts)) ps) ≡ length ps = length-map ps (place_of (names_of ts)) in
+    let ps_len : length (map (place_of ts) ps) ≡ length ps = length-map ps (place_of ts) in
     record {
       some_transition = subst (λ n. 1 ≤ n) (sym ts_len) (omega (arith, some));
       few_transitions = subst (λ n. n ≤ most_transitions) (sym ts_len) counts.transitions;
       few_places = subst (λ n. n ≤ most_places) (sym ps_len) counts.places;
       transition_names = all_transitions_named ts (transitions_named top h.entries);
-      place_names = all_places_named (names_of ts) ps (places_named top h.entries);
+      place_names = all_places_named ts ps (places_named top h.entries);
       distinct_transitions = pairs_of_map (λ (t : Transition). t.name) (map transition_of ts) (subst (AllPairs (λ a b. a ≢ b)) (sym (transition_names ts)) (distinct_pairs (names_of ts) distinct_names.transitions));
-      distinct_places = pairs_of_map (λ (p : Place). p.name) (map (place_of (names_of ts)) ps) (subst (AllPairs (λ a b. a ≢ b)) (sym (place_names (names_of ts) ps)) (distinct_pairs (names_of ps) distinct_names.places));
-      each_place = places_fit _ ts ps refl (joined top h) (places_free top h.graph) (places_in_range top h.entries);
+      distinct_places = pairs_of_map (λ (p : Place). p.name) (map (place_of ts) ps) (subst (AllPairs (λ a b. a ≢ b)) (sym (place_names ts ps)) (distinct_pairs (names_of ps) distinct_names.places));
+      each_place = places_fit _ ts ps refl (joined top h) (places_free top h.graph) (places_in_range top h.entries) h.places.ready h.places.holds;
       one_list = one_list (names_of ts) ls distinct_names.inputs (owners_known top h.graph.known);
       each_input = inputs_fit _ ts ls refl h.graph.inputs (inputs_in_range top h.entries);
     }
@@ -214,7 +223,8 @@ unfolding is_sound_place
 sound_place names d name numbers known =
     let a = and_parts (is_between_at key.Hold 0 greatest_hold d) _ numbers in
     let b = and_parts (is_among names (end_at key.From d)) _ known in
-    rw (name, le_test _ _ (number_up_to key.Tokens most_tokens d a.1), b.0, b.1)
+    let c = and_parts (is_between_at key.Tokens 0 most_tokens d) _ a.1 in
+    rw (name, le_test _ _ (number_up_to key.Tokens most_tokens d c.0), b.0, b.1)
 
 sound_places_of : (names : List (List ℕ)) (ps : List Data) → list_all has_good_name ps ≡ true → list_all has_small_numbers ps ≡ true → list_all (has_known_ends names) ps ≡ true → list_all (is_sound_place names) ps ≡ true
 sound_places_of names [] good numbers known = refl

@@ -1,5 +1,5 @@
 -- Each pass tells plain spots.
-use Rattle.std.proofs.Common.{◌≡◌, ◌≢◌, ℕ, ◌+◌, Bool, true, false, if◌then◌else◌, List, [], ◌∷◌, Option, Some, None, option_map, Result, Ok, Err, refl, subst}
+use Rattle.std.proofs.Common.{◌≢◌, ℕ, ◌+◌, Bool, true, false, if◌then◌else◌, List, [], ◌∷◌, Option, Some, None, option_map, Err, refl, subst}
 use Rattle.std.specs.Prelude.{IfSome, IfErr}
 use Rattle.std.specs.Option.{option_map_or}
 use Rattle.toml.specs.Data.{Data, Members, table}
@@ -13,7 +13,7 @@ use Rattle.teg_reader.specs.declared.refusals.ReadRefusal.{ReadRefusal}
 use Rattle.teg_reader.specs.declared.refusals.ReadRefusal.TheVariants.{NotToml}
 use Rattle.teg_reader.specs.Trees.{list_at, names_of, or_else}
 use Rattle.teg_reader.specs.Walks.{Look, spot_at, first_finding, first_of, finding}
-use Rattle.teg_reader.specs.UnknownKeys.{unknown_key}
+use Rattle.teg_reader.specs.UnknownKeys.{is_second, unknown_key}
 use Rattle.teg_reader.specs.WrongKinds.{wrong_kind}
 use Rattle.teg_reader.specs.MissingKeys.{missing_key}
 use Rattle.teg_reader.specs.BadNames.{bad_name}
@@ -22,7 +22,9 @@ use Rattle.teg_reader.specs.Ranges.{out_of_range}
 use Rattle.teg_reader.specs.UnknownTransitions.{unknown_transition}
 use Rattle.teg_reader.specs.EventGraphs.{no_transitions, not_event_graph, input_has_upstream}
 use Rattle.teg_reader.specs.InputLists.{bad_input}
-use Rattle.teg_reader.specs.Documents.{tree_of, bad_entries, bad_graph, refused, verdict, tree_document, document}
+use Rattle.teg_reader.specs.ReadyDates.{bad_ready}
+use Rattle.teg_reader.specs.Holds.{too_slow}
+use Rattle.teg_reader.specs.Documents.{tree_of, bad_entries, bad_graph, bad_places, refused, verdict, tree_document, document}
 use Rattle.teg_reader.specs.Spots.{IsPlainSpot, IsPlainRefusal, RefusalsArePlain}
 
 -- what is found, if anything, is plain
@@ -66,9 +68,9 @@ plain_of : (look : Data → Option ReadRefusal) (es : List Data) → ((d : Data)
 plain_of look [] plain = tt
 plain_of look (e ∷ es) plain = plain_either (look e) (first_of look es) (plain e) (plain_of look es plain)
 
-unknown_keys : IsPlainLook unknown_key
+unknown_keys : (second : Bool) → IsPlainLook (unknown_key second)
 unfolding unknown_key
-unknown_keys spot d h = plain_mapped _ _ (λ k. record { spot = h; no_memory = refl })
+unknown_keys second spot d h = plain_mapped _ _ (λ k. record { spot = h; no_memory = refl })
 
 wrong_kinds : IsPlainLook wrong_kind
 unfolding wrong_kind
@@ -118,10 +120,18 @@ bad_input_plain : (ts : List Data) (d : Data) → IsPlainFinding (bad_input ts d
 unfolding bad_input
 bad_input_plain ts d = plain_mapped _ _ (λ p. record { spot = tt; no_memory = refl })
 
+bad_ready_plain : (d : Data) → IsPlainFinding (bad_ready d)
+unfolding bad_ready
+bad_ready_plain d = plain_unless _ _ (record { spot = tt; no_memory = refl })
+
+too_slow_plain : (ts : List Data) (d : Data) → IsPlainFinding (too_slow ts d)
+unfolding too_slow
+too_slow_plain ts d = plain_unless _ _ (record { spot = tt; no_memory = refl })
+
 bad_entries_plain : (top : Data) → IsPlainFinding (bad_entries top)
 unfolding bad_entries
 bad_entries_plain top =
-    plain_either (finding unknown_key top) _ (plain_pass unknown_key top unknown_keys)
+    plain_either (finding (unknown_key (is_second top)) top) _ (plain_pass (unknown_key (is_second top)) top (unknown_keys (is_second top)))
     (plain_either (finding wrong_kind top) _ (plain_pass wrong_kind top wrong_kinds)
     (plain_either (finding missing_key top) _ (plain_pass missing_key top missing_keys)
     (plain_either (finding bad_name top) _ (plain_pass bad_name top bad_names)
@@ -137,9 +147,17 @@ bad_graph_plain top =
     (plain_either (first_of (input_has_upstream ts) (list_at key.Place top)) _ (plain_of (input_has_upstream ts) (list_at key.Place top) (entered_plain ts))
     (plain_of (bad_input ts) (list_at key.Input top) (bad_input_plain ts)))))
 
+bad_places_plain : (top : Data) → IsPlainFinding (bad_places top)
+unfolding bad_places
+bad_places_plain top =
+    plain_either (first_of bad_ready (list_at key.Place top)) _ (plain_of bad_ready (list_at key.Place top) bad_ready_plain)
+    (plain_of (too_slow (list_at key.Transition top)) (list_at key.Place top) (too_slow_plain (list_at key.Transition top)))
+
 refused_plain : (top : Data) → IsPlainFinding (refused top)
 unfolding refused
-refused_plain top = plain_either (bad_entries top) (bad_graph top) (bad_entries_plain top) (bad_graph_plain top)
+refused_plain top =
+    plain_either (bad_entries top) _ (bad_entries_plain top)
+    (plain_either (bad_graph top) (bad_places top) (bad_graph_plain top) (bad_places_plain top))
 
 verdict_plain : (found : Option ReadRefusal) (net : NetLists) → IsPlainFinding found → IfErr (verdict found net) IsPlainRefusal
 verdict_plain None net h = tt

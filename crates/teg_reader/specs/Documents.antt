@@ -10,7 +10,7 @@ use Rattle.teg_reader.specs.declared.refusals.ReadRefusal.{ReadRefusal}
 use Rattle.teg_reader.specs.declared.refusals.ReadRefusal.TheVariants.{NotToml}
 use Rattle.teg_reader.specs.Trees.{list_at, names_of, or_else}
 use Rattle.teg_reader.specs.Walks.{finding, first_of, is_memory}
-use Rattle.teg_reader.specs.UnknownKeys.{unknown_key}
+use Rattle.teg_reader.specs.UnknownKeys.{is_second, unknown_key}
 use Rattle.teg_reader.specs.WrongKinds.{wrong_kind}
 use Rattle.teg_reader.specs.MissingKeys.{missing_key}
 use Rattle.teg_reader.specs.BadNames.{bad_name}
@@ -19,6 +19,8 @@ use Rattle.teg_reader.specs.Ranges.{out_of_range}
 use Rattle.teg_reader.specs.UnknownTransitions.{unknown_transition}
 use Rattle.teg_reader.specs.EventGraphs.{no_transitions, not_event_graph, input_has_upstream}
 use Rattle.teg_reader.specs.InputLists.{bad_input}
+use Rattle.teg_reader.specs.ReadyDates.{bad_ready}
+use Rattle.teg_reader.specs.Holds.{too_slow}
 use Rattle.teg_reader.specs.NetOf.{net_of}
 
 -- the table that the bytes are, where they are a text that the grammar of TOML reads
@@ -28,7 +30,7 @@ tree_of bytes = if is_utf8 bytes then parse_document bytes else None
 -- what is wrong with the keys, kinds, names and ranges of the entries
 unfoldable pub bad_entries : Data → Option ReadRefusal
 bad_entries top =
-    or_else (finding unknown_key top)
+    or_else (finding (unknown_key (is_second top)) top)
     (or_else (finding wrong_kind top)
     (or_else (finding missing_key top)
     (or_else (finding bad_name top) (or_else (repeated top) (finding out_of_range top)))))
@@ -42,9 +44,15 @@ bad_graph top =
     (or_else (first_of (input_has_upstream (list_at key.Transition top)) (list_at key.Place top))
     (first_of (bad_input (list_at key.Transition top)) (list_at key.Input top)))))
 
+-- what is wrong with the ready dates and the holds of the places
+unfoldable pub bad_places : Data → Option ReadRefusal
+bad_places top =
+    or_else (first_of bad_ready (list_at key.Place top))
+    (first_of (too_slow (list_at key.Transition top)) (list_at key.Place top))
+
 -- the first finding of the passes over the tree
 unfoldable pub refused : Data → Option ReadRefusal
-refused top = or_else (bad_entries top) (bad_graph top)
+refused top = or_else (bad_entries top) (or_else (bad_graph top) (bad_places top))
 
 -- the first finding of the passes, or the net
 abbrev pub verdict : Option ReadRefusal → NetLists → Result NetLists ReadRefusal

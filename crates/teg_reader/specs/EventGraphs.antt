@@ -1,12 +1,12 @@
 -- The passes on the shape of the graph: a place joins one transition to one other, and enters no input.
-use Rattle.std.specs.Prelude.{ℕ, Bool, false, ◌==◌, ◌&&◌, if◌then◌else◌, List, [], ◌∷◌, length, Option, Some, None, find, bytes_eq, codes}
+use Rattle.std.specs.Prelude.{ℕ, Bool, false, ◌==◌, ◌&&◌, if◌then◌else◌, List, [], ◌∷◌, length, Option, Some, None, bytes_eq, codes}
 use Rattle.std.specs.Option.{option_map_or}
 use Rattle.toml.specs.Data.{Data}
 use Rattle.teg_reader.specs.declared.keys.Key.{Key}
 use Rattle.teg_reader.specs.declared.keys.Key.TheVariants as key
 use Rattle.teg_reader.specs.declared.refusals.ReadRefusal.{ReadRefusal}
 use Rattle.teg_reader.specs.declared.refusals.ReadRefusal.TheVariants as refusal
-use Rattle.teg_reader.specs.Trees.{text_at, texts_at}
+use Rattle.teg_reader.specs.Trees.{text_at, texts_at, entry_named}
 
 -- there is no transition
 unfoldable pub no_transitions : List Data → Option ReadRefusal
@@ -34,7 +34,7 @@ is_input_entry d = bytes_eq (text_at key.Role d) (codes "input")
 
 -- the transition of this name is an input
 unfoldable pub is_input_named : List Data → List ℕ → Bool
-is_input_named transitions text = option_map_or is_input_entry (find (λ t. bytes_eq text (text_at key.Name t)) transitions) false
+is_input_named transitions text = option_map_or is_input_entry (entry_named text transitions) false
 
 -- the place enters an input
 unfoldable pub input_has_upstream : List Data → Data → Option ReadRefusal

@@ -12,9 +12,14 @@ use Rattle.teg_reader.specs.declared.fields.Field.{Field}
 abbrev field : Key → Kind → Bool → Field
 field key kind needed = record { key = key; kind = kind; needed = needed }
 
--- the keys of a section's tables, in the order in which they are looked at
+-- the keys of a section's tables in the second version, in the order in which they are looked at
 unfoldable pub fields_of : Section → List Field
 fields_of section.Top = field key.Version Integer false ∷ field key.Transition Tables false ∷ field key.Place Tables false ∷ field key.Input Tables false ∷ []
-fields_of section.Transition = field key.Name Text true ∷ field key.Role Text false ∷ []
-fields_of section.Place = field key.Name Text true ∷ field key.From Texts true ∷ field key.To Texts true ∷ field key.Hold Integer false ∷ field key.Tokens Integer false ∷ []
+fields_of section.Transition = field key.Name Text true ∷ field key.Role Text false ∷ field key.Duration Integer false ∷ []
+fields_of section.Place = field key.Name Text true ∷ field key.From Texts true ∷ field key.To Texts true ∷ field key.Hold Integer false ∷ field key.Tokens Integer false ∷ field key.Ready Integers false ∷ []
 fields_of section.Input = field key.Transition Text true ∷ field key.Dates Integers true ∷ field key.Every Integer false ∷ field key.Gap Integer false ∷ []
+
+-- the keys that a section's tables list: a transition has a duration in files of the second version only
+unfoldable pub listed_fields : Bool → Section → List Field
+listed_fields false section.Transition = field key.Name Text true ∷ field key.Role Text false ∷ []
+listed_fields _ section = fields_of section

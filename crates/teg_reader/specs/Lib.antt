@@ -12,7 +12,11 @@ pub mod Ranges
 pub mod UnknownTransitions
 pub mod EventGraphs
 pub mod InputLists
+pub mod ReadyDates
+pub mod Holds
 pub mod NetOf
 pub mod Sound
 pub mod Documents
+pub mod Migrated
+pub mod Written
 pub mod Spots

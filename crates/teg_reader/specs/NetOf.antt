@@ -1,5 +1,5 @@
 -- The net of a tree: its entries in order.
-use Rattle.std.specs.Prelude.{ℕ, if◌then◌else◌, List, [], map, bytes_eq, codes}
+use Rattle.std.specs.Prelude.{ℕ, if◌then◌else◌, List, map, bytes_eq, codes}
 use Rattle.std.specs.List.{position_or_len}
 use Rattle.toml.specs.Data.{Data}
 use Rattle.teg_net.specs.Nets.{NetLists}
@@ -13,6 +13,8 @@ use Rattle.teg_reader.specs.declared.keys.Key.TheVariants as key
 use Rattle.teg_reader.specs.Trees.{text_at, list_at, number_at, names_of}
 use Rattle.teg_reader.specs.EventGraphs.{end_at}
 use Rattle.teg_reader.specs.InputLists.{dates_of, again_of}
+use Rattle.teg_reader.specs.ReadyDates.{ready_of}
+use Rattle.teg_reader.specs.Holds.{hold_of}
 
 -- the role of this text; without one a transition is internal
 unfoldable pub role_of : List ℕ → Role
@@ -26,15 +28,16 @@ transition_of d = record { name = text_at key.Name d; role = role_of (text_at ke
 unfoldable pub id_of : List (List ℕ) → List ℕ → TransitionId
 id_of names text = record { index = position_or_len (bytes_eq text) names }
 
--- the place of an entry: hold and tokens are 0 where they are not there, and all tokens are ready at 0
-unfoldable pub place_of : List (List ℕ) → Data → Place
-place_of names d = record {
+-- the place of an entry: its hold and the duration of its upstream transition, where absent 0, its tokens, and
+-- without ready dates all tokens are ready at 0
+unfoldable pub place_of : List Data → Data → Place
+place_of transitions d = record {
   name = text_at key.Name d;
-  from = id_of names (end_at key.From d);
-  to = id_of names (end_at key.To d);
-  hold = number_at key.Hold d;
+  from = id_of (names_of transitions) (end_at key.From d);
+  to = id_of (names_of transitions) (end_at key.To d);
+  hold = hold_of transitions d;
   tokens = number_at key.Tokens d;
-  ready = [];
+  ready = ready_of d;
 }
 
 -- the input list of an entry
@@ -45,6 +48,6 @@ input_of names d = record { transition = id_of names (text_at key.Transition d);
 unfoldable pub net_of : Data → NetLists
 net_of top = record {
   transitions = map transition_of (list_at key.Transition top);
-  places = map (place_of (names_of (list_at key.Transition top))) (list_at key.Place top);
+  places = map (place_of (list_at key.Transition top)) (list_at key.Place top);
   inputs = map (input_of (names_of (list_at key.Transition top))) (list_at key.Input top);
 }

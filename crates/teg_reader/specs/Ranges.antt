@@ -32,12 +32,14 @@ has_dates_in_range d = nat_le (length (list_at key.Dates d)) most_dates && list_
 
 -- what stands at the key of a table of this section keeps its range
 unfoldable pub in_range : Section → Data → Key → Bool
-in_range section.Top top key.Version = is_between_at key.Version 1 1 top
+in_range section.Top top key.Version = is_between_at key.Version 1 2 top
 in_range section.Top top key.Transition = nat_le (length (list_at key.Transition top)) most_transitions
 in_range section.Top top key.Place = nat_le (length (list_at key.Place top)) most_places
 in_range section.Transition d key.Role = has_role d
+in_range section.Transition d key.Duration = is_between_at key.Duration 0 greatest_hold d
 in_range section.Place d key.Hold = is_between_at key.Hold 0 greatest_hold d
 in_range section.Place d key.Tokens = is_between_at key.Tokens 0 most_tokens d
+in_range section.Place d key.Ready = list_all (is_between 0 greatest_date) (list_at key.Ready d)
 in_range section.Input d key.Dates = has_dates_in_range d
 in_range section.Input d key.Every = is_between_at key.Every 1 most_every d
 in_range section.Input d key.Gap = is_between_at key.Gap 0 greatest_date d

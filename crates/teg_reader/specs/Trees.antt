@@ -1,5 +1,5 @@
 -- What stands in a tree at a key, whatever the tree: where another kind stands there, a default.
-use Rattle.std.specs.Prelude.{ℕ, Bool, false, List, [], ◌∷◌, map, pos, nat_le, ◌&&◌, Option, Some, None, unwrap_or, option_map, option_and_then, is_some}
+use Rattle.std.specs.Prelude.{ℕ, Bool, false, List, [], ◌∷◌, map, pos, nat_le, ◌&&◌, Option, Some, None, find, bytes_eq, unwrap_or, option_map, option_and_then, is_some}
 use Rattle.std.specs.Option.{option_map_or}
 use Rattle.toml.specs.Data.{Data, integer, Items, no_items, item, Members, no_members, member, get, as_str, as_integer, as_array, as_table}
 use Rattle.teg_reader.specs.declared.keys.Key.{Key}
@@ -82,3 +82,7 @@ number_at key d = option_map_or as_number (value_at key d) 0
 -- the names of the entries
 abbrev pub names_of : List Data → List (List ℕ)
 names_of entries = map (text_at key.Name) entries
+
+-- the first of the entries that has this name
+abbrev pub entry_named : List ℕ → List Data → Option Data
+entry_named text entries = find (λ d. bytes_eq text (text_at key.Name d)) entries

@@ -12,6 +12,7 @@ ghost use Rattle.teg_reader.specs.Documents.{refused};
 ghost use Rattle.teg_reader.specs.declared.keys.Key.TheVariants as key;
 
 use crate::event_graph::{copy_name, end_at};
+use crate::holds::hold_of;
 use crate::keys::Key;
 use crate::numbers::number_of;
 use crate::trees::{as_number, list_at, number_at, text_at, value_at};
@@ -57,40 +58,6 @@ fn make_transitions(alloc: Global, entries: &[Value]) -> Result<Vec<Transition>,
     Ok(transitions)
 }
 
-/// The place of an entry, all of whose tokens are ready at 0.
-#[tactic(auto, unfolding(crate::specs::NetOf::place_of))]
-fn make_place(alloc: Global, names: &IndexSet<&str>, entry: &Value) -> Result<Place, AllocError>
-    requires sound { is_sound_place (map deref names.now.keys) (view entry.now) ≡ true }
-    requires few { length names.now.keys < 2 ^ 32 }
-    ensures { IfOk result (λ p. p ≡ place_of (map deref names.now.keys) (view entry.now)) }
-{
-    Ok(Place {
-        name: copy_name(alloc, text_at(entry, Key::Name))?,
-        from: number_of(names, end_at(entry, Key::From)),
-        to: number_of(names, end_at(entry, Key::To)),
-        hold: number_at(entry, Key::Hold),
-        tokens: number_at(entry, Key::Tokens) as u32,
-        ready: DateList::new(Vec::new(alloc)),
-    })
-}
-
-/// The places of the entries in order.
-fn make_places(
-    alloc: Global,
-    names: &IndexSet<&str>,
-    entries: &[Value],
-) -> Result<Vec<Place>, AllocError>
-    requires sound { list_all (is_sound_place (map deref names.now.keys)) (map view entries.now) ≡ true }
-    requires few { length names.now.keys < 2 ^ 32 }
-    ensures { IfOk result (λ ps. ps.items ≡ map (place_of (map deref names.now.keys)) (map view entries.now)) }
-{
-    let mut places = Vec::new(alloc);
-    for entry in entries {
-        places.push(make_place(alloc, names, entry)?)?;
-    }
-    Ok(places)
-}
-
 /// The numbers of the values in order.
 fn make_dates(alloc: Global, values: &[Value]) -> Result<Vec<u64>, AllocError>
     ensures { IfOk result (λ ds. ds.items ≡ map as_number (map view values.now)) }
@@ -100,6 +67,49 @@ fn make_dates(alloc: Global, values: &[Value]) -> Result<Vec<u64>, AllocError>
         dates.push(as_number(value))?;
     }
     Ok(dates)
+}
+
+/// The place of an entry.
+#[tactic(auto, unfolding(crate::specs::NetOf::place_of, crate::specs::ReadyDates::ready_of))]
+fn make_place(
+    alloc: Global,
+    names: &IndexSet<&str>,
+    transitions: &[Value],
+    entry: &Value,
+) -> Result<Place, AllocError>
+    requires same { map deref names.now.keys ≡ names_of (map view transitions.now) }
+    requires sound { is_sound_place (map deref names.now.keys) (view entry.now) ≡ true }
+    requires few { length names.now.keys < 2 ^ 32 }
+    ensures { IfOk result (λ p. p ≡ place_of (map view transitions.now) (view entry.now)) }
+{
+    let ready = make_dates(alloc, list_at(entry, Key::Ready))?;
+    Ok(Place {
+        name: copy_name(alloc, text_at(entry, Key::Name))?,
+        from: number_of(names, end_at(entry, Key::From)),
+        to: number_of(names, end_at(entry, Key::To)),
+        hold: hold_of(names, transitions, entry),
+        tokens: number_at(entry, Key::Tokens) as u32,
+        ready: DateList::new(ready),
+    })
+}
+
+/// The places of the entries in order.
+fn make_places(
+    alloc: Global,
+    names: &IndexSet<&str>,
+    transitions: &[Value],
+    entries: &[Value],
+) -> Result<Vec<Place>, AllocError>
+    requires same { map deref names.now.keys ≡ names_of (map view transitions.now) }
+    requires sound { list_all (is_sound_place (map deref names.now.keys)) (map view entries.now) ≡ true }
+    requires few { length names.now.keys < 2 ^ 32 }
+    ensures { IfOk result (λ ps. ps.items ≡ map (place_of (map view transitions.now)) (map view entries.now)) }
+{
+    let mut places = Vec::new(alloc);
+    for entry in entries {
+        places.push(make_place(alloc, names, transitions, entry)?)?;
+    }
+    Ok(places)
 }
 
 /// How the input entry goes on past its list, if it does.
@@ -161,8 +171,9 @@ pub(crate) fn make_net(
     requires names { map deref names.now.keys ≡ names_of (list_at key.Transition (view top.now)) }
     ensures { IfOk result (λ n. n ≡ net_of (view top.now)) }
 {
-    let transitions = make_transitions(alloc, list_at(top, Key::Transition))?;
-    let places = make_places(alloc, names, list_at(top, Key::Place))?;
+    let entries = list_at(top, Key::Transition);
+    let transitions = make_transitions(alloc, entries)?;
+    let places = make_places(alloc, names, entries, list_at(top, Key::Place))?;
     let inputs = make_inputs(alloc, names, list_at(top, Key::Input))?;
     Ok(Net::new(transitions, places, inputs))
 }

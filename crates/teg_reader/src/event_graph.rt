@@ -10,6 +10,7 @@ ghost use Rattle.teg_reader.specs.BadNames.{has_good_name};
 ghost use Rattle.teg_reader.specs.EventGraphs.{no_transitions, not_event_graph, first_text, end_at, is_input_entry, is_input_named, input_has_upstream};
 
 use crate::keys::Key;
+use crate::numbers::entry_named;
 use crate::refusals::ReadRefusal;
 use crate::trees::{elements_of, text_at, text_of, value_at};
 use indexmap::IndexSet;
@@ -141,12 +142,13 @@ fn is_input_entry(transition: &Value) -> bool
 }
 
 /// Whether the transition of this name is an input.
+#[tactic(auto, unfolding(crate::specs::EventGraphs::is_input_named))]
 pub(crate) fn is_input_named(names: &IndexSet<&str>, transitions: &[Value], text: &str) -> bool
     requires { map deref names.now.keys ≡ names_of (map view transitions.now) }
     ensures { result ≡ is_input_named (map view transitions.now) text.now }
 {
-    match names.get_index_of(&text) {
-        Some(index) => is_input_entry(&transitions[index]),
+    match entry_named(names, transitions, text) {
+        Some(transition) => is_input_entry(transition),
         None => false,
     }
 }

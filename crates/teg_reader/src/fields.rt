@@ -1,6 +1,6 @@
 //! The keys that each table of a net file may have.
 ghost use Rattle.std.specs.Prelude.{◌≡◌};
-ghost use Rattle.teg_reader.specs.Fields.{fields_of};
+ghost use Rattle.teg_reader.specs.Fields.{fields_of, listed_fields};
 
 use crate::keys::Key;
 use crate::refusals::Section;
@@ -24,7 +24,7 @@ pub(crate) struct Field {
     pub(crate) needed: bool,
 }
 
-/// The keys of a section's tables, in the order in which they are looked at.
+/// The keys of a section's tables in the second version, in the order in which they are looked at.
 #[tactic(auto, unfolding(crate::specs::Fields::fields_of))]
 pub(crate) fn fields_of(section: Section) -> &'static [Field]
     ensures { result.now ≡ fields_of section }
@@ -63,6 +63,11 @@ pub(crate) fn fields_of(section: Section) -> &'static [Field]
                 kind: Kind::Text,
                 needed: false,
             },
+            Field {
+                key: Key::Duration,
+                kind: Kind::Integer,
+                needed: false,
+            },
         ],
         Section::Place => &[
             Field {
@@ -90,6 +95,11 @@ pub(crate) fn fields_of(section: Section) -> &'static [Field]
                 kind: Kind::Integer,
                 needed: false,
             },
+            Field {
+                key: Key::Ready,
+                kind: Kind::Integers,
+                needed: false,
+            },
         ],
         Section::Input => &[
             Field {
@@ -113,5 +123,31 @@ pub(crate) fn fields_of(section: Section) -> &'static [Field]
                 needed: false,
             },
         ],
+    }
+}
+
+/// The keys that a section's tables list: a transition has a duration in files of the second
+/// version only.
+#[tactic(auto, unfolding(crate::specs::Fields::listed_fields))]
+pub(crate) fn listed_fields(second: bool, section: Section) -> &'static [Field]
+    ensures { result.now ≡ listed_fields second section }
+{
+    if second {
+        return fields_of(section);
+    }
+    match section {
+        Section::Transition => &[
+            Field {
+                key: Key::Name,
+                kind: Kind::Text,
+                needed: true,
+            },
+            Field {
+                key: Key::Role,
+                kind: Kind::Text,
+                needed: false,
+            },
+        ],
+        _ => fields_of(section),
     }
 }

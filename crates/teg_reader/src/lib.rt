@@ -1,20 +1,23 @@
-//! Reads net files: TOML with transitions, places and input lists.
+//! Reads and writes net files: TOML with transitions, places and input lists.
 //!
 //! `read_net` answers the net that `document` defines for the bytes, or the first fault of the
-//! file, or want of memory. The crate stands on `teg_net` for the net, on `toml` for the grammar
-//! and on `indexmap` for the numbers of names.
+//! file, or want of memory; `write_net` answers bytes of which `document` is the net. The crate
+//! stands on `teg_net` for the net, on `toml` for the grammar and on `indexmap` for the numbers of
+//! names.
 #![tactic(auto)]
 
 mod bad_names;
 mod entries;
 mod event_graph;
 mod fields;
+mod holds;
 mod input_lists;
 mod keys;
 mod missing_keys;
 mod numbers;
 mod ranges;
 mod reader;
+mod ready_dates;
 mod refusals;
 mod repeats;
 #[cfg(test)]
@@ -23,8 +26,10 @@ mod trees;
 mod unknown_keys;
 mod unknown_transitions;
 mod walk;
+mod writer;
 mod wrong_kinds;
 
 pub use keys::Key;
 pub use reader::{read_net, refusals_are_plain};
 pub use refusals::{ReadRefusal, Section, Spot};
+pub use writer::write_net;

@@ -1,9 +1,9 @@
 //! The numbers of names.
-ghost use Rattle.std.specs.Prelude.{◌≡◌, ◌<◌, ◌^◌, true, map, length, IfOk};
+ghost use Rattle.std.specs.Prelude.{◌≡◌, ◌<◌, ◌^◌, true, map, length, option_map, IfOk};
 ghost use Rattle.std.specs.Map.Iter.{deref};
 ghost use Rattle.toml.specs.View.{view};
 ghost use Rattle.teg_reader.specs.Texts.{is_among, is_distinct};
-ghost use Rattle.teg_reader.specs.Trees.{names_of};
+ghost use Rattle.teg_reader.specs.Trees.{names_of, entry_named};
 ghost use Rattle.teg_reader.specs.NetOf.{id_of};
 
 use crate::keys::Key;
@@ -48,5 +48,20 @@ pub(crate) fn number_of(names: &IndexSet<&str>, text: &str) -> TransitionId
             index: index as u32,
         },
         None => unreachable!(),
+    }
+}
+
+/// The entry of this name, where these are the entries that the names are of.
+pub(crate) fn entry_named<'a>(
+    names: &IndexSet<&str>,
+    entries: &'a [Value],
+    text: &str,
+) -> Option<&'a Value>
+    requires { map deref names.now.keys ≡ names_of (map view entries.now) }
+    ensures { option_map (λ v. view v.now) result ≡ entry_named text.now (map view entries.now) }
+{
+    match names.get_index_of(&text) {
+        Some(index) => Some(&entries[index]),
+        None => None,
     }
 }

@@ -80,18 +80,20 @@ fn in_range(section: Section, entry: &Value, key: Key) -> bool
 {
     match section {
         Section::Top => match key {
-            Key::Version => is_between_at(entry, key, 1, 1),
+            Key::Version => is_between_at(entry, key, 1, 2),
             Key::Transition => is_count_within(list_at(entry, key), 400),
             Key::Place => is_count_within(list_at(entry, key), 4000),
             _ => true,
         },
         Section::Transition => match key {
             Key::Role => has_role(entry),
+            Key::Duration => is_between_at(entry, key, 0, 1_000_000_000),
             _ => true,
         },
         Section::Place => match key {
             Key::Hold => is_between_at(entry, key, 0, 1_000_000_000),
             Key::Tokens => is_between_at(entry, key, 0, 1000),
+            Key::Ready => are_dates(list_at(entry, key)),
             _ => true,
         },
         Section::Input => match key {

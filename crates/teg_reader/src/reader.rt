@@ -6,21 +6,23 @@ ghost use Rattle.toml.specs.View.{view, table_view};
 ghost use Rattle.teg_reader.specs.declared.keys.Key.TheVariants as key;
 ghost use Rattle.teg_reader.specs.Trees.{list_at, names_of};
 ghost use Rattle.teg_reader.specs.Walks.{Finds};
-ghost use Rattle.teg_reader.specs.Documents.{bad_entries, bad_graph, tree_document, document, Answers};
+ghost use Rattle.teg_reader.specs.Documents.{bad_entries, bad_graph, bad_places, tree_document, document, Answers};
 ghost use Rattle.teg_reader.specs.Spots.{RefusalsArePlain};
 
 use crate::bad_names::BadNames;
 use crate::entries::make_net;
 use crate::event_graph::{look_at_all_ends, look_for_entered_inputs, look_for_transitions};
+use crate::holds::look_for_slow_places;
 use crate::input_lists::look_for_bad_inputs;
 use crate::keys::Key;
 use crate::missing_keys::MissingKeys;
 use crate::numbers::number_names;
 use crate::ranges::OutOfRanges;
+use crate::ready_dates::look_for_bad_ready;
 use crate::refusals::ReadRefusal;
 use crate::repeats::look_for_repeats;
 use crate::trees::list_at;
-use crate::unknown_keys::UnknownKeys;
+use crate::unknown_keys::{UnknownKeys, is_second};
 use crate::unknown_transitions::UnknownTransitions;
 use crate::walk::look_at_all;
 use crate::wrong_kinds::WrongKinds;
@@ -34,7 +36,8 @@ use toml::{Table, Value};
 fn look_at_entries(alloc: Global, top: &Value) -> Result<(), ReadRefusal>
     ensures { Finds (bad_entries (view top.now)) result }
 {
-    look_at_all(&UnknownKeys, alloc, top)?;
+    let second = is_second(top);
+    look_at_all(&UnknownKeys { second }, alloc, top)?;
     look_at_all(&WrongKinds, alloc, top)?;
     look_at_all(&MissingKeys, alloc, top)?;
     look_at_all(&BadNames, alloc, top)?;
@@ -58,6 +61,18 @@ fn look_at_graph(alloc: Global, names: &IndexSet<&str>, top: &Value) -> Result<(
     look_for_bad_inputs(alloc, names, transitions, list_at(top, Key::Input))
 }
 
+/// Looks at the ready dates and the holds of the places.
+#[tactic(auto, unfolding(crate::specs::Documents::bad_places))]
+fn look_at_places(alloc: Global, names: &IndexSet<&str>, top: &Value) -> Result<(), ReadRefusal>
+    requires good { bad_entries (view top.now) ≡ None }
+    requires names { map deref names.now.keys ≡ names_of (list_at key.Transition (view top.now)) }
+    ensures { Finds (bad_places (view top.now)) result }
+{
+    let places = list_at(top, Key::Place);
+    look_for_bad_ready(alloc, places)?;
+    look_for_slow_places(alloc, names, list_at(top, Key::Transition), places)
+}
+
 /// The net of a tree.
 #[tactic(auto, unfolding(crate::specs::Documents::tree_document, crate::specs::Documents::refused))]
 fn read_tree(alloc: Global, top: &Value) -> Result<Net, ReadRefusal>
@@ -68,6 +83,7 @@ fn read_tree(alloc: Global, top: &Value) -> Result<Net, ReadRefusal>
         return Err(ReadRefusal::OutOfMemory);
     };
     look_at_graph(alloc, &names, top)?;
+    look_at_places(alloc, &names, top)?;
     match make_net(alloc, &names, top) {
         Ok(net) => Ok(net),
         Err(_) => Err(ReadRefusal::OutOfMemory),
@@ -83,8 +99,9 @@ fn read_table(alloc: Global, table: Table) -> Result<Net, ReadRefusal>
     answer
 }
 
-/// The net that the bytes of a file say: its entries in order, with their roles and input lists.
-/// The grammar is that of `toml`, which passes over one byte order mark at the start and reads no
+/// The net that the bytes of a file say: its entries in order, with their roles, ready dates and
+/// input lists. The hold of a place is that of its entry and the duration of its upstream
+/// transition, which files of the second version may have. The grammar is that of `toml`, which passes over one byte order mark at the start and reads no
 /// integer of more than 64 bits. A refusal tells the first fault: the passes stand in the order of
 /// the variants of [`ReadRefusal`], and each goes over the whole tree, the top first, then the
 /// transitions, the places and the input lists, each by position.

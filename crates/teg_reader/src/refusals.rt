@@ -80,6 +80,16 @@ pub enum ReadRefusal {
         transition: Name,
         position: u32,
     },
+    /// The place has another number of ready dates than of tokens.
+    BadReady {
+        place: Name,
+        given: u32,
+        tokens: u32,
+    },
+    /// The place's hold and the duration of its upstream transition are together too great.
+    TooSlow {
+        place: Name,
+    },
     /// No memory was found.
     OutOfMemory,
 }

@@ -1,5 +1,5 @@
 //! What files are answered. The refusals are compared as `Debug` writes them.
-use crate::{ReadRefusal, read_net};
+use crate::{ReadRefusal, read_net, write_net};
 use std::alloc::Global;
 use std::test::Fail;
 
@@ -46,8 +46,8 @@ const KEYS: [(&str, &str); 21] = [
         "UnknownKey { spot: Spot { section: Input, position: 1 }, key: Label { text: \"name\" } }",
     ),
     (
-        "transition = [{name = \"a\"}]\nplace = [{name = \"p\", from = \"a\", to = \"a\", tokens = 1, ready = [0]}]\n",
-        "UnknownKey { spot: Spot { section: Place, position: 1 }, key: Label { text: \"ready\" } }",
+        "transition = [{name = \"a\"}]\nplace = [{name = \"p\", from = \"a\", to = \"a\", tokens = 1, readies = [0]}]\n",
+        "UnknownKey { spot: Spot { section: Place, position: 1 }, key: Label { text: \"readies\" } }",
     ),
     (
         "[[transition]]\n",
@@ -184,15 +184,16 @@ const KINDS: [(&str, &str); 19] = [
     ),
 ];
 
-const RANGES: [(&str, &str); 18] = [
+const RANGES: [(&str, &str); 19] = [
     (
         "version = 0\ntransition = [{name = \"a\"}]\n",
         "OutOfRange { spot: Spot { section: Top, position: 0 }, key: Version }",
     ),
     (
-        "version = 2\ntransition = [{name = \"a\"}]\n",
+        "version = 3\ntransition = [{name = \"a\"}]\n",
         "OutOfRange { spot: Spot { section: Top, position: 0 }, key: Version }",
     ),
+    ("version = 2\ntransition = [{name = \"a\"}]\n", "accepted"),
     ("version = 1\ntransition = [{name = \"a\"}]\n", "accepted"),
     (
         "transition = [{name = \"a\", role = \"Input\"}]\n",
@@ -335,6 +336,112 @@ const GRAPHS: [(&str, &str); 19] = [
     ),
 ];
 
+const READY: [(&str, &str); 12] = [
+    (
+        "transition = [{name = \"a\"}]\nplace = [{name = \"p\", from = \"a\", to = \"a\", tokens = 1, ready = 4}]\n",
+        "WrongKind { spot: Spot { section: Place, position: 1 }, key: Ready }",
+    ),
+    (
+        "transition = [{name = \"a\"}]\nplace = [{name = \"p\", from = \"a\", to = \"a\", tokens = 1, ready = \"4\"}]\n",
+        "WrongKind { spot: Spot { section: Place, position: 1 }, key: Ready }",
+    ),
+    (
+        "transition = [{name = \"a\"}]\nplace = [{name = \"p\", from = \"a\", to = \"a\", tokens = 2, ready = [1, \"2\"]}]\n",
+        "WrongKind { spot: Spot { section: Place, position: 1 }, key: Ready }",
+    ),
+    (
+        "transition = [{name = \"a\"}]\nplace = [{name = \"p\", from = \"a\", to = \"a\", tokens = 1, ready = [-1]}]\n",
+        "OutOfRange { spot: Spot { section: Place, position: 1 }, key: Ready }",
+    ),
+    (
+        "transition = [{name = \"a\"}]\nplace = [{name = \"p\", from = \"a\", to = \"a\", tokens = 2, ready = [0, 1000000000001]}]\n",
+        "OutOfRange { spot: Spot { section: Place, position: 1 }, key: Ready }",
+    ),
+    (
+        "transition = [{name = \"a\"}]\nplace = [{name = \"p\", from = \"a\", to = \"a\", tokens = 2, ready = [1000000000000, 0]}]\n",
+        "accepted",
+    ),
+    (
+        "transition = [{name = \"a\"}]\nplace = [{name = \"p\", from = \"a\", to = \"a\", ready = []}]\n",
+        "accepted",
+    ),
+    (
+        "transition = [{name = \"a\"}, {name = \"b\"}]\nplace = [{name = \"ab\", from = \"a\", to = \"b\", hold = 3}, {name = \"ba\", from = \"b\", to = \"a\", hold = 2, tokens = 1, ready = [4]}]\n",
+        "accepted",
+    ),
+    (
+        "transition = [{name = \"a\"}, {name = \"b\"}]\nplace = [{name = \"ab\", from = \"a\", to = \"b\", hold = 3}, {name = \"ba\", from = \"b\", to = \"a\", hold = 2, tokens = 1, ready = [4, 5]}]\n",
+        "BadReady { place: Name { text: \"ba\" }, given: 2, tokens: 1 }",
+    ),
+    (
+        "transition = [{name = \"a\"}, {name = \"b\"}]\nplace = [{name = \"ab\", from = \"a\", to = \"b\", hold = 3}, {name = \"ba\", from = \"b\", to = \"a\", hold = 2, tokens = 1, ready = []}]\n",
+        "BadReady { place: Name { text: \"ba\" }, given: 0, tokens: 1 }",
+    ),
+    (
+        "transition = [{name = \"a\"}, {name = \"b\"}]\nplace = [{name = \"ab\", from = \"a\", to = \"b\", hold = 3, ready = [7]}, {name = \"ba\", from = \"b\", to = \"a\", hold = 2, tokens = 1, ready = [4, 5]}]\n",
+        "BadReady { place: Name { text: \"ab\" }, given: 1, tokens: 0 }",
+    ),
+    (
+        "transition = [{name = \"a\"}, {name = \"b\"}]\nplace = [{name = \"ab\", from = \"a\", to = \"b\", hold = 3}, {name = \"ba\", from = \"b\", to = \"a\", hold = 2, tokens = 1, ready = [4, 5]}]\ninput = [{transition = \"a\", dates = [0]}]\n",
+        "BadInput { transition: Name { text: \"a\" }, position: 0 }",
+    ),
+];
+
+const DURATIONS: [(&str, &str); 13] = [
+    (
+        "version = 1\ntransition = [{name = \"a\", duration = 1}, {name = \"b\"}]\nplace = [{name = \"ab\", from = \"a\", to = \"b\"}, {name = \"ba\", from = \"b\", to = \"a\", tokens = 1}]\n",
+        "UnknownKey { spot: Spot { section: Transition, position: 1 }, key: Label { text: \"duration\" } }",
+    ),
+    (
+        "version = 3\ntransition = [{name = \"a\", duration = 1}, {name = \"b\"}]\nplace = [{name = \"ab\", from = \"a\", to = \"b\"}, {name = \"ba\", from = \"b\", to = \"a\", tokens = 1}]\n",
+        "UnknownKey { spot: Spot { section: Transition, position: 1 }, key: Label { text: \"duration\" } }",
+    ),
+    (
+        "version = 2.0\ntransition = [{name = \"a\", duration = 1}, {name = \"b\"}]\nplace = [{name = \"ab\", from = \"a\", to = \"b\"}, {name = \"ba\", from = \"b\", to = \"a\", tokens = 1}]\n",
+        "UnknownKey { spot: Spot { section: Transition, position: 1 }, key: Label { text: \"duration\" } }",
+    ),
+    (
+        "transition = [{name = \"a\", duration = 0}]\n",
+        "UnknownKey { spot: Spot { section: Transition, position: 1 }, key: Label { text: \"duration\" } }",
+    ),
+    (
+        "version = 2\ntransition = [{name = \"a\"}]\nplace = [{name = \"p\", duration = 0}]\n",
+        "UnknownKey { spot: Spot { section: Place, position: 1 }, key: Label { text: \"duration\" } }",
+    ),
+    (
+        "version = 2\ntransition = [{name = \"a\"}, {name = \"b\", duration = \"1\"}]\nplace = [{name = \"ab\", from = \"a\", to = \"b\"}, {name = \"ba\", from = \"b\", to = \"a\", tokens = 1}]\n",
+        "WrongKind { spot: Spot { section: Transition, position: 2 }, key: Duration }",
+    ),
+    (
+        "version = 2\ntransition = [{name = \"a\", duration = -1}, {name = \"b\"}]\nplace = [{name = \"ab\", from = \"a\", to = \"b\"}, {name = \"ba\", from = \"b\", to = \"a\", tokens = 1}]\n",
+        "OutOfRange { spot: Spot { section: Transition, position: 1 }, key: Duration }",
+    ),
+    (
+        "version = 2\ntransition = [{name = \"a\"}, {name = \"b\", duration = 1000000001}]\nplace = [{name = \"ab\", from = \"a\", to = \"b\"}, {name = \"ba\", from = \"b\", to = \"a\", tokens = 1}]\n",
+        "OutOfRange { spot: Spot { section: Transition, position: 2 }, key: Duration }",
+    ),
+    (
+        "version = 2\ntransition = [{name = \"a\", duration = 1}, {name = \"b\"}]\nplace = [{name = \"ab\", from = \"a\", to = \"b\", hold = 1000000000}, {name = \"ba\", from = \"b\", to = \"a\", tokens = 1}]\n",
+        "TooSlow { place: Name { text: \"ab\" } }",
+    ),
+    (
+        "version = 2\ntransition = [{name = \"a\", duration = 1}, {name = \"b\"}]\nplace = [{name = \"ab\", from = \"a\", to = \"b\", hold = 999999999}, {name = \"ba\", from = \"b\", to = \"a\", tokens = 1}]\n",
+        "accepted",
+    ),
+    (
+        "version = 2\ntransition = [{name = \"a\"}, {name = \"b\", duration = 1000000000}]\nplace = [{name = \"ab\", from = \"a\", to = \"b\", hold = 1000000000}, {name = \"ba\", from = \"b\", to = \"a\", tokens = 1}]\n",
+        "accepted",
+    ),
+    (
+        "version = 2\ntransition = [{name = \"a\"}, {name = \"b\", duration = 1000000000}]\nplace = [{name = \"ab\", from = \"a\", to = \"b\"}, {name = \"ba\", from = \"b\", to = \"a\", tokens = 1, hold = 1}]\n",
+        "TooSlow { place: Name { text: \"ba\" } }",
+    ),
+    (
+        "version = 2\ntransition = [{name = \"a\", duration = 1}, {name = \"b\"}]\nplace = [{name = \"ab\", from = \"a\", to = \"b\", hold = 1000000000}, {name = \"ba\", from = \"b\", to = \"a\", tokens = 1, ready = []}]\n",
+        "BadReady { place: Name { text: \"ba\" }, given: 0, tokens: 1 }",
+    ),
+];
+
 #[test]
 fn keys_and_names(rt: HostRuntime) {
     assert!(rt; first_other_answer(rt.alloc(), &KEYS) == KEYS.len());
@@ -353,6 +460,44 @@ fn ranges(rt: HostRuntime) {
 #[test]
 fn graphs_and_input_lists(rt: HostRuntime) {
     assert!(rt; first_other_answer(rt.alloc(), &GRAPHS) == GRAPHS.len());
+}
+
+#[test]
+fn ready_dates(rt: HostRuntime) {
+    assert!(rt; first_other_answer(rt.alloc(), &READY) == READY.len());
+}
+
+#[test]
+fn durations(rt: HostRuntime) {
+    assert!(rt; first_other_answer(rt.alloc(), &DURATIONS) == DURATIONS.len());
+}
+
+#[test]
+fn durations_are_added_to_holds(rt: HostRuntime) {
+    let file =
+        "version = 2\ntransition = [{name = \"a\", duration = 3}, {name = \"b\", duration = 2}]\nplace = [{name = \"ab\", from = \"a\", to = \"b\"}, {name = \"ba\", from = \"b\", to = \"a\", hold = 5, tokens = 1}]\n";
+    let Ok(net) = read_net(rt.alloc(), file.as_bytes()) else {
+        panic!(rt; "it is a net");
+    };
+    let holds = net.places().iter().map(|place| place.hold);
+    assert!(rt; holds.eq([3, 7]));
+}
+
+#[test]
+fn ready_dates_are_kept(rt: HostRuntime) {
+    let file =
+        "transition = [{name = \"a\"}]\nplace = [{name = \"p\", from = \"a\", to = \"a\"}, {name = \"q\", from = \"a\", to = \"a\", tokens = 2, ready = [9, 4]}]\n";
+    let Ok(net) = read_net(rt.alloc(), file.as_bytes()) else {
+        panic!(rt; "it is a net");
+    };
+    assert!(rt; net.places().len() == 2);
+    for place in net.places() {
+        if place.tokens == 2 {
+            assert!(rt; place.ready.as_slice() == [9, 4].as_slice());
+        } else {
+            assert!(rt; place.ready.as_slice().is_empty());
+        }
+    }
 }
 
 #[test]
@@ -421,7 +566,7 @@ fn widest(alloc: Global) -> Result<String, Fail> {
 }
 
 #[test]
-fn a_net_at_its_limits_is_read_and_copied(rt: HostRuntime) -> Result<(), Fail> {
+fn a_net_at_its_limits_is_read_copied_and_written(rt: HostRuntime) -> Result<(), Fail> {
     let file = widest(rt.alloc())?;
     let Ok(net) = read_net(rt.alloc(), file.as_bytes()) else {
         panic!(rt; "it is a net");
@@ -433,5 +578,71 @@ fn a_net_at_its_limits_is_read_and_copied(rt: HostRuntime) -> Result<(), Fail> {
         copy.find_place(last)
             .is_some_and(|place| place.index == 3999)
     );
+    let bytes = write_net(rt.alloc(), &net)?;
+    assert!(rt; bytes.len() > 400 * 64 + 4000 * 3 * 64);
+    Ok(())
+}
+
+/// Files whose nets are written.
+const WRITTEN: [&str; 6] = [
+    "[[transition]]\nname = \"a\"\n",
+    "transition = [{name = \"a\"}, {name = \"b\"}]\nplace = [{name = \"ab\", from = \"a\", to = \"b\", hold = 3}, {name = \"ba\", from = \"b\", to = \"a\", hold = 2, tokens = 1}]\n",
+    "transition = [{name = \"u\", role = \"input\"}, {name = \"a\"}]\nplace = [{name = \"ua\", from = \"u\", to = \"a\", hold = 2}]\ninput = [{transition = \"u\", dates = [0, 4]}]\n",
+    "transition = [{name = \"a\"}, {name = \"b\"}]\nplace = [{name = \"ab\", from = \"a\", to = \"b\", hold = 3}, {name = \"ba\", from = \"b\", to = \"a\", hold = 2, tokens = 1, ready = [4]}]\n",
+    "version = 2\ntransition = [{name = \"a\", duration = 3}, {name = \"b\", duration = 2}]\nplace = [{name = \"ab\", from = \"a\", to = \"b\"}, {name = \"ba\", from = \"b\", to = \"a\", tokens = 1}]\n",
+    "transition = [{name = \"\u{e9}\", role = \"input\"}, {name = \"v\", role = \"input\"}, {name = \"y\", role = \"output\"}]\nplace = [{name = \"#=[]\", from = \"v\", to = \"y\", tokens = 2, ready = [9, 1000000000000]}]\ninput = [{transition = \"v\", dates = []}, {transition = \"\u{e9}\", dates = [0, 4], every = 2, gap = 9}]\n",
+];
+
+/// Whether the net of the file is read from what is written for it.
+fn is_written(alloc: Global, file: &str) -> Result<bool, Fail> {
+    let Ok(net) = read_net(alloc, file.as_bytes()) else {
+        return Ok(false);
+    };
+    let bytes = write_net(alloc, &net)?;
+    let Ok(again) = read_net(alloc, bytes.as_slice()) else {
+        return Ok(false);
+    };
+    let (first, second) = (
+        format!(in alloc; "{net:?}")?,
+        format!(in alloc; "{again:?}")?,
+    );
+    Ok(first.as_str() == second.as_str())
+}
+
+#[test]
+fn nets_are_written(rt: HostRuntime) -> Result<(), Fail> {
+    for file in WRITTEN {
+        assert!(rt; is_written(rt.alloc(), file)?);
+    }
+    Ok(())
+}
+
+/// A file of 20,000 ready dates.
+fn of_many_ready_dates(alloc: Global) -> Result<String, Fail> {
+    let mut dates = String::new(alloc);
+    for _ in 0u32..1_000 {
+        dates.push_str("0,")?;
+    }
+    let mut file = String::from_str(alloc, "transition = [{name = \"a\"}]\nplace = [")?;
+    let dates = dates.as_str();
+    for number in 0u32..20 {
+        let entry = format!(in alloc;
+            "{{name = \"{number}\", from = \"a\", to = \"a\", tokens = 1000, ready = [{dates}]}}, "
+        )?;
+        file.push_str(entry.as_str())?;
+    }
+    file.push_str("]\n")?;
+    Ok(file)
+}
+
+#[test]
+fn a_file_of_many_ready_dates_is_read_and_written(rt: HostRuntime) -> Result<(), Fail> {
+    let file = of_many_ready_dates(rt.alloc())?;
+    let Ok(net) = read_net(rt.alloc(), file.as_bytes()) else {
+        panic!(rt; "it is a net");
+    };
+    assert!(rt; net.places().len() == 20);
+    let bytes = write_net(rt.alloc(), &net)?;
+    assert!(rt; bytes.len() > 20 * 1_000 * 2);
     Ok(())
 }

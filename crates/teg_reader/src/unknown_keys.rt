@@ -5,10 +5,12 @@ ghost use Rattle.std.specs.List.Sorted.{IsStrictlySortedBy};
 ghost use Rattle.std.specs.BTreeMap.{keys as keys_in};
 ghost use Rattle.toml.specs.View.{view, table_view};
 ghost use Rattle.teg_reader.specs.Trees.{keys_of};
-ghost use Rattle.teg_reader.specs.UnknownKeys.{is_field, least_of, unlisted_keys};
+ghost use Rattle.teg_reader.specs.UnknownKeys.{is_field, least_of, unlisted_keys, is_second};
 
-use crate::fields::{Field, fields_of};
+use crate::fields::{Field, listed_fields};
+use crate::keys::Key;
 use crate::refusals::{ReadRefusal, Spot};
+use crate::trees::{is_between, value_at};
 use crate::walk::Pass;
 use std::alloc::Global;
 use teg_net::Label;
@@ -52,18 +54,31 @@ fn unlisted_key<'a>(entry: &'a Value, fields: &[Field]) -> Option<&'a str>
     }
 }
 
+/// Whether the file says that it is of the second version.
+#[tactic(auto, unfolding(crate::specs::UnknownKeys::is_second))]
+pub(crate) fn is_second(top: &Value) -> bool
+    ensures { result ≡ is_second (view top.now) }
+{
+    match value_at(top, Key::Version) {
+        Some(version) => is_between(version, 2, 2),
+        None => false,
+    }
+}
+
 /// Finds keys that a table does not list.
 #[derive(Drop)]
-pub(crate) struct UnknownKeys;
+pub(crate) struct UnknownKeys {
+    pub(crate) second: bool,
+}
 
 impl Pass for UnknownKeys {
     ghost use Rattle.teg_reader.specs.UnknownKeys.{unknown_key};
 
-    ghost looks = { λ _. unknown_key };
+    ghost looks = { λ s. unknown_key s.second };
 
     #[tactic(auto, unfolding(crate::specs::UnknownKeys::unknown_key))]
     fn look(&self, alloc: Global, spot: Spot, entry: &Value) -> Result<(), ReadRefusal> {
-        match unlisted_key(entry, fields_of(spot.section)) {
+        match unlisted_key(entry, listed_fields(self.second, spot.section)) {
             Some(text) => match Label::new(alloc, text) {
                 Ok(key) => Err(ReadRefusal::UnknownKey { spot, key }),
                 Err(_) => Err(ReadRefusal::OutOfMemory),

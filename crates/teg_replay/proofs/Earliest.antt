@@ -1,11 +1,10 @@
 -- The earliest date of a firing, from the dates of its tokens, the firing before it and its release.
-use Rattle.std.proofs.Common.{ℕ, zero, suc, ◌+◌, ◌-◌, ◌<◌, ◌≡◌, List, [], ◌∷◌, Some, true, ltb, max, length, get_or, refl, ap, subst, arith}
-use Rattle.std.specs.Prelude.{All, slice_get}
-use Rattle.std.proofs.lemmas.Bool.Decides.{nat_tests}
+use Rattle.std.proofs.Common.{ℕ, ◌<◌, ◌≡◌, List, Some, max, length, get_or, refl, subst, arith}
+use Rattle.std.specs.Prelude.{All}
 use Rattle.std.proofs.lemmas.List.{get_or_default}
 use Rattle.teg_net.specs.Nets.{NetLists}
 use Rattle.teg_net.specs.Circuits.{no_place}
-use Rattle.teg_model.specs.Datings.{implicit_place, extended_places}
+use Rattle.teg_model.specs.Datings.{extended_places}
 use Rattle.teg_model.proofs.OfNet.{all_extended, extended_has, implicit_is}
 use Rattle.run_laws.specs.declared.fired.Fired.{Fired}
 use Rattle.run_laws.specs.Runs.{dates_of, next_number, token_date, IsThereBy, HasTokensBy}

@@ -1,12 +1,12 @@
 -- The dates by which the tokens of a firing are there, as the first i places into its transition have them.
-use Rattle.std.proofs.Common.{ℕ, ◌+◌, ◌<◌, ◌≤◌, ◌≡◌, ◌≢◌, List, [], ◌∷◌, Option, Some, None, true, false, eqb, length, get_or, max, sym, ap, subst, ◌∙◌, arith, ⊎_elim}
-use Rattle.std.proofs.lemmas.Bool.{cases_eq, cases_lt, cases_Bool}
+use Rattle.std.proofs.Common.{ℕ, ◌+◌, ◌<◌, ◌≤◌, ◌≡◌, ◌≢◌, List, Option, Some, length, get_or, max, sym, ap, subst, ◌∙◌, arith, ⊎_elim}
+use Rattle.std.proofs.lemmas.Bool.{cases_eq, cases_lt}
 use Rattle.std.proofs.lemmas.List.{get_or_default}
 use Rattle.teg_net.specs.declared.entries.PlaceId.{PlaceId}
 use Rattle.teg_net.specs.Nets.{NetLists}
 use Rattle.teg_net.specs.Circuits.{no_place, place_at}
 use Rattle.run_laws.specs.declared.fired.Fired.{Fired}
-use Rattle.run_laws.specs.Runs.{dates_of, next_number, token_date, IsThereBy, HasTokensBy}
+use Rattle.run_laws.specs.Runs.{next_number, token_date, IsThereBy, HasTokensBy}
 use Rattle.run_laws.specs.Failures.{IsFirstLate}
 use Rattle.run_laws.proofs.Dates.{later_there}
 use Rattle.teg_replay.specs.Games.{AreInto}
@@ -90,3 +90,9 @@ first_late net run f k ids i latest id there into h l is number date late = reco
       (cases_eq at.0 i))
       (cases_lt at.0 i);
 }
+
+-- the same of the place that stands at i
+pub late_at : (net : NetLists) (run : List Fired) (f : Fired) (k : ℕ) (ids : List PlaceId) (i latest : ℕ) (there : Option ℕ) → AreInto net f.transition.index ids → LatestUpTo net run f k ids i latest → i < length ids
+    → k ≡ next_number run f.transition.index → there ≡ token_date run (place_at net (get_or ids i no_id)) k → (IsThereBy f.date there → ⊥) → IsFirstLate net run f (get_or ids i no_id) there
+late_at net run f k ids i latest there into h l number date late =
+    first_late net run f k ids i latest (get_or ids i no_id) there into h l (λ d. get_or_default ids i d no_id l) number date late

@@ -2,6 +2,7 @@ mod Columns
 mod Earliest
 mod Entering
 mod Failing
+mod InputLists
 mod Latest
 mod Playing
 mod Replaying

@@ -1,17 +1,17 @@
 -- One more row of a log.
 use Rattle.std.proofs.Common.{ℕ, ◌+◌, ◌<◌, ◌≤◌, ◌≡◌, List, [], ◌∷◌, ◌++◌, length, take, get_or, sym, ap, ◌∙◌, arith, ⊎_elim}
 use Rattle.std.proofs.lemmas.Bool.{cases_lt}
-use Rattle.std.proofs.lemmas.List.{take_more, map-append, length_push, get_or_append_left, get_or_push, length-map, length-take-le}
+use Rattle.std.proofs.lemmas.List.{take_more, map-append, length_push, get_or_append_left, get_or_push}
 use Rattle.teg_net.specs.Nets.{NetLists}
 use Rattle.teg_outside.specs.declared.monitor.Firing.{Firing}
 use Rattle.run_laws.specs.declared.fired.Fired.{Fired}
 use Rattle.teg_due.specs.declared.rows.LogRow.{LogRow}
 use Rattle.teg_replay.specs.declared.replayed.Replayed.{Replayed}
-use Rattle.std.specs.Prelude.{Result, Ok, Err, Some, IfOk}
+use Rattle.std.specs.Prelude.{Result, Ok, Err, Some, IfOk, IfSome}
 use Rattle.teg_replay.specs.declared.refusal.FireRefusal.{FireRefusal}
 use Rattle.teg_replay.specs.declared.refusal.FireRefusal.TheVariants.{Illegal, BackInTime, BeforeRelease, OutOfMemory}
 use Rattle.run_laws.specs.Runs.{IsLegalAfter}
-use Rattle.teg_replay.specs.Failures.{Fails, IsRightRefusal, IsFailure}
+use Rattle.teg_replay.specs.Failures.{Fails, IsRightRefusal, IsFailure, NamesPlaceOf}
 use Rattle.teg_replay.specs.Firings.{IsFiringOf}
 use Rattle.teg_replay.specs.Replays.{fired_of, run_of, AreFiringsOf, WereShown, Replays}
 use Rattle.run_laws.proofs.Prefixes.{legal_begins, legal_push}
@@ -31,9 +31,6 @@ firings_begin net rows = record {
 
 pub run_more : (rows : List LogRow) (i : ℕ) (d : LogRow) → i < length rows → run_of (take (i + 1) rows) ≡ run_of (take i rows) ++ fired_of (get_or rows i d) ∷ []
 run_more rows i d l = rw (take_more rows i d l) (map-append fired_of (take i rows) (get_or rows i d ∷ []))
-
-pub run_length : (rows : List LogRow) (i : ℕ) → i ≤ length rows → length (run_of (take i rows)) ≡ i
-run_length rows i l = length-map (take i rows) fired_of ∙ length-take-le i rows l
 
 pub firings_more : (net : NetLists) (rows : List LogRow) (firings : List Firing) (i : ℕ) (row : LogRow) (firing : Firing) → AreFiringsOf net rows firings → length firings ≡ i → i < length rows
     → ((d : LogRow) → get_or rows i d ≡ row) → IsLegalAfter net (run_of (take i rows)) (fired_of row) → IsFiringOf net (run_of (take i rows)) (fired_of row) firing
@@ -80,3 +77,16 @@ replay_refused net rows before now firings i accepted run row why (Ok replayed) 
       shown,
     )
 replay_refused net rows before now firings i accepted run row why (Err x) h shown e a l is r right told failed = (firings, h, shown)
+
+names_place : (net : NetLists) (run : List Fired) (f : Fired) (why : FireRefusal) → IsRightRefusal net run f why → NamesPlaceOf net why
+names_place net run f (Illegal id date) h = h.in_range
+names_place net run f (BackInTime last) h = tt
+names_place net run f (BeforeRelease release) h = tt
+names_place net run f OutOfMemory h = tt
+
+-- and the place that it names
+pub refused_named : {E : Type 0} (net : NetLists) (run : List Fired) (row : LogRow) (accepted : ℕ) (why : FireRefusal) (result : Result Replayed E) → IsRightRefusal net run (fired_of row) why
+    → IfOk result (λ replayed. replayed ≡ record { accepted = accepted; refused = Some (record { row = row.row; why = why }) })
+    → IfOk result (λ replayed. IfSome replayed.refused (λ refused. NamesPlaceOf net refused.why))
+refused_named net run row accepted why (Ok replayed) right told = rw told (names_place net run (fired_of row) why right)
+refused_named net run row accepted why (Err x) right told = tt

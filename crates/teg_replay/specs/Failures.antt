@@ -1,5 +1,5 @@
 -- What a refusal tells of the firing.
-use Rattle.std.specs.Prelude.{List, ⊤}
+use Rattle.std.specs.Prelude.{◌<◌, List, length, ⊤}
 use Rattle.teg_net.specs.Nets.{NetLists}
 use Rattle.run_laws.specs.declared.fired.Fired.{Fired}
 use Rattle.run_laws.specs.Failures.{IsFirstLate, IsBackInTime, IsBeforeRelease}
@@ -26,3 +26,10 @@ IsFailure (Illegal id date) = ⊤
 IsFailure (BackInTime last) = ⊤
 IsFailure (BeforeRelease release) = ⊤
 IsFailure OutOfMemory = ⊥
+
+-- the place that is told, if one is, is one of the net
+abbrev pub NamesPlaceOf : NetLists → FireRefusal → Type 0
+NamesPlaceOf net (Illegal id date) = id.index < length net.places
+NamesPlaceOf net (BackInTime last) = ⊤
+NamesPlaceOf net (BeforeRelease release) = ⊤
+NamesPlaceOf net OutOfMemory = ⊤

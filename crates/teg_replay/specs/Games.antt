@@ -1,9 +1,10 @@
 -- What a game keeps, and for which net it stands.
-use Rattle.std.specs.Prelude.{ℕ, ◌<◌, ◌≡◌, ◌==◌, List, [], length, All, AllPairs, Contains, count_by, slice_index_or}
-use Rattle.teg_net.specs.declared.entries.Place.{Place}
+use Rattle.std.specs.Prelude.{ℕ, ◌<◌, ◌≡◌, ◌==◌, List, [], Option, Some, None, length, All, AllPairs, Contains, count_by, slice_get, slice_index_or}
 use Rattle.teg_net.specs.declared.entries.PlaceId.{PlaceId}
+use Rattle.teg_net.specs.declared.entries.InputList.{InputList}
 use Rattle.teg_net.specs.Nets.{NetLists, IsNet}
 use Rattle.teg_net.specs.Circuits.{place_at}
+use Rattle.teg_net.specs.Inputs.{list_of}
 use Rattle.run_laws.specs.declared.fired.Fired.{Fired}
 use Rattle.run_laws.specs.Runs.{dates_of, IsLegalRun}
 use Rattle.run_laws.specs.Earliest.{tokens_after}
@@ -18,10 +19,16 @@ pub record AreColumns (run : List Fired) (columns : List (List ℕ)) : Type 0 wh
   pub same : (t : ℕ) → t < length columns → slice_index_or columns t [] ≡ dates_of run t
   pub known : All (λ f. f.transition.index < length columns) run
 
--- of each transition the places that lead into it, and how many leave it
+-- of each transition the places that lead into it, how many leave it, and where its input list stands
 pub record Ends : Type 0 where
   pub into : List (List PlaceId)
   pub leaving : List ℕ
+  pub lists : List (Option ℕ)
+
+-- the list that stands there, if one does
+abbrev pub list_at : List InputList → Option ℕ → Option InputList
+list_at lists None = None
+list_at lists (Some position) = slice_get lists position
 
 -- the places into transition t, lowest first
 pub record AreInto (net : NetLists) (t : ℕ) (ids : List PlaceId) : Type 0 where
@@ -31,12 +38,14 @@ pub record AreInto (net : NetLists) (t : ℕ) (ids : List PlaceId) : Type 0 wher
   pub rising : AllPairs (λ p q. p.index < q.index) ids
   pub count : length ids ≡ count_by (λ p. p.to.index == t) net.places
 
--- the ends of the net's places
+-- the ends of the net's places, and its input lists
 pub record AreEnds (net : NetLists) (ends : Ends) : Type 0 where
   pub into_width : length ends.into ≡ length net.transitions
   pub into : (t : ℕ) → t < length net.transitions → AreInto net t (slice_index_or ends.into t [])
   pub leaving_width : length ends.leaving ≡ length net.transitions
   pub leaving : (t : ℕ) → t < length net.transitions → slice_index_or ends.leaving t 0 ≡ count_by (λ p. p.from.index == t) net.places
+  pub lists_width : length ends.lists ≡ length net.transitions
+  pub lists : (t : ℕ) → t < length net.transitions → list_at net.inputs (slice_index_or ends.lists t None) ≡ list_of net t
 
 -- a game as contracts see it: the run so far, with what it keeps beside it for its net
 pub record GameState : Type 0 where

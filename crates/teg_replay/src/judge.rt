@@ -31,7 +31,7 @@ pub(crate) fn judge(
     let number = next_number(history, fired.transition);
     let tokens = tokens_there(history, net, ends.entering(fired.transition), fired)?;
     in_order(history, fired)?;
-    let release = released(net, fired, number)?;
+    let release = released(ends, net, fired, number)?;
     Ok(
         tokens
             .max(release)

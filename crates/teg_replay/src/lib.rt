@@ -18,6 +18,8 @@ mod judge;
 mod play;
 mod refusal;
 mod replayed;
+#[cfg(test)]
+mod tests;
 mod waits;
 mod watching;
 

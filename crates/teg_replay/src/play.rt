@@ -1,7 +1,7 @@
 //! The replay of a log.
-ghost use Rattle.std.specs.Prelude.{◌<◌, ◌^◌, ◌≡◌, map, length, IfOk, Some};
+ghost use Rattle.std.specs.Prelude.{◌<◌, ◌^◌, ◌≡◌, map, length, IfOk, IfSome, Some};
 ghost use Rattle.teg_due.specs.Rules.{IsLogOf};
-ghost use Rattle.teg_replay.specs.Failures.{IsFailure};
+ghost use Rattle.teg_replay.specs.Failures.{IsFailure, NamesPlaceOf};
 ghost use Rattle.teg_replay.specs.Laws.{AcceptsLegalRuns, AcceptsEarliestRuns};
 ghost use Rattle.teg_replay.specs.Replays.{Replays};
 
@@ -44,6 +44,7 @@ pub fn replay(
     requires rows { IsLogOf net.now log.now }
 
     ensures replayed { Replays net.now log.now (λ firings. map (λ m. line_text m firings) monitors.old) (λ firings. map (λ m. line_text m firings) monitors.new) result }
+    ensures named { IfOk result (λ replayed. IfSome replayed.refused (λ refused. NamesPlaceOf net.now refused.why)) }
     ensures legal { IfOk result (λ replayed. AcceptsLegalRuns net.now log.now replayed) }
     ensures earliest { IfOk result (λ replayed. AcceptsEarliestRuns net.now log.now replayed) }
 {

@@ -7,9 +7,10 @@ ghost use Rattle.teg_net.specs.Inputs.{input_date};
 ghost use Rattle.run_laws.specs.Runs.{dates_of, next_number, firing_date, token_date, IsThereBy, HasTokensBy, IsReleasedBy, last_date, IsNotBefore};
 ghost use Rattle.run_laws.specs.Earliest.{last_of};
 ghost use Rattle.teg_replay.specs.Failures.{Fails};
-ghost use Rattle.teg_replay.specs.Games.{AreInto};
+ghost use Rattle.teg_replay.specs.Games.{AreEnds, AreInto};
 ghost use Rattle.teg_replay.specs.Waits.{IsLatestToken, IsLatestRelease, IsBackTo, IsUnreleased};
 
+use crate::ends::EndLists;
 use crate::history::History;
 use crate::refusal::FireRefusal;
 use run_laws::Fired;
@@ -106,12 +107,30 @@ pub(crate) fn in_order(history: &History, fired: Fired) -> Result<(), FireRefusa
     }
 }
 
+/// The date before which this firing of the input transition is not released; none is never.
+fn release_date(ends: &EndLists, net: &Net, transition: TransitionId, number: u64) -> Option<u128>
+    requires ends { AreEnds net.now ends.now }
+    requires transition { transition.index < length net.now.transitions }
+    requires first { 1 ≤ number }
+    ensures { result ≡ input_date net.now transition.index number }
+{
+    match ends.input_list(net, transition) {
+        Some(list) => list.date(number),
+        None => Some(0),
+    }
+}
+
 /// The date by which the transition's next firing is released, 0 where it waits for no release.
 /// `BeforeRelease` comes exactly where the input has a later date than that of the firing, or none.
-pub(crate) fn released(net: &Net, fired: Fired, number: u64) -> Result<u64, FireRefusal>
+pub(crate) fn released(
+    ends: &EndLists,
+    net: &Net,
+    fired: Fired,
+    number: u64,
+) -> Result<u64, FireRefusal>
+    requires ends { AreEnds net.now ends.now }
     requires transition { fired.transition.index < length net.now.transitions }
     requires first { 1 ≤ number }
-    requires few { number ≤ 2 ^ 40 }
     ensures latest { IfOk result (λ date. IsLatestRelease net.now fired.transition.index number date) }
     ensures released { IfOk result (λ _. IsReleasedBy net.now fired.transition.index number fired.date) }
     ensures fails { IfErr result (λ why. IsUnreleased net.now fired number why) }
@@ -119,7 +138,7 @@ pub(crate) fn released(net: &Net, fired: Fired, number: u64) -> Result<u64, Fire
     match net.transitions()[fired.transition.index as usize].role {
         Role::Internal | Role::Output => Ok(0),
         Role::Input => {
-            let release = net.input_date(fired.transition, number);
+            let release = release_date(ends, net, fired.transition, number);
             match release {
                 Some(date) if date <= u128::from(fired.date) => Ok(date as u64),
                 _ => Err(FireRefusal::BeforeRelease { release }),

@@ -6,7 +6,7 @@ use Rattle.teg_net.specs.Nets.{NetLists, IsNet}
 use Rattle.teg_report.specs.declared.answer.Which.{Which}
 use Rattle.teg_report.specs.declared.answer.Which.TheVariants.{Net as NetFile, Due as DueFile, Log as LogFile}
 use Rattle.teg_report.specs.Answering.{answer_of, answer_in, AreOfOneNet, IsNamedBy}
-use Rattle.teg_report.specs.Answers.{Answer, Usage, Live, Listed, Form, NoCircuit, Cycle, Dates, Date, Slack, Transfer, Replayed, Refused, Calc, Trial, Read, TooLarge, TokenFree, NoTransition, Due, Log, TooLong, Parse, Series, Fault}
+use Rattle.teg_report.specs.Answers.{Answer, Usage, Live, Listed, Form, NoCircuit, Cycle, Dates, Date, Jit, Late, Slack, Transfer, Replayed, Refused, Calc, Trial, Read, TooLarge, TokenFree, NoTransition, Due, Log, TooLong, Parse, Series, Fault}
 use Rattle.teg_report.specs.Forms.{name_of_transition}
 use Rattle.teg_report.specs.Kept.{IsTold, IsWord64}
 use Rattle.teg_report.specs.Reports.{lines_of, names_of, text_of}
@@ -14,6 +14,7 @@ use Rattle.teg_report.specs.Texts.{date_line}
 use Rattle.teg_report.proofs.IsRead.{IsRead, with_net}
 use Rattle.teg_report.proofs.Cycled.{cycle_read}
 use Rattle.teg_report.proofs.Listed.{list_read, circuit_read, form_read}
+use Rattle.teg_report.proofs.PlansRead.{late_read, plan_read}
 use Rattle.teg_report.proofs.Refused.{refusal_read}
 use Rattle.teg_report.proofs.RowsRead.{due_read, log_read, refused_read, replayed_read}
 use Rattle.teg_report.proofs.SeriesRead.{series_read, parse_read, series_refused_read}
@@ -56,6 +57,8 @@ lines_read net names e NoCircuit h = record { words = refl; back = refl }
 lines_read net names e (Cycle answer rounds) h = with_net _ (λ names n. IsRead names (lines_of n (Cycle answer rounds)) (Cycle answer rounds)) net names e h.keeps_rules h.about (cycle_read answer rounds h.kept)
 lines_read net names e (Dates settled) h = with_net _ (λ names n. IsRead names (lines_of n (Dates settled)) (Dates settled)) net names e h.keeps_rules h.about (settled_read settled h.kept)
 lines_read net names e (Date transition number date) h = with_net _ (λ names n. IsRead names (lines_of n (Date transition number date)) (Date transition number date)) net names e h.keeps_rules h.about (date_read transition number date h.kept)
+lines_read net names e (Jit plan) h = with_net _ (λ names n. IsRead names (lines_of n (Jit plan)) (Jit plan)) net names e h.keeps_rules h.about (plan_read plan h.kept)
+lines_read net names e (Late late) h = with_net _ (λ names n. IsRead names (lines_of n (Late late)) (Late late)) net names e h.keeps_rules h.about (late_read late h.kept)
 lines_read net names e (Slack ratio slacks) h = with_net _ (λ names n. IsRead names (lines_of n (Slack ratio slacks)) (Slack ratio slacks)) net names e h.keeps_rules h.about (slack_read ratio slacks h.kept)
 lines_read net names e (Transfer inputs) h = with_net _ (λ names n. IsRead names (lines_of n (Transfer inputs)) (Transfer inputs)) net names e h.keeps_rules h.about (transfer_read inputs h.kept)
 lines_read net names e (Replayed accepted lines) h = replayed_read names accepted lines h.kept h.about

@@ -1,5 +1,5 @@
 -- How an answer is read back from its text. No text rests on these definitions: all that they say is that there is such a function.
-use Rattle.std.specs.Prelude.{ℕ, ℤ, Bool, ◌*◌, ◌≡◌, not, ◌&&◌, ◌||◌, ◌==◌, false, List, [], ◌∷◌, map, drop, take, ◌-◌, length, codes, bytes_eq, Option, Some, None, if◌then◌else◌, ⊤}
+use Rattle.std.specs.Prelude.{ℕ, zero, suc, ℤ, Bool, ◌+◌, ◌*◌, ◌/◌, ◌%◌, ◌≡◌, not, ◌&&◌, ◌||◌, ◌==◌, false, List, [], ◌∷◌, map, drop, take, ◌-◌, length, codes, bytes_eq, Option, Some, None, if◌then◌else◌, ⊤}
 use Rattle.std.specs.List.{range_with_len}
 use Rattle.teg_dates.specs.Tables.{TableDates}
 use Rattle.teg_form.specs.declared.form.Entry.{Entry}
@@ -12,14 +12,22 @@ use Rattle.teg_net.specs.declared.rounds.Choice.{Choice}
 use Rattle.teg_net.specs.Nets.{NetLists}
 use Rattle.teg_net.specs.Ratios.{Fraction}
 use Rattle.teg_reader.specs.declared.keys.Key.{Key}
-use Rattle.teg_reader.specs.declared.keys.Key.TheVariants.{Version, Transition as TransitionKey, Place as PlaceKey, Input as InputKey, Name, Role, From, To, Hold, Tokens, Dates, Every, Gap}
+use Rattle.teg_reader.specs.declared.keys.Key.TheVariants.{Version, Transition as TransitionKey, Place as PlaceKey, Input as InputKey, Name, Role, Duration, From, To, Hold, Tokens, Ready, Dates, Every, Gap}
 use Rattle.teg_reader.specs.declared.refusals.ReadRefusal.{ReadRefusal}
-use Rattle.teg_reader.specs.declared.refusals.ReadRefusal.TheVariants.{NotToml, UnknownKey, WrongKind, MissingKey, BadName, Repeated, OutOfRange, NoTransitions, UnknownTransition, NotEventGraph, InputHasUpstream, BadInput}
+use Rattle.teg_reader.specs.declared.refusals.ReadRefusal.TheVariants.{NotToml, UnknownKey, WrongKind, MissingKey, BadName, Repeated, OutOfRange, NoTransitions, UnknownTransition, NotEventGraph, InputHasUpstream, BadInput, BadReady, TooSlow}
 use Rattle.teg_reader.specs.declared.refusals.Section.{Section}
 use Rattle.teg_reader.specs.declared.refusals.Section.TheVariants.{Top, Transition, Place, Input}
 use Rattle.teg_reader.specs.declared.refusals.Spot.{Spot}
 use Rattle.dioid.specs.declared.dates.Date.{Date as DateOf}
 use Rattle.settled_laws.specs.Forms.{SettledForm}
+use Rattle.teg_jit.specs.declared.answers.LatestDate.{LatestDate}
+use Rattle.teg_jit.specs.declared.answers.LatestDate.TheVariants.{Free, At as AtDate}
+use Rattle.teg_jit.specs.declared.answers.Onward.{Onward}
+use Rattle.teg_jit.specs.declared.answers.Onward.TheVariants.{Due as DueThere, By as ByPlace, Next as ToNext}
+use Rattle.teg_jit.specs.Plans.{PlanDates}
+use Rattle.teg_net.specs.declared.walks.Step.{Step}
+use Rattle.teg_net.specs.declared.walks.Step.TheVariants.{By, Next}
+use Rattle.teg_report.specs.Plans.{LateLists}
 use Rattle.series_form.specs.declared.forms.SeriesRefused.TheVariants.{TooLong as TooLongSeries, TooGreat}
 use Rattle.series_laws.specs.Forms.{Form as SeriesForm}
 use Rattle.teg_calc.specs.declared.refusals.ParseRefused.TheVariants.{Syntax, TooDeep}
@@ -32,7 +40,7 @@ use Rattle.teg_report.specs.declared.answer.Failure.{Failure}
 use Rattle.teg_report.specs.declared.answer.Failure.TheVariants.{Illegal, BackInTime, BeforeRelease}
 use Rattle.teg_report.specs.declared.answer.Which.{Which}
 use Rattle.teg_report.specs.declared.answer.Which.TheVariants.{Net as NetFile, Due as DueFile, Log as LogFile}
-use Rattle.teg_report.specs.Answers.{Answer, Usage, Live, Listed, Form, NoCircuit, Cycle, Dates, Date, Slack, Transfer, Replayed, Refused, Calc, Trial, Read, TooLarge, TokenFree, NoTransition, Due, Log, TooLong, Parse, Series, Fault}
+use Rattle.teg_report.specs.Answers.{Answer, Usage, Live, Listed, Form, NoCircuit, Cycle, Dates, Date, Jit, Late, Slack, Transfer, Replayed, Refused, Calc, Trial, Read, TooLarge, TokenFree, NoTransition, Due, Log, TooLong, Parse, Series, Fault}
 use Rattle.teg_report.specs.Cycles.{PartLists, NoCircuitIn, BestOf, CycleLists, has_ratio}
 use Rattle.teg_report.specs.Rounds.{RoundLists}
 use Rattle.teg_report.specs.SettledTexts.{TimesFrom, TimesTo}
@@ -166,6 +174,50 @@ timed_in net lines =
     if stands_at 0 (line_at 1 lines) (codes "circuit") then Cycle (cycle_in net lines) (rounds_in net lines)
     else Slack (ratio_in (word 2 (line_at 0 lines))) (map slack_in (drop 1 lines))
 
+-- the first step by which a latest date is attained
+abbrev pub onward_in : NetLists → List (List ℕ) → Onward
+onward_in net line = if stands_at 4 line (codes "due") then DueThere else if stands_at 4 line (codes "next") then ToNext else ByPlace (place_in net (word 5 line))
+
+-- a latest date
+abbrev pub latest_in : NetLists → List (List ℕ) → LatestDate
+latest_in net line = if is_numeral (word 3 line) then AtDate (number_in (word 3 line)) (onward_in net line) else Free
+
+-- so many numbers of a plan, from the lines of all its firings, transition by transition
+abbrev pub planned_in : NetLists → ℕ → List (List (List ℕ)) → PlanDates
+planned_in net numbers lines = record {
+  width = length net.transitions;
+  numbers = numbers;
+  dates = map (λ i. latest_in net (line_at (i % length net.transitions * numbers + i / length net.transitions) lines)) (range_with_len 0 (numbers * length net.transitions));
+}
+
+-- a plan
+abbrev pub plan_in : NetLists → List (List (List ℕ)) → PlanDates
+plan_in net lines = planned_in net (number_in (word 3 (line_at 0 lines))) (drop 1 lines)
+
+-- the steps of a walk, so many at most
+abbrev pub steps_in : NetLists → ℕ → List (List ℕ) → List Step
+steps_in net zero words = []
+steps_in net (suc n) [] = []
+steps_in net (suc n) (first ∷ words) =
+    if bytes_eq first (codes "next") then Next ∷ steps_in net n (drop 2 words) else By (place_in net (word 0 words)) ∷ steps_in net n (drop 3 words)
+
+-- the line of a walk, the last one
+abbrev pub path_in : List (List (List ℕ)) → List (List ℕ)
+path_in lines = if stands_at 0 (line_at 1 lines) (codes "from") then line_at 2 lines else line_at 1 lines
+
+-- a firing that is later than due
+abbrev pub late_in : NetLists → List (List (List ℕ)) → LateLists
+late_in net lines = record {
+  transition = transition_in net (word 1 (line_at 0 lines));
+  number = number_in (word 2 (line_at 0 lines));
+  due = number_in (word 4 (line_at 0 lines));
+  least = number_in (word 6 (line_at 0 lines));
+  start = if stands_at 0 (line_at 1 lines) (codes "from") then number_in (word 2 (line_at 1 lines)) else 0;
+  from = transition_in net (word 1 (path_in lines));
+  first = number_in (word 2 (path_in lines));
+  steps = steps_in net (length (drop 3 (path_in lines))) (drop 3 (path_in lines));
+}
+
 -- the dates of a row: behind two words, and before two
 abbrev pub row_dates_in : List (List ℕ) → List DateOf
 row_dates_in line = map date_in (take (length line - 4) (drop 2 line))
@@ -244,10 +296,12 @@ key_in word =
     else if bytes_eq word (codes "input") then InputKey
     else if bytes_eq word (codes "name") then Name
     else if bytes_eq word (codes "role") then Role
+    else if bytes_eq word (codes "duration") then Duration
     else if bytes_eq word (codes "from") then From
     else if bytes_eq word (codes "to") then To
     else if bytes_eq word (codes "hold") then Hold
     else if bytes_eq word (codes "tokens") then Tokens
+    else if bytes_eq word (codes "ready") then Ready
     else if bytes_eq word (codes "dates") then Dates
     else if bytes_eq word (codes "every") then Every
     else Gap
@@ -274,8 +328,10 @@ refusal_in line =
     else if stands_at 1 line (codes "no") then NoTransitions
     else if stands_at 1 line (codes "top") then fault_in (record { section = Top; position = 0 }) (drop 2 line)
     else if stands_at 1 line (codes "input") && not (is_numeral (word 2 line)) then BadInput (word 3 line) (number_in (word 6 line))
+    else if stands_at 3 line (codes "has") && stands_at 5 line (codes "ready") then BadReady (word 2 line) (number_in (word 4 line)) (number_in (word 8 line))
     else if stands_at 3 line (codes "has") then NotEventGraph (word 2 line) (number_in (word 4 line)) (number_in (word 7 line))
     else if stands_at 3 line (codes "enters") then InputHasUpstream (word 2 line)
+    else if stands_at 3 line (codes "hold") then TooSlow (word 2 line)
     else fault_in (record { section = section_in (word 1 line); position = number_in (word 2 line) }) (drop 3 line)
 
 -- the answer that these lines tell, by the names of the net
@@ -288,6 +344,8 @@ answer_of net lines =
     else if stands_at 0 (line_at 0 lines) (codes "no") then NoCircuit
     else if stands_at 0 (line_at 0 lines) (codes "cycle") then timed_in net lines
     else if stands_at 0 (line_at 0 lines) (codes "settled") then Dates (settled_in lines)
+    else if stands_at 0 (line_at 0 lines) (codes "latest") then Jit (plan_in net lines)
+    else if stands_at 0 (line_at 0 lines) (codes "late") then Late (Some (late_in net lines))
     else if stands_at 0 (line_at 0 lines) (codes "transfer") then Transfer (transfer_in net lines)
     else if stands_at 0 (line_at 0 lines) (codes "date") then Date (transition_in net (word 1 (line_at 0 lines))) (number_in (word 2 (line_at 0 lines))) (date_in (word 3 (line_at 0 lines)))
     else if stands_at 0 (line_at 0 lines) (codes "replayed") then Replayed (number_in (word 1 (line_at 0 lines))) (map phrase_in (drop 1 lines))

@@ -1,5 +1,5 @@
 -- What the values of an answer keep by their types, and where an answer is told in the one way that it has.
-use Rattle.std.specs.Prelude.{ℕ, ◌<◌, ◌≡◌, ◌^◌, List, length, Option, IfSome, All, IsTrue, ⊤}
+use Rattle.std.specs.Prelude.{ℕ, ◌+◌, ◌<◌, ◌≡◌, ◌^◌, List, length, Option, Some, None, IfSome, All, IsTrue, ⊤}
 use Rattle.std.specs.Int.RustNames.{unsigned_abs}
 use Rattle.dioid.specs.declared.dates.Date.{Date as DateOf}
 use Rattle.teg_critical.specs.declared.slacks.Slack.{Slack as PlaceSlack}
@@ -22,10 +22,14 @@ use Rattle.teg_net.specs.Nets.{NetLists, IsNet}
 use Rattle.teg_net.specs.Ratios.{Fraction}
 use Rattle.teg_reader.specs.Spots.{IsPlainSpot, HasPlainSpot}
 use Rattle.teg_reader.specs.declared.refusals.ReadRefusal.{ReadRefusal}
-use Rattle.teg_reader.specs.declared.refusals.ReadRefusal.TheVariants.{NotToml, UnknownKey, WrongKind, MissingKey, BadName, Repeated, OutOfRange, NoTransitions, UnknownTransition, NotEventGraph, InputHasUpstream, BadInput, OutOfMemory}
+use Rattle.teg_reader.specs.declared.refusals.ReadRefusal.TheVariants.{NotToml, UnknownKey, WrongKind, MissingKey, BadName, Repeated, OutOfRange, NoTransitions, UnknownTransition, NotEventGraph, InputHasUpstream, BadInput, BadReady, TooSlow, OutOfMemory}
 use Rattle.teg_reader.specs.declared.refusals.Spot.{Spot}
-use Rattle.teg_report.specs.Answers.{Answer, Usage, Live, Listed, Form, NoCircuit, Cycle, Dates, Date, Slack, Transfer, Replayed, Refused, Calc, Trial, Read, TooLarge, TokenFree, NoTransition, Due, Log, TooLong, Parse, Series, Fault}
+use Rattle.teg_report.specs.Answers.{Answer, Usage, Live, Listed, Form, NoCircuit, Cycle, Dates, Date, Jit, Late, Slack, Transfer, Replayed, Refused, Calc, Trial, Read, TooLarge, TokenFree, NoTransition, Due, Log, TooLong, Parse, Series, Fault}
 use Rattle.teg_report.specs.Reports.{IsAbout}
+use Rattle.teg_jit.specs.declared.answers.LatestDate.{LatestDate}
+use Rattle.teg_jit.specs.declared.answers.LatestDate.TheVariants.{Free, At as AtDate}
+use Rattle.teg_jit.specs.Plans.{KeepsSizes, PlanDates, latest_at}
+use Rattle.teg_report.specs.Plans.{LateLists}
 use Rattle.settled_laws.specs.Forms.{SettledForm}
 use Rattle.teg_report.specs.Rounds.{RoundLists}
 use Rattle.teg_report.specs.SettledTexts.{TimesFrom, TimesTo}
@@ -58,6 +62,8 @@ IsRefusal (UnknownTransition spot name) = IsSpot spot × AreBytes name
 IsRefusal (NotEventGraph place producers consumers) = IsTrue (is_name place) × IsWord32 producers × IsWord32 consumers
 IsRefusal (InputHasUpstream place) = IsTrue (is_name place)
 IsRefusal (BadInput transition position) = IsTrue (is_name transition) × IsWord32 position
+IsRefusal (BadReady place given tokens) = IsTrue (is_name place) × IsWord32 given × IsWord32 tokens
+IsRefusal (TooSlow place) = IsTrue (is_name place)
 IsRefusal OutOfMemory = ⊥
 
 -- the numbers of a star entry
@@ -127,6 +133,29 @@ IsLogKept (UnknownFiring row) = IsWord32 row
 IsLogKept (LogOutOfRange row) = IsWord32 row
 IsLogKept NoLogRoom = ⊥
 
+-- the number of a latest date
+abbrev pub IsLatestKept : LatestDate → Type 0
+IsLatestKept Free = ⊤
+IsLatestKept (AtDate date onward) = IsWord64 date
+
+-- the sizes of a plan, and the numbers of its dates
+pub record AreLatestKept (plan : PlanDates) : Type 0 where
+  pub sizes : KeepsSizes plan
+  pub each : (t k : ℕ) → t < plan.width → k < plan.numbers → IsLatestKept (latest_at plan t (k + 1))
+
+-- the numbers of a firing that is later than due
+pub record AreLateNumbers (late : LateLists) : Type 0 where
+  pub number : IsWord32 late.number
+  pub due : IsWord64 late.due
+  pub least : late.least < 2 ^ 128
+  pub start : IsWord64 late.start
+  pub first : IsWord64 late.first
+
+-- such a firing is told; it is not want of memory
+abbrev pub IsLateKept : Option LateLists → Type 0
+IsLateKept None = ⊥
+IsLateKept (Some late) = AreLateNumbers late
+
 -- the numbers of a settled form, and a step for each row
 pub record IsSettledKept (f : SettledForm) : Type 0 where
   pub after : IsWord64 f.after
@@ -160,6 +189,8 @@ IsKept NoCircuit = ⊤
 IsKept (Cycle answer rounds) = IfSome rounds (λ runs. All IsRunKept runs)
 IsKept (Dates settled) = IsSettledKept settled
 IsKept (Date transition number date) = IsWord64 number × IsDate date
+IsKept (Jit plan) = AreLatestKept plan
+IsKept (Late late) = IsLateKept late
 IsKept (Slack ratio slacks) = IsRatioKept ratio × All IsSlackKept slacks
 IsKept (Transfer inputs) = All AreTimesKept inputs
 IsKept (Replayed accepted lines) = IsWord64 accepted

@@ -10,11 +10,12 @@ use Rattle.teg_due.specs.declared.rows.DueRefusal.TheVariants.{OutOfMemory as No
 use Rattle.teg_due.specs.declared.rows.LogRefusal.TheVariants.{OutOfMemory as NoLogRoom}
 use Rattle.teg_reader.specs.declared.refusals.ReadRefusal.TheVariants.{OutOfMemory}
 use Rattle.teg_report.specs.Series.{parse_line, series_refused_line}
-use Rattle.teg_report.specs.Answers.{Answer, Usage, Live, Listed, Form, NoCircuit, Cycle, Dates, Date, Slack, Transfer, Replayed, Refused, Calc, Trial, Read, TooLarge, TokenFree, NoTransition, Due, Log, TooLong, Parse, Series, Fault}
+use Rattle.teg_report.specs.Answers.{Answer, Usage, Live, Listed, Form, NoCircuit, Cycle, Dates, Date, Jit, Late, Slack, Transfer, Replayed, Refused, Calc, Trial, Read, TooLarge, TokenFree, NoTransition, Due, Log, TooLong, Parse, Series, Fault}
 use Rattle.teg_report.specs.Cycles.{IsCycleTold, cycle_lines}
 use Rattle.teg_report.specs.Rounds.{AreRoundsTold, runs_lines, told_runs}
 use Rattle.teg_report.specs.FileRows.{IsFailureIn, IsOneLine, due_line, log_line, refused_lines, replayed_lines}
 use Rattle.teg_report.specs.Forms.{IsFormWithin, form_lines, name_of_transition}
+use Rattle.teg_report.specs.Plans.{IsLateTold, IsPlanIn, late_lines, plan_lines}
 use Rattle.teg_report.specs.SettledTexts.{AreTimesIn, settled_lines, transfer_lines}
 use Rattle.teg_report.specs.Slacks.{slack_lines, trial_lines}
 use Rattle.teg_text.specs.Lines.{written}
@@ -37,6 +38,8 @@ lines_of net NoCircuit = no_circuit_line ∷ []
 lines_of net (Cycle answer rounds) = cycle_lines net answer ++ runs_lines net (told_runs answer.parts rounds)
 lines_of net (Dates settled) = settled_lines net settled
 lines_of net (Date transition number date) = date_line (name_of_transition net transition) number date ∷ []
+lines_of net (Jit plan) = plan_lines net plan
+lines_of net (Late late) = late_lines net late
 lines_of net (Slack ratio slacks) = slack_lines net ratio slacks
 lines_of net (Transfer inputs) = transfer_lines net inputs
 lines_of net (Replayed accepted lines) = replayed_lines accepted lines
@@ -68,6 +71,8 @@ IsAbout net NoCircuit = ⊤
 IsAbout net (Cycle answer rounds) = IsSomeAnd net (λ n. IsCycleTold n answer × AreRoundsTold n answer.parts rounds)
 IsAbout net (Dates settled) = IsSomeAnd net (λ n. length settled.rows ≡ length n.transitions)
 IsAbout net (Date transition number date) = IsSomeAnd net (λ n. transition.index < length n.transitions)
+IsAbout net (Jit plan) = IsSomeAnd net (λ n. IsPlanIn n plan)
+IsAbout net (Late late) = IsSomeAnd net (λ n. IsLateTold n late)
 IsAbout net (Slack ratio slacks) = IsSomeAnd net (λ n. length slacks ≡ length n.places)
 IsAbout net (Transfer inputs) = IsSomeAnd net (λ n. All (AreTimesIn n) inputs)
 IsAbout net (Replayed accepted lines) = All IsOneLine lines

@@ -3,7 +3,7 @@ ghost use Rattle.std.specs.Prelude.{◌≡◌, [], ◌∷◌, IfOk, IsTrue, stri
 ghost use Rattle.teg_net.specs.Names.{is_name};
 ghost use Rattle.teg_reader.specs.Spots.{HasPlainSpot};
 ghost use Rattle.teg_report.specs.Kept.{IsRefusal, IsWord32};
-ghost use Rattle.teg_report.specs.Refusals.{ends_line, entered_line, fault_line, input_line, read_line};
+ghost use Rattle.teg_report.specs.Refusals.{ends_line, entered_line, fault_line, hold_line, input_line, read_line, ready_line};
 ghost use Rattle.teg_report.specs.Spots.{spot_text};
 ghost use Rattle.teg_text.specs.Lines.{written};
 ghost use Rattle.teg_text.specs.Words.{AreBytes, label_word};
@@ -106,6 +106,28 @@ fn input(alloc: Global, transition: &Name, position: u32) -> Result<Vec<u8>, Out
     Ok(text.into_bytes())
 }
 
+/// How many ready dates a place has, and how many tokens.
+fn ready(alloc: Global, place: &Name, given: u32, tokens: u32) -> Result<Vec<u8>, OutOfMemory>
+    ensures text { IfOk result (λ text. text.items ≡ written (ready_line place.now given tokens ∷ [])) }
+    ensures kept { IsTrue (is_name place.now) × IsWord32 given × IsWord32 tokens }
+{
+    let place = place.as_str();
+    let text = format!(in alloc;
+        "refused: place {place} has {given} ready dates for {tokens} tokens\n"
+    )?;
+    Ok(text.into_bytes())
+}
+
+/// That the hold of a place is too great.
+fn hold(alloc: Global, place: &Name) -> Result<Vec<u8>, OutOfMemory>
+    ensures text { IfOk result (λ text. text.items ≡ written (hold_line place.now ∷ [])) }
+    ensures kept { IsTrue (is_name place.now) }
+{
+    let place = place.as_str();
+    let text = format!(in alloc; "refused: place {place} hold exceeds 1000000000\n")?;
+    Ok(text.into_bytes())
+}
+
 /// Why the bytes of a file say no net.
 pub(crate) fn read(alloc: Global, refusal: &ReadRefusal) -> Result<Vec<u8>, OutOfMemory>
     ensures text { IfOk result (λ text. text.items ≡ written (read_line refusal.now ∷ [])) }
@@ -137,6 +159,12 @@ pub(crate) fn read(alloc: Global, refusal: &ReadRefusal) -> Result<Vec<u8>, OutO
             transition,
             position,
         } => input(alloc, transition, *position),
+        ReadRefusal::BadReady {
+            place,
+            given,
+            tokens,
+        } => ready(alloc, place, *given, *tokens),
+        ReadRefusal::TooSlow { place } => hold(alloc, place),
         ReadRefusal::OutOfMemory => Err(OutOfMemory),
     }
 }

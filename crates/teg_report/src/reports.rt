@@ -8,7 +8,7 @@ ghost use Rattle.teg_report.specs.Meanings.{meant};
 ghost use Rattle.teg_report.specs.Reports.{IsAbout, text_of};
 
 use crate::answer::Answer;
-use crate::{cycles, file_rows, forms, lists, refusals, series, settled, slacks, texts};
+use crate::{cycles, file_rows, forms, lists, plans, refusals, series, settled, slacks, texts};
 use std::alloc::Global;
 use teg_net::{Net, OutOfMemory};
 
@@ -40,6 +40,8 @@ fn text(alloc: Global, net: Option<&Net>, answer: &Answer<'_>) -> Result<Vec<u8>
             },
             Some(net),
         ) => texts::date(alloc, net, *transition, *number, *date),
+        (Answer::Jit { plan }, Some(net)) => plans::jit(alloc, net, plan),
+        (Answer::Late { refusal }, Some(net)) => plans::late(alloc, net, refusal),
         (Answer::Slack { ratio, slacks }, Some(net)) => slacks::slack(alloc, net, **ratio, slacks),
         (Answer::Transfer { inputs }, Some(net)) => settled::transfer(alloc, net, inputs),
         (Answer::Replayed { accepted, lines }, _) => file_rows::replayed(alloc, *accepted, lines),
@@ -78,6 +80,8 @@ fn text(alloc: Global, net: Option<&Net>, answer: &Answer<'_>) -> Result<Vec<u8>
             | Answer::Cycle { .. }
             | Answer::Dates { .. }
             | Answer::Date { .. }
+            | Answer::Jit { .. }
+            | Answer::Late { .. }
             | Answer::Slack { .. }
             | Answer::Transfer { .. }
             | Answer::TokenFree { .. },
@@ -98,8 +102,8 @@ fn know_rules(net: Option<&Net>)
 /// The bytes of an answer, one line feed after each line.
 ///
 /// The net is given wherever the text has a name that the answer does not hold itself: for `List`,
-/// `Form`, `Cycle`, `Dates`, `Date`, `Slack`, `Transfer` (whose outputs are also counted by it) and
-/// `TokenFree`, and for `Refused` where a place is named. What the answer names is in the net: a
+/// `Form`, `Cycle`, `Dates`, `Date`, `Jit`, `Late`, `Slack`, `Transfer` (whose outputs are also
+/// counted by it) and `TokenFree`, and for `Refused` where a place is named. What the answer names is in the net: a
 /// table and a settled form have dates for each of its transitions, slacks are one for each of its
 /// places, and transitions, the ends of entries, the places of a circuit, and the
 /// transitions and places of a round are among its own. Rounds are a list for each part with a

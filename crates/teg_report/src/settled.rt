@@ -53,6 +53,7 @@ fn push_row(text: &mut String, net: &Net, settled: &Settled, index: usize) -> Re
     ensures dates { IfOk result (λ _. All IsDate (row_of settled.now index)) }
     ensures step { IfOk result (λ _. unsigned_abs (step_of settled.now index) < 2 ^ 128) }
 {
+    // That the net keeps its rules, and so has few transitions.
     net.transitions();
     let transition = TransitionId {
         index: index as u32,

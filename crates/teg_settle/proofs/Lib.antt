@@ -1,0 +1,10 @@
+pub mod Releasing
+pub mod Listing
+pub mod Leasts
+pub mod Tested
+pub mod Copying
+pub mod Owning
+pub mod Limiting
+pub mod OwnForms
+pub mod Reaching
+pub mod Transferring

@@ -1,14 +1,30 @@
 //! The settled form of a net's earliest dates: past some number they go on by a fixed step in each
 //! period (chapter 3, cyclicity).
 //!
-//! A [`Settled`] has a number, a period, and for each transition the dates up to the end of the first
-//! period past that number and a step; contracts see it as a `SettledForm`. It tells the date of every
-//! number. The crate stands on `settled_laws` for what settled forms are, on `teg_model` for datings,
-//! and on `dioid` for dates.
+//! [`settle_within`] answers the shortest form of the least dating of a net, or that its length
+//! exceeds a limit; [`settle`] the same form whatever its length, which every live net has;
+//! [`transfer`] that of the greatest times of walks from an input, within a limit. A [`Settled`] has
+//! a number, a period, and for each transition the dates up to the end of the first period past that
+//! number and a step; contracts see it as a `SettledForm`. It tells the date of every number.
+//!
+//! Rows of dates are made until they show a form: in its last period no step falls along a place, the
+//! dates before move alike, and so do the releases of the inputs. The crate stands on `teg_dates` for
+//! rows, on `teg_check` for ranks, on `settled_laws` for what settled forms are and what rows tell, on
+//! `periodic_laws` for that there is one, on `slope_laws` for their slopes, on `teg_model` for
+//! datings, and on `dioid` for dates.
 #![tactic(auto)]
 
+mod endless;
+mod limited;
 mod refusals;
+mod releases;
+mod search;
 mod settled;
+#[cfg(test)]
+mod tests;
+mod window;
 
+pub use endless::settle;
+pub use limited::{settle_within, transfer};
 pub use refusals::SettleRefusal;
 pub use settled::Settled;

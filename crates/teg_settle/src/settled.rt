@@ -1,13 +1,20 @@
 //! A settled form in memory.
-ghost use Rattle.std.specs.Prelude.{◌≡◌, ◌<◌, ◌≤◌, ◌+ℤ◌, ◌*ℤ◌, FitsSigned, pos, length};
+ghost use Rattle.std.specs.Prelude.{ℕ, ◌≡◌, ◌<◌, ◌≤◌, ◌+◌, ◌+ℤ◌, ◌*ℤ◌, FitsSigned, IfOk, pos, length};
 ghost use Rattle.std.specs.Int.{w128};
 ghost use Rattle.teg_net.specs.Limits.{greatest_number};
-ghost use Rattle.settled_laws.specs.Forms.{row_of, step_of, date_of};
+ghost use Rattle.dioid.specs.declared.dates.Date.{Date};
+ghost use Rattle.settled_laws.specs.Forms.{StandsFor, row_of, step_of, date_of};
+ghost use Rattle.teg_settle.specs.Copies.{AreDatesOf};
 ghost use Rattle.teg_settle.specs.Kept.{IsKept};
+ghost use Rattle.teg_settle.specs.Windows.{IsToldBy, IsWindow};
 
+use crate::releases::Repetition;
+use crate::window::step_in;
 use dioid::Date;
+use std::alloc::{AllocError, Global};
 use std::marker::Model;
-use teg_net::TransitionId;
+use teg_dates::Rows;
+use teg_net::{Net, TransitionId};
 
 /// A settled form (chapter 3): a number, a period of at least 1, and for each transition of a net the
 /// dates of the numbers from 1 to number plus period, and a step. Past the number each date is that of
@@ -42,7 +49,57 @@ fn moved(number: i128, rounds: u64, step: i128) -> i128
     number + all
 }
 
+/// The first `count` dates of the transition.
+fn dates_of(
+    alloc: Global,
+    rows: &Rows,
+    transition: TransitionId,
+    count: u64,
+) -> Result<Vec<Date>, AllocError>
+    requires transition { transition.index < rows.now.width }
+    requires few { count ≤ rows.now.count }
+    ensures { IfOk result (λ dates. AreDatesOf rows.now transition.index count dates.items) }
+{
+    let mut dates = Vec::with_capacity(alloc, count as usize)?;
+    for number in 1..count + 1 {
+        dates.push(rows.date(transition, number))?;
+    }
+    Ok(dates)
+}
+
 impl Settled {
+    /// The form that the rows show, with the dates that it needs of them.
+    pub(crate) fn of_rows(
+        alloc: Global,
+        net: &Net,
+        rows: &Rows,
+        form: Repetition,
+    ) -> Result<Settled, AllocError>
+        requires window { IsWindow net.now rows.now form.period }
+        requires fits { form.after + form.period + form.period ≤ rows.now.count }
+        requires told { (x : ℕ → ℕ → Date) × IsToldBy net.now rows.now form x }
+        ensures after { IfOk result (λ settled. settled.after ≡ form.after) }
+        ensures period { IfOk result (λ settled. settled.period ≡ form.period) }
+        ensures stands { IfOk result (λ settled. (x : ℕ → ℕ → Date) → IsToldBy net.now rows.now form x → StandsFor (length net.now.transitions) settled x) }
+    {
+        let count = form.after + form.period;
+        let mut table = Vec::new(alloc);
+        let mut steps = Vec::new(alloc);
+        for index in 0..net.transitions().len() {
+            let id = TransitionId {
+                index: index as u32,
+            };
+            table.push(dates_of(alloc, rows, id, count)?)?;
+            steps.push(step_in(net, rows, form.period, id))?;
+        }
+        Ok(Settled {
+            after: form.after,
+            period: form.period,
+            rows: table,
+            steps,
+        })
+    }
+
     /// The number past which the dates go on by their steps, 0 or more.
     pub fn after(&self) -> u64
         ensures value { result ≡ self.now.after }

@@ -16,4 +16,6 @@ mod monitors;
 #[cfg(test)]
 mod nets;
 #[cfg(test)]
+mod ready_dates_and_durations;
+#[cfg(test)]
 mod rows;

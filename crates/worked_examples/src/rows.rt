@@ -385,7 +385,7 @@ const REFUSED: [Row<'static>; 18] = [
     ),
     (
         &CHECK,
-        "version = 2\ntransition = [{name = 'a'}, {name = 'b'}]\nplace = [{name = 'ab', from = 'a', to = 'b', hold = 3}, {name = 'ba', from = 'b', to = 'a', hold = 2, tokens = 1}]\n",
+        "version = 3\ntransition = [{name = 'a'}, {name = 'b'}]\nplace = [{name = 'ab', from = 'a', to = 'b', hold = 3}, {name = 'ba', from = 'b', to = 'a', hold = 2, tokens = 1}]\n",
         Status::Net,
         "refused: top out of range version\n",
     ),

@@ -16,4 +16,4 @@ number_of-requires-2-clause-known c = rw c.end_at-2.ensures (sound_place _ _ c.r
 pub overflow_cast-result : goal.overflow_cast-result
 overflow_cast-result c =
     let place = sound_place (map deref c.args.names.now.keys) (view c.args.entry.now) c.requires.sound in
-    omega (arith, place.tokens, c.number_at-2.ensures.value)
+    omega (arith, place.tokens, c.number_at.ensures.value)

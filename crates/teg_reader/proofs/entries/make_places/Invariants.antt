@@ -1,8 +1,7 @@
 use Rattle.std.proofs.Common.{◌≡◌, map, take}
-use Rattle.std.specs.Map.Iter.{deref}
 use Rattle.toml.specs.View.{view}
 use Rattle.teg_reader.specs.NetOf.{place_of}
 use Rattle.teg_reader.proofs.entries.make_places.Given as goal
 
 abbrev pub invariant-loop-entry : goal.invariant-loop-entry
-invariant-loop-entry l = l.places.items ≡ map (place_of (map deref l.names.keys)) (map view (take l.entry-index l.entries))
+invariant-loop-entry l = l.places.items ≡ map (place_of (map view l.transitions)) (map view (take l.entry-index l.entries))

@@ -3,7 +3,7 @@ use Rattle.std.proofs.lemmas.List.{get_or_default, length_push}
 use Rattle.teg_due.specs.declared.rows.LogRow.{LogRow}
 use Rattle.teg_replay.specs.Replays.{fired_of}
 use Rattle.teg_replay.proofs.Shown.{shown_begins, shown_on}
-use Rattle.teg_replay.proofs.Replaying.{no_row, firings_begin, firings_more, run_more, replay_refused}
+use Rattle.teg_replay.proofs.Replaying.{no_row, firings_begin, firings_more, run_more, replay_refused, refused_named}
 use Rattle.teg_replay.proofs.Failing.{refused_not_legal, refused_not_earliest}
 use Rattle.teg_replay.proofs.play.replay.Goals as goal
 
@@ -65,3 +65,7 @@ returns-in-Err-clause-earliest g c =
 
 pub returns-in_default-clause-replayed : goal.returns-in_default-clause-replayed
 returns-in_default-clause-replayed g c = ([], firings_begin c.args.net.now c.args.log.now, shown_begins _)
+
+pub returns-in-Err-clause-named : goal.returns-in-Err-clause-named
+returns-in-Err-clause-named g c =
+    refused_named c.args.net.now c.loop-row.game.run (get_or c.args.log.now c.loop-row.row-index no_row) c.loop-row.accepted c.in-Err.why c.refused.result c.in-Err.ensures.refused c.refused.ensures.told

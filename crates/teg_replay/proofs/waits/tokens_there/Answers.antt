@@ -1,30 +1,18 @@
 use Rattle.std.proofs.Common.{get_or, sym, ◌∙◌, arith}
 use Rattle.std.proofs.lemmas.List.{get_or_default}
 use Rattle.teg_net.specs.declared.entries.PlaceId.{PlaceId}
-use Rattle.teg_replay.proofs.Latest.{no_id, latest_more, latest_is, latest_by, first_late}
+use Rattle.teg_replay.proofs.Latest.{no_id, latest_more, latest_is, latest_by, late_at}
 use Rattle.teg_replay.proofs.waits.tokens_there.Goals as goal
 
 pub returns-then-from-date-clause-fails : goal.returns-then-from-date-clause-fails
 returns-then-from-date-clause-fails c =
-    let net = c.args.net.now in
-    let ids = c.args.into.now in
-    let i = c.loop-id.id-index in
-    let l = c.loop-id-test.true in
-    let id : PlaceId = get_or ids i no_id in
-    let there = sym c.in-Some.is ∙ c.token_date.ensures in
-    first_late net c.args.history.now.run c.args.fired c.next_number-number.result ids i c.loop-id.latest id _ c.requires.into c.loop-id.invariant l
-    (λ d. get_or_default ids i d no_id l) c.next_number-number.ensures.number there (λ h. omega (arith, h, c.if-from-date.true, c.from.ensures))
+    late_at c.args.net.now c.args.history.now.run c.args.fired c.next_number-number.result c.args.into.now c.loop-id.id-index c.loop-id.latest _ c.requires.into c.loop-id.invariant c.loop-id-test.true
+    c.next_number-number.ensures.number (sym c.in-Some.is ∙ c.token_date.ensures) (λ h. omega (arith, h, c.if-from-date.true, c.from.ensures))
 
 pub returns-in-None-clause-fails : goal.returns-in-None-clause-fails
 returns-in-None-clause-fails c =
-    let net = c.args.net.now in
-    let ids = c.args.into.now in
-    let i = c.loop-id.id-index in
-    let l = c.loop-id-test.true in
-    let id : PlaceId = get_or ids i no_id in
-    let there = sym c.in-None.is ∙ c.token_date.ensures in
-    first_late net c.args.history.now.run c.args.fired c.next_number-number.result ids i c.loop-id.latest id _ c.requires.into c.loop-id.invariant l
-    (λ d. get_or_default ids i d no_id l) c.next_number-number.ensures.number there (λ h. h)
+    late_at c.args.net.now c.args.history.now.run c.args.fired c.next_number-number.result c.args.into.now c.loop-id.id-index c.loop-id.latest _ c.requires.into c.loop-id.invariant c.loop-id-test.true
+    c.next_number-number.ensures.number (sym c.in-None.is ∙ c.token_date.ensures) (λ h. h)
 
 pub returns-clause-latest : goal.returns-clause-latest
 returns-clause-latest c =

@@ -1,4 +1,4 @@
-use Rattle.std.proofs.Common.{rules, ◌≡◌, ◌<◌, ◌^◌, [], ◌++◌, List, All, ℕ, length, map, unsigned_abs, slice_index_or, pos, refl, subst, ap, sym, ◌∙◌, string_bytes, arith}
+use Rattle.std.proofs.Common.{rules, ◌≡◌, ◌<◌, ◌^◌, [], ◌++◌, List, All, ℕ, length, map, unsigned_abs, pos, refl, subst, ap, sym, ◌∙◌, string_bytes, arith}
 use Rattle.std.proofs.lemmas.List.{get_or_default}
 use Rattle.std.specs.List.{range_with_len}
 use Rattle.settled_laws.specs.Forms.{row_of, step_of}

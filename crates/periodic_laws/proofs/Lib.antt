@@ -1,0 +1,10 @@
+mod Values
+mod Entries
+mod Fixed
+mod Lists
+mod Multiples
+mod Forms
+mod Inside
+mod Released
+mod Columns
+mod OfNet

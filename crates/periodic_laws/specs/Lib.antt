@@ -1,0 +1,5 @@
+pub mod PeriodicDates
+pub mod Equations
+pub mod Columns
+pub mod Numbers
+pub mod Laws

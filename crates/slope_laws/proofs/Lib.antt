@@ -1,0 +1,9 @@
+pub mod Sums
+pub mod WalkPaths
+pub mod BestWalks
+pub mod Lists
+pub mod Lower
+pub mod Starts
+pub mod Slopes
+pub mod Nevers
+pub mod FormSlopes

@@ -1,0 +1,20 @@
+//! The laws of slopes. Each is a function that does nothing when it runs: its contract is the law.
+ghost use Rattle.slope_laws.specs.Laws.{FormsHaveSlopes, NeversComeFromEndedLists, SettledFormsHaveSlopes};
+
+/// In a live net a date of a transition is `Never` only where an input whose list ends reaches it,
+/// from then on all its dates are, and where such an input reaches it some date is.
+pub fn nevers_come_from_ended_lists()
+    ensures { NeversComeFromEndedLists }
+{}
+
+/// In a live net, where the dates of one transition repeat past some number, the last of them are
+/// `Never` exactly where an input whose list ends reaches it, and otherwise its step over the period
+/// is the slope of the transition (chapter 3).
+pub fn forms_have_slopes()
+    ensures { FormsHaveSlopes }
+{}
+
+/// So it is for each transition in each settled form of the least dating (chapter 3).
+pub fn settled_forms_have_slopes()
+    ensures { SettledFormsHaveSlopes }
+{}

@@ -1,0 +1,61 @@
+-- Where the dates of firings stand in a list with one row a number.
+use Rattle.std.proofs.Common.{ℕ, ◌+◌, ◌-◌, ◌*◌, ◌<◌, ◌≤◌, ◌≡◌, ◌≢◌, List, length, set, sym, ap, ◌∙◌, arith, ⊎_elim}
+use Rattle.std.proofs.lemmas.Bool.{cases_lt}
+use Rattle.std.proofs.lemmas.List.{get_or_past, get_or-set_same, get_or-set_other}
+use Rattle.teg_dates.specs.Tables.{cell_of}
+use Rattle.teg_jit.specs.declared.answers.LatestDate.{LatestDate}
+use Rattle.teg_jit.specs.declared.answers.LatestDate.TheVariants.{Free}
+use Rattle.teg_jit.specs.Plans.{latest_in}
+
+-- the rows before k are k - 1
+pub rows_before : (w k : ℕ) → 1 ≤ k → k * w ≡ (k - 1) * w + w
+rows_before w k o =
+    let is : k ≡ (k - 1) + 1 = omega arith in
+    let product : ((k - 1) + 1) * w ≡ (k - 1) * w + w = grind arith in
+    ap (λ z. z * w) is ∙ product
+
+rows_more : (w j d : ℕ) → (j + d) * w ≡ j * w + d * w
+rows_more w j d = grind arith
+
+-- fewer rows take no more room
+pub rows_below : (w j k : ℕ) → j ≤ k → j * w ≤ k * w
+rows_below w j k l =
+    let is : j + (k - j) ≡ k = omega arith in
+    let product : k * w ≡ j * w + (k - j) * w = ap (λ z. z * w) (sym is) ∙ rows_more w j (k - j) in
+    omega (arith, product)
+
+-- a cell of number k stands in the first k rows
+pub cell_within : (w t k : ℕ) → t < w → 1 ≤ k → cell_of w t k < k * w
+cell_within w t k l o = omega (arith, rows_before w k o)
+
+pub cell_in : (w t k n : ℕ) → t < w → 1 ≤ k → k ≤ n → cell_of w t k < n * w
+cell_in w t k n l o m = omega (arith, cell_within w t k l o, rows_below w k n m)
+
+-- two firings have two cells
+cell_before : (w t v j k : ℕ) → t < w → 1 ≤ j → j < k → cell_of w t j < cell_of w v k
+cell_before w t v j k l o m = omega (arith, cell_within w t j l o, rows_below w j (k - 1) (omega arith))
+
+pub cells_apart : (w t v j k : ℕ) → t < w → v < w → 1 ≤ j → 1 ≤ k → (t ≡ v → j ≡ k → ⊥) → cell_of w t j ≢ cell_of w v k
+cells_apart w t v j k l m o p apart =
+    ⊎_elim
+    (λ (a : j < k). let low = cell_before w t v j k l o a in λ e. absurd (omega arith))
+    (λ (a : k ≤ j).
+    ⊎_elim
+    (λ (b : k < j). let low = cell_before w v t k j m p b in λ e. absurd (omega arith))
+    (λ (b : j ≤ k).
+    let same : j ≡ k = omega arith in
+    let row : (j - 1) * w ≡ (k - 1) * w = ap (λ z. (z - 1) * w) same in
+    λ e. apart (omega arith) same)
+    (cases_lt k j))
+    (cases_lt j k)
+
+-- past the last number each firing is free
+pub past_last : (w last : ℕ) (dates : List LatestDate) (t k : ℕ) → length dates ≡ last * w → last < k → latest_in w dates t k ≡ Free
+past_last w last dates t k full l = get_or_past dates (cell_of w t k) Free (omega (arith, full, rows_below w last (k - 1) (omega arith)))
+
+-- a date is set, and no other
+pub set_here : (w last : ℕ) (dates : List LatestDate) (t k : ℕ) (b : LatestDate) → length dates ≡ last * w → t < w → 1 ≤ k → k ≤ last → latest_in w (set dates (cell_of w t k) b) t k ≡ b
+set_here w last dates t k b full l o m = get_or-set_same dates (cell_of w t k) b Free (omega (arith, full, cell_in w t k last l o m))
+
+pub set_other : (w : ℕ) (dates : List LatestDate) (t k v s : ℕ) (b : LatestDate) → t < w → v < w → 1 ≤ k → 1 ≤ s → (v ≡ t → s ≡ k → ⊥) → latest_in w (set dates (cell_of w t k) b) v s ≡ latest_in w dates v s
+set_other w dates t k v s b l m o p apart = get_or-set_other dates (cell_of w t k) (cell_of w v s) b Free (cells_apart w v t s k m l p o apart)

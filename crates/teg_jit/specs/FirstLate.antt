@@ -1,0 +1,60 @@
+-- How the first late row is found, and where a late walk begins.
+use Rattle.std.specs.Prelude.{ℕ, pos, ◌^◌, ◌<◌, ◌≤◌, ◌≡◌, List, length, slice_index_or}
+use Rattle.dioid.specs.declared.dates.Date.{Date}
+use Rattle.dioid.specs.declared.dates.Date.TheVariants.{At}
+use Rattle.teg_net.specs.Nets.{NetLists}
+use Rattle.dioid.specs.Dates.{IsAtMostDate}
+use Rattle.teg_net.specs.Circuits.{place_at}
+use Rattle.teg_net.specs.ReadyDates.{ready_date, start_date}
+use Rattle.teg_dates.specs.Tables.{TableDates, date_at}
+use Rattle.teg_due.specs.declared.rows.DueRow.{DueRow}
+use Rattle.teg_jit.specs.Plans.{PlanDates, dates_of}
+use Rattle.teg_jit.specs.Refusals.{KeepsRow}
+
+-- the latest date of this firing of the plan
+pub record IsDateAt (plan : PlanDates) (t k date : ℕ) : Type 0 where
+  pub in_range : t < plan.width
+  pub from_one : 1 ≤ k
+  pub to_last : k ≤ plan.numbers
+  pub is : dates_of plan t k ≡ At (pos date)
+
+-- the latest date of this firing of the plan is its start
+abbrev pub IsAtStart : NetLists → PlanDates → ℕ → ℕ → Type 0
+IsAtStart net plan t k = IsDateAt plan t k (start_date net t k)
+
+-- the latest date of some firing is its start
+abbrev pub HasDateAtStart : NetLists → PlanDates → Type 0
+HasDateAtStart net plan = (t k : ℕ) × IsAtStart net plan t k
+
+-- the latest date of some firing is 0
+abbrev pub HasDateZero : PlanDates → Type 0
+HasDateZero plan = (t k : ℕ) × IsDateAt plan t k 0
+
+-- firing k takes an initial token of the place, and its latest date is the token's ready date
+pub record IsReadyFrom (net : NetLists) (plan : PlanDates) (q k : ℕ) : Type 0 where
+  pub place_in : q < length net.places
+  pub takes : k ≤ (place_at net (record { index = q })).tokens
+  pub date : IsDateAt plan (place_at net (record { index = q })).to.index k (ready_date (place_at net (record { index = q })) k)
+
+-- the same of some place into transition t
+abbrev pub IsWhenReady : NetLists → PlanDates → ℕ → ℕ → Type 0
+IsWhenReady net plan t k = (q : ℕ) × IsReadyFrom net plan q k × ((place_at net (record { index = q })).to.index ≡ t)
+
+-- the same of some firing
+abbrev pub HasDateWhenReady : NetLists → PlanDates → Type 0
+HasDateWhenReady net plan = (q k : ℕ) × IsReadyFrom net plan q k
+
+-- no latest date is before the start of its firing
+abbrev pub StartsAreKept : NetLists → PlanDates → Type 0
+StartsAreKept net plan = (t k : ℕ) → t < length net.transitions → 1 ≤ k → IsAtMostDate (At (pos (start_date net t k))) (dates_of plan t k)
+
+-- each date of the table is a number that fits 64 bits
+abbrev pub AreSmallDates : TableDates → Type 0
+AreSmallDates table = (t k : ℕ) → t < table.width → 1 ≤ k → k ≤ table.count → (n : ℕ) × (n < 2 ^ 64) × (date_at table t k ≡ At (pos n))
+
+-- the rows before i are kept, and that at i is not: the date there
+pub record IsFirstExceeded (y : ℕ → ℕ → Date) (rows : List DueRow) (i least : ℕ) : Type 0 where
+  pub within : i < length rows
+  pub kept : (j : ℕ) (q : DueRow) → j < length rows → j < i → KeepsRow y (slice_index_or rows j q)
+  pub is_least : (d : DueRow) → y (slice_index_or rows i d).transition.index (slice_index_or rows i d).number ≡ At (pos least)
+  pub late : (d : DueRow) → (slice_index_or rows i d).date < least

@@ -1,0 +1,161 @@
+//! One number after another, going back: the due dates are set, then each date of a number is lowered
+//! to that of the next number, and to what each place leaves of the date at its end.
+ghost use Rattle.std.specs.Prelude.{◌≡◌, ◌+◌, ◌-◌, ◌*◌, ◌<◌, ◌≤◌, ℕ, List, length, IfOk, slice_index_or, slice_set, Option};
+ghost use Rattle.teg_net.specs.Limits.{most_transitions};
+ghost use Rattle.teg_check.specs.Ranks.{IsRanking};
+ghost use Rattle.teg_dates.specs.Tables.{cell_of, most_numbers};
+ghost use Rattle.teg_jit.specs.DueDates.{due_in, IsGreatestNumber, NameFirings};
+ghost use Rattle.teg_jit.specs.Order.{IsBackOrder};
+ghost use Rattle.teg_jit.specs.declared.answers.LatestDate.TheVariants.{Free};
+ghost use Rattle.teg_jit.specs.Plans.{latest_in};
+ghost use Rattle.teg_jit.specs.GoingBack.{lowered, date_there, AreNext, ArePassedAbove, HaveRoom};
+
+use crate::answers::{LatestDate, Onward};
+use crate::cells::cell_of;
+use crate::order::Depth;
+use std::alloc::{AllocError, Global};
+use teg_due::DueRow;
+use teg_net::{Net, TransitionId};
+
+/// Lowers a date to this one, where it comes before.
+fn lower(dates: &mut [LatestDate], cell: usize, date: u64, onward: Onward)
+    requires { cell < length dates.old }
+    ensures { dates.new ≡ slice_set dates.old cell (lowered (slice_index_or dates.old cell Free) date onward) }
+{
+    let is_before = match dates[cell] {
+        LatestDate::Free => true,
+        LatestDate::At { date: there, .. } => date < there,
+    };
+    if is_before {
+        dates[cell] = LatestDate::At { date, onward };
+    }
+}
+
+/// The date of a firing; none where it is free, and past the last number.
+fn date_at(
+    dates: &[LatestDate],
+    width: usize,
+    last: u32,
+    transition: TransitionId,
+    number: u32,
+) -> Option<u64>
+    requires width { width ≤ most_transitions }
+    requires transition { transition.index < width }
+    requires number { 1 ≤ number }
+    requires last { last ≤ most_numbers }
+    requires full { length dates.now ≡ last * width }
+    ensures { result ≡ date_there (latest_in width dates.now transition.index number) }
+{
+    if last < number {
+        return None;
+    }
+    match dates[cell_of(width, transition, number)] {
+        LatestDate::Free => None,
+        LatestDate::At { date, .. } => Some(date),
+    }
+}
+
+/// Sets the due dates.
+fn set_dues(net: &Net, rows: &[DueRow], dates: &mut [LatestDate], last: u32)
+    requires due { NameFirings net.now rows.now }
+    requires greatest { IsGreatestNumber rows.now last }
+    requires few { last ≤ most_numbers }
+    requires full { length dates.old ≡ last * length net.now.transitions }
+    requires free { (i : ℕ) → slice_index_or dates.old i Free ≡ Free }
+    ensures full { length dates.new ≡ last * length net.now.transitions }
+    ensures settled { ArePassedAbove net.now (due_in rows.now) last last dates.new }
+{
+    let width = net.transitions().len();
+    for row in rows {
+        let cell = cell_of(width, row.transition, row.number);
+        lower(dates, cell, row.date, Onward::Due);
+    }
+}
+
+/// The dates of numbers 1 to `last` with the due dates alone.
+pub(crate) fn begin(
+    alloc: Global,
+    net: &Net,
+    rows: &[DueRow],
+    last: u32,
+) -> Result<Vec<LatestDate>, AllocError>
+    requires due { NameFirings net.now rows.now }
+    requires greatest { IsGreatestNumber rows.now last }
+    requires few { last ≤ most_numbers }
+    ensures full { IfOk result (λ dates. length dates.items ≡ last * length net.now.transitions) }
+    ensures settled { IfOk result (λ dates. ArePassedAbove net.now (due_in rows.now) last last dates.items) }
+{
+    let size = last as usize * net.transitions().len();
+    let mut dates = vec![in alloc; LatestDate::Free; size]?;
+    set_dues(net, rows, &mut dates, last);
+    Ok(dates)
+}
+
+/// Lowers the dates of the number to those of the next.
+fn pass_next(net: &Net, dates: &mut [LatestDate], last: u32, number: u32)
+    requires number { 1 ≤ number }
+    requires last { number ≤ last }
+    requires few { last ≤ most_numbers }
+    requires full { length dates.old ≡ last * length net.now.transitions }
+    ensures full { length dates.new ≡ last * length net.now.transitions }
+    ensures passed { (due : ℕ → ℕ → Option ℕ) → ArePassedAbove net.now due last number dates.old → AreNext net.now due last number (length net.now.transitions) dates.new }
+{
+    let width = net.transitions().len();
+    for index in 0..width {
+        let transition = TransitionId {
+            index: index as u32,
+        };
+        match date_at(dates, width, last, transition, number + 1) {
+            Some(date) => lower(
+                dates,
+                cell_of(width, transition, number),
+                date,
+                Onward::Next,
+            ),
+            None => {}
+        }
+    }
+}
+
+/// Lowers the dates of the number to what each place leaves of the date at its end.
+fn pass_places(net: &Net, order: &[Depth], dates: &mut [LatestDate], last: u32, number: u32)
+    requires order { (ranks : List ℕ) × IsRanking net.now ranks × IsBackOrder net.now ranks order.now }
+    requires number { 1 ≤ number }
+    requires last { number ≤ last }
+    requires few { last ≤ most_numbers }
+    requires full { length dates.old ≡ last * length net.now.transitions }
+    requires passed { (due : ℕ → ℕ → Option ℕ) × AreNext net.now due last number (length net.now.transitions) dates.old × HaveRoom net.now due }
+    ensures full { length dates.new ≡ last * length net.now.transitions }
+    ensures settled { (due : ℕ → ℕ → Option ℕ) → AreNext net.now due last number (length net.now.transitions) dates.old → ArePassedAbove net.now due last (number - 1) dates.new }
+{
+    let places = net.places();
+    let width = net.transitions().len();
+    for depth in order {
+        let place = &places[depth.place.index as usize];
+        match date_at(dates, width, last, place.to, number + place.tokens) {
+            Some(date) => lower(
+                dates,
+                cell_of(width, place.from, number),
+                date - place.hold,
+                Onward::By(depth.place),
+            ),
+            None => {}
+        }
+    }
+}
+
+/// Settles the dates of all numbers, going back from the last.
+pub(crate) fn pass_all(net: &Net, order: &[Depth], dates: &mut [LatestDate], last: u32)
+    requires order { (ranks : List ℕ) × IsRanking net.now ranks × IsBackOrder net.now ranks order.now }
+    requires few { last ≤ most_numbers }
+    requires full { length dates.old ≡ last * length net.now.transitions }
+    requires begun { (due : ℕ → ℕ → Option ℕ) × ArePassedAbove net.now due last last dates.old × HaveRoom net.now due }
+    ensures full { length dates.new ≡ last * length net.now.transitions }
+    ensures settled { (due : ℕ → ℕ → Option ℕ) → ArePassedAbove net.now due last last dates.old → ArePassedAbove net.now due last 0 dates.new }
+{
+    for done in 0..last {
+        let number = last - done;
+        pass_next(net, dates, last, number);
+        pass_places(net, order, dates, last, number);
+    }
+}

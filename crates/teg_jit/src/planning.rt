@@ -1,0 +1,75 @@
+//! The latest dates, going back from the greatest number that is due.
+ghost use Rattle.std.specs.Prelude.{◌≡◌, ◌≤◌, IfOk, IfErr};
+ghost use Rattle.teg_net.specs.Nets.{IsNet};
+ghost use Rattle.teg_check.specs.Ranks.{IsRanking};
+ghost use Rattle.teg_dates.specs.Tables.{most_numbers};
+ghost use Rattle.teg_form.specs.Forms.{IsFormOf};
+ghost use Rattle.due_laws.specs.Dues.{InputsMeet, AreLatestInputs, inputs_at_zero};
+ghost use Rattle.teg_due.specs.Rules.{IsDueOf};
+ghost use Rattle.teg_jit.specs.Refusals.{LateIsRight};
+ghost use Rattle.teg_jit.specs.DueDates.{due_in, IsGreatestNumber, NameFirings};
+ghost use Rattle.teg_jit.specs.Plans.{dates_of, IsPlanFor};
+
+use crate::answers::JitRefusal;
+use crate::due_dates::greatest_number;
+use crate::late::keep_dues;
+use crate::order::by_depth;
+use crate::passes::{begin, pass_all};
+use crate::plan::Plan;
+use std::alloc::{AllocError, Global};
+use teg_check::Live;
+use teg_due::{Due, DueRow};
+use teg_form::Form;
+use teg_net::Net;
+
+/// The latest dates where the least dating with all inputs 0 keeps the due dates.
+pub(crate) fn plan_for(
+    alloc: Global,
+    net: &Net,
+    live: &Live,
+    rows: &[DueRow],
+    last: u32,
+) -> Result<Plan, AllocError>
+    requires stands { IsRanking net.now live.now }
+    requires due { NameFirings net.now rows.now }
+    requires greatest { IsGreatestNumber rows.now last }
+    requires few { last ≤ most_numbers }
+    requires kept { InputsMeet net.now (due_in rows.now) inputs_at_zero }
+    ensures rules { IfOk result (λ _. IsNet net.now) }
+    ensures numbers { IfOk result (λ plan. plan.numbers ≡ last) }
+    ensures plan { IfOk result (λ plan. IsPlanFor net.now (due_in rows.now) plan) }
+{
+    let order = by_depth(alloc, net, live)?;
+    let mut dates = begin(alloc, net, rows, last)?;
+    pass_all(net, &order, &mut dates, last);
+    Ok(Plan::new(net.transitions().len(), last, dates))
+}
+
+/// The latest date of each firing up to the greatest number that is due, each with the first step of
+/// a walk by which it is attained; at the inputs these are the latest inputs that meet every due date
+/// (chapter 5). The input lists of the net play no part, since the inputs are to be found, nor does
+/// the standard form. `Late` comes exactly where the least dating with all inputs at 0 exceeds a due
+/// date: it names the first such row, its date there, and a walk that ends at its firing and whose
+/// start plus time is that date. `OutOfMemory` comes only where no memory is found. It takes time of
+/// order `N (n + p)` for N numbers, n transitions and p places, and memory for one date for each of
+/// `N n` firings.
+pub fn latest(
+    alloc: Global,
+    net: &Net,
+    live: &Live,
+    form: &Form,
+    due: &Due,
+) -> Result<Plan, JitRefusal>
+    requires stands { IsRanking net.now live.now }
+    requires form { IsFormOf net.now form.now }
+    requires due { IsDueOf net.now due.now.rows.items }
+    ensures numbers { IfOk result (λ plan. IsGreatestNumber due.now.rows.items plan.numbers) }
+    ensures plan { IfOk result (λ plan. IsPlanFor net.now (due_in due.now.rows.items) plan) }
+    ensures inputs { IfOk result (λ plan. AreLatestInputs net.now (due_in due.now.rows.items) (dates_of plan)) }
+    ensures in_time { IfOk result (λ _. InputsMeet net.now (due_in due.now.rows.items) inputs_at_zero) }
+    ensures late { IfErr result (LateIsRight net.now due.now.rows.items) }
+{
+    let last = greatest_number(&due.rows);
+    keep_dues(alloc, net, live, &due.rows, last)?;
+    Ok(plan_for(alloc, net, live, &due.rows, last)?)
+}

@@ -1,0 +1,99 @@
+-- A settled form that is copied from rows of the least dating stands for it.
+use Rattle.std.proofs.Common.{ℕ, zero, suc, ◌+◌, ◌-◌, ◌<◌, ◌≤◌, ◌≡◌, List, [], ◌∷◌, ◌++◌, map, Vec, length, get_or, refl, ap, ◌∙◌, arith, ⊎_elim}
+use Rattle.std.specs.declared.alloc.Global.{Global}
+use Rattle.std.specs.Prelude.{ℤ, pos}
+use Rattle.std.proofs.lemmas.List.{get_or_default, length-map}
+use Rattle.dioid.specs.declared.dates.Date.{Date}
+use Rattle.dioid.specs.declared.dates.Date.TheVariants.{Early, Never}
+use Rattle.dioid.specs.Dates.{move}
+use Rattle.teg_net.specs.Nets.{NetLists, IsNet}
+use Rattle.teg_model.specs.Systems.{Dating}
+use Rattle.settled_laws.specs.Forms.{IsTail, SettledForm, row_of, step_of, HasSizes, StandsFor}
+use Rattle.settled_laws.specs.Windows.{between}
+use Rattle.settled_laws.proofs.Shortest.{tail_on}
+use Rattle.settled_laws.proofs.Telling.{form_tells}
+use Rattle.teg_dates.specs.Tables.{TableDates, date_at}
+use Rattle.teg_settle.specs.declared.releases.Repetition.{Repetition}
+use Rattle.teg_settle.specs.Kept.{IsKept}
+use Rattle.teg_settle.specs.Copies.{AreDatesOf}
+use Rattle.teg_settle.specs.Windows.{read_step, IsWindow, IsToldBy}
+
+-- a fact of each element and of one more
+pub more : {X : Type 0} (P : ℕ → X → Type 0) (d : X) (xs : List X) (y : X) → ((t : ℕ) → t < length xs → P t (get_or xs t d)) → P (length xs) y → (t : ℕ) → t < length xs + 1 → P t (get_or (xs ++ y ∷ []) t d)
+more P d [] y h e t l = let is : t ≡ 0 = omega arith in rw is e
+more P d (x ∷ xs) y h e zero l = h 0 (omega arith)
+more P d (x ∷ xs) y h e (suc t) l = more (λ i. P (suc i)) d xs y (λ i m. h (suc i) (omega arith)) e t (omega arith)
+
+pub mapped_more : {X Y : Type 0} (f : X → Y) (P : ℕ → Y → Type 0) (d : Y) (xs : List X) (y : X) → ((t : ℕ) → t < length xs → P t (get_or (map f xs) t d)) → P (length xs) (f y) → (t : ℕ) → t < length xs + 1 → P t (get_or (map f (xs ++ y ∷ [])) t d)
+mapped_more f P d [] y h e t l = let is : t ≡ 0 = omega arith in rw is e
+mapped_more f P d (x ∷ xs) y h e zero l = h 0 (omega arith)
+mapped_more f P d (x ∷ xs) y h e (suc t) l = mapped_more f (λ i. P (suc i)) d xs y (λ i m. h (suc i) (omega arith)) e t (omega arith)
+
+-- the form has the dates and the steps of the rows
+pub record IsCopy (net : NetLists) (table : TableDates) (f : Repetition) (s : SettledForm) : Type 0 where
+  pub after : s.after ≡ f.after
+  pub period : s.period ≡ f.period
+  pub rows_count : length s.rows ≡ length net.transitions
+  pub steps_count : length s.steps ≡ length net.transitions
+  pub dates : (t : ℕ) → t < length net.transitions → AreDatesOf table t (f.after + f.period) (row_of s t)
+  pub moves : (t : ℕ) → t < length net.transitions → step_of s t ≡ read_step table f.period t
+
+-- what the loop over the transitions has copied at its end
+pub copied : (net : NetLists) (table : TableDates) (f : Repetition) (rows : List (Vec Date Global)) (steps : List ℤ) (i : ℕ) → i ≡ length net.transitions → length rows ≡ i → length steps ≡ i
+    → ((t : ℕ) → t < i → AreDatesOf table t (f.after + f.period) (get_or (map (λ r. r.items) rows) t [])) → ((t : ℕ) → t < i → get_or steps t (pos 0) ≡ read_step table f.period t)
+    → IsCopy net table f (record { after = f.after; period = f.period; rows = map (λ r. r.items) rows; steps = steps })
+copied net table f rows steps i end many few dates moves = record {
+  after = refl;
+  period = refl;
+  rows_count = omega (arith, length-map rows (λ r. r.items));
+  steps_count = omega arith;
+  dates = λ t l. dates t (omega arith);
+  moves = λ t l. moves t (omega arith);
+}
+
+copy_sizes : (net : NetLists) (rows : TableDates) (f : Repetition) (s : SettledForm) → IsCopy net rows f s → 1 ≤ f.period → HasSizes (length net.transitions) s
+copy_sizes net rows f s c one = record {
+  at_least_one = omega (arith, c.period);
+  rows_are = c.rows_count;
+  steps_are = c.steps_count;
+  full = λ i d l.
+      let wide : length (get_or s.rows i []) ≡ f.after + f.period = (c.dates i (omega (arith, c.rows_count))).long in
+      rw (get_or_default s.rows i d [] l) (omega (arith, wide, c.after, c.period));
+}
+
+-- a step is 0 where the last dates are all this one, which no step moves
+copy_still : (net : NetLists) (rows : TableDates) (f : Repetition) (x : Dating) (t : ℕ) (d : Date) → IsWindow net rows f.period → f.after + f.period + f.period ≤ rows.count → IsToldBy net rows f x → t < length net.transitions
+    → ((s : ℤ) → move s d ≡ d) → ((e : Date) → between d e ≡ pos 0) → IsTail (x t) f.after f.period d → read_step rows f.period t ≡ pos 0
+copy_still net rows f x t d w fits told l stays none tail =
+    let one = w.some in
+    let end : ℕ = rows.count - f.period in
+    let last : x t end ≡ d = tail_on (x t) f.after f.period (read_step rows f.period t) d one (stays (read_step rows f.period t)) (λ k m. told.repeats.again t k l m) tail end end (omega arith) (omega arith) in
+    ap (λ e. between e (date_at rows t rows.count)) (told.dates t end l (omega arith) (omega arith) ∙ last) ∙ none (date_at rows t rows.count)
+
+pub copy_stands : (net : NetLists) (rows : TableDates) (f : Repetition) (s : SettledForm) (x : Dating) → IsCopy net rows f s → IsWindow net rows f.period → f.after + f.period + f.period ≤ rows.count → IsToldBy net rows f x → StandsFor (length net.transitions) s x
+copy_stands net rows f s x c w fits told = record {
+  sizes = copy_sizes net rows f s c w.some;
+  dates = λ t k l o m. (c.dates t l).same k o (omega (arith, c.after, c.period)) ∙ told.dates t k l o (omega (arith, c.after, c.period));
+  repeats = record {
+    at_least_one = omega (arith, c.period, w.some);
+    again = λ t k l m. rw (c.period, c.moves t l) (told.repeats.again t k l (omega (arith, c.after)));
+  };
+  still = λ t l e. c.moves t l
+      ∙ ⊎_elim
+      (λ (n : IsTail (x t) s.after s.period Never). copy_still net rows f x t Never w fits told l (λ s. refl) (λ e. refl) (rw (c.after, c.period) at n))
+      (λ (n : IsTail (x t) s.after s.period Early). copy_still net rows f x t Early w fits told l (λ s. refl) (λ e. refl) (rw (c.after, c.period) at n))
+      e;
+}
+
+pub copy_kept : (net : NetLists) (rows : TableDates) (f : Repetition) (s : SettledForm) (x : Dating) → IsNet net → IsCopy net rows f s → IsWindow net rows f.period → f.after + f.period + f.period ≤ rows.count → IsToldBy net rows f x → IsKept s
+copy_kept net rows f s x ok c w fits told =
+    let stands = copy_stands net rows f s x c w fits told in
+    let few = w.few in
+    record {
+      sizes = rw c.rows_count stands.sizes;
+      few = omega (arith, c.rows_count, ok.few_transitions);
+      short = omega (arith, c.after, c.period);
+      within = λ t k l o m.
+          let in' : t < length net.transitions = omega (arith, c.rows_count) in
+          rw (form_tells (length net.transitions) s x stands t k in' o) (told.within t k in' o m);
+    }

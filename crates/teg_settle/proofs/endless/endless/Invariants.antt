@@ -1,0 +1,14 @@
+use Rattle.std.proofs.Common.{◌+◌, ◌-◌, ◌≤◌}
+use Rattle.teg_settle.specs.Windows.{AreRowsOf}
+use Rattle.teg_settle.proofs.endless.endless.Given as goal
+
+abbrev pub invariant-search : goal.invariant-search
+invariant-search g l = record {
+  rows : AreRowsOf l.net l.releases l.rows;
+  more : l.most + 8 ≤ l.stage;
+  fewer : l.rows.count ≤ l.stage;
+  few : l.stage ≤ 40000000000000;
+}
+
+abbrev pub decreases-search : goal.decreases-search
+decreases-search g l = g.enough - l.stage

@@ -1,0 +1,10 @@
+use Rattle.std.proofs.Common.{ℕ, ◌≡◌, ◌<◌, length}
+use Rattle.teg_settle.specs.Releases.{wait_in, wait_from}
+use Rattle.teg_settle.proofs.releases.Releases.of_input.Given as goal
+
+abbrev pub invariant-loop-index : goal.invariant-loop-index
+invariant-loop-index l = record {
+  count : length l.waits.items ≡ l.index;
+  none : l.none ≡ length l.net.inputs;
+  each : (t : ℕ) → t < l.index → wait_in l.waits.items t ≡ wait_from l.net l.input.index t;
+}

@@ -1,0 +1,9 @@
+use Rattle.std.proofs.Common.{◌≡◌}
+use Rattle.teg_settle.specs.Windows.{AreRowsOf}
+use Rattle.teg_settle.proofs.search.grow.Given as goal
+
+abbrev pub invariant-loop-number : goal.invariant-loop-number
+invariant-loop-number l = record {
+  count : l.rows.count ≡ l._number;
+  rows : AreRowsOf l.net l.releases l.rows;
+}

@@ -1,0 +1,15 @@
+use Rattle.std.proofs.Common.{ℕ, ◌≤◌, ◌<◌, ◌-◌}
+use Rattle.teg_settle.specs.Windows.{AreRowsOf, IsRefuted}
+use Rattle.teg_settle.proofs.search.search.Given as goal
+
+abbrev pub invariant-loop-order : goal.invariant-loop-order
+invariant-loop-order l = record {
+  rows : AreRowsOf l.net l.releases l.rows;
+  within : l.rows.count ≤ l.last;
+  stage_in : l.stage ≤ l.last;
+  stage_more : l.rows.count < l.last → l.rows.count < l.stage;
+  refuted : (period : ℕ) → IsRefuted l.net l.releases l.most l.rows.count period;
+}
+
+abbrev pub decreases-loop-order : goal.decreases-loop-order
+decreases-loop-order l = l.last - l.rows.count

@@ -1,0 +1,6 @@
+use Rattle.std.proofs.Common.{ℕ, ◌≤◌, ◌<◌}
+use Rattle.teg_settle.specs.Windows.{IsRefuted}
+use Rattle.teg_settle.proofs.search.seen.Given as goal
+
+abbrev pub invariant-loop-period : goal.invariant-loop-period
+invariant-loop-period l = (p : ℕ) → 1 ≤ p → p < l.period → IsRefuted l.net l.releases l.most l.rows.count p

@@ -1,0 +1,69 @@
+//! The search for the settled form without a limit.
+ghost use Rattle.std.specs.Prelude.{◌≡◌, ◌≤◌, ℕ, IfOk};
+ghost use Rattle.settled_laws.specs.Forms.{IsSettledFormOf};
+ghost use Rattle.teg_check.specs.Ranks.{IsRanking};
+ghost use Rattle.teg_settle.specs.Endless.{HasFormBy};
+ghost use Rattle.teg_settle.specs.Searches.{IsFound};
+ghost use Rattle.teg_settle.specs.Slopes.{HasSlopes};
+ghost use Rattle.teg_settle.specs.Windows.{IsReady};
+
+use crate::releases::Releases;
+use crate::search::{Found, form_of, grow, most_tokens, seen};
+use crate::settled::Settled;
+use periodic_laws::least_datings_repeat;
+use std::alloc::Global;
+use teg_check::Live;
+use teg_dates::{PlaceOrder, Rows};
+use teg_net::{Net, OutOfMemory};
+
+/// Where more rows than this show no form, no further ones are made: the dates of so many fill more
+/// than 48 bits of addresses tell apart.
+const MOST_ROWS: u64 = 20_000_000_000_000;
+
+/// Rows that show the shortest form, where a form is known to be: they are doubled until they show one.
+fn endless(
+    alloc: Global,
+    net: &Net,
+    live: &Live,
+    releases: &Releases,
+    most: u64,
+) -> Result<Found, OutOfMemory>
+    ghost enough: { ℕ }
+    requires stands { IsRanking net.now live.now }
+    requires ready { IsReady net.now releases.now most }
+    requires tokens { most ≤ 1000 }
+    requires exists { HasFormBy net.now releases.now most enough }
+    ensures { IfOk result (IsFound net.now releases.now) }
+{
+    let order = PlaceOrder::new(alloc, net, live)?;
+    let mut rows = Rows::new(alloc, net);
+    let mut stage = most + 8;
+    'search: loop {
+        rows = grow(net, releases, &order, rows, stage)?;
+        match seen(net, releases, &rows, most) {
+            Some(form) => return Ok(Found { rows, form }),
+            None => {}
+        }
+        if stage > MOST_ROWS {
+            return Err(OutOfMemory);
+        }
+        stage = 2 * stage;
+    }
+}
+
+/// The shortest settled form of the least dates of a live net, with its ready dates and its input
+/// lists (chapter 3, cyclicity): the one of `settle_within`, whatever its length. Each live net has
+/// one, so the search for it ends: `OutOfMemory` comes only where no memory is found. For a settling
+/// length l it makes rows of order l for all transitions, each in time of order `n + p` for n
+/// transitions and p places.
+pub fn settle(alloc: Global, net: &Net, live: &Live) -> Result<Settled, OutOfMemory>
+    requires stands { IsRanking net.now live.now }
+    ensures form { IfOk result (IsSettledFormOf net.now) }
+    ensures slopes { IfOk result (HasSlopes net.now) }
+{
+    least_datings_repeat();
+    let most = most_tokens(net);
+    let releases = Releases::of_net(alloc, net)?;
+    let found = endless(alloc, net, live, &releases, most)?;
+    form_of(alloc, net, &releases, &found)
+}

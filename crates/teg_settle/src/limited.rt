@@ -1,0 +1,93 @@
+//! The settled form of the least dating of a net, and that of the times of walks from an input.
+ghost use Rattle.std.specs.Prelude.{◌≤◌, ◌≡◌, IfErr, IfOk};
+ghost use Rattle.settled_laws.specs.Forms.{IsSettledFormOf, NetSettlesPast, settled_length};
+ghost use Rattle.teg_check.specs.Ranks.{IsRanking};
+ghost use Rattle.teg_net.specs.Nets.{IsInput};
+ghost use Rattle.teg_settle.specs.Refusals.{IsRightRefusal, greatest_limit};
+ghost use Rattle.teg_settle.specs.Releases.{OnlyInputsWait};
+ghost use Rattle.teg_settle.specs.Slopes.{HasSlopes};
+ghost use Rattle.teg_settle.specs.Transfers.{IsTransferOf, TransferSettlesPast};
+ghost use Rattle.teg_settle.specs.Windows.{IsLeastForm, LeastSettlesPast};
+
+use crate::refusals::SettleRefusal;
+use crate::releases::Releases;
+use crate::search::{form_of, most_tokens, search};
+use crate::settled::Settled;
+use std::alloc::Global;
+use teg_check::Live;
+use teg_net::{Net, TransitionId};
+
+/// The shortest form of the least dating of the net with these releases, if its length is within the
+/// limit: rows of twice the limit and the tokens of a place show each form of such a length.
+fn within(
+    alloc: Global,
+    net: &Net,
+    live: &Live,
+    releases: &Releases,
+    limit: u32,
+) -> Result<Settled, SettleRefusal>
+    requires stands { IsRanking net.now live.now }
+    requires waits { OnlyInputsWait net.now releases.now.waits.items }
+    requires few { limit ≤ greatest_limit }
+    ensures form { IfOk result (IsLeastForm net.now releases.now) }
+    ensures within { IfOk result (λ form. settled_length form ≤ limit) }
+    ensures too_long { IfErr result (IsRightRefusal (LeastSettlesPast net.now releases.now limit) limit) }
+{
+    let most = most_tokens(net);
+    let last = 2 * u64::from(limit) + most;
+    match search(alloc, net, live, releases, most, last)? {
+        Some(found) => {
+            if found.form.after + found.form.period > u64::from(limit) {
+                return Err(SettleRefusal::TooLong { limit });
+            }
+            Ok(form_of(alloc, net, releases, &found)?)
+        }
+        None => Err(SettleRefusal::TooLong { limit }),
+    }
+}
+
+/// The shortest settled form of the least dates of a live net, with its ready dates and its input
+/// lists (chapter 3, cyclicity): its number and its period are both least, and its length, number
+/// plus period, is the settling length. `limit` is at most 200,000, and `TooLong` comes exactly where
+/// the settling length exceeds it. `OutOfMemory` comes only where no memory is found. For a settling
+/// length l, or a limit l below it, it makes rows of order l for all transitions, each in time of order
+/// `n + p` for n transitions and p places.
+pub fn settle_within(
+    alloc: Global,
+    net: &Net,
+    live: &Live,
+    limit: u32,
+) -> Result<Settled, SettleRefusal>
+    requires stands { IsRanking net.now live.now }
+    requires few { limit ≤ greatest_limit }
+    ensures form { IfOk result (IsSettledFormOf net.now) }
+    ensures within { IfOk result (λ form. settled_length form ≤ limit) }
+    ensures too_long { IfErr result (IsRightRefusal (NetSettlesPast net.now limit) limit) }
+    ensures slopes { IfOk result (HasSlopes net.now) }
+{
+    let releases = Releases::of_net(alloc, net)?;
+    within(alloc, net, live, &releases, limit)
+}
+
+/// The shortest settled form of the greatest times of walks from the first firing of this input to
+/// each firing of each transition (chapters 2 and 3); a firing to which no such walk leads has the date
+/// `Early`. Its number and its period are both least over all transitions. `limit` is at most 200,000,
+/// and `TooLong` comes exactly where the length of that form exceeds it. `OutOfMemory` comes only where
+/// no memory is found. It takes the time of [`settle_within`].
+pub fn transfer(
+    alloc: Global,
+    net: &Net,
+    live: &Live,
+    input: TransitionId,
+    limit: u32,
+) -> Result<Settled, SettleRefusal>
+    requires stands { IsRanking net.now live.now }
+    requires input { IsInput net.now input.index }
+    requires few { limit ≤ greatest_limit }
+    ensures form { IfOk result (IsTransferOf net.now input.index) }
+    ensures within { IfOk result (λ form. settled_length form ≤ limit) }
+    ensures too_long { IfErr result (IsRightRefusal (TransferSettlesPast net.now input.index limit) limit) }
+{
+    let releases = Releases::of_input(alloc, net, input)?;
+    within(alloc, net, live, &releases, limit)
+}

@@ -1,0 +1,222 @@
+//! What firings wait for beside the tokens of earlier firings: the net's own initial tokens and input
+//! lists, or one input alone.
+ghost use Rattle.std.specs.Prelude.{◌≡◌, ◌<◌, ◌≤◌, ◌^◌, length, IfOk};
+ghost use Rattle.teg_net.specs.Limits.{most_dates, most_every};
+ghost use Rattle.teg_net.specs.Nets.{IsNet};
+ghost use Rattle.teg_model.specs.Bounds.{IsWithin};
+ghost use Rattle.teg_dates.specs.Rows.{most_rows};
+ghost use Rattle.teg_settle.specs.Releases.{AreWaits, HasSpan, date_of_list, list_number, release_by, wait_by_role, wait_from, wait_in, wait_of};
+
+use dioid::Date;
+use std::alloc::{AllocError, Global};
+use teg_dates::Source;
+use teg_net::{Net, PlaceId, Role, TransitionId};
+
+/// What the firings of a transition wait for beside tokens.
+#[derive(Clone, Copy, Debug, Drop)]
+pub(crate) enum Wait {
+    /// For nothing.
+    Nothing,
+    /// For the dates of the net's input list of this number, or for date 0 where it has none of it.
+    Dates(usize),
+}
+
+/// Whether there are initial tokens.
+#[derive(Clone, Copy, Debug, Drop)]
+pub(crate) enum Tokens {
+    /// Each is there from its ready date on.
+    Ready,
+    /// There are none, so that what takes one waits for nothing.
+    Absent,
+}
+
+/// Past `after` the dates go on evenly in each `period` numbers.
+#[derive(Clone, Copy, Debug, Drop)]
+pub(crate) struct Repetition {
+    pub(crate) after: u64,
+    pub(crate) period: u64,
+}
+
+/// With the places of a net they make a system: each list is found once, and not for each firing.
+#[derive(Debug, Drop)]
+pub(crate) struct Releases {
+    tokens: Tokens,
+    waits: Vec<Wait>,
+}
+
+/// The date that the list of this number gives the firing, and 0 where the net has no such list.
+fn date_of_list(net: &Net, list: usize, number: u64) -> Date
+    requires first { 1 ≤ number }
+    requires last { number ≤ most_rows }
+    ensures value { result ≡ date_of_list net.now list number }
+    ensures within { IsWithin (2 ^ 126) result }
+{
+    match net.inputs().get(list) {
+        None => Date::At(0),
+        Some(list) => match list.date(number) {
+            Some(date) => Date::At(date as i128),
+            None => Date::Never,
+        },
+    }
+}
+
+/// What a transition of this role waits for.
+fn wait_of(net: &Net, transition: TransitionId, role: Role) -> Wait
+    ensures { result ≡ wait_by_role role (list_number net.now transition.index) }
+{
+    match role {
+        Role::Internal | Role::Output => Wait::Nothing,
+        Role::Input => Wait::Dates(list_number(net, transition)),
+    }
+}
+
+/// The number of the transition's list, or of no list.
+fn list_number(net: &Net, transition: TransitionId) -> usize
+    ensures { result ≡ list_number net.now transition.index }
+{
+    let lists = net.inputs();
+    match lists
+        .iter()
+        .position(|list| list.transition.index == transition.index)
+    {
+        Some(number) => number,
+        None => lists.len(),
+    }
+}
+
+impl Releases {
+    /// Each initial token from its ready date on, and each input by its list.
+    pub(crate) fn of_net(alloc: Global, net: &Net) -> Result<Releases, AllocError>
+        ensures tokens { IfOk result (λ r. r.tokens ≡ Tokens.Ready) }
+        ensures waits { IfOk result (λ r. AreWaits net.now (wait_of net.now) r.waits.items) }
+        ensures rules { IsNet net.now }
+    {
+        let mut waits = Vec::new(alloc);
+        for (index, transition) in net.transitions().iter().enumerate() {
+            let id = TransitionId {
+                index: index as u32,
+            };
+            waits.push(wait_of(net, id, transition.role))?;
+        }
+        Ok(Releases {
+            tokens: Tokens::Ready,
+            waits,
+        })
+    }
+
+    /// No initial token, and one input from date 0 on.
+    pub(crate) fn of_input(
+        alloc: Global,
+        net: &Net,
+        input: TransitionId,
+    ) -> Result<Releases, AllocError>
+        ensures tokens { IfOk result (λ r. r.tokens ≡ Tokens.Absent) }
+        ensures waits { IfOk result (λ r. AreWaits net.now (wait_from net.now input.index) r.waits.items) }
+        ensures rules { IsNet net.now }
+    {
+        let none = net.inputs().len();
+        let mut waits = Vec::new(alloc);
+        for index in 0..net.transitions().len() {
+            let wait = if index as u32 == input.index {
+                Wait::Dates(none)
+            } else {
+                Wait::Nothing
+            };
+            waits.push(wait)?;
+        }
+        Ok(Releases {
+            tokens: Tokens::Absent,
+            waits,
+        })
+    }
+
+    /// What the transition waits for.
+    fn wait(&self, transition: TransitionId) -> Wait
+        ensures { result ≡ wait_in self.now.waits.items transition.index }
+    {
+        let index = transition.index as usize;
+        if index < self.waits.len() {
+            self.waits[index]
+        } else {
+            Wait::Nothing
+        }
+    }
+
+    /// The date before which this firing is not released.
+    pub(crate) fn date(&self, net: &Net, transition: TransitionId, number: u64) -> Date
+        requires first { 1 ≤ number }
+        requires last { number ≤ most_rows }
+        ensures value { result ≡ release_by self.now.waits.items net.now transition.index number }
+        ensures within { IsWithin (2 ^ 126) result }
+    {
+        match self.wait(transition) {
+            Wait::Nothing => Date::Early,
+            Wait::Dates(list) => date_of_list(net, list, number),
+        }
+    }
+
+    /// From where on, and in how many numbers, these dates go on evenly.
+    pub(crate) fn span(&self, net: &Net, transition: TransitionId) -> Repetition
+        ensures evenly { HasSpan (release_by self.now.waits.items net.now transition.index) result.after result.period }
+        ensures few { result.after ≤ most_dates }
+        ensures short { result.period ≤ most_every }
+    {
+        match self.wait(transition) {
+            Wait::Nothing => Repetition {
+                after: 0,
+                period: 1,
+            },
+            Wait::Dates(list) => span_of_list(net, list),
+        }
+    }
+}
+
+/// From where on, and in how many numbers, the dates of the list of this number go on evenly.
+fn span_of_list(net: &Net, list: usize) -> Repetition
+    ensures evenly { HasSpan (date_of_list net.now list) result.after result.period }
+    ensures few { result.after ≤ most_dates }
+    ensures short { result.period ≤ most_every }
+{
+    match net.inputs().get(list) {
+        None => Repetition {
+            after: 0,
+            period: 1,
+        },
+        Some(list) => {
+            let after = list.dates.as_slice().len() as u64;
+            match list.again {
+                None => Repetition { after, period: 1 },
+                Some(again) => Repetition {
+                    after,
+                    period: again.every as u64,
+                },
+            }
+        }
+    }
+}
+
+impl Source for Releases {
+    ghost use Rattle.teg_settle.specs.Releases.{initial_by, release_by};
+
+    ghost initial = { λ r. initial_by r.tokens };
+
+    ghost release = { λ r net. release_by r.waits.items net };
+
+    fn initial(&self, net: &Net, place: PlaceId, token: u32) -> Date {
+        match self.tokens {
+            Tokens::Ready => Date::At(i128::from(net.ready(place, token))),
+            Tokens::Absent => Date::Early,
+        }
+    }
+
+    fn first(&self, net: &Net, transition: TransitionId) -> Date {
+        match self.tokens {
+            Tokens::Ready => Date::At(0),
+            Tokens::Absent => Date::Early,
+        }
+    }
+
+    fn release(&self, net: &Net, transition: TransitionId, number: u64) -> Date {
+        self.date(net, transition, number)
+    }
+}

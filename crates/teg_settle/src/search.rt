@@ -1,0 +1,147 @@
+//! The growing search for the shortest form: rows are made until they show one.
+ghost use Rattle.std.specs.Prelude.{◌≡◌, ◌+◌, ◌<◌, ◌≤◌, All, IfOk, MatchOption, ℕ};
+ghost use Rattle.teg_net.specs.Nets.{IsNet};
+ghost use Rattle.teg_check.specs.Ranks.{IsRanking};
+ghost use Rattle.settled_laws.specs.Forms.{settled_length};
+ghost use Rattle.teg_dates.specs.Order.{OrdersPlaces};
+ghost use Rattle.teg_settle.specs.Searches.{IsFound};
+ghost use Rattle.teg_settle.specs.Windows.{AreRowsOf, IsLeastForm, IsReady, IsRefuted, IsSeen, IsSeenFrom, most_window};
+
+use crate::releases::{Releases, Repetition};
+use crate::settled::Settled;
+use crate::window::{are_released_alike, is_rising, moved_past};
+use std::alloc::Global;
+use teg_check::Live;
+use teg_dates::{PlaceOrder, Rows};
+use teg_net::{Net, OutOfMemory};
+
+/// Rows of dates, and past which of their numbers they go on in each period.
+#[derive(Debug, Drop)]
+pub(crate) struct Found {
+    pub(crate) rows: Rows,
+    pub(crate) form: Repetition,
+}
+
+/// The least number past which the dates go on in this period, if the rows are enough to see it.
+fn seen_from(net: &Net, releases: &Releases, rows: &Rows, most: u64, period: u64) -> Option<u64>
+    requires ready { IsReady net.now releases.now most }
+    requires rows { AreRowsOf net.now releases.now rows.now }
+    requires some { 1 ≤ period }
+    requires fits { most + period + period ≤ rows.now.count }
+    ensures { MatchOption result (IsRefuted net.now releases.now most rows.now.count period) (IsSeenFrom net.now releases.now rows.now most period) }
+{
+    if !is_rising(net, rows, period) {
+        return None;
+    }
+    let after = moved_past(net, rows, period);
+    let latest = rows.count() - most - period - period;
+    if after > latest {
+        return None;
+    }
+    if are_released_alike(net, releases, rows, period, latest) {
+        Some(after)
+    } else {
+        None
+    }
+}
+
+/// The least number and the least period by which the dates go on, if the rows are enough to see them.
+pub(crate) fn seen(net: &Net, releases: &Releases, rows: &Rows, most: u64) -> Option<Repetition>
+    requires ready { IsReady net.now releases.now most }
+    requires rows { AreRowsOf net.now releases.now rows.now }
+    ensures { MatchOption result ((period : ℕ) → IsRefuted net.now releases.now most rows.now.count period) (IsSeen net.now releases.now rows.now) }
+{
+    let count = rows.count();
+    if count < most {
+        return None;
+    }
+    for period in 1..(count - most) / 2 + 1 {
+        match seen_from(net, releases, rows, most, period) {
+            Some(after) => return Some(Repetition { after, period }),
+            None => {}
+        }
+    }
+    None
+}
+
+/// As many rows as asked, from fewer on.
+pub(crate) fn grow(
+    net: &Net,
+    releases: &Releases,
+    order: &PlaceOrder,
+    rows: Rows,
+    count: u64,
+) -> Result<Rows, OutOfMemory>
+    requires rules { IsNet net.now }
+    requires order { OrdersPlaces net.now order.now }
+    requires rows { AreRowsOf net.now releases.now rows }
+    requires more { rows.count ≤ count }
+    requires few { count ≤ most_window }
+    ensures rows { IfOk result (AreRowsOf net.now releases.now) }
+    ensures count { IfOk result (λ rows. rows.count ≡ count) }
+{
+    let mut rows = rows;
+    for _number in rows.count()..count {
+        rows = rows.with_next(net, order, releases)?;
+    }
+    Ok(rows)
+}
+
+/// The greatest number of tokens in a place, at least 1.
+pub(crate) fn most_tokens(net: &Net) -> u64
+    ensures some { 1 ≤ result }
+    ensures few { result ≤ 1000 }
+    ensures most { All (λ p. p.tokens ≤ result) net.now.places }
+    ensures rules { IsNet net.now }
+{
+    let mut most = 1;
+    for place in net.places() {
+        most = most.max(u64::from(place.tokens));
+    }
+    most
+}
+
+/// The shortest form that at most `last` rows show: the rows are doubled until they show one, so that
+/// it takes few more rows than the form needs.
+pub(crate) fn search(
+    alloc: Global,
+    net: &Net,
+    live: &Live,
+    releases: &Releases,
+    most: u64,
+    last: u64,
+) -> Result<Option<Found>, OutOfMemory>
+    requires stands { IsRanking net.now live.now }
+    requires ready { IsReady net.now releases.now most }
+    requires tokens { most ≤ 1000 }
+    requires few { last ≤ most_window }
+    ensures { IfOk result (λ found. MatchOption found ((period : ℕ) → IsRefuted net.now releases.now most last period) (IsFound net.now releases.now)) }
+{
+    let order = PlaceOrder::new(alloc, net, live)?;
+    let mut rows = Rows::new(alloc, net);
+    let mut stage = (most + 8).min(last);
+    while rows.count() < last {
+        rows = grow(net, releases, &order, rows, stage)?;
+        match seen(net, releases, &rows, most) {
+            Some(form) => return Ok(Some(Found { rows, form })),
+            None => {}
+        }
+        stage = (2 * stage).min(last);
+    }
+    Ok(None)
+}
+
+/// The form that the rows show.
+pub(crate) fn form_of(
+    alloc: Global,
+    net: &Net,
+    releases: &Releases,
+    found: &Found,
+) -> Result<Settled, OutOfMemory>
+    requires ready { (most : ℕ) × IsReady net.now releases.now most }
+    requires found { IsFound net.now releases.now found.now }
+    ensures form { IfOk result (IsLeastForm net.now releases.now) }
+    ensures length { IfOk result (λ form. settled_length form ≡ found.now.form.after + found.now.form.period) }
+{
+    Ok(Settled::of_rows(alloc, net, &found.rows, found.form)?)
+}

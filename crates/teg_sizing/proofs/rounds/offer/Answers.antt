@@ -1,0 +1,21 @@
+use Rattle.std.proofs.Common.{ℤ, pos, ◌≡◌, ◌+ℤ◌, ◌≤◌, Some, sym, subst, get_or, refl, rules}
+use Rattle.std.proofs.lemmas.List.{get_or_default}
+use Rattle.teg_sizing.specs.declared.rounds.Cell.{Cell}
+use Rattle.teg_sizing.specs.Rounds.{no_cell, value_at, weight_of, IsOffered}
+use Rattle.teg_sizing.proofs.Values.{weight_within, sum_fits, sum_is}
+use Rattle.teg_sizing.proofs.rounds.offer.Goals as goal
+
+pub overflow_add-result : goal.overflow_add-result
+overflow_add-result c =
+    let told : value_at c.args.before.now c.args.place.now.from.index ≡ Some c.in_ok-value.value = search rules in
+    let w = weight_within c.args.target c.args.place.now c.requires.target c.requires.hold c.requires.tokens in
+    let v = c.requires.small c.args.place.now.from.index c.in_ok-value.value told in
+    rw c.weight.ensures (sum_fits c.in_ok-value.value (weight_of c.args.target c.args.place.now) v.0 v.1 w.0 w.1)
+
+pub returns-clause-some : goal.returns-clause-some
+returns-clause-some c =
+    let told : value_at c.args.before.now c.args.place.now.from.index ≡ Some c.in_ok-value.value = search rules in
+    let w = weight_within c.args.target c.args.place.now c.requires.target c.requires.hold c.requires.tokens in
+    let v = c.requires.small c.args.place.now.from.index c.in_ok-value.value told in
+    let is = sum_is c.in_ok-value.value (weight_of c.args.target c.args.place.now) v.0 v.1 w.0 w.1 in
+    rw (c.weight.ensures, is) (record { other = c.if-id-except.false; start = c.in_ok-value.value; told = told; is = refl })

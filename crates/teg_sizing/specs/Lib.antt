@@ -1,0 +1,5 @@
+pub mod Rounds
+pub mod Paths
+pub mod Surpluses
+pub mod Sizings
+pub mod Texts

@@ -1,0 +1,49 @@
+-- The path that rounds tell, and the first circuit that a path closes.
+use Rattle.std.specs.Prelude.{ℕ, zero, suc, ◌+◌, ◌-◌, ◌<◌, ◌≤◌, ◌≡◌, ◌≢◌, List, [], ◌∷◌, ◌++◌, length, take, drop, Option, Some, None, slice_index_or}
+use Rattle.teg_net.specs.declared.entries.PlaceId.{PlaceId}
+use Rattle.teg_net.specs.Nets.{NetLists}
+use Rattle.teg_net.specs.Circuits.{from_of, IsCircuit}
+use Rattle.teg_sizing.specs.declared.rounds.Cell.{Cell}
+use Rattle.teg_sizing.specs.Rounds.{by_at, round_at}
+
+-- each round tells of the net's transitions, by its places
+pub record AreOfNet (net : NetLists) (rounds : List (List Cell)) : Type 0 where
+  pub counts : (k : ℕ) → k < length rounds → length (round_at rounds k) ≡ length net.transitions
+  pub places : (k t : ℕ) (p : PlaceId) → k < length rounds → by_at (round_at rounds k) t ≡ Some p → p.index < length net.places
+
+-- the same where no place is told, and what the place makes of it where one is
+abbrev pub by_place : Option PlaceId → List PlaceId → (PlaceId → List PlaceId) → List PlaceId
+by_place None same made = same
+by_place (Some p) same made = made p
+
+-- the places by which the first so many rounds came to the transition
+abbrev pub trace_of : NetLists → List (List Cell) → ℕ → ℕ → List PlaceId
+trace_of net rounds zero t = []
+trace_of net rounds (suc k) t = by_place (by_at (round_at rounds k) t) (trace_of net rounds k t) (λ p. trace_of net rounds k (from_of net p) ++ (p ∷ []))
+
+-- what stands past the end of a path
+abbrev pub no_id : PlaceId
+no_id = record { index = 0 }
+
+-- the transition that the place at this position leaves
+abbrev pub left_at : NetLists → List PlaceId → ℕ → ℕ
+left_at net ps k = from_of net (slice_index_or ps k no_id)
+
+-- an earlier place leaves the same transition
+pub record IsLeftAt (net : NetLists) (ps : List PlaceId) (before position : ℕ) : Type 0 where
+  pub before_it : before < position
+  pub same : left_at net ps before ≡ left_at net ps position
+
+-- no earlier place does
+abbrev pub NoneLeaves : NetLists → List PlaceId → ℕ → Type 0
+NoneLeaves net ps position = (k : ℕ) → k < position → left_at net ps k ≢ left_at net ps position
+
+-- a circuit stands in the path from this position on
+pub record IsFirstLoop (net : NetLists) (ps own : List PlaceId) : Type 0 where
+  pub begin : ℕ
+  pub end : ℕ
+  pub before_it : begin < end
+  pub within : end < length ps
+  pub is : own ≡ take (end - begin) (drop begin ps)
+  pub same : left_at net ps begin ≡ left_at net ps end
+  pub circuit : IsCircuit net own

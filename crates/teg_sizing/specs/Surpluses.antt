@@ -1,0 +1,54 @@
+-- Circuits above a target ratio, and the best of those that pass a place.
+use Rattle.std.specs.Prelude.{ℕ, ℤ, pos, ◌+◌, ◌*◌, ◌≤ℤ◌, ◌<◌, ◌≤◌, ◌≡◌, ◌≢◌, List, length, Option, Some, None, Contains}
+use Rattle.teg_net.specs.declared.entries.PlaceId.{PlaceId}
+use Rattle.teg_net.specs.Nets.{NetLists}
+use Rattle.teg_net.specs.Ratios.{Fraction}
+use Rattle.teg_net.specs.Circuits.{IsCircuit}
+use Rattle.teg_sizing.specs.declared.rounds.Cell.{Cell}
+use Rattle.teg_sizing.specs.Rounds.{value_of, Avoids, most_value, value_at, by_at}
+
+-- no circuit that avoids the place is above the target
+abbrev pub NoneIsAbove : NetLists → Fraction → PlaceId → Type 0
+NoneIsAbove net r p = (ps : List PlaceId) → IsCircuit net ps → Avoids p ps → value_of net r ps ≤ℤ pos 0
+
+-- a circuit that avoids the place and is above the target
+pub record IsAboveApart (net : NetLists) (r : Fraction) (p : PlaceId) (ps : List PlaceId) : Type 0 where
+  pub circuit : IsCircuit net ps
+  pub avoids : Avoids p ps
+  pub above : pos 1 ≤ℤ value_of net r ps
+
+-- no circuit passes the place
+abbrev pub NonePasses : NetLists → PlaceId → Type 0
+NonePasses net p = (ps : List PlaceId) → IsCircuit net ps → Contains ps p → ⊥
+
+-- a circuit that passes the place and has this value, which none of those that pass it exceeds
+pub record IsBestThrough (net : NetLists) (r : Fraction) (p : PlaceId) (value : ℤ) (ps : List PlaceId) : Type 0 where
+  pub circuit : IsCircuit net ps
+  pub passes : Contains ps p
+  pub is : value ≡ value_of net r ps
+  pub greatest : (qs : List PlaceId) → IsCircuit net qs → Contains qs p → value_of net r qs ≤ℤ value
+  pub small : value ≤ℤ pos most_value
+
+-- the empty paths from all of so many transitions
+pub record StartsEverywhere (count : ℕ) (cells : List Cell) : Type 0 where
+  pub long : length cells ≡ count
+  pub each : (t : ℕ) → t < count → value_at cells t ≡ Some (pos 0)
+  pub others : (t : ℕ) → count ≤ t → value_at cells t ≡ None
+  pub by_none : (t : ℕ) → by_at cells t ≡ None
+
+-- the empty path from one of so many transitions
+pub record StartsAt (count start : ℕ) (cells : List Cell) : Type 0 where
+  pub long : length cells ≡ count
+  pub here : value_at cells start ≡ Some (pos 0)
+  pub others : (t : ℕ) → t ≢ start → value_at cells t ≡ None
+  pub by_none : (t : ℕ) → by_at cells t ≡ None
+
+-- of this transition the round tells more than the one before, by a place
+pub record IsBetter (cells : List Cell) (t : ℕ) : Type 0 where
+  pub in_range : t < length cells
+  pub place : PlaceId
+  pub by : by_at cells t ≡ Some place
+
+-- of no transition it does
+abbrev pub NoneIsBetter : List Cell → Type 0
+NoneIsBetter cells = (t : ℕ) → t < length cells → by_at cells t ≡ None

@@ -1,0 +1,65 @@
+-- The text of an answer, and that it tells the answer.
+use Rattle.std.specs.Prelude.{ℕ, ◌<◌, ◌≡◌, ◌^◌, List, [], ◌∷◌, length, map, codes, Option, Some, None, ⊤}
+use Rattle.std.specs.Fmt.{decimal}
+use Rattle.teg_net.specs.declared.circuits.Circuit.{Circuit}
+use Rattle.teg_net.specs.declared.entries.PlaceId.{PlaceId}
+use Rattle.teg_net.specs.Nets.{NetLists, IsNet}
+use Rattle.teg_net.specs.Ratios.{Fraction}
+use Rattle.teg_net.specs.Circuits.{place_at, AreInRange}
+use Rattle.teg_text.specs.Lines.{written}
+use Rattle.teg_text.specs.Words.{ratio_word}
+use Rattle.teg_sizing.specs.declared.sizing.Sizing.{Sizing}
+use Rattle.teg_sizing.specs.declared.sizing.Sizing.TheVariants.{Enough, Impossible}
+
+-- what an answer says: a number, and perhaps a circuit; or a circuit alone
+pub data Told : Type 0 where
+  EnoughTold : (extra : ℕ) (circuit : Option (List PlaceId)) → Told
+  ImpossibleTold : (circuit : List PlaceId) → Told
+
+abbrev pub told : Sizing → Told
+told (Enough extra None) = EnoughTold extra None
+told (Enough extra (Some circuit)) = EnoughTold extra (Some circuit.places.items)
+told (Impossible circuit) = ImpossibleTold circuit.places.items
+
+abbrev pub name_of : NetLists → PlaceId → List ℕ
+name_of net id = (place_at net id).name
+
+-- a circuit, by the names of its places in order
+abbrev pub circuit_line : NetLists → List PlaceId → List (List ℕ)
+circuit_line net circuit = codes "circuit" ∷ map (name_of net) circuit
+
+abbrev pub enough_line : NetLists → PlaceId → Fraction → ℕ → List (List ℕ)
+enough_line net p r extra = codes "size" ∷ name_of net p ∷ ratio_word r.time r.tokens ∷ codes "extra" ∷ decimal extra ∷ []
+
+abbrev pub impossible_line : NetLists → PlaceId → Fraction → List (List ℕ)
+impossible_line net p r = codes "size" ∷ name_of net p ∷ ratio_word r.time r.tokens ∷ codes "impossible" ∷ []
+
+-- the lines of an answer about a place and a target
+abbrev pub sizing_lines : NetLists → PlaceId → Fraction → Told → List (List (List ℕ))
+sizing_lines net p r (EnoughTold extra None) = enough_line net p r extra ∷ []
+sizing_lines net p r (EnoughTold extra (Some circuit)) = enough_line net p r extra ∷ circuit_line net circuit ∷ []
+sizing_lines net p r (ImpossibleTold circuit) = impossible_line net p r ∷ circuit_line net circuit ∷ []
+
+-- the circuit that is told, where one is, is in the net
+abbrev pub HasCircuitIn : NetLists → Told → Type 0
+HasCircuitIn net (EnoughTold extra None) = ⊤
+HasCircuitIn net (EnoughTold extra (Some circuit)) = AreInRange net circuit
+HasCircuitIn net (ImpossibleTold circuit) = AreInRange net circuit
+
+-- the number that is told has 64 bits
+abbrev pub HasNumberIn : Told → Type 0
+HasNumberIn (EnoughTold extra circuit) = extra < 2 ^ 64
+HasNumberIn (ImpossibleTold circuit) = ⊤
+
+-- an answer about a place of the net and a target of 64 bits
+pub record IsToldOf (net : NetLists) (p : PlaceId) (r : Fraction) (s : Told) : Type 0 where
+  pub place : p.index < length net.places
+  pub time : r.time < 2 ^ 64
+  pub tokens : r.tokens < 2 ^ 64
+  pub circuit : HasCircuitIn net s
+  pub number : HasNumberIn s
+
+-- two answers about one net that have the same text are the same, about the same place and the same target
+abbrev pub TextsOfSizingsDiffer : Type 0
+TextsOfSizingsDiffer = (net : NetLists) → IsNet net → (p q : PlaceId) (r t : Fraction) (s u : Told) → IsToldOf net p r s → IsToldOf net q t u
+    → written (sizing_lines net p r s) ≡ written (sizing_lines net q t u) → (p ≡ q) × (r ≡ t) × (s ≡ u)

@@ -1,0 +1,22 @@
+//! How many more tokens a place needs for a given cycle time (chapters 2 and 3).
+//!
+//! Its one contract: [`size`] tells the least number of further tokens of a place with which no
+//! circuit of the net has a greater ratio of time to tokens than a target, with a circuit that one
+//! token less leaves above it; or that no number is enough, with a circuit that shows it.
+//! [`sizing_text`] is the text of an answer, and different answers have different texts. The best
+//! paths are found in rounds over the places, with no regard to the limit on tokens. The crate
+//! stands on `teg_net`, on `teg_check` for nets that are live, on `teg_loops` for the laws of paths
+//! and circuits, and on `teg_text` for texts.
+#![tactic(auto)]
+
+mod loops;
+mod rounds;
+mod sizing;
+mod surpluses;
+#[cfg(test)]
+mod tests;
+mod texts;
+mod tracing;
+
+pub use sizing::{Sizing, size};
+pub use texts::{sizing_text, texts_of_sizings_differ};

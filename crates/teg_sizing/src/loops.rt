@@ -1,0 +1,44 @@
+//! A circuit that stands in a path with more places than there are transitions.
+ghost use Rattle.std.specs.Prelude.{◌≡◌, ◌<◌, length, IfOk, IfNone, IfSome};
+ghost use Rattle.teg_net.specs.Nets.{IsNet};
+ghost use Rattle.teg_net.specs.Circuits.{IsPath};
+ghost use Rattle.teg_sizing.specs.Paths.{IsLeftAt, IsFirstLoop, NoneLeaves};
+
+use std::alloc::{AllocError, Global};
+use teg_net::{Net, PlaceId};
+
+/// The position of a place before this one that leaves the same transition.
+fn left_before(net: &Net, places: &[PlaceId], position: usize) -> Option<usize>
+    requires path { IsPath net.now places.now }
+    requires position { position < length places.now }
+    ensures none { IfNone result (NoneLeaves net.now places.now position) }
+    ensures some { IfSome result (λ before. IsLeftAt net.now places.now before position) }
+{
+    let own = net.places();
+    let from = own[places[position].index as usize].from;
+    for before in 0..position {
+        if own[places[before].index as usize].from.index == from.index {
+            return Some(before);
+        }
+    }
+    None
+}
+
+/// The first circuit that the path closes.
+pub(crate) fn first_loop(
+    alloc: Global,
+    net: &Net,
+    places: &[PlaceId],
+) -> Result<Vec<PlaceId>, AllocError>
+    requires rules { IsNet net.now }
+    requires path { IsPath net.now places.now }
+    requires long { length net.now.transitions < length places.now }
+    ensures { IfOk result (λ own. IsFirstLoop net.now places.now own.items) }
+{
+    for end in 0..places.len() {
+        if let Some(begin) = left_before(net, places, end) {
+            return Vec::from_slice(alloc, &places[begin..end]);
+        }
+    }
+    unreachable!()
+}

@@ -1,0 +1,167 @@
+//! The greatest values of paths, round by round (the algorithm of Bellman and Ford): the paths of a
+//! round have at most one place more than those of the round before.
+ghost use Rattle.std.specs.Prelude.{◌+◌, ◌≡◌, ◌≢◌, ◌≤◌, ◌<◌, ℤ, length, IfOk, IfNone, IfSome, IsTrue, false, Some, None};
+ghost use Rattle.teg_net.specs.Limits.{greatest_hold, most_tokens};
+ghost use Rattle.teg_net.specs.Nets.{IsNet};
+ghost use Rattle.teg_sizing.specs.Rounds.{IsTarget, value_at, weight_of, most_value, AreWithin, IsAtLeast, IsOffered, AreFresh, IsRoundAfter, AreRounds};
+
+use std::alloc::{AllocError, Global};
+use std::marker::Model;
+use teg_net::{Net, Place, PlaceId, Ratio};
+
+/// What is told of a transition: the greatest value of the paths that end there, none where there
+/// is none; and their last place, where they are not those of the round before.
+#[derive(Clone, Copy, Debug, PartialEq, Eq)]
+pub(crate) struct Cell {
+    pub(crate) value: Option<i128>,
+    pub(crate) by: Option<PlaceId>,
+}
+
+/// What a round tells of each transition. Contracts see the list.
+#[derive(Debug, Drop)]
+pub(crate) struct Round {
+    cells: Vec<Cell>,
+}
+
+impl Model for Round {
+    ghost use Rattle.std.specs.Prelude.{List};
+    ghost use Rattle.teg_sizing.specs.declared.rounds.Cell.{Cell};
+
+    ghost Value = { List Cell };
+
+    ghost view = { λ r. r.cells.items };
+}
+
+impl Round {
+    /// The round that tells this.
+    pub(crate) fn new(cells: Vec<Cell>) -> Round
+        ensures { result ≡ cells.items }
+    {
+        Round { cells }
+    }
+
+    /// What it tells.
+    pub(crate) fn cells(&self) -> &[Cell]
+        ensures { result.now ≡ self.now }
+    {
+        &self.cells
+    }
+}
+
+/// What a place adds to the value of a path: the target's tokens times its hold, less the target's
+/// time times its tokens.
+pub(crate) fn weight(target: Ratio, place: &Place) -> i128
+    requires target { IsTarget target }
+    requires hold { place.now.hold ≤ greatest_hold }
+    requires tokens { place.now.tokens ≤ most_tokens }
+    ensures { result ≡ weight_of target place.now }
+{
+    let gain = i128::from(target.tokens()) * i128::from(place.hold);
+    let cost = i128::from(target.time()) * i128::from(place.tokens);
+    gain - cost
+}
+
+/// The value of the best path that ends with this place, unless it is the one to be left out.
+fn offer(
+    target: Ratio,
+    except: PlaceId,
+    before: &[Cell],
+    id: PlaceId,
+    place: &Place,
+) -> Option<i128>
+    requires target { IsTarget target }
+    requires hold { place.now.hold ≤ greatest_hold }
+    requires tokens { place.now.tokens ≤ most_tokens }
+    requires from { place.now.from.index < length before.now }
+    requires small { AreWithin most_value before.now }
+    ensures none { IfNone result (id.index ≢ except.index → value_at before.now place.now.from.index ≡ None) }
+    ensures some { IfSome result (IsOffered target except before.now id place.now) }
+{
+    if id.index == except.index {
+        return None;
+    }
+    let value = before[place.from.index as usize].value?;
+    Some(value + weight(target, place))
+}
+
+/// Whether nothing is told yet, or less than is offered.
+fn is_more(offered: i128, told: Option<i128>) -> bool
+    ensures more { IsTrue result → IsAtLeast told offered → ⊥ }
+    ensures no_more { result ≡ false → IsAtLeast told offered }
+{
+    match told {
+        None => true,
+        Some(told) => told < offered,
+    }
+}
+
+/// The same values, by no place yet.
+fn fresh(alloc: Global, before: &[Cell]) -> Result<Vec<Cell>, AllocError>
+    ensures { IfOk result (λ cells. AreFresh before.now cells.items) }
+{
+    let mut cells = Vec::new(alloc);
+    for cell in before {
+        cells.push(Cell {
+            value: cell.value,
+            by: None,
+        })?;
+    }
+    Ok(cells)
+}
+
+/// The round after: the paths with one place more.
+fn round_after(
+    alloc: Global,
+    net: &Net,
+    target: Ratio,
+    except: PlaceId,
+    before: &[Cell],
+) -> Result<Round, AllocError>
+    requires target { IsTarget target }
+    requires count { length before.now ≡ length net.now.transitions }
+    requires small { AreWithin most_value before.now }
+    ensures after { IfOk result (IsRoundAfter net.now target except before.now) }
+    ensures rules { IfOk result (λ _. IsNet net.now) }
+{
+    let mut after = fresh(alloc, before)?;
+    for (index, place) in net.places().iter().enumerate() {
+        let id = PlaceId {
+            index: index as u32,
+        };
+        if let Some(offered) = offer(target, except, before, id, place) {
+            let to = place.to.index as usize;
+            if is_more(offered, after[to].value) {
+                after[to] = Cell {
+                    value: Some(offered),
+                    by: Some(id),
+                };
+            }
+        }
+    }
+    Ok(Round::new(after))
+}
+
+/// The first round and so many after it.
+pub(crate) fn rounds(
+    alloc: Global,
+    net: &Net,
+    target: Ratio,
+    except: PlaceId,
+    first: Round,
+    count: usize,
+) -> Result<Vec<Round>, AllocError>
+    requires target { IsTarget target }
+    requires long { length first ≡ length net.now.transitions }
+    requires small { AreWithin 0 first }
+    requires count { count ≤ 401 }
+    ensures rounds { IfOk result (λ rounds. AreRounds net.now target except first rounds.items) }
+    ensures count { IfOk result (λ rounds. length rounds.items ≡ count + 1) }
+{
+    let mut rounds = Vec::new(alloc);
+    rounds.push(first)?;
+    for number in 0..count {
+        let after = round_after(alloc, net, target, except, rounds[number].cells())?;
+        rounds.push(after)?;
+    }
+    Ok(rounds)
+}

@@ -1,0 +1,105 @@
+//! Circuits above the target: those that avoid the place, and the best of those that pass it.
+ghost use Rattle.std.specs.Prelude.{◌≡◌, ◌<◌, ◌≤◌, length, IfOk, IfNone, IfSome, Some};
+ghost use Rattle.teg_sizing.specs.Rounds.{IsTarget, value_at, AreWithin};
+ghost use Rattle.teg_sizing.specs.Surpluses.{NoneIsAbove, IsAboveApart, StartsEverywhere, StartsAt, IsBetter, NoneIsBetter, NonePasses, IsBestThrough};
+
+use crate::loops::first_loop;
+use crate::rounds::{Cell, Round, rounds, weight};
+use crate::tracing::trace;
+use std::alloc::{AllocError, Global};
+use teg_net::{Net, PlaceId, Ratio, TransitionId};
+
+/// The circuit of greatest value among those that pass a place, and that value.
+#[derive(Debug, Drop)]
+pub(crate) struct Through {
+    pub(crate) value: i128,
+    pub(crate) places: Vec<PlaceId>,
+}
+
+/// The empty paths from each transition.
+fn everywhere(alloc: Global, count: usize) -> Result<Round, AllocError>
+    ensures { IfOk result (StartsEverywhere count) }
+{
+    let cell = Cell {
+        value: Some(0),
+        by: None,
+    };
+    Ok(Round::new(vec![in alloc; cell; count]?))
+}
+
+/// The empty path from one transition.
+fn only_at(alloc: Global, count: usize, start: TransitionId) -> Result<Round, AllocError>
+    requires { start.index < count }
+    ensures { IfOk result (StartsAt count start.index) }
+{
+    let cell = Cell {
+        value: None,
+        by: None,
+    };
+    let mut cells = vec![in alloc; cell; count]?;
+    cells[start.index as usize].value = Some(0);
+    Ok(Round::new(cells))
+}
+
+/// A transition of which the round tells more than the one before.
+fn better_at(cells: &[Cell]) -> Option<usize>
+    ensures none { IfNone result (NoneIsBetter cells.now) }
+    ensures some { IfSome result (IsBetter cells.now) }
+{
+    for (index, cell) in cells.iter().enumerate() {
+        if cell.by.is_some() {
+            return Some(index);
+        }
+    }
+    None
+}
+
+/// A circuit above the target that avoids the place; none where there is none.
+pub(crate) fn above_apart(
+    alloc: Global,
+    net: &Net,
+    target: Ratio,
+    place: PlaceId,
+) -> Result<Option<Vec<PlaceId>>, AllocError>
+    requires target { IsTarget target }
+    ensures none { IfOk result (λ found. IfNone found (NoneIsAbove net.now target place)) }
+    ensures some { IfOk result (λ found. IfSome found (λ own. IsAboveApart net.now target place own.items)) }
+{
+    let count = net.transitions().len();
+    let first = everywhere(alloc, count)?;
+    let all = rounds(alloc, net, target, place, first, count + 1)?;
+    let Some(end) = better_at(all[count + 1].cells()) else {
+        return Ok(None);
+    };
+    let path = trace(alloc, net, &all, end)?;
+    Ok(Some(first_loop(alloc, net, &path)?))
+}
+
+/// The best circuit that passes the place, where none that avoids it is above the target.
+pub(crate) fn best_through(
+    alloc: Global,
+    net: &Net,
+    target: Ratio,
+    place: PlaceId,
+) -> Result<Option<Through>, AllocError>
+    requires target { IsTarget target }
+    requires place { place.index < length net.now.places }
+    requires apart { NoneIsAbove net.now target place }
+    ensures none { IfOk result (λ best. IfNone best (NonePasses net.now place)) }
+    ensures some { IfOk result (λ best. IfSome best (λ b. IsBestThrough net.now target place b.value b.places.items)) }
+{
+    let count = net.transitions().len();
+    let own = &net.places()[place.index as usize];
+    let first = only_at(alloc, count, own.to)?;
+    let all = rounds(alloc, net, target, place, first, count)?;
+    let end = own.from.index as usize;
+    let Some(back) = all[count].cells()[end].value else {
+        return Ok(None);
+    };
+    let mut places = trace(alloc, net, &all, end)?;
+    places.push(place)?;
+    Ok(Some(Through {
+        value: back + weight(target, own),
+        places,
+    }))
+}

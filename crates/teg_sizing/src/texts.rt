@@ -1,0 +1,106 @@
+//! The text of an answer: how many further tokens are enough, or that none are, and the circuit
+//! that shows it.
+ghost use Rattle.std.specs.Prelude.{◌≡◌, ◌++◌, ◌∷◌, ◌<◌, [], flat_map, length, IfOk, string_bytes};
+ghost use Rattle.teg_net.specs.Circuits.{AreInRange};
+ghost use Rattle.teg_text.specs.Lines.{line_then, written};
+ghost use Rattle.teg_sizing.specs.Texts.{TextsOfSizingsDiffer, circuit_line, enough_line, impossible_line, name_of, sizing_lines, told, HasCircuitIn};
+
+use crate::sizing::Sizing;
+use std::alloc::{AllocError, Global};
+use teg_net::{Circuit, Net, OutOfMemory, PlaceId, Ratio};
+
+/// Appends the names of the places of a circuit in their order, each behind a blank.
+fn push_names(text: &mut String, net: &Net, circuit: &Circuit) -> Result<(), AllocError>
+    requires { AreInRange net.now circuit.now.places.items }
+    ensures { IfOk result (λ _. string_bytes text.new ≡
+        string_bytes text.old ++ flat_map (λ id. 32 ∷ name_of net.now id) circuit.now.places.items) }
+{
+    let places = net.places();
+    for id in &circuit.places {
+        text.push(' ')?;
+        text.push_str(places[id.index as usize].name.as_str())?;
+    }
+    Ok(())
+}
+
+/// Appends the line of a circuit.
+fn push_circuit(text: &mut String, net: &Net, circuit: &Circuit) -> Result<(), AllocError>
+    requires { AreInRange net.now circuit.now.places.items }
+    ensures { IfOk result (λ _. string_bytes text.new ≡
+        string_bytes text.old ++ line_then (circuit_line net.now circuit.now.places.items) []) }
+{
+    text.push_str("circuit")?;
+    push_names(text, net, circuit)?;
+    text.push('\n')?;
+    Ok(())
+}
+
+/// Appends the line of a number that is enough.
+fn push_enough(
+    text: &mut String,
+    net: &Net,
+    place: PlaceId,
+    target: &Ratio,
+    extra: u64,
+) -> Result<(), AllocError>
+    requires { place.index < length net.now.places }
+    ensures { IfOk result (λ _. string_bytes text.new ≡
+        string_bytes text.old ++ line_then (enough_line net.now place target.now extra) []) }
+{
+    let name = net.places()[place.index as usize].name.as_str();
+    let time = target.time();
+    let tokens = target.tokens();
+    write!(text, "size {name} {time}/{tokens} extra {extra}\n")
+}
+
+/// Appends the line that no number is.
+fn push_impossible(
+    text: &mut String,
+    net: &Net,
+    place: PlaceId,
+    target: &Ratio,
+) -> Result<(), AllocError>
+    requires { place.index < length net.now.places }
+    ensures { IfOk result (λ _. string_bytes text.new ≡
+        string_bytes text.old ++ line_then (impossible_line net.now place target.now) []) }
+{
+    let name = net.places()[place.index as usize].name.as_str();
+    let time = target.time();
+    let tokens = target.tokens();
+    write!(text, "size {name} {time}/{tokens} impossible\n")
+}
+
+/// The text of an answer of `size` about a place of the net: one line with the place, the target in
+/// lowest terms and the number or `impossible`, and a line of the circuit where one is told.
+/// `OutOfMemory` comes only where no memory is found.
+pub fn sizing_text(
+    alloc: Global,
+    net: &Net,
+    place: PlaceId,
+    target: &Ratio,
+    sizing: &Sizing,
+) -> Result<String, OutOfMemory>
+    requires place { place.index < length net.now.places }
+    requires circuit { HasCircuitIn net.now (told sizing.now) }
+    ensures { IfOk result (λ text. string_bytes text ≡ written (sizing_lines net.now place target.now (told sizing.now))) }
+{
+    let mut text = String::new(alloc);
+    match sizing {
+        Sizing::Enough { extra, circuit } => {
+            push_enough(&mut text, net, place, target, *extra)?;
+            if let Some(circuit) = circuit {
+                push_circuit(&mut text, net, circuit)?;
+            }
+        }
+        Sizing::Impossible { circuit } => {
+            push_impossible(&mut text, net, place, target)?;
+            push_circuit(&mut text, net, circuit)?;
+        }
+    }
+    Ok(text)
+}
+
+/// The law that different answers about one net have different texts. It does nothing when it runs.
+pub fn texts_of_sizings_differ()
+    ensures { TextsOfSizingsDiffer }
+{}
