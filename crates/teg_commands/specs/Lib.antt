@@ -1,9 +1,10 @@
 pub mod CycleTimes
+pub mod Inputs
 pub mod Limits
 pub mod Outcomes
 pub mod Recorded
+pub mod Settled
 pub mod Sizes
 pub mod Slacks
 pub mod Texts
 pub mod Values
-pub mod Settled

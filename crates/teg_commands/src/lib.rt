@@ -7,6 +7,7 @@
 #![tactic(auto)]
 
 mod cycle_times;
+mod inputs;
 mod live_net;
 mod outcome;
 mod recorded;
@@ -17,6 +18,7 @@ mod trial;
 mod values;
 
 pub use cycle_times::{tell_cycle, tell_rounds};
+pub use inputs::tell_jit;
 pub use live_net::LiveNet;
 pub use outcome::{Outcome, Verdict};
 pub use recorded::tell_replay;
