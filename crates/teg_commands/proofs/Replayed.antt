@@ -1,5 +1,6 @@
 -- What a replay came to can be told.
-use Rattle.std.proofs.Common.{◌≡◌, ◌≢◌, ℕ, inl, inr, List, Option, Some, None, Ok, Err, length, take, slice_index_or, subst}
+use Rattle.std.proofs.Common.{◌≡◌, ◌≢◌, ◌++◌, ℕ, inl, inr, List, Option, Some, None, Ok, Err, length, take, slice_index_or, subst}
+use Rattle.std.proofs.Math.Seq.{take-append_seam}
 use Rattle.std.specs.Prelude.{IfSome}
 use Rattle.run_laws.specs.declared.fired.Fired.{Fired}
 use Rattle.teg_due.specs.declared.rows.LogRefusal.{LogRefusal}
@@ -34,8 +35,8 @@ end_told net rows n (Some refused) h = failure_told net _ _ refused.why (h.fails
 
 -- the end of a replay, after which the monitors tell so
 pub run_said : (lines : List Firing → List (List ℕ)) (net other : NetLists) (rows : List LogRow) (firings : List Firing) (replayed : Replayed) (told : List (List ℕ)) (outcome : Option (Verdict × List ℕ)) →
-    other ≡ net → IsReplayOf other rows firings replayed → told ≡ lines firings → Tells (SaysEnd net replayed.refused replayed.accepted told) outcome → Tells (SaysRun lines net rows) outcome
-run_said lines net other rows firings replayed told outcome e of same h =
+    other ≡ net → IsReplayOf other rows firings replayed → Tells (SaysEnd net replayed.refused replayed.accepted told) outcome → told ≡ lines firings → Tells (SaysRun lines net rows) outcome
+run_said lines net other rows firings replayed told outcome e of h same =
     tells_weaker (SaysEnd net replayed.refused replayed.accepted told) (SaysRun lines net rows) outcome
     (λ verdict text k. (firings, replayed, subst (λ (n : NetLists). IsReplayOf n rows firings replayed) e of,
     subst (λ (ls : List (List ℕ)). SaysEnd net replayed.refused replayed.accepted ls verdict text) same k)) h
@@ -53,3 +54,7 @@ pub fault_said : (lines : List Firing → List (List ℕ)) (net other : NetLists
 fault_said lines net other bytes refusal outcome e is h =
     tells_weaker (TellsBadLog refusal) (SaysReplay lines net bytes) outcome
     (λ verdict text k. inl (refusal, subst (λ (n : NetLists). log_of n bytes ≡ Err refusal) e (is k.1), k)) h
+
+-- what was written back into a list of so many
+pub written_back : {A : Type 0} (count : ℕ) (new rest : List A) → length new ≡ count → take count (new ++ rest) ≡ new
+written_back count new rest e = subst (λ (n : ℕ). take n (new ++ rest) ≡ new) e (take-append_seam new rest)

@@ -123,7 +123,7 @@ fn tell_run(
 {
     let replayed = replay(alloc, net.net(), rows, &mut monitors)?;
     let lines = lines_of(alloc, &monitors)?;
-    tell_end(alloc, net, &replayed, &lines)
+    tell_end(alloc, net, &replayed, lines.as_slice())
 }
 
 /// How the log of a recorded run is replayed on a live net: how many firings it has, or its first

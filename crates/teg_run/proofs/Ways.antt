@@ -15,8 +15,9 @@ use Rattle.teg_commands.specs.declared.outcome.Verdict.{Verdict}
 use Rattle.teg_run.specs.Limits.{most_bytes}
 use Rattle.teg_run.specs.Openings.{Opening, Accepted, Refused, OpensNet, OpensDocument, OpensBytes, read_status}
 use Rattle.teg_run.specs.Reads.{ReadsAll}
-use Rattle.teg_run.specs.Requests.{FileCommand, JitNet, ReplayNet, Request, OfNet, OfFiles, ValueOf, files_of, second_of}
+use Rattle.teg_run.specs.Requests.{FileCommand, ReplayNet, Request, OfNet, OfFiles, ValueOf, TrialOf, files_of, second_of}
 use Rattle.teg_run.specs.Says.{Says, SaysFile, SaysFiles, SaysNet, SaysOpening, SaysOutcome}
+use Rattle.teg_commands.specs.Slacks.{SaysTrial}
 use Rattle.teg_commands.specs.Values.{SaysValue}
 use Rattle.teg_commands.specs.Texts.{read_text}
 use Rattle.teg_run.proofs.ReadOrder.{none_left}
@@ -134,7 +135,6 @@ bytes_way old new which name accepts goes_on (reply ∷ replies) status text rea
 
 -- the bytes of a second file are accepted as they are
 second_accepts : (command : FileCommand) (bytes : List ℕ) → Accepts (second_of command) bytes
-second_accepts JitNet bytes = tt
 second_accepts ReplayNet bytes = tt
 
 -- what a command comes to has its own status
@@ -154,3 +154,4 @@ way_of (OfFiles command name second) lines old new replies status text reads h =
     (λ net mid more rest k. bytes_way mid new (second_of command) second (second_accepts command) (λ bytes. SaysOutcome (SaysFiles command lines net bytes)) more status text rest k
     (λ bytes last further said. outcome_way last new (SaysFiles command lines net bytes) further status text said))
 way_of (ValueOf text) lines old new replies status told reads h = outcome_way old new (SaysValue text) replies status told h
+way_of (TrialOf machines) lines old new replies status told reads h = outcome_way old new (SaysTrial machines) replies status told h

@@ -7,15 +7,15 @@ use Rattle.teg_run.specs.declared.ending.Ending.TheVariants.{Whole as CodedWhole
 use Rattle.teg_run.specs.declared.opening.Opened.{Opened}
 use Rattle.teg_run.specs.declared.opening.Opened.TheVariants.{Accepted as OpenedAccepted, Refused as OpenedRefused, Lost as OpenedLost}
 use Rattle.teg_run.specs.declared.request.NetCommand.{NetCommand as CodedCommand}
-use Rattle.teg_run.specs.declared.request.NetCommand.TheVariants.{Check, Cycle, Form, List as ListCommand}
+use Rattle.teg_run.specs.declared.request.NetCommand.TheVariants.{Check, Cycle, Form, List as ListCommand, Slack}
 use Rattle.teg_run.specs.declared.request.FileCommand.{FileCommand as CodedFileCommand}
-use Rattle.teg_run.specs.declared.request.FileCommand.TheVariants.{Jit, Replay}
+use Rattle.teg_run.specs.declared.request.FileCommand.TheVariants.{Replay}
 use Rattle.teg_run.specs.declared.request.Request.{Request as CodedRequest}
-use Rattle.teg_run.specs.declared.request.Request.TheVariants.{OfNet as CodedOfNet, OfFiles as CodedOfFiles, ValueOf as CodedValueOf}
+use Rattle.teg_run.specs.declared.request.Request.TheVariants.{OfNet as CodedOfNet, OfFiles as CodedOfFiles, ValueOf as CodedValueOf, TrialOf as CodedTrialOf}
 use Rattle.teg_run.specs.declared.status.Status.{Status}
 use Rattle.teg_run.specs.Endings.{Ending, Whole, Lost}
 use Rattle.teg_run.specs.Openings.{Opening, Accepted, Refused}
-use Rattle.teg_run.specs.Requests.{NetCommand, CheckNet, ListNet, FormNet, CycleNet, FileCommand, JitNet, ReplayNet, Request, OfNet, OfFiles, ValueOf}
+use Rattle.teg_run.specs.Requests.{NetCommand, CheckNet, ListNet, FormNet, CycleNet, SlackNet, FileCommand, ReplayNet, Request, OfNet, OfFiles, ValueOf, TrialOf}
 
 -- the command on a net
 abbrev pub command_asked : CodedCommand → NetCommand
@@ -23,10 +23,10 @@ command_asked Check = CheckNet
 command_asked (ListCommand count) = ListNet count
 command_asked Form = FormNet
 command_asked (Cycle rounds) = CycleNet rounds
+command_asked Slack = SlackNet
 
 -- the command on a net and a second file
 abbrev pub file_command_asked : CodedFileCommand → FileCommand
-file_command_asked Jit = JitNet
 file_command_asked Replay = ReplayNet
 
 -- the request
@@ -34,6 +34,7 @@ abbrev pub asked : CodedRequest → Request
 asked (CodedOfNet command net) = OfNet (command_asked command) net.now
 asked (CodedOfFiles command net second) = OfFiles (file_command_asked command) net.now second.now
 asked (CodedValueOf text) = ValueOf text.now
+asked (CodedTrialOf machines) = TrialOf machines
 
 -- the ending of the work
 abbrev pub ended : CodedEnding → Ending

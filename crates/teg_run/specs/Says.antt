@@ -7,9 +7,11 @@ use Rattle.teg_run.specs.declared.status.Status.{Status}
 use Rattle.teg_run.specs.declared.status.Status.TheVariants.{Words}
 use Rattle.teg_commands.specs.declared.outcome.Verdict.{Verdict}
 use Rattle.teg_commands.specs.CycleTimes.{SaysCycle, SaysRounds}
+use Rattle.teg_commands.specs.Recorded.{SaysReplay}
+use Rattle.teg_commands.specs.Slacks.{SaysSlack, SaysTrial}
 use Rattle.teg_commands.specs.Sizes.{SaysCheck, SaysList, SaysForm}
 use Rattle.teg_commands.specs.Values.{SaysValue}
-use Rattle.teg_run.specs.Requests.{NetCommand, CheckNet, ListNet, FormNet, CycleNet, FileCommand, JitNet, ReplayNet, Request, OfNet, OfFiles, ValueOf, second_of}
+use Rattle.teg_run.specs.Requests.{NetCommand, CheckNet, ListNet, FormNet, CycleNet, SlackNet, FileCommand, ReplayNet, Request, OfNet, OfFiles, ValueOf, TrialOf, second_of}
 use Rattle.teg_run.specs.Openings.{Opening, Accepted, Refused, OpensNet, OpensBytes}
 use Rattle.teg_run.specs.Statuses.{status_of}
 use Rattle.teg_commands.specs.Texts.{usage}
@@ -21,6 +23,7 @@ SaysNet (ListNet count) = SaysList count
 SaysNet FormNet = SaysForm
 SaysNet (CycleNet false) = SaysCycle
 SaysNet (CycleNet true) = SaysRounds
+SaysNet SlackNet = SaysSlack
 
 -- this status and this text
 abbrev pub Said : Status → List ℕ → Status → List ℕ → Type 0
@@ -44,7 +47,6 @@ SaysOutcome says replies status text =
 
 -- what a command says of a live net and of the bytes of a second file, with the lines of the monitors after given firings
 abbrev pub SaysFiles : FileCommand → (List Firing → List (List ℕ)) → NetLists → List ℕ → Verdict → List ℕ → Type 0
-SaysFiles JitNet lines = SaysJit
 SaysFiles ReplayNet lines = SaysReplay lines
 
 -- what a request says, with the lines of the monitors after given firings
@@ -53,6 +55,7 @@ Says (OfNet command net) lines = SaysFile OpensNet (λ file. SaysOutcome (SaysNe
 Says (OfFiles command net second) lines =
     SaysFile OpensNet (λ file. SaysFile (OpensBytes (second_of command)) (λ bytes. SaysOutcome (SaysFiles command lines file bytes)))
 Says (ValueOf text) lines = SaysOutcome (SaysValue text)
+Says (TrialOf machines) lines = SaysOutcome (SaysTrial machines)
 
 -- what the words make the call say
 abbrev pub Asked : Option Request → (List Firing → List (List ℕ)) → List (Result (List ℕ) ShelfFault) → Status → List ℕ → Type 0

@@ -6,7 +6,9 @@ ghost use Rattle.teg_run.specs.Says.{SaysNet};
 
 use crate::request::NetCommand;
 use std::alloc::Global;
-use teg_commands::{LiveNet, Outcome, tell_cycle, tell_dates, tell_form, tell_rounds, tell_size};
+use teg_commands::{
+    LiveNet, Outcome, tell_cycle, tell_dates, tell_form, tell_rounds, tell_size, tell_slack,
+};
 use teg_net::OutOfMemory;
 
 /// What the command comes to on a live net.
@@ -20,5 +22,6 @@ pub fn of_net(alloc: Global, command: NetCommand, net: &LiveNet) -> Result<Outco
         NetCommand::Form => tell_form(alloc, net),
         NetCommand::Cycle { rounds: false } => tell_cycle(alloc, net),
         NetCommand::Cycle { rounds: true } => tell_rounds(alloc, net),
+        NetCommand::Slack => tell_slack(alloc, net),
     }
 }

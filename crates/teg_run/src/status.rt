@@ -64,6 +64,7 @@ pub fn status_of(verdict: Verdict) -> Status
 {
     match verdict {
         Verdict::Done => Status::Done,
+        Verdict::Log => Status::Log,
         Verdict::Calc => Status::Calc,
     }
 }
