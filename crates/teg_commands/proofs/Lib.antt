@@ -7,4 +7,5 @@ pub mod Planned
 pub mod Replayed
 pub mod Rounds
 pub mod Telling
+pub mod Transferred
 pub mod TrialLaws

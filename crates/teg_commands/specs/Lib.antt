@@ -7,4 +7,5 @@ pub mod Settled
 pub mod Sizes
 pub mod Slacks
 pub mod Texts
+pub mod Transfers
 pub mod Values

@@ -14,6 +14,7 @@ mod recorded;
 mod settled;
 mod sizes_and_dates;
 mod slack;
+mod transfers;
 mod trial;
 mod values;
 
@@ -25,5 +26,6 @@ pub use recorded::tell_replay;
 pub use settled::{tell_date, tell_settled};
 pub use sizes_and_dates::{tell_dates, tell_form, tell_size};
 pub use slack::tell_slack;
+pub use transfers::tell_transfer;
 pub use trial::tell_trial;
 pub use values::tell_value;
