@@ -15,7 +15,9 @@ ghost use Rattle.teg_run.specs.declared.status.Status.{Status};
 use std::alloc::{AllocError, Global};
 use std::process::ExitCode;
 use std::{env, io};
-use teg_outside::{FileShelf, Monitor, Shelf, Sink, WriterSink};
+use teg_outside::{
+    FileShelf, FiringCount, HighWater, Lateness, Monitor, Shelf, Sink, WriterSink,
+};
 use teg_run::{Status, workbench};
 
 // The words after the program's name; none where one of them is no text.
@@ -62,13 +64,39 @@ fn run<S: Shelf, W: Sink>(
     ExitCode::from(status.code())
 }
 
+// Appends a monitor.
+fn keep(
+    monitors: &mut Vec<Box<dyn Monitor>>,
+    monitor: Box<dyn Monitor>,
+) -> Result<(), AllocError> {
+    monitors.push(monitor)?;
+    Ok(())
+}
+
+// The call with the monitors of the program: the number of firings, the greatest number of tokens,
+// the greatest lateness, in this order.
+fn run_watched<S: Shelf, W: Sink>(
+    alloc: Global,
+    words: &[String],
+    shelf: &mut S,
+    out: &mut W,
+) -> Result<ExitCode, AllocError> {
+    let mut monitors: Vec<Box<dyn Monitor>> = Vec::new(alloc);
+    keep(&mut monitors, Box::new(alloc, FiringCount::new())?)?;
+    keep(&mut monitors, Box::new(alloc, HighWater::new())?)?;
+    keep(&mut monitors, Box::new(alloc, Lateness::new())?)?;
+    Ok(run(alloc, words, shelf, out, monitors))
+}
+
 fn main(rt: HostRuntime) -> ExitCode {
     let alloc = rt.alloc();
     let Ok(words) = words_of(&rt, alloc) else {
         return ExitCode::from(Status::NoMemory.code());
     };
-    let monitors: Vec<Box<dyn Monitor>> = Vec::new(alloc);
     let mut shelf = FileShelf::new(&rt);
     let mut out = WriterSink::new(io::writer(&rt));
-    run(alloc, &words, &mut shelf, &mut out, monitors)
+    match run_watched(alloc, &words, &mut shelf, &mut out) {
+        Ok(code) => code,
+        Err(_) => ExitCode::from(Status::NoMemory.code()),
+    }
 }

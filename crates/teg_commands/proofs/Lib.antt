@@ -3,7 +3,9 @@ pub mod CycleTold
 pub mod Formed
 pub mod Listed
 pub mod Paths
+pub mod Planned
 pub mod Replayed
 pub mod Rounds
 pub mod Telling
+pub mod Transferred
 pub mod TrialLaws

@@ -1,8 +1,11 @@
 pub mod CycleTimes
+pub mod Inputs
 pub mod Limits
 pub mod Outcomes
 pub mod Recorded
+pub mod Settled
 pub mod Sizes
 pub mod Slacks
 pub mod Texts
+pub mod Transfers
 pub mod Values

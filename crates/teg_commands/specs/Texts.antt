@@ -3,23 +3,29 @@ use Rattle.std.specs.Prelude.{ℕ, List, Option, Some, None, length, map}
 use Rattle.dioid.specs.declared.dates.Date.{Date}
 use Rattle.teg_form.specs.Forms.{FormLists}
 use Rattle.teg_net.specs.declared.answers.CycleAnswer.{CycleAnswer}
+use Rattle.settled_laws.specs.Forms.{SettledForm}
 use Rattle.teg_net.specs.declared.entries.PlaceId.{PlaceId}
+use Rattle.teg_net.specs.declared.entries.TransitionId.{TransitionId}
 use Rattle.teg_net.specs.declared.rounds.Round.{Round}
 use Rattle.teg_net.specs.Nets.{NetLists}
 use Rattle.series_form.specs.declared.forms.SeriesRefused.{SeriesRefused}
 use Rattle.series_laws.specs.Forms.{Form as SeriesForm}
 use Rattle.teg_calc.specs.declared.refusals.ParseRefused.{ParseRefused}
 use Rattle.teg_reader.specs.declared.refusals.ReadRefusal.{ReadRefusal}
+use Rattle.teg_due.specs.declared.rows.DueRefusal.{DueRefusal}
 use Rattle.teg_due.specs.declared.rows.LogRefusal.{LogRefusal}
+use Rattle.teg_jit.specs.declared.answers.JitRefusal.{JitRefusal}
+use Rattle.teg_jit.specs.Plans.{PlanDates}
 use Rattle.teg_critical.specs.declared.slacks.Slack.{Slack as PlaceSlack}
 use Rattle.teg_net.specs.Ratios.{Fraction}
 use Rattle.teg_report.specs.declared.answer.Failure.{Failure}
 use Rattle.teg_report.specs.declared.answer.Which.{Which}
-use Rattle.teg_report.specs.Answers.{Answer, Usage, Live, Form, NoCircuit, Cycle, Slack, Trial, Replayed, Refused, Calc, Read, TooLarge, TokenFree, Log, Parse, Series, Fault}
+use Rattle.teg_report.specs.Answers.{Answer, Usage, Live, Form, NoCircuit, Cycle, Dates, Date as DateAnswer, Jit, Late, Slack, Transfer, Trial, Replayed, Refused, Calc, Read, TooLarge, TokenFree, NoTransition, Due, Log, TooLong, Parse, Series, Fault}
 use Rattle.teg_report.specs.Lists.{list_lines}
-use Rattle.teg_report.specs.Meanings.{cycle_lists, round_lists}
+use Rattle.teg_report.specs.Meanings.{cycle_lists, late_lists, round_lists}
 use Rattle.teg_report.specs.Reports.{text_of}
 use Rattle.teg_report.specs.Rounds.{RoundLists}
+use Rattle.teg_report.specs.SettledTexts.{TimesFrom}
 use Rattle.teg_text.specs.Lines.{written}
 use Rattle.trial_net.specs.Trials.{trial}
 
@@ -104,3 +110,35 @@ replayed_text accepted lines = text_of None (Replayed accepted lines)
 -- why a row of a log was refused, and the lines of the monitors
 abbrev pub refused_text : NetLists → ℕ → Failure → List (List ℕ) → List ℕ
 refused_text net row failure lines = text_of (Some net) (Refused row failure lines)
+
+-- a settled form of the dates of a net
+abbrev pub settled_text : NetLists → SettledForm → List ℕ
+settled_text net f = text_of (Some net) (Dates f)
+
+-- the date of one firing
+abbrev pub date_text : NetLists → TransitionId → ℕ → Date → List ℕ
+date_text net t number date = text_of (Some net) (DateAnswer t number date)
+
+-- that a settled form is longer than the limit
+abbrev pub too_long_text : ℕ → List ℕ
+too_long_text limit = text_of None (TooLong limit)
+
+-- that no transition has this name
+abbrev pub no_transition_text : List ℕ → List ℕ
+no_transition_text word = text_of None (NoTransition word)
+
+-- why the bytes of a file say no due dates
+abbrev pub due_text : DueRefusal → List ℕ
+due_text refusal = text_of None (Due refusal)
+
+-- the latest dates of a plan, each with its first step
+abbrev pub jit_text : NetLists → PlanDates → List ℕ
+jit_text net plan = text_of (Some net) (Jit plan)
+
+-- that a firing is later than due whatever the inputs are, and a walk that shows it
+abbrev pub late_text : NetLists → JitRefusal → List ℕ
+late_text net refusal = text_of (Some net) (Late (late_lists refusal))
+
+-- the times from inputs to outputs
+abbrev pub transfer_text : NetLists → List TimesFrom → List ℕ
+transfer_text net times = text_of (Some net) (Transfer times)

@@ -10,11 +10,10 @@ ghost use Rattle.teg_report.specs.Rounds.{AreRoundsTold};
 ghost use Rattle.teg_commands.specs.CycleTimes.{AreRuns};
 ghost use Rattle.teg_commands.specs.CycleTimes.{SaysCycle, SaysRounds, rounds_in};
 ghost use Rattle.teg_commands.specs.Outcomes.{Tells, outcome_of};
-
 ghost use Rattle.teg_commands.specs.Texts.{cycle_text};
 
-use crate::outcome::{Outcome, Verdict};
 use crate::live_net::LiveNet;
+use crate::outcome::{Outcome, Verdict};
 use std::alloc::{AllocError, Global};
 use teg_net::{CycleAnswer, OutOfMemory, Round};
 use teg_parts::Parts;

@@ -7,19 +7,25 @@
 #![tactic(auto)]
 
 mod cycle_times;
+mod inputs;
 mod live_net;
 mod outcome;
 mod recorded;
+mod settled;
 mod sizes_and_dates;
 mod slack;
+mod transfers;
 mod trial;
 mod values;
 
 pub use cycle_times::{tell_cycle, tell_rounds};
+pub use inputs::tell_jit;
 pub use live_net::LiveNet;
 pub use outcome::{Outcome, Verdict};
 pub use recorded::tell_replay;
+pub use settled::{tell_date, tell_settled};
 pub use sizes_and_dates::{tell_dates, tell_form, tell_size};
 pub use slack::tell_slack;
+pub use transfers::tell_transfer;
 pub use trial::tell_trial;
 pub use values::tell_value;

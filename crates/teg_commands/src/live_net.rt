@@ -1,5 +1,6 @@
 //! Nets that were found live.
-ghost use Rattle.std.specs.Prelude.{◌≡◌, ◌≤◌, length, IfOk};
+ghost use Rattle.std.specs.Prelude.{◌≡◌, ◌≤◌, length, IfErr, IfOk, IfSome};
+ghost use Rattle.teg_due.specs.Rules.{IsDueOf};
 ghost use Rattle.teg_check.specs.Ranks.{IsRanking};
 ghost use Rattle.teg_dates.specs.Tables.{most_numbers, HasLeastDates};
 ghost use Rattle.teg_form.specs.Forms.{IsFormOf};
@@ -8,22 +9,35 @@ ghost use Rattle.teg_cycle.specs.LastRounds.{AreLastOfRuns, IsLastOfRun};
 ghost use Rattle.teg_critical.specs.Slacks.{AreSlacks};
 ghost use Rattle.teg_net.specs.Certificates.{IsCertificate};
 ghost use Rattle.teg_net.specs.GreatestRatios.{IsAnyPlace, IsGreatestRatio};
+ghost use Rattle.teg_net.specs.Nets.{IsInput};
 ghost use Rattle.teg_net.specs.Ratios.{Fraction};
 ghost use Rattle.teg_net.specs.PartAnswers.{IsPartAnswer};
 ghost use Rattle.teg_parts.specs.Partitions.{AreParts};
 ghost use Rattle.teg_report.specs.Forms.{IsFormWithin};
+ghost use Rattle.settled_laws.specs.Forms.{IsSettledFormOf, settled_length};
+ghost use Rattle.teg_settle.specs.Refusals.{IsRightRefusal, greatest_limit};
+ghost use Rattle.teg_settle.specs.Transfers.{IsTransferOf, TransferSettlesPast};
+ghost use Rattle.due_laws.specs.Dues.{AreLatestInputs, InputsMeet, inputs_at_zero};
+ghost use Rattle.teg_jit.specs.DueDates.{IsGreatestNumber, due_in};
+ghost use Rattle.teg_jit.specs.Plans.{IsPlanFor, dates_of};
+ghost use Rattle.teg_jit.specs.Refusals.{LateIsRight};
+ghost use Rattle.teg_net.specs.Circuits.{IsLive};
+ghost use Rattle.teg_commands.specs.Settled.{IsWithinLimit, ExceedsLimit};
 ghost use Rattle.teg_commands.specs.CycleTimes.{IsCycleAnswer, IsRunOf};
 
 use std::alloc::Global;
 use std::marker::Model;
-use teg_check::Live;
+use teg_check::{Live, ranked_nets_are_live};
 use teg_critical::{Slacks, critical};
 use teg_cycle::cycle;
 use teg_dates::{Table, first_dates};
+use teg_due::Due;
 use teg_form::{Form, standard_form};
 use teg_howard::{howard, policy_runs_are_one};
-use teg_net::{CycleAnswer, Net, OutOfMemory, PartAnswer, Round};
+use teg_jit::{JitRefusal, Plan, latest};
+use teg_net::{CycleAnswer, Net, OutOfMemory, PartAnswer, Round, TransitionId};
 use teg_parts::{Parts, split};
+use teg_settle::{SettleRefusal, Settled, settle, settle_within, transfer};
 
 /// A live net with its ranks. Contracts see the net.
 #[derive(Drop)]
@@ -77,6 +91,52 @@ impl LiveNet {
         // The rules of the net, by which both ends of an entry are among these.
         let _transitions = self.net.transitions();
         standard_form(alloc, &self.net, &self.live)
+    }
+
+    /// The shortest settled form of the least dates, of at most this length where there is a limit.
+    pub fn settled(&self, alloc: Global, limit: Option<u32>) -> Result<Settled, SettleRefusal>
+        requires { IfSome limit (λ most. most ≤ greatest_limit) }
+        ensures form { IfOk result (IsSettledFormOf self.now) }
+        ensures within { IfOk result (IsWithinLimit limit) }
+        ensures too_long { IfErr result (ExceedsLimit self.now limit) }
+    {
+        match limit {
+            Some(most) => settle_within(alloc, &self.net, &self.live, most),
+            None => Ok(settle(alloc, &self.net, &self.live)?),
+        }
+    }
+
+    /// The shortest settled form of the greatest times of walks from the first firing of an input, if it
+    /// is within the limit.
+    pub fn transfer(
+        &self,
+        alloc: Global,
+        input: TransitionId,
+        limit: u32,
+    ) -> Result<Settled, SettleRefusal>
+        requires input { IsInput self.now input.index }
+        requires limit { limit ≤ greatest_limit }
+        ensures form { IfOk result (IsTransferOf self.now input.index) }
+        ensures within { IfOk result (λ form. settled_length form ≤ limit) }
+        ensures too_long { IfErr result (IsRightRefusal (TransferSettlesPast self.now input.index limit) limit) }
+    {
+        transfer(alloc, &self.net, &self.live, input, limit)
+    }
+
+    /// The latest dates by which every due date is met.
+    pub fn latest(&self, alloc: Global, due: &Due) -> Result<Plan, JitRefusal>
+        requires { IsDueOf self.now due.now.rows.items }
+        ensures numbers { IfOk result (λ plan. IsGreatestNumber due.now.rows.items plan.numbers) }
+        ensures plan { IfOk result (λ plan. IsPlanFor self.now (due_in due.now.rows.items) plan) }
+        ensures inputs { IfOk result (λ plan. AreLatestInputs self.now (due_in due.now.rows.items) (dates_of plan)) }
+        ensures in_time { IfOk result (λ _. InputsMeet self.now (due_in due.now.rows.items) inputs_at_zero) }
+        ensures late { IfErr result (LateIsRight self.now due.now.rows.items) }
+        ensures live { IsLive self.now }
+    {
+        let net = &self.net;
+        ranked_nets_are_live();
+        let form = self.standard_form(alloc)?;
+        latest(alloc, net, &self.live, &form, due)
     }
 
     /// The strong parts.

@@ -6,6 +6,14 @@
 pub enum Verdict {
     /// The command was carried out.
     Done,
+    /// The settled form is longer than the limit.
+    TooLong,
+    /// No transition has the name that was asked for.
+    Name,
+    /// The due file has a faulty row.
+    Schedule,
+    /// A firing is later than due whatever the inputs are.
+    Late,
     /// The log has a faulty row, or one that the net does not allow.
     Log,
     /// The expression has no value within the limits.

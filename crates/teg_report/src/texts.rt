@@ -27,7 +27,20 @@ pub(crate) fn usage(alloc: Global) -> Result<Vec<u8>, OutOfMemory>
 {
     bytes_of(
         alloc,
-        "usage: teg check NET\n       teg list NET K\n       teg form NET\n       teg cycle NET [--rounds]\n       teg calc EXPR\n       teg replay NET LOG\n       teg slack NET\n       teg trial N\n",
+        concat!(
+            "usage: teg check NET\n",
+            "       teg list NET K\n",
+            "       teg form NET\n",
+            "       teg cycle NET [--rounds]\n",
+            "       teg dates NET [--limit N|none]\n",
+            "       teg date NET TRANSITION K [--limit N|none]\n",
+            "       teg jit NET DUE\n",
+            "       teg calc EXPR\n",
+            "       teg replay NET LOG\n",
+            "       teg slack NET\n",
+            "       teg transfer NET [--limit N]\n",
+            "       teg trial N\n",
+        ),
     )
 }
 

@@ -1,31 +1,35 @@
 -- The promises of the whole call, from how it runs.
-use Rattle.std.proofs.Common.{◌≡◌, ◌≢◌, ℕ, ◌-◌, true, false, ◌⊎◌, ⊎_elim, inl, inr, List, [], ◌∷◌, ◌++◌, map, Option, Some, None, refl, sym, ap, subst, ◌∙◌}
+use Rattle.std.proofs.Common.{◌≡◌, ◌≢◌, ◌-◌, ℕ, true, false, ◌⊎◌, ⊎_elim, inl, inr, List, [], ◌∷◌, ◌++◌, map, Option, Some, None, refl, sym, ap, subst, ◌∙◌}
 use Rattle.std.proofs.lemmas.List.{append_cancel_left}
 use Rattle.teg_net.specs.Nets.{NetLists}
 use Rattle.teg_outside.specs.Causes.{Rose}
 use Rattle.teg_outside.specs.Sinks.{BytesGrow}
 use Rattle.teg_outside.proofs.Counts.{rose_not_rested}
 use Rattle.teg_report.specs.declared.answer.Which.{Which}
-use Rattle.teg_outside.specs.declared.monitor.Firing.{Firing}
-use Rattle.teg_replay.specs.declared.replayed.Refused.{Refused}
 use Rattle.teg_report.specs.Meanings.{round_lists}
-use Rattle.teg_commands.specs.Recorded.{SaysEnd}
-use Rattle.teg_commands.specs.Slacks.{SaysTrial, critical_count, trial_number}
 use Rattle.teg_run.specs.declared.status.Status.{Status}
-use Rattle.teg_run.specs.declared.status.Status.TheVariants.{Done, Words, Text, Net, Log, ReadFault, WriteFault, NoMemory}
+use Rattle.teg_run.specs.declared.status.Status.TheVariants.{Done, Words, Text, Net, ReadFault, WriteFault, NoMemory}
 use Rattle.teg_commands.specs.declared.outcome.Verdict.{Verdict}
-use Rattle.teg_commands.specs.declared.outcome.Verdict.TheVariants.{Done as VerdictDone, Log as VerdictLog, Calc as VerdictCalc}
+use Rattle.teg_commands.specs.declared.outcome.Verdict.TheVariants.{Done as VerdictDone, TooLong as VerdictTooLong, Name as VerdictName, Schedule as VerdictSchedule, Late as VerdictLate, Log as VerdictLog, Calc as VerdictCalc}
 use Rattle.teg_run.specs.Calls.{Call}
 use Rattle.teg_run.specs.Endings.{Ending, Whole, Lost}
-use Rattle.teg_run.specs.Headline.{Ends, EndsLost, HasFault, Follows, ComesOnly, ReadsAreCalm, WritesAreCalm, OverlongRose, WroteWhole, WrotePrefix, ReadsFirstOf, NamesLastRead, AllowsNet, AllowsFiles, Allows, EndsAsAllowed, EndsReplay, Concerns, ConcernsBoth, SaysOfNet, SaysOfBoth, SaysLive, SaysLeastDates, SaysStandardForm, SaysCycleTimes, SaysPolicyRuns, SaysNoCircuit, SaysSlackOfNet, SaysTrialOf, SaysReplayed, SaysValues, KeepsPromises}
-use Rattle.teg_run.specs.Requests.{NetCommand, CheckNet, ListNet, FormNet, CycleNet, SlackNet, FileCommand, ReplayNet, Request, OfNet, OfFiles, ValueOf, TrialOf, request_of, files_of, asked_files, second_of}
+use Rattle.teg_run.specs.Headline.{Ends, EndsLost, IsSaidOf, OwnOnly, HasFault, Follows, ComesOnly, ReadsAreCalm, WritesAreCalm, OverlongRose, WroteWhole, WrotePrefix, ReadsFirstOf, NamesLastRead, AllowsLimit, AllowsNet, AllowsFiles, Allows, EndsAsAllowed, Concerns, ConcernsBoth, SaysOfNet, SaysOfBoth, SaysLive, SaysLeastDates, SaysStandardForm, SaysCycleTimes, SaysPolicyRuns, SaysNoCircuit, SaysSlackOfPlaces, EndsTooLong, EndsReplay, SaysSettledDates, SaysOneDate, SaysTimes, SaysLatestInputs, SaysReplayed, SaysMachines, SaysValues, KeepsPromises}
+use Rattle.teg_run.specs.Requests.{NetCommand, CheckNet, ListNet, FormNet, CycleNet, SlackNet, DatesNet, DateNet, TransferNet, FileCommand, JitNet, ReplayNet, Request, OfNet, OfFiles, ValueOf, TrialOf, request_of, files_of, asked_files, second_of}
 use Rattle.teg_run.specs.Runs.{Answered, CarriesOut, Finished, Runs}
 use Rattle.teg_run.specs.Openings.{OpensBytes}
 use Rattle.teg_run.specs.Says.{Asked, SaysFile, SaysFiles, SaysNet, SaysOutcome}
+use Rattle.settled_laws.specs.Forms.{NetSettlesPast}
+use Rattle.teg_outside.specs.declared.monitor.Firing.{Firing}
+use Rattle.teg_replay.specs.declared.replayed.Refused.{Refused}
+use Rattle.teg_commands.specs.Recorded.{SaysEnd}
+use Rattle.teg_commands.specs.Settled.{SaysTooLong}
+use Rattle.teg_commands.specs.Slacks.{SaysTrial, critical_count, trial_number}
+use Rattle.teg_commands.specs.Transfers.{TimesSettlePast}
 use Rattle.teg_commands.specs.Values.{SaysValue}
-use Rattle.teg_run.specs.Statuses.{status_of}
-use Rattle.teg_commands.specs.Texts.{usage, live_text, list_text, form_text, cycle_text, no_circuit_text, runs_text, slack_text, trial_text, log_text, replayed_text, refused_text, series_text, parse_text, series_refused_text, too_large_text, fault_text}
+use Rattle.teg_run.specs.Statuses.{IsOwn, status_of}
+use Rattle.teg_commands.specs.Texts.{usage, slack_text, settled_text, date_text, transfer_text, too_long_text, no_transition_text, due_text, jit_text, late_text, log_text, replayed_text, refused_text, trial_text, live_text, list_text, form_text, cycle_text, no_circuit_text, runs_text, series_text, parse_text, series_refused_text, too_large_text, fault_text}
 use Rattle.teg_commands.proofs.CycleTold.{no_circuit_said}
+use Rattle.teg_run.proofs.Causes.{said_of}
 use Rattle.teg_run.proofs.Faults.{IsFaultOf, text_is_fault, net_is_fault, comes_only, follows, way_is_said, overlong_way, fault_way}
 use Rattle.teg_run.proofs.LiveNets.{live_goes_on, held_goes_on}
 use Rattle.teg_run.proofs.ReadOrder.{none_read, reads_first}
@@ -168,6 +172,11 @@ done_with : (call : Call) (verdict : Verdict) (text wanted : List ℕ) → statu
 done_with call verdict text wanted e t h =
     subst (λ (s : Status). Ends call s wanted) e (subst (λ (l : List ℕ). Ends call (status_of verdict) l) t h)
 
+-- an ending with this verdict and the text that is wanted
+ends_with : (call : Call) (verdict wanted : Verdict) (told text : List ℕ) → verdict ≡ wanted → told ≡ text → Ends call (status_of verdict) told → Ends call (status_of wanted) text
+ends_with call verdict wanted told text e t h =
+    subst (λ (v : Verdict). Ends call (status_of v) text) e (subst (λ (l : List ℕ). Ends call (status_of verdict) l) t h)
+
 check_follows : (call : Call) → Runs call → SaysLive call
 check_follows call runs net asks =
     ⊎_elim (λ (said : _). done_with call said.0 said.1 (live_text net) (ap status_of said.2.0) said.2.1 said.3)
@@ -206,6 +215,16 @@ no_circuit_follows call runs false net asks none =
 no_circuit_follows call runs true net asks none =
     ⊎_elim (λ (said : _). subst (λ (text : List ℕ). Ends call Done text) (no_circuit_said net said.0 (Some (map (map round_lists) said.1)) said.2 none) said.4) (λ (lost : _). inr lost) (rounds_follow call runs net asks)
 
+-- a command on settled forms may always be carried out
+limit_done : (limit : Option ℕ) (verdict : Verdict) → verdict ≡ VerdictDone → AllowsLimit limit verdict
+limit_done None verdict e = e
+limit_done (Some limit) verdict e = inl e
+
+-- it may end with TooLong where there is a limit
+limit_long : (exceeds : ℕ → Type 0) (limit : Option ℕ) (verdict : Verdict) (text : List ℕ) → SaysTooLong exceeds limit verdict text → AllowsLimit limit verdict
+limit_long exceeds None verdict text h = absurd h
+limit_long exceeds (Some limit) verdict text h = inr h.0
+
 allowed : (command : NetCommand) (net : NetLists) (verdict : Verdict) (text : List ℕ) → SaysNet command net verdict text → AllowsNet command verdict
 allowed CheckNet net verdict text h = h.0
 allowed (ListNet count) net verdict text h = h.0
@@ -213,19 +232,53 @@ allowed FormNet net verdict text h = h.0
 allowed (CycleNet false) net verdict text h = h.0
 allowed (CycleNet true) net verdict text h = h.0
 allowed SlackNet net verdict text h = h.0
+allowed (DatesNet limit) net verdict text h =
+    ⊎_elim (λ (done : _). limit_done limit verdict done.0) (λ (long : _). limit_long (NetSettlesPast net) limit verdict text long) h
+allowed (DateNet word number limit) net verdict text h =
+    ⊎_elim (λ (none : _). inl none.1.0)
+    (λ (found : _). inr (⊎_elim (λ (done : _). limit_done limit verdict done.0) (λ (long : _). limit_long (NetSettlesPast net) limit verdict text long) found.2)) h
+allowed (TransferNet limit) net verdict text h =
+    ⊎_elim (λ (done : _). limit_done (Some limit) verdict done.0) (λ (long : _). limit_long (TimesSettlePast net) (Some limit) verdict text long) h
 
--- an ending with this verdict and the text that is wanted
-ends_with : (call : Call) (verdict wanted : Verdict) (told text : List ℕ) → verdict ≡ wanted → told ≡ text → Ends call (status_of verdict) told → Ends call (status_of wanted) text
-ends_with call verdict wanted told text e t h =
-    subst (λ (v : Verdict). Ends call (status_of v) text) e (subst (λ (l : List ℕ). Ends call (status_of verdict) l) t h)
-
-slack_follows : (call : Call) → Runs call → SaysSlackOfNet call
+slack_follows : (call : Call) → Runs call → SaysSlackOfPlaces call
 slack_follows call runs net asks =
     ⊎_elim
     (λ (said : _). ⊎_elim
-    (λ (told : _). inl (told.0, told.1, told.2, told.3, ends_with call said.0 VerdictDone said.1 (slack_text net told.0 told.1) said.2.0 told.4 said.3))
-    (λ (none : _). inr (inl (none.0, ends_with call said.0 VerdictDone said.1 no_circuit_text said.2.0 none.1 said.3))) said.2.1)
+    (λ (told : _). inl (told.0, told.1, told.2, told.3, done_with call said.0 said.1 (slack_text net told.0 told.1) (ap status_of said.2.0) told.4 said.3))
+    (λ (none : _). inr (inl (none.0, done_with call said.0 said.1 no_circuit_text (ap status_of said.2.0) none.1 said.3))) said.2.1)
     (λ (lost : _). inr (inr lost)) (says_of_net call runs SlackNet net asks)
+
+-- what says that a limit is exceeded ends the call so
+too_long_ends : (call : Call) (exceeds : ℕ → Type 0) (limit : Option ℕ) (verdict : Verdict) (text : List ℕ) → SaysTooLong exceeds limit verdict text →
+    Ends call (status_of verdict) text → EndsTooLong call exceeds limit
+too_long_ends call exceeds None verdict text h k = absurd h
+too_long_ends call exceeds (Some most) verdict text h k = (most, refl, h.1, ends_with call verdict VerdictTooLong text (too_long_text most) h.0 h.2 k)
+
+dates_follow : (call : Call) → Runs call → SaysSettledDates call
+dates_follow call runs limit net asks =
+    ⊎_elim
+    (λ (said : _). ⊎_elim
+    (λ (done : _). inl (done.1.0, done.1.1, done.1.2, done_with call said.0 said.1 (settled_text net done.1.0) (ap status_of done.0) done.1.3 said.3))
+    (λ (long : _). inr (inl (too_long_ends call (NetSettlesPast net) limit said.0 said.1 long said.3))) said.2)
+    (λ (lost : _). inr (inr lost)) (says_of_net call runs (DatesNet limit) net asks)
+
+date_follows : (call : Call) → Runs call → SaysOneDate call
+date_follows call runs word number limit net asks =
+    ⊎_elim
+    (λ (said : _). ⊎_elim
+    (λ (none : _). inr (inr (inl (none.0, ends_with call said.0 VerdictName said.1 (no_transition_text word) none.1.0 none.1.1 said.3))))
+    (λ (found : _). ⊎_elim
+    (λ (done : _). inl (found.0, done.1.0, found.1, done.1.1, done.1.2, done_with call said.0 said.1 (date_text net found.0 number (done.1.0 found.0.index number)) (ap status_of done.0) done.1.3 said.3))
+    (λ (long : _). inr (inl (found.0, found.1, too_long_ends call (NetSettlesPast net) limit said.0 said.1 long said.3))) found.2) said.2)
+    (λ (lost : _). inr (inr (inr lost))) (says_of_net call runs (DateNet word number limit) net asks)
+
+times_follow : (call : Call) → Runs call → SaysTimes call
+times_follow call runs limit net asks =
+    ⊎_elim
+    (λ (said : _). ⊎_elim
+    (λ (done : _). inl (done.1.0, done.1.1, done_with call said.0 said.1 (transfer_text net done.1.0) (ap status_of done.0) done.1.2 said.3))
+    (λ (long : _). inr (inl (long.1, ends_with call said.0 VerdictTooLong said.1 (too_long_text limit) long.0 long.2 said.3))) said.2)
+    (λ (lost : _). inr (inr lost)) (says_of_net call runs (TransferNet limit) net asks)
 
 -- ---- commands on a live net and a second file
 
@@ -245,6 +298,17 @@ says_of_both : (call : Call) → Runs call → SaysOfBoth call
 says_of_both call runs command net bytes asks =
     let h = subst (λ (asked : Option Request). CarriesOut asked call) asks.asks runs in both_said call command net bytes asks h.0 h.1 h.2
 
+latest_follow : (call : Call) → Runs call → SaysLatestInputs call
+latest_follow call runs net bytes asks =
+    ⊎_elim
+    (λ (said : _). ⊎_elim
+    (λ (bad : _). inr (inr (inl (bad.0, bad.1, bad.2.1, ends_with call said.0 VerdictSchedule said.1 (due_text bad.0) bad.2.0 bad.2.2 said.3))))
+    (λ (rows : _). ⊎_elim
+    (λ (done : _). inl (rows.0, done.1.0, rows.1, done.1.1, done_with call said.0 said.1 (jit_text net done.1.0) (ap status_of done.0) done.1.2 said.3))
+    (λ (late : _). inr (inl (rows.0, late.1.0, rows.1, late.1.1, late.1.2, late.1.3,
+    ends_with call said.0 VerdictLate said.1 (late_text net late.1.0) late.0 late.1.4 said.3))) rows.3) said.2)
+    (λ (lost : _). inr (inr (inr lost))) (says_of_both call runs JitNet net bytes asks)
+
 replay_ends : (call : Call) (net : NetLists) (refused : Option Refused) (accepted : ℕ) (lines : List (List ℕ)) (verdict : Verdict) (text : List ℕ) →
     SaysEnd net refused accepted lines verdict text → Ends call (status_of verdict) text → EndsReplay call net refused accepted lines
 replay_ends call net None accepted lines verdict text h k = ends_with call verdict VerdictDone text (replayed_text accepted lines) h.0 h.1 k
@@ -260,42 +324,18 @@ replay_follows call runs net bytes asks =
     replay_ends call net ran.2.1.refused ran.2.1.accepted (call.lines ran.2.0) said.0 said.1 ran.2.3 said.3))) said.2)
     (λ (lost : _). inr (inr lost)) (says_of_both call runs ReplayNet net bytes asks)
 
-end_allowed : (net : NetLists) (refused : Option Refused) (accepted : ℕ) (lines : List (List ℕ)) (verdict : Verdict) (text : List ℕ) →
-    SaysEnd net refused accepted lines verdict text → AllowsFiles ReplayNet verdict
-end_allowed net None accepted lines verdict text h = inl h.0
-end_allowed net (Some refused) accepted lines verdict text h = inr h.0
-
-files_allowed : (command : FileCommand) (lines : List Firing → List (List ℕ)) (net : NetLists) (bytes : List ℕ) (verdict : Verdict) (text : List ℕ) →
-    SaysFiles command lines net bytes verdict text → AllowsFiles command verdict
-files_allowed ReplayNet lines net bytes verdict text h =
-    ⊎_elim (λ (bad : _). inr bad.2.0) (λ (ran : _). end_allowed net ran.2.1.refused ran.2.1.accepted (lines ran.2.0) verdict text ran.2.3) h
-
 -- ---- values
 
--- what is said without files
-fileless_said : (call : Call) (says : Verdict → List ℕ → Type 0) (ending : Ending) → Answered (SaysOutcome says) [] call.shelf_before call.shelf_after ending →
-    Finished call.sink_before call.sink_after ending call.status → ((verdict : Verdict) × (told : List ℕ) × says verdict told × Ends call (status_of verdict) told) ⊎ EndsLost call
-fileless_said call says Lost h k = inr k
-fileless_said call says (Whole said told) h k =
+value_said : (call : Call) (text : List ℕ) (ending : Ending) → Answered (Asked (Some (ValueOf text)) call.lines) [] call.shelf_before call.shelf_after ending →
+    Finished call.sink_before call.sink_after ending call.status → ((verdict : Verdict) × (told : List ℕ) × SaysValue text verdict told × Ends call (status_of verdict) told) ⊎ EndsLost call
+value_said call text Lost h k = inr k
+value_said call text (Whole said told) h k =
     inl (h.2.1.0, told, h.2.1.2, inl (subst (λ (s : Status). Finished call.sink_before call.sink_after (Whole s told) call.status) h.2.1.1 k))
 
 says_of_value : (call : Call) → Runs call → (text : List ℕ) → request_of call.words ≡ Some (ValueOf text) →
     ((verdict : Verdict) × (told : List ℕ) × SaysValue text verdict told × Ends call (status_of verdict) told) ⊎ EndsLost call
 says_of_value call runs text asks =
-    let h = subst (λ (asked : Option Request). CarriesOut asked call) asks runs in fileless_said call (SaysValue text) h.0 h.1 h.2
-
-says_of_trial : (call : Call) → Runs call → (machines : ℕ) → request_of call.words ≡ Some (TrialOf machines) →
-    ((verdict : Verdict) × (told : List ℕ) × SaysTrial machines verdict told × Ends call (status_of verdict) told) ⊎ EndsLost call
-says_of_trial call runs machines asks =
-    let h = subst (λ (asked : Option Request). CarriesOut asked call) asks runs in fileless_said call (SaysTrial machines) h.0 h.1 h.2
-
-trial_follows : (call : Call) → Runs call → SaysTrialOf call
-trial_follows call runs machines asks =
-    ⊎_elim
-    (λ (said : _). let told = said.2.1 in
-    inl (told.0, told.1, told.2, told.3, told.4, told.5,
-    ends_with call said.0 VerdictDone said.1 (trial_text machines told.0 (critical_count told.1) (told.2 (machines - 1) trial_number)) said.2.0 told.6 said.3))
-    (λ (lost : _). inr lost) (says_of_trial call runs machines asks)
+    let h = subst (λ (asked : Option Request). CarriesOut asked call) asks runs in value_said call text h.0 h.1 h.2
 
 value_follows : (call : Call) → Runs call → SaysValues call
 value_follows call runs text asks =
@@ -317,6 +357,39 @@ ended_as request call writes h =
     (λ (cut : _). absurd (rose_not_rested call.sink_before.faults call.sink_after.faults cut.1 writes)) finished)
     (λ (lost : _). inl lost.0) said.3)
     (λ (lost : _). inl lost.0) h
+
+-- how a replay may end
+end_allowed : (net : NetLists) (refused : Option Refused) (accepted : ℕ) (lines : List (List ℕ)) (verdict : Verdict) (text : List ℕ) →
+    SaysEnd net refused accepted lines verdict text → (verdict ≡ VerdictDone) ⊎ (verdict ≡ VerdictLog)
+end_allowed net None accepted lines verdict text h = inl h.0
+end_allowed net (Some refused) accepted lines verdict text h = inr h.0
+
+files_allowed : (command : FileCommand) (lines : List Firing → List (List ℕ)) (net : NetLists) (bytes : List ℕ) (verdict : Verdict) (text : List ℕ) →
+    SaysFiles command lines net bytes verdict text → AllowsFiles command verdict
+files_allowed JitNet lines net bytes verdict text h =
+    ⊎_elim (λ (bad : _). inr (inl bad.2.0)) (λ (rows : _). ⊎_elim (λ (done : _). inl done.0) (λ (late : _). inr (inr late.0)) rows.3) h
+files_allowed ReplayNet lines net bytes verdict text h =
+    ⊎_elim (λ (bad : _). inr bad.2.0) (λ (rows : _). end_allowed net rows.2.1.refused rows.2.1.accepted (lines rows.2.0) verdict text rows.2.3) h
+
+-- ---- the line of machines
+
+trial_said : (call : Call) (machines : ℕ) (ending : Ending) → Answered (Asked (Some (TrialOf machines)) call.lines) [] call.shelf_before call.shelf_after ending →
+    Finished call.sink_before call.sink_after ending call.status → ((verdict : Verdict) × (told : List ℕ) × SaysTrial machines verdict told × Ends call (status_of verdict) told) ⊎ EndsLost call
+trial_said call machines Lost h k = inr k
+trial_said call machines (Whole said told) h k =
+    inl (h.2.1.0, told, h.2.1.2, inl (subst (λ (s : Status). Finished call.sink_before call.sink_after (Whole s told) call.status) h.2.1.1 k))
+
+says_of_trial : (call : Call) → Runs call → (machines : ℕ) → request_of call.words ≡ Some (TrialOf machines) →
+    ((verdict : Verdict) × (told : List ℕ) × SaysTrial machines verdict told × Ends call (status_of verdict) told) ⊎ EndsLost call
+says_of_trial call runs machines asks =
+    let h = subst (λ (asked : Option Request). CarriesOut asked call) asks runs in trial_said call machines h.0 h.1 h.2
+
+machines_follow : (call : Call) → Runs call → SaysMachines call
+machines_follow call runs machines asks =
+    ⊎_elim
+    (λ (said : _). let told = said.2.1 in
+    inl (told.0, told.1, told.2, told.3, told.4, told.5, done_with call said.0 said.1 (trial_text machines told.0 (critical_count told.1) (told.2 (machines - 1) trial_number)) (ap status_of said.2.0) told.6 said.3))
+    (λ (lost : _). inr lost) (says_of_trial call runs machines asks)
 
 ends_as_allowed : (call : Call) → Runs call → EndsAsAllowed call
 ends_as_allowed call runs files (OfNet command name) asks told reads writes accepts =
@@ -374,6 +447,25 @@ read_in_order : (call : Call) (ending : Ending) →
 read_in_order call Lost h = reads_first call.shelf_before call.shelf_after (asked_files (request_of call.words)) h.0 h.1
 read_in_order call (Whole said text) h = reads_first call.shelf_before call.shelf_after (asked_files (request_of call.words)) h.0 h.1
 
+-- ---- statuses of commands
+
+own_with : (asked : Option Request) (call : Call) (files : List (List ℕ × List ℕ)) (ending : Ending) → request_of call.words ≡ asked → call.shelf_before.files ≡ Some files → IsOwn call.status →
+    Answered (Asked asked call.lines) (asked_files asked) call.shelf_before call.shelf_after ending → Finished call.sink_before call.sink_after ending call.status →
+    (request : Request) × (text : List ℕ) × (request_of call.words ≡ Some request) × IsSaidOf files call.lines request call.status text
+    × BytesGrow call.sink_before.bytes call.sink_after.bytes text
+own_with asked call files Lost asks told own h k = absurd (subst IsOwn k.0 own)
+own_with None call files (Whole said text) asks told own h k =
+    ⊎_elim (λ (whole : _). absurd (subst IsOwn (whole.0 ∙ h.2.1.0) own)) (λ (cut : _). absurd (subst IsOwn cut.0 own)) k
+own_with (Some request) call files (Whole said text) asks told own h k =
+    ⊎_elim
+    (λ (whole : _). let is = subst (λ (s : Status). IsSaidOf files call.lines request s text) (sym whole.0)
+    (said_of files request call.lines call.shelf_before call.shelf_after h.0 said text told (subst IsOwn whole.0 own) h.1 h.2) in
+    (request, text, asks, is, whole.2))
+    (λ (cut : _). absurd (subst IsOwn cut.0 own)) k
+
+own_only : (call : Call) → Runs call → OwnOnly call
+own_only call runs files told own = own_with (request_of call.words) call files runs.0 refl told own runs.1 runs.2
+
 -- ---- all of them
 
 pub keeps_promises : (call : Call) → Runs call → KeepsPromises call
@@ -387,6 +479,7 @@ keeps_promises call runs =
       overlong = overlong_rose call runs;
       net = fault_follows Net _ net_is_fault call runs;
       net_only = λ files told e. fault_only Net _ net_is_fault (λ w. cc) (λ w. cc) (λ w. cc) call (λ t. absurd (let bad : ⊥ = cc (t, e) in bad)) runs files told e;
+      own_only = own_only call runs;
       of_net = says_of_net call runs;
       of_both = says_of_both call runs;
       check = check_follows call runs;
@@ -396,9 +489,13 @@ keeps_promises call runs =
       cycle_rounds = rounds_follow call runs;
       no_circuit = no_circuit_follows call runs;
       slack = slack_follows call runs;
+      dates = dates_follow call runs;
+      date = date_follows call runs;
+      transfer = times_follow call runs;
+      jit = latest_follow call runs;
       replay = replay_follows call runs;
-      trial = trial_follows call runs;
       calc = value_follows call runs;
+      trial = machines_follow call runs;
       written = λ other memory. wrote_whole call runs.0 other memory runs.1 runs.2;
       cut_off = λ e. (cut_off_with call runs.0 e runs.1 runs.2).1;
       unwritten = λ e. unwritten_with call runs.0 e runs.1 runs.2;

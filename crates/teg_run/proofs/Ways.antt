@@ -15,14 +15,15 @@ use Rattle.teg_commands.specs.declared.outcome.Verdict.{Verdict}
 use Rattle.teg_run.specs.Limits.{most_bytes}
 use Rattle.teg_run.specs.Openings.{Opening, Accepted, Refused, OpensNet, OpensDocument, OpensBytes, read_status}
 use Rattle.teg_run.specs.Reads.{ReadsAll}
-use Rattle.teg_run.specs.Requests.{FileCommand, ReplayNet, Request, OfNet, OfFiles, ValueOf, TrialOf, files_of, second_of}
+use Rattle.teg_run.specs.Requests.{FileCommand, JitNet, ReplayNet, Request, OfNet, OfFiles, ValueOf, TrialOf, files_of, second_of}
 use Rattle.teg_run.specs.Says.{Says, SaysFile, SaysFiles, SaysNet, SaysOpening, SaysOutcome}
 use Rattle.teg_commands.specs.Slacks.{SaysTrial}
 use Rattle.teg_commands.specs.Values.{SaysValue}
 use Rattle.teg_commands.specs.Texts.{read_text}
+use Rattle.teg_run.specs.Statuses.{IsOwn}
 use Rattle.teg_run.proofs.ReadOrder.{none_left}
 use Rattle.teg_run.proofs.Refusals.{Accepts, Refusal, Unread, Overlong, NoToml, NoNet, NotLive}
-use Rattle.teg_run.proofs.Verdicts.{IsOwn, verdict_is_own}
+use Rattle.teg_run.proofs.Verdicts.{verdict_is_own}
 
 -- the bytes of a file that was read and accepted
 pub record Taken (old mid : ShelfState) (which : Which) (name : List ℕ) : Type 0 where
@@ -135,6 +136,7 @@ bytes_way old new which name accepts goes_on (reply ∷ replies) status text rea
 
 -- the bytes of a second file are accepted as they are
 second_accepts : (command : FileCommand) (bytes : List ℕ) → Accepts (second_of command) bytes
+second_accepts JitNet bytes = tt
 second_accepts ReplayNet bytes = tt
 
 -- what a command comes to has its own status

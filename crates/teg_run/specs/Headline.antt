@@ -1,5 +1,5 @@
 -- What the whole call promises its caller, one promise at a time.
-use Rattle.std.specs.Prelude.{ℕ, ◌≡◌, ◌≢◌, ◌≤◌, ◌<◌, ◌⊎◌, Bool, true, false, List, [], ◌∷◌, ◌++◌, length, take, map, Option, Some, None, Ok, Err, Result, ⊤, ◌-◌}
+use Rattle.std.specs.Prelude.{ℕ, ◌≡◌, ◌≢◌, ◌≤◌, ◌<◌, ◌-◌, ◌⊎◌, All, Option, Bool, true, false, List, [], ◌∷◌, ◌++◌, length, take, map, Some, None, Ok, Err, Result, ⊤}
 use Rattle.dioid.specs.declared.dates.Date.{Date}
 use Rattle.series_form.specs.declared.forms.SeriesRefused.{SeriesRefused}
 use Rattle.series_form.specs.declared.forms.SeriesRefused.TheVariants.{OutOfMemory as NoRoom}
@@ -20,20 +20,6 @@ use Rattle.teg_net.specs.Circuits.{IsLive, IsTokenFree}
 use Rattle.teg_reader.specs.declared.refusals.ReadRefusal.{ReadRefusal}
 use Rattle.teg_reader.specs.declared.refusals.ReadRefusal.TheVariants.{NotToml}
 use Rattle.teg_reader.specs.Documents.{document}
-use Rattle.teg_critical.specs.declared.slacks.Slack.{Slack}
-use Rattle.teg_critical.specs.Slacks.{AreSlacks}
-use Rattle.teg_due.specs.declared.rows.LogRefusal.{LogRefusal}
-use Rattle.teg_due.specs.declared.rows.LogRow.{LogRow}
-use Rattle.teg_due.specs.Logs.{log_of}
-use Rattle.teg_net.specs.Ratios.{Fraction}
-use Rattle.teg_outside.specs.declared.monitor.Firing.{Firing}
-use Rattle.teg_replay.specs.declared.replayed.Refused.{Refused}
-use Rattle.teg_replay.specs.declared.replayed.Replayed.{Replayed}
-use Rattle.teg_replay.specs.Replays.{IsReplayOf}
-use Rattle.teg_report.specs.declared.answer.Failure.{Failure}
-use Rattle.trial_net.specs.Trials.{trial}
-use Rattle.teg_commands.specs.Recorded.{IsToldAs}
-use Rattle.teg_commands.specs.Slacks.{IsBestRatio, critical_count, trial_number}
 use Rattle.teg_outside.specs.declared.shelf.ShelfFault.{ShelfFault}
 use Rattle.teg_outside.specs.Causes.{Rose, Rested}
 use Rattle.teg_outside.specs.Shelves.{ShelfState, ReadsGrow, file_of}
@@ -41,20 +27,49 @@ use Rattle.teg_outside.specs.Sinks.{BytesGrow, PrefixGrows}
 use Rattle.teg_report.specs.declared.answer.Which.{Which}
 use Rattle.teg_report.specs.declared.answer.Which.TheVariants.{Net as NetFile, Due as DueFile, Log as LogFile}
 use Rattle.teg_run.specs.declared.status.Status.{Status}
-use Rattle.teg_run.specs.declared.status.Status.TheVariants.{Done, Words, Text, Net, Log, Calc, ReadFault, WriteFault, NoMemory}
+use Rattle.teg_run.specs.declared.status.Status.TheVariants.{Done, Words, Text, Net, Schedule, Late, TooLong, Log, Calc, Name, ReadFault, WriteFault, NoMemory}
 use Rattle.teg_commands.specs.declared.outcome.Verdict.{Verdict}
-use Rattle.teg_commands.specs.declared.outcome.Verdict.TheVariants.{Done as VerdictDone, Log as VerdictLog}
+use Rattle.teg_commands.specs.declared.outcome.Verdict.TheVariants.{Done as VerdictDone, TooLong as VerdictTooLong, Name as VerdictName, Schedule as VerdictSchedule, Late as VerdictLate, Log as VerdictLog}
 use Rattle.teg_run.specs.Calls.{Call}
 use Rattle.teg_commands.specs.CycleTimes.{IsCycleAnswer, AreRuns}
 use Rattle.teg_run.specs.Endings.{Whole, Lost}
 use Rattle.teg_run.specs.Limits.{most_bytes}
 use Rattle.teg_run.specs.Reads.{ReadsAll}
-use Rattle.teg_run.specs.Requests.{NetCommand, CheckNet, ListNet, FormNet, CycleNet, SlackNet, FileCommand, ReplayNet, Request, OfNet, OfFiles, ValueOf, TrialOf, request_of, files_of, asked_files}
+use Rattle.teg_run.specs.Requests.{NetCommand, CheckNet, ListNet, FormNet, CycleNet, SlackNet, DatesNet, DateNet, TransferNet, FileCommand, JitNet, ReplayNet, Request, OfNet, OfFiles, ValueOf, TrialOf, request_of, files_of, asked_files}
 use Rattle.teg_run.specs.Runs.{Finished, Runs}
 use Rattle.teg_run.specs.Says.{Asked, SaysFiles, SaysNet}
-use Rattle.teg_run.specs.Statuses.{status_of}
+use Rattle.teg_run.specs.Statuses.{IsOwn, status_of}
+use Rattle.settled_laws.specs.Forms.{SettledForm, IsSettledFormOf, NetSettlesPast}
+use Rattle.teg_critical.specs.declared.slacks.Slack.{Slack}
+use Rattle.teg_critical.specs.Slacks.{AreSlacks}
+use Rattle.teg_due.specs.declared.rows.DueRefusal.{DueRefusal}
+use Rattle.teg_due.specs.declared.rows.DueRefusal.TheVariants.{OutOfMemory as NoDue}
+use Rattle.teg_due.specs.declared.rows.DueRow.{DueRow}
+use Rattle.teg_due.specs.declared.rows.LogRefusal.{LogRefusal}
+use Rattle.teg_due.specs.declared.rows.LogRow.{LogRow}
+use Rattle.teg_due.specs.Dues.{due_of}
+use Rattle.teg_due.specs.Logs.{log_of}
+use Rattle.teg_jit.specs.declared.answers.JitRefusal.{JitRefusal}
+use Rattle.teg_jit.specs.declared.answers.JitRefusal.TheVariants.{OutOfMemory as NoPlan}
+use Rattle.teg_jit.specs.DueDates.{due_in}
+use Rattle.teg_jit.specs.Plans.{PlanDates}
+use Rattle.teg_jit.specs.Refusals.{LateIsRight}
+use Rattle.teg_net.specs.declared.entries.TransitionId.{TransitionId}
+use Rattle.teg_net.specs.Ratios.{Fraction}
+use Rattle.teg_report.specs.declared.answer.Failure.{Failure}
+use Rattle.teg_replay.specs.Replays.{IsReplayOf}
+use Rattle.teg_replay.specs.declared.replayed.Replayed.{Replayed}
+use Rattle.teg_replay.specs.declared.replayed.Refused.{Refused}
+use Rattle.teg_outside.specs.declared.monitor.Firing.{Firing}
+use Rattle.teg_report.specs.SettledTexts.{TimesFrom}
+use Rattle.trial_net.specs.Trials.{trial}
+use Rattle.teg_commands.specs.Inputs.{IsPlanOf, NoInputsMeet}
+use Rattle.teg_commands.specs.Recorded.{IsToldAs}
+use Rattle.teg_commands.specs.Settled.{IsWithinLimit, SettlesWithin, HasName}
+use Rattle.teg_commands.specs.Slacks.{SaysTrial, IsBestRatio, critical_count, trial_number}
+use Rattle.teg_commands.specs.Transfers.{AreTimesFrom, TimesSettlePast}
 use Rattle.teg_commands.specs.Values.{IsSeriesOf, SaysValue}
-use Rattle.teg_commands.specs.Texts.{usage, read_text, live_text, list_text, form_text, cycle_text, no_circuit_text, runs_text, slack_text, trial_text, log_text, replayed_text, refused_text, series_text, parse_text, series_refused_text, token_free_text, too_large_text, fault_text}
+use Rattle.teg_commands.specs.Texts.{usage, slack_text, settled_text, date_text, transfer_text, too_long_text, no_transition_text, due_text, jit_text, late_text, log_text, replayed_text, refused_text, trial_text, read_text, live_text, list_text, form_text, cycle_text, no_circuit_text, runs_text, series_text, parse_text, series_refused_text, token_free_text, too_large_text, fault_text}
 
 -- ---- how a call ended
 
@@ -199,6 +214,28 @@ AcceptsFiles files (OfFiles command name second) = ((net : NetLists) × Opens fi
 AcceptsFiles files (ValueOf text) = ⊤
 AcceptsFiles files (TrialOf machines) = ⊤
 
+-- how a command on settled forms may end: with TooLong only where there is a limit
+abbrev pub AllowsLimit : Option ℕ → Verdict → Type 0
+AllowsLimit None verdict = verdict ≡ VerdictDone
+AllowsLimit (Some limit) verdict = (verdict ≡ VerdictDone) ⊎ (verdict ≡ VerdictTooLong)
+
+-- this status and text is what the request says of accepted files
+abbrev pub IsSaidOf : List (List ℕ × List ℕ) → (List Firing → List (List ℕ)) → Request → Status → List ℕ → Type 0
+IsSaidOf files lines (OfNet command name) status text =
+    (net : NetLists) × Opens files name net × ((verdict : Verdict) × (status ≡ status_of verdict) × SaysNet command net verdict text)
+IsSaidOf files lines (OfFiles command name second) status text =
+    (net : NetLists) × (bytes : List ℕ) × Opens files name net × Holds files second bytes
+    × ((verdict : Verdict) × (status ≡ status_of verdict) × SaysFiles command lines net bytes verdict text)
+IsSaidOf files lines (ValueOf value) status text = (verdict : Verdict) × (status ≡ status_of verdict) × SaysValue value verdict text
+IsSaidOf files lines (TrialOf machines) status text = (verdict : Verdict) × (status ≡ status_of verdict) × SaysTrial machines verdict text
+
+-- over told files, a status of a command comes only where the request says so of accepted files, and this text was written
+abbrev pub OwnOnly : Call → Type 0
+OwnOnly call =
+    (files : List (List ℕ × List ℕ)) → call.shelf_before.files ≡ Some files → IsOwn call.status →
+    (request : Request) × (text : List ℕ) × (request_of call.words ≡ Some request) × IsSaidOf files call.lines request call.status text
+    × BytesGrow call.sink_before.bytes call.sink_after.bytes text
+
 -- how a command on a net may end, once its files are accepted
 abbrev pub AllowsNet : NetCommand → Verdict → Type 0
 AllowsNet CheckNet verdict = verdict ≡ VerdictDone
@@ -206,6 +243,9 @@ AllowsNet (ListNet count) verdict = verdict ≡ VerdictDone
 AllowsNet FormNet verdict = verdict ≡ VerdictDone
 AllowsNet (CycleNet rounds) verdict = verdict ≡ VerdictDone
 AllowsNet SlackNet verdict = verdict ≡ VerdictDone
+AllowsNet (DatesNet limit) verdict = AllowsLimit limit verdict
+AllowsNet (DateNet word number limit) verdict = (verdict ≡ VerdictName) ⊎ AllowsLimit limit verdict
+AllowsNet (TransferNet limit) verdict = AllowsLimit (Some limit) verdict
 
 -- how an expression may end: with a refusal only where it has one
 abbrev pub AllowsValue : List ℕ → Verdict → Type 0
@@ -213,6 +253,7 @@ AllowsValue text verdict = (told : List ℕ) × SaysValue text verdict told
 
 -- how a command on a net and a second file may end, once its net is accepted and the bytes of the second file are there
 abbrev pub AllowsFiles : FileCommand → Verdict → Type 0
+AllowsFiles JitNet verdict = (verdict ≡ VerdictDone) ⊎ ((verdict ≡ VerdictSchedule) ⊎ (verdict ≡ VerdictLate))
 AllowsFiles ReplayNet verdict = (verdict ≡ VerdictDone) ⊎ (verdict ≡ VerdictLog)
 
 -- how a request may end, once its files are accepted
@@ -296,21 +337,56 @@ abbrev pub SaysNoCircuit : Call → Type 0
 SaysNoCircuit call =
     (rounds : Bool) (net : NetLists) → Concerns call (CycleNet rounds) net → HasNoCircuit net IsAnyPlace → Ends call Done no_circuit_text
 
--- the slack of the places of a live net is told, with its greatest ratio, or that it has no circuit, unless memory ran out
-abbrev pub SaysSlackOfNet : Call → Type 0
-SaysSlackOfNet call =
+-- a live net is told with its greatest ratio and the slack of each place, or that it has no circuit, unless memory ran out
+abbrev pub SaysSlackOfPlaces : Call → Type 0
+SaysSlackOfPlaces call =
     (net : NetLists) → Concerns call SlackNet net →
     ((r : Fraction) × (slacks : List Slack) × IsBestRatio net r × AreSlacks net r slacks × Ends call Done (slack_text net r slacks))
     ⊎ ((HasNoCircuit net IsAnyPlace × Ends call Done no_circuit_text) ⊎ EndsLost call)
 
--- of the line of so many machines its greatest ratio is told, how many places are critical, and the least date of a late firing, unless
--- memory ran out
-abbrev pub SaysTrialOf : Call → Type 0
-SaysTrialOf call =
-    (machines : ℕ) → request_of call.words ≡ Some (TrialOf machines) →
-    ((r : Fraction) × (slacks : List Slack) × (x : ℕ → ℕ → Date) × IsBestRatio (trial machines) r × AreSlacks (trial machines) r slacks
-    × IsLeastDating (trial machines) x × Ends call Done (trial_text machines r (critical_count slacks) (x (machines - 1) trial_number)))
-    ⊎ EndsLost call
+-- there is a limit, which is exceeded, and this is told
+abbrev pub EndsTooLong : Call → (ℕ → Type 0) → Option ℕ → Type 0
+EndsTooLong call exceeds limit = (most : ℕ) × (limit ≡ Some most) × exceeds most × Ends call TooLong (too_long_text most)
+
+-- a live net is told with the shortest settled form of its least dating, within the limit where there is one; or that each form is longer
+-- than the limit; unless memory ran out
+abbrev pub SaysSettledDates : Call → Type 0
+SaysSettledDates call =
+    (limit : Option ℕ) (net : NetLists) → Concerns call (DatesNet limit) net →
+    ((f : SettledForm) × IsSettledFormOf net f × IsWithinLimit limit f × Ends call Done (settled_text net f))
+    ⊎ (EndsTooLong call (NetSettlesPast net) limit ⊎ EndsLost call)
+
+-- the least date of this firing is told, and the least dating has a settled form within the limit
+abbrev pub IsDated : Call → List ℕ → ℕ → Option ℕ → NetLists → Type 0
+IsDated call word number limit net =
+    (t : TransitionId) × (x : ℕ → ℕ → Date) × HasName net t word × IsLeastDating net x × SettlesWithin limit net
+    × Ends call Done (date_text net t number (x t.index number))
+
+-- of a live net the least date of one firing is told; or that each settled form is longer than the limit; or that no transition has the
+-- name; unless memory ran out
+abbrev pub SaysOneDate : Call → Type 0
+SaysOneDate call =
+    (word : List ℕ) (number : ℕ) (limit : Option ℕ) (net : NetLists) → Concerns call (DateNet word number limit) net →
+    IsDated call word number limit net
+    ⊎ (((t : TransitionId) × HasName net t word × EndsTooLong call (NetSettlesPast net) limit)
+    ⊎ ((All (λ t. t.name ≢ word) net.transitions × Ends call Name (no_transition_text word)) ⊎ EndsLost call))
+
+-- a live net is told with the times from each input to each output, or that those of an input settle past the limit, unless memory ran out
+abbrev pub SaysTimes : Call → Type 0
+SaysTimes call =
+    (limit : ℕ) (net : NetLists) → Concerns call (TransferNet limit) net →
+    ((times : List TimesFrom) × AreTimesFrom net limit times × Ends call Done (transfer_text net times))
+    ⊎ ((TimesSettlePast net limit × Ends call TooLong (too_long_text limit)) ⊎ EndsLost call)
+
+-- of a live net and a due file the latest dates are told, which at the inputs are the latest inputs that meet every due date; or the
+-- first row that comes late whatever the inputs are; or the first fault of the file; unless memory ran out
+abbrev pub SaysLatestInputs : Call → Type 0
+SaysLatestInputs call =
+    (net : NetLists) (bytes : List ℕ) → ConcernsBoth call JitNet net bytes →
+    ((rows : List DueRow) × (plan : PlanDates) × (due_of net bytes ≡ Ok rows) × IsPlanOf net rows plan × Ends call Done (jit_text net plan))
+    ⊎ (((rows : List DueRow) × (refusal : JitRefusal) × (due_of net bytes ≡ Ok rows) × (refusal ≢ NoPlan) × LateIsRight net rows refusal
+    × NoInputsMeet net (due_in rows) × Ends call Late (late_text net refusal))
+    ⊎ (((refusal : DueRefusal) × (due_of net bytes ≡ Err refusal) × (refusal ≢ NoDue) × Ends call Schedule (due_text refusal)) ⊎ EndsLost call))
 
 -- a replay ends so: with the number of its firings, or with the first row that is refused and why; then the lines of the monitors
 abbrev pub EndsReplay : Call → NetLists → Option Refused → ℕ → List (List ℕ) → Type 0
@@ -327,6 +403,14 @@ SaysReplayed call =
     ⊎ (((rows : List LogRow) × (firings : List Firing) × (replayed : Replayed) × (log_of net bytes ≡ Ok rows) × IsReplayOf net rows firings replayed
     × EndsReplay call net replayed.refused replayed.accepted (call.lines firings))
     ⊎ EndsLost call)
+
+-- the line of so many machines is told with its greatest ratio, how many places are critical, and a late date, unless memory ran out
+abbrev pub SaysMachines : Call → Type 0
+SaysMachines call =
+    (machines : ℕ) → request_of call.words ≡ Some (TrialOf machines) →
+    ((r : Fraction) × (slacks : List Slack) × (x : ℕ → ℕ → Date) × IsBestRatio (trial machines) r × AreSlacks (trial machines) r slacks
+    × IsLeastDating (trial machines) x × Ends call Done (trial_text machines r (critical_count slacks) (x (machines - 1) trial_number)))
+    ⊎ EndsLost call
 
 -- the canonical form of what an expression means is told
 abbrev pub IsValued : Call → List ℕ → Type 0
@@ -362,6 +446,8 @@ pub record KeepsPromises (call : Call) : Type 0 where
   -- A net file that says no net, or one with a token-free circuit: exactly then, where files are told.
   pub net : Follows IsNoNet Net call
   pub net_only : ComesOnly IsNoNet Net call
+  -- A status of a command comes only where it says so of accepted files.
+  pub own_only : OwnOnly call
   -- A command on a live net: what it says of that net is written.
   pub of_net : SaysOfNet call
   pub of_both : SaysOfBoth call
@@ -371,13 +457,16 @@ pub record KeepsPromises (call : Call) : Type 0 where
   pub cycle : SaysCycleTimes call
   pub cycle_rounds : SaysPolicyRuns call
   pub no_circuit : SaysNoCircuit call
-  pub slack : SaysSlackOfNet call
-  -- A log: its first fault, or how it was replayed, and what the monitors print after just the accepted firings.
+  pub slack : SaysSlackOfPlaces call
+  pub dates : SaysSettledDates call
+  pub date : SaysOneDate call
+  pub transfer : SaysTimes call
+  -- A command on a live net and a second file.
+  pub jit : SaysLatestInputs call
   pub replay : SaysReplayed call
-  -- The line of machines: its numbers.
-  pub trial : SaysTrialOf call
-  -- An expression: its value is written, or why it has none.
+  -- Commands without a file: the value of an expression, and the line of machines.
   pub calc : SaysValues call
+  pub trial : SaysMachines call
   -- What was written: the whole text, a first part before a fault, nothing for want of memory.
   pub written : call.status ≢ WriteFault → call.status ≢ NoMemory → WroteWhole call
   pub cut_off : call.status ≡ WriteFault → WrotePrefix call

@@ -1,8 +1,25 @@
 -- The numbers that commands take.
-use Rattle.std.specs.Prelude.{◌≤◌, length}
+use Rattle.std.specs.Prelude.{ℕ, ◌≤◌, Option, IfSome, length}
 use Rattle.teg_dates.specs.Tables.{most_numbers}
-use Rattle.teg_commands.specs.Limits.{most_expression, most_machines}
-use Rattle.teg_run.specs.Requests.{NetCommand, CheckNet, ListNet, FormNet, CycleNet, SlackNet, Request, OfNet, OfFiles, ValueOf, TrialOf}
+use Rattle.teg_commands.specs.Limits.{most_expression}
+use Rattle.teg_net.specs.Limits.{greatest_number}
+use Rattle.teg_settle.specs.Refusals.{greatest_limit}
+use Rattle.teg_run.specs.Limits.{most_machines}
+use Rattle.teg_run.specs.Requests.{NetCommand, CheckNet, ListNet, FormNet, CycleNet, SlackNet, DatesNet, DateNet, TransferNet, Request, OfNet, OfFiles, ValueOf, TrialOf}
+
+-- a firing number, counted from 1
+pub record IsFiringNumber (number : ℕ) : Type 0 where
+  pub first : 1 ≤ number
+  pub last : number ≤ greatest_number
+
+-- a limit that is given is not too great
+abbrev pub IsLimit : Option ℕ → Type 0
+IsLimit limit = IfSome limit (λ most. most ≤ greatest_limit)
+
+-- machines of a line
+pub record IsMachines (machines : ℕ) : Type 0 where
+  pub some : 1 ≤ machines
+  pub few : machines ≤ most_machines
 
 -- the numbers that the command takes keep their limits
 abbrev pub IsInRange : NetCommand → Type 0
@@ -11,10 +28,13 @@ IsInRange (ListNet count) = count ≤ most_numbers
 IsInRange FormNet = Unit {0}
 IsInRange (CycleNet rounds) = Unit {0}
 IsInRange SlackNet = Unit {0}
+IsInRange (DatesNet limit) = IsLimit limit
+IsInRange (DateNet word number limit) = IsFiringNumber number × IsLimit limit
+IsInRange (TransferNet limit) = limit ≤ greatest_limit
 
 -- the numbers of the request keep their limits
 abbrev pub IsRequestInRange : Request → Type 0
 IsRequestInRange (OfNet command net) = IsInRange command
 IsRequestInRange (OfFiles command net second) = Unit {0}
 IsRequestInRange (ValueOf text) = length text ≤ most_expression
-IsRequestInRange (TrialOf machines) = (1 ≤ machines) × (machines ≤ most_machines)
+IsRequestInRange (TrialOf machines) = IsMachines machines

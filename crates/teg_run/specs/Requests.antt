@@ -2,9 +2,12 @@
 use Rattle.std.specs.Prelude.{ℕ, Bool, false, List, [], ◌∷◌, Option, Some, None, codes, bytes_eq, nat_le, length, if◌then◌else◌, option_and_then}
 use Rattle.std.specs.Option.{option_map}
 use Rattle.teg_dates.specs.Tables.{most_numbers}
+use Rattle.teg_net.specs.Limits.{greatest_number}
+use Rattle.teg_settle.specs.Refusals.{greatest_limit}
 use Rattle.teg_words.specs.Numbers.{number_of}
 use Rattle.teg_words.specs.Words.{Given, given_of}
-use Rattle.teg_commands.specs.Limits.{most_expression, most_machines}
+use Rattle.teg_commands.specs.Limits.{most_expression}
+use Rattle.teg_run.specs.Limits.{most_machines, usual_limit}
 use Rattle.teg_report.specs.declared.answer.Which.{Which}
 use Rattle.teg_report.specs.declared.answer.Which.TheVariants.{Net as NetFile, Due as DueFile, Log as LogFile}
 
@@ -15,9 +18,13 @@ pub data NetCommand : Type 0 where
   FormNet : NetCommand
   CycleNet : (rounds : Bool) → NetCommand
   SlackNet : NetCommand
+  DatesNet : (limit : Option ℕ) → NetCommand
+  DateNet : (word : List ℕ) (number : ℕ) (limit : Option ℕ) → NetCommand
+  TransferNet : (limit : ℕ) → NetCommand
 
 -- a command on a net and on a second file
 pub data FileCommand : Type 0 where
+  JitNet : FileCommand
   ReplayNet : FileCommand
 
 -- what words can ask for: a command on the net in the file of this name, one on the net and on the second file of these names, the
@@ -48,25 +55,56 @@ abbrev pub cycle_asked : List (List ℕ) → Option (List ℕ) → Bool → Opti
 cycle_asked (net ∷ []) None rounds = Some (OfNet (CycleNet rounds) net)
 cycle_asked rest limit rounds = None
 
--- `calc EXPR`, with an expression of at most 4,096 bytes
-abbrev pub calc_asked : List (List ℕ) → Option (List ℕ) → Bool → Option Request
-calc_asked (text ∷ []) None false = if nat_le (length text) most_expression then Some (ValueOf text) else None
-calc_asked rest limit rounds = None
+-- the limit of a settled form: a number, or the usual one
+abbrev pub number_limit : Option (List ℕ) → Option ℕ
+number_limit None = Some usual_limit
+number_limit (Some word) = number_of 1 greatest_limit word
+
+-- the same, or no limit where the word is `none`
+abbrev pub limit_asked : Option (List ℕ) → Option (Option ℕ)
+limit_asked None = Some (Some usual_limit)
+limit_asked (Some word) = if bytes_eq word (codes "none") then Some None else option_map (λ limit. Some limit) (number_of 1 greatest_limit word)
 
 -- `slack NET`
 abbrev pub slack_asked : List (List ℕ) → Option (List ℕ) → Bool → Option Request
 slack_asked (net ∷ []) None false = Some (OfNet SlackNet net)
 slack_asked rest limit rounds = None
 
+-- `dates NET`, and perhaps `--limit N` or `--limit none`
+abbrev pub dates_asked : List (List ℕ) → Option (List ℕ) → Bool → Option Request
+dates_asked (net ∷ []) limit false = option_map (λ most. OfNet (DatesNet most) net) (limit_asked limit)
+dates_asked rest limit rounds = None
+
+-- `date NET TRANSITION K`, with K from 1 to 10^18, and perhaps `--limit N` or `--limit none`
+abbrev pub date_asked : List (List ℕ) → Option (List ℕ) → Bool → Option Request
+date_asked (net ∷ word ∷ count ∷ []) limit false =
+    option_and_then (λ most. option_map (λ number. OfNet (DateNet word number most) net) (number_of 1 greatest_number count)) (limit_asked limit)
+date_asked rest limit rounds = None
+
+-- `transfer NET`, and perhaps `--limit N`
+abbrev pub transfer_asked : List (List ℕ) → Option (List ℕ) → Bool → Option Request
+transfer_asked (net ∷ []) limit false = option_map (λ most. OfNet (TransferNet most) net) (number_limit limit)
+transfer_asked rest limit rounds = None
+
+-- `jit NET DUE`
+abbrev pub jit_asked : List (List ℕ) → Option (List ℕ) → Bool → Option Request
+jit_asked (net ∷ due ∷ []) None false = Some (OfFiles JitNet net due)
+jit_asked rest limit rounds = None
+
 -- `replay NET LOG`
 abbrev pub replay_asked : List (List ℕ) → Option (List ℕ) → Bool → Option Request
 replay_asked (net ∷ log ∷ []) None false = Some (OfFiles ReplayNet net log)
 replay_asked rest limit rounds = None
 
--- `trial N`, with N from 1 to the most machines of a line
+-- `trial N`, with N from 1 to 400
 abbrev pub trial_asked : List (List ℕ) → Option (List ℕ) → Bool → Option Request
-trial_asked (word ∷ []) None false = option_map TrialOf (number_of 1 most_machines word)
+trial_asked (count ∷ []) None false = option_map (λ machines. TrialOf machines) (number_of 1 most_machines count)
 trial_asked rest limit rounds = None
+
+-- `calc EXPR`, with an expression of at most 4,096 bytes
+abbrev pub calc_asked : List (List ℕ) → Option (List ℕ) → Bool → Option Request
+calc_asked (text ∷ []) None false = if nat_le (length text) most_expression then Some (ValueOf text) else None
+calc_asked rest limit rounds = None
 
 -- the request of a command with what is given to it: nothing for a command that is not built
 abbrev pub asked_for : Given → Option Request
@@ -75,11 +113,15 @@ asked_for given =
     else (if bytes_eq given.command (codes "list") then list_asked given.rest given.limit given.rounds
     else (if bytes_eq given.command (codes "form") then form_asked given.rest given.limit given.rounds
     else (if bytes_eq given.command (codes "cycle") then cycle_asked given.rest given.limit given.rounds
+    else (if bytes_eq given.command (codes "dates") then dates_asked given.rest given.limit given.rounds
+    else (if bytes_eq given.command (codes "date") then date_asked given.rest given.limit given.rounds
+    else (if bytes_eq given.command (codes "jit") then jit_asked given.rest given.limit given.rounds
     else (if bytes_eq given.command (codes "calc") then calc_asked given.rest given.limit given.rounds
     else (if bytes_eq given.command (codes "replay") then replay_asked given.rest given.limit given.rounds
     else (if bytes_eq given.command (codes "slack") then slack_asked given.rest given.limit given.rounds
+    else (if bytes_eq given.command (codes "transfer") then transfer_asked given.rest given.limit given.rounds
     else (if bytes_eq given.command (codes "trial") then trial_asked given.rest given.limit given.rounds
-    else None)))))))
+    else None)))))))))))
 
 -- the request that the words give, if they give one
 abbrev pub request_of : List (List ℕ) → Option Request
@@ -87,6 +129,7 @@ request_of words = option_and_then asked_for (given_of words)
 
 -- what the second file is for
 abbrev pub second_of : FileCommand → Which
+second_of JitNet = DueFile
 second_of ReplayNet = LogFile
 
 -- the files that a request names, in the order in which they are read: what each is for, and its name

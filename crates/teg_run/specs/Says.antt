@@ -7,11 +7,14 @@ use Rattle.teg_run.specs.declared.status.Status.{Status}
 use Rattle.teg_run.specs.declared.status.Status.TheVariants.{Words}
 use Rattle.teg_commands.specs.declared.outcome.Verdict.{Verdict}
 use Rattle.teg_commands.specs.CycleTimes.{SaysCycle, SaysRounds}
-use Rattle.teg_commands.specs.Recorded.{SaysReplay}
-use Rattle.teg_commands.specs.Slacks.{SaysSlack, SaysTrial}
 use Rattle.teg_commands.specs.Sizes.{SaysCheck, SaysList, SaysForm}
+use Rattle.teg_commands.specs.Inputs.{SaysJit}
+use Rattle.teg_commands.specs.Recorded.{SaysReplay}
+use Rattle.teg_commands.specs.Settled.{SaysDate, SaysDates}
+use Rattle.teg_commands.specs.Slacks.{SaysSlack, SaysTrial}
+use Rattle.teg_commands.specs.Transfers.{SaysTransfer}
 use Rattle.teg_commands.specs.Values.{SaysValue}
-use Rattle.teg_run.specs.Requests.{NetCommand, CheckNet, ListNet, FormNet, CycleNet, SlackNet, FileCommand, ReplayNet, Request, OfNet, OfFiles, ValueOf, TrialOf, second_of}
+use Rattle.teg_run.specs.Requests.{NetCommand, CheckNet, ListNet, FormNet, CycleNet, SlackNet, DatesNet, DateNet, TransferNet, FileCommand, JitNet, ReplayNet, Request, OfNet, OfFiles, ValueOf, TrialOf, second_of}
 use Rattle.teg_run.specs.Openings.{Opening, Accepted, Refused, OpensNet, OpensBytes}
 use Rattle.teg_run.specs.Statuses.{status_of}
 use Rattle.teg_commands.specs.Texts.{usage}
@@ -24,6 +27,9 @@ SaysNet FormNet = SaysForm
 SaysNet (CycleNet false) = SaysCycle
 SaysNet (CycleNet true) = SaysRounds
 SaysNet SlackNet = SaysSlack
+SaysNet (DatesNet limit) = SaysDates limit
+SaysNet (DateNet word number limit) = SaysDate word number limit
+SaysNet (TransferNet limit) = SaysTransfer limit
 
 -- this status and this text
 abbrev pub Said : Status → List ℕ → Status → List ℕ → Type 0
@@ -47,6 +53,7 @@ SaysOutcome says replies status text =
 
 -- what a command says of a live net and of the bytes of a second file, with the lines of the monitors after given firings
 abbrev pub SaysFiles : FileCommand → (List Firing → List (List ℕ)) → NetLists → List ℕ → Verdict → List ℕ → Type 0
+SaysFiles JitNet lines = SaysJit
 SaysFiles ReplayNet lines = SaysReplay lines
 
 -- what a request says, with the lines of the monitors after given firings

@@ -3,7 +3,7 @@ use Rattle.std.specs.Prelude.{ℕ}
 use Rattle.teg_run.specs.declared.status.Status.{Status}
 use Rattle.teg_run.specs.declared.status.Status.TheVariants.{Done, Words, Text, Net, Schedule, Late, TooLong, Log, Calc, Name, ReadFault, WriteFault, NoMemory}
 use Rattle.teg_commands.specs.declared.outcome.Verdict.{Verdict}
-use Rattle.teg_commands.specs.declared.outcome.Verdict.TheVariants.{Done as VerdictDone, Log as VerdictLog, Calc as VerdictCalc}
+use Rattle.teg_commands.specs.declared.outcome.Verdict.TheVariants.{Done as VerdictDone, TooLong as VerdictTooLong, Name as VerdictName, Schedule as VerdictSchedule, Late as VerdictLate, Log as VerdictLog, Calc as VerdictCalc}
 
 -- the exit status of a program that ends so
 abbrev pub code_of : Status → ℕ
@@ -24,5 +24,25 @@ code_of NoMemory = 70
 -- the status of a call that ends with this verdict
 abbrev pub status_of : Verdict → Status
 status_of VerdictDone = Done
+status_of VerdictTooLong = TooLong
+status_of VerdictName = Name
+status_of VerdictSchedule = Schedule
+status_of VerdictLate = Late
 status_of VerdictLog = Log
 status_of VerdictCalc = Calc
+
+-- a status that a command gives: none of Words, Text, Net, ReadFault, WriteFault and NoMemory
+abbrev pub IsOwn : Status → Type 0
+IsOwn Done = Unit {0}
+IsOwn Words = ⊥
+IsOwn Text = ⊥
+IsOwn Net = ⊥
+IsOwn Schedule = Unit {0}
+IsOwn Late = Unit {0}
+IsOwn TooLong = Unit {0}
+IsOwn Log = Unit {0}
+IsOwn Calc = Unit {0}
+IsOwn Name = Unit {0}
+IsOwn ReadFault = ⊥
+IsOwn WriteFault = ⊥
+IsOwn NoMemory = ⊥

@@ -8,7 +8,7 @@ ghost use Rattle.teg_run.specs.Says.{SaysFiles};
 use crate::request::FileCommand;
 use crate::second_file::FileBytes;
 use std::alloc::Global;
-use teg_commands::{LiveNet, Outcome, tell_replay};
+use teg_commands::{LiveNet, Outcome, tell_jit, tell_replay};
 use teg_net::OutOfMemory;
 use teg_outside::Monitor;
 use teg_report::Which;
@@ -18,6 +18,7 @@ pub fn second_of(command: FileCommand) -> Which
     ensures { result ≡ second_of (file_command_asked command) }
 {
     match command {
+        FileCommand::Jit => Which::Due,
         FileCommand::Replay => Which::Log,
     }
 }
@@ -34,6 +35,7 @@ pub fn of_files(
     ensures { Tells (SaysFiles (file_command_asked command) (λ firings. map (λ m. line_text m firings) monitors.items) net.now file.now) (outcome_of result) }
 {
     match command {
+        FileCommand::Jit => tell_jit(alloc, net, file.as_slice()),
         FileCommand::Replay => tell_replay(alloc, net, file.as_slice(), monitors),
     }
 }

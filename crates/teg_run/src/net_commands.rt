@@ -7,14 +7,15 @@ ghost use Rattle.teg_run.specs.Says.{SaysNet};
 use crate::request::NetCommand;
 use std::alloc::Global;
 use teg_commands::{
-    LiveNet, Outcome, tell_cycle, tell_dates, tell_form, tell_rounds, tell_size, tell_slack,
+    LiveNet, Outcome, tell_cycle, tell_date, tell_dates, tell_form, tell_rounds, tell_settled,
+    tell_size, tell_slack, tell_transfer,
 };
 use teg_net::OutOfMemory;
 
 /// What the command comes to on a live net.
-pub fn of_net(alloc: Global, command: NetCommand, net: &LiveNet) -> Result<Outcome, OutOfMemory>
+pub fn of_net(alloc: Global, command: NetCommand<'_>, net: &LiveNet) -> Result<Outcome, OutOfMemory>
     requires { IsInRange (command_asked command) }
-    ensures { Tells (SaysNet (command_asked command) net.now) (outcome_of result) }
+    ensures { Tells (SaysNet (command_asked command.entry) net.now) (outcome_of result) }
 {
     match command {
         NetCommand::Check => tell_size(alloc, net),
@@ -23,5 +24,12 @@ pub fn of_net(alloc: Global, command: NetCommand, net: &LiveNet) -> Result<Outco
         NetCommand::Cycle { rounds: false } => tell_cycle(alloc, net),
         NetCommand::Cycle { rounds: true } => tell_rounds(alloc, net),
         NetCommand::Slack => tell_slack(alloc, net),
+        NetCommand::Dates { limit } => tell_settled(alloc, net, limit),
+        NetCommand::Date {
+            word,
+            number,
+            limit,
+        } => tell_date(alloc, net, word, number, limit),
+        NetCommand::Transfer { limit } => tell_transfer(alloc, net, limit),
     }
 }

@@ -4,10 +4,12 @@ ghost use Rattle.std.specs.Option.{option_copied, option_map};
 ghost use Rattle.teg_words.specs.Meanings.{told, texts};
 ghost use Rattle.teg_words.specs.Numbers.{number_of};
 ghost use Rattle.teg_dates.specs.Tables.{most_numbers};
-ghost use Rattle.teg_run.specs.Requests.{asked_for, calc_asked, check_asked, cycle_asked, form_asked, list_asked, replay_asked, request_of, slack_asked, trial_asked};
-ghost use Rattle.teg_commands.specs.Limits.{most_machines};
+ghost use Rattle.teg_net.specs.Limits.{greatest_number};
+ghost use Rattle.teg_settle.specs.Refusals.{greatest_limit};
+ghost use Rattle.teg_run.specs.Limits.{most_machines};
+ghost use Rattle.teg_run.specs.Requests.{asked_for, calc_asked, check_asked, cycle_asked, date_asked, dates_asked, form_asked, jit_asked, limit_asked, list_asked, number_limit, replay_asked, request_of, slack_asked, transfer_asked, trial_asked};
 ghost use Rattle.teg_run.specs.Meanings.{asked};
-ghost use Rattle.teg_run.specs.Ranges.{IsRequestInRange};
+ghost use Rattle.teg_run.specs.Ranges.{IsFiringNumber, IsLimit, IsMachines, IsRequestInRange};
 
 use std::alloc::Global;
 use teg_net::OutOfMemory;
@@ -22,25 +24,54 @@ const MOST_NUMBERS: u64 = 10_000;
 // The most machines that a line has.
 const MOST_MACHINES: u64 = 400;
 
+// The greatest number of a firing.
+const GREATEST_NUMBER: u64 = 1_000_000_000_000_000_000;
+
+// The greatest limit of a settled form, and the one that holds where none is given.
+const GREATEST_LIMIT: u64 = 200_000;
+
+const USUAL_LIMIT: u32 = 20_000;
+
 /// A command that reads a net and no other file.
 #[derive(Clone, Copy, Debug, PartialEq, Eq)]
-pub enum NetCommand {
+pub enum NetCommand<'a> {
     /// Whether the net is live, and its size.
     Check,
     /// The dates of the firings of the numbers from 1 to this one, which is at most 10,000.
-    List { count: u32 },
+    List {
+        count: u32,
+    },
     /// The standard form.
     Form,
     /// The cycle times, with the rounds of policy iteration or without.
-    Cycle { rounds: bool },
+    Cycle {
+        rounds: bool,
+    },
     /// The slack of each place.
     Slack,
+    /// The dates for ever, by a settled form of at most this length where there is a limit.
+    Dates {
+        limit: Option<u32>,
+    },
+    /// The date of one firing: the name of its transition and its number, from 1 to 10^18; by such a
+    /// form.
+    Date {
+        word: &'a str,
+        number: u64,
+        limit: Option<u32>,
+    },
+    /// The times from the inputs to the outputs, by settled forms of at most this length.
+    Transfer {
+        limit: u32,
+    },
 }
 
 /// A command that reads a net and a second file.
 #[derive(Clone, Copy, Debug, PartialEq, Eq)]
 pub enum FileCommand {
-    /// The replay of a log.
+    /// The latest inputs that meet the due dates of a due file.
+    Jit,
+    /// How a log is replayed.
     Replay,
 }
 
@@ -48,17 +79,24 @@ pub enum FileCommand {
 #[derive(Clone, Copy)]
 pub enum Request<'a> {
     /// A command on the net in the file of this name.
-    OfNet { command: NetCommand, net: &'a str },
-    /// A command on the net and on the second file in the files of these names.
+    OfNet {
+        command: NetCommand<'a>,
+        net: &'a str,
+    },
+    /// A command on the net and the second file of these names.
     OfFiles {
         command: FileCommand,
         net: &'a str,
         second: &'a str,
     },
     /// The value of this expression, which has at most 4,096 bytes.
-    ValueOf { text: &'a str },
+    ValueOf {
+        text: &'a str,
+    },
     /// The line of so many machines, from 1 to 400.
-    TrialOf { machines: u32 },
+    TrialOf {
+        machines: u32,
+    },
 }
 
 // `check NET`
@@ -129,6 +167,165 @@ fn cycle_asked<'a>(rest: &[&'a str], limit: Option<&'a str>, rounds: bool) -> Op
     }
 }
 
+// The limit of a settled form: a number, or the usual one.
+fn number_limit(limit: Option<&str>) -> Option<u32>
+    ensures value { result ≡ number_limit (option_copied limit.entry) }
+    ensures in_range { IfSome result (λ most. most ≤ greatest_limit) }
+{
+    match limit {
+        None => Some(USUAL_LIMIT),
+        Some(word) => {
+            let most = number(word, 1, GREATEST_LIMIT)?;
+            Some(most as u32)
+        }
+    }
+}
+
+// The same, or no limit where the word is `none`.
+fn limit_asked(limit: Option<&str>) -> Option<Option<u32>>
+    ensures value { result ≡ limit_asked (option_copied limit.entry) }
+    ensures in_range { IfSome result IsLimit }
+{
+    match limit {
+        Some("none") => Some(None),
+        _ => {
+            let most = number_limit(limit)?;
+            Some(Some(most))
+        }
+    }
+}
+
+// The number of a firing.
+fn firing(word: &str) -> Option<u64>
+    ensures value { result ≡ number_of 1 greatest_number word.now }
+    ensures in_range { IfSome result IsFiringNumber }
+{
+    number(word, 1, GREATEST_NUMBER)
+}
+
+// How many machines a line has.
+fn machines(word: &str) -> Option<u32>
+    ensures value { result ≡ number_of 1 most_machines word.now }
+    ensures in_range { IfSome result IsMachines }
+{
+    let machines = number(word, 1, MOST_MACHINES)?;
+    Some(machines as u32)
+}
+
+// `slack NET`
+fn slack_asked<'a>(rest: &[&'a str], limit: Option<&'a str>, rounds: bool) -> Option<Request<'a>>
+    ensures value { option_map asked result ≡ slack_asked (texts rest.now) (option_copied limit.entry) rounds }
+    ensures in_range { IfSome (option_map asked result) IsRequestInRange }
+{
+    match (rest, limit, rounds) {
+        ([net], None, false) => Some(Request::OfNet {
+            command: NetCommand::Slack,
+            net,
+        }),
+        _ => None,
+    }
+}
+
+// `dates NET`, and perhaps `--limit N` or `--limit none`
+fn dates_asked<'a>(rest: &[&'a str], limit: Option<&'a str>, rounds: bool) -> Option<Request<'a>>
+    ensures value { option_map asked result ≡ dates_asked (texts rest.now) (option_copied limit.entry) rounds }
+    ensures in_range { IfSome (option_map asked result) IsRequestInRange }
+{
+    match (rest, rounds) {
+        ([net], false) => {
+            let limit = limit_asked(limit)?;
+            Some(Request::OfNet {
+                command: NetCommand::Dates { limit },
+                net,
+            })
+        }
+        _ => None,
+    }
+}
+
+// `date NET TRANSITION K`, and perhaps `--limit N` or `--limit none`
+fn date_asked<'a>(rest: &[&'a str], limit: Option<&'a str>, rounds: bool) -> Option<Request<'a>>
+    ensures value { option_map asked result ≡ date_asked (texts rest.now) (option_copied limit.entry) rounds }
+    ensures in_range { IfSome (option_map asked result) IsRequestInRange }
+{
+    match (rest, rounds) {
+        ([net, word, count], false) => {
+            let limit = limit_asked(limit)?;
+            let number = firing(count)?;
+            Some(Request::OfNet {
+                command: NetCommand::Date {
+                    word,
+                    number,
+                    limit,
+                },
+                net,
+            })
+        }
+        _ => None,
+    }
+}
+
+// `transfer NET`, and perhaps `--limit N`
+fn transfer_asked<'a>(rest: &[&'a str], limit: Option<&'a str>, rounds: bool) -> Option<Request<'a>>
+    ensures value { option_map asked result ≡ transfer_asked (texts rest.now) (option_copied limit.entry) rounds }
+    ensures in_range { IfSome (option_map asked result) IsRequestInRange }
+{
+    match (rest, rounds) {
+        ([net], false) => {
+            let limit = number_limit(limit)?;
+            Some(Request::OfNet {
+                command: NetCommand::Transfer { limit },
+                net,
+            })
+        }
+        _ => None,
+    }
+}
+
+// `jit NET DUE`
+fn jit_asked<'a>(rest: &[&'a str], limit: Option<&'a str>, rounds: bool) -> Option<Request<'a>>
+    ensures value { option_map asked result ≡ jit_asked (texts rest.now) (option_copied limit.entry) rounds }
+    ensures in_range { IfSome (option_map asked result) IsRequestInRange }
+{
+    match (rest, limit, rounds) {
+        ([net, second], None, false) => Some(Request::OfFiles {
+            command: FileCommand::Jit,
+            net,
+            second,
+        }),
+        _ => None,
+    }
+}
+
+// `replay NET LOG`
+fn replay_asked<'a>(rest: &[&'a str], limit: Option<&'a str>, rounds: bool) -> Option<Request<'a>>
+    ensures value { option_map asked result ≡ replay_asked (texts rest.now) (option_copied limit.entry) rounds }
+    ensures in_range { IfSome (option_map asked result) IsRequestInRange }
+{
+    match (rest, limit, rounds) {
+        ([net, second], None, false) => Some(Request::OfFiles {
+            command: FileCommand::Replay,
+            net,
+            second,
+        }),
+        _ => None,
+    }
+}
+
+// `trial N`
+fn trial_asked<'a>(rest: &[&'a str], limit: Option<&'a str>, rounds: bool) -> Option<Request<'a>>
+    ensures value { option_map asked result ≡ trial_asked (texts rest.now) (option_copied limit.entry) rounds }
+    ensures in_range { IfSome (option_map asked result) IsRequestInRange }
+{
+    match (rest, limit, rounds) {
+        ([count], None, false) => {
+            let machines = machines(count)?;
+            Some(Request::TrialOf { machines })
+        }
+        _ => None,
+    }
+}
+
 // `calc EXPR`
 fn calc_asked<'a>(rest: &[&'a str], limit: Option<&'a str>, rounds: bool) -> Option<Request<'a>>
     ensures value { option_map asked result ≡ calc_asked (texts rest.now) (option_copied limit.entry) rounds }
@@ -146,58 +343,6 @@ fn calc_asked<'a>(rest: &[&'a str], limit: Option<&'a str>, rounds: bool) -> Opt
     }
 }
 
-// `slack NET`
-fn slack_asked<'a>(rest: &[&'a str], limit: Option<&'a str>, rounds: bool) -> Option<Request<'a>>
-    ensures value { option_map asked result ≡ slack_asked (texts rest.now) (option_copied limit.entry) rounds }
-    ensures in_range { IfSome (option_map asked result) IsRequestInRange }
-{
-    match (rest, limit, rounds) {
-        ([net], None, false) => Some(Request::OfNet {
-            command: NetCommand::Slack,
-            net,
-        }),
-        _ => None,
-    }
-}
-
-// `replay NET LOG`
-fn replay_asked<'a>(rest: &[&'a str], limit: Option<&'a str>, rounds: bool) -> Option<Request<'a>>
-    ensures value { option_map asked result ≡ replay_asked (texts rest.now) (option_copied limit.entry) rounds }
-    ensures in_range { IfSome (option_map asked result) IsRequestInRange }
-{
-    match (rest, limit, rounds) {
-        ([net, log], None, false) => Some(Request::OfFiles {
-            command: FileCommand::Replay,
-            net,
-            second: log,
-        }),
-        _ => None,
-    }
-}
-
-// A number from 1 to the most machines of a line.
-fn machines(word: &str) -> Option<u32>
-    ensures value { result ≡ number_of 1 most_machines word.now }
-    ensures in_range { IfSome result (λ machines. (1 ≤ machines) × (machines ≤ most_machines)) }
-{
-    let machines = number(word, 1, MOST_MACHINES)?;
-    Some(machines as u32)
-}
-
-// `trial N`
-fn trial_asked<'a>(rest: &[&'a str], limit: Option<&'a str>, rounds: bool) -> Option<Request<'a>>
-    ensures value { option_map asked result ≡ trial_asked (texts rest.now) (option_copied limit.entry) rounds }
-    ensures in_range { IfSome (option_map asked result) IsRequestInRange }
-{
-    match (rest, limit, rounds) {
-        ([word], None, false) => {
-            let machines = machines(word)?;
-            Some(Request::TrialOf { machines })
-        }
-        _ => None,
-    }
-}
-
 // The request of a command with what is given to it. A command that is not built is none.
 fn asked_for<'a>(given: &GivenWords<'a>) -> Option<Request<'a>>
     ensures value { option_map asked result ≡ asked_for (told given.now) }
@@ -209,9 +354,13 @@ fn asked_for<'a>(given: &GivenWords<'a>) -> Option<Request<'a>>
         "list" => list_asked(rest, given.limit, given.rounds),
         "form" => form_asked(rest, given.limit, given.rounds),
         "cycle" => cycle_asked(rest, given.limit, given.rounds),
+        "dates" => dates_asked(rest, given.limit, given.rounds),
+        "date" => date_asked(rest, given.limit, given.rounds),
+        "jit" => jit_asked(rest, given.limit, given.rounds),
         "calc" => calc_asked(rest, given.limit, given.rounds),
         "replay" => replay_asked(rest, given.limit, given.rounds),
         "slack" => slack_asked(rest, given.limit, given.rounds),
+        "transfer" => transfer_asked(rest, given.limit, given.rounds),
         "trial" => trial_asked(rest, given.limit, given.rounds),
         _ => None,
     }

@@ -64,6 +64,10 @@ pub fn status_of(verdict: Verdict) -> Status
 {
     match verdict {
         Verdict::Done => Status::Done,
+        Verdict::TooLong => Status::TooLong,
+        Verdict::Name => Status::Name,
+        Verdict::Schedule => Status::Schedule,
+        Verdict::Late => Status::Late,
         Verdict::Log => Status::Log,
         Verdict::Calc => Status::Calc,
     }

@@ -1,0 +1,54 @@
+-- What a plan and a late row come to.
+use Rattle.std.proofs.Common.{◌≡◌, ◌≢◌, ◌<◌, ℕ, List, [], ◌∷◌, length, refl, sym, subst, arith}
+use Rattle.due_laws.specs.Dues.{AreLatestInputs, InputsMeet, inputs_at_zero}
+use Rattle.due_laws.specs.Laws.{ZeroInputsMeet}
+use Rattle.teg_due.specs.declared.rows.DueRow.{DueRow}
+use Rattle.teg_due.specs.Rules.{IsDueOf}
+use Rattle.teg_jit.specs.declared.answers.JitRefusal.{JitRefusal}
+use Rattle.teg_jit.specs.declared.answers.JitRefusal.TheVariants.{Late, OutOfMemory}
+use Rattle.teg_jit.specs.DueDates.{due_in, IsGreatestNumber}
+use Rattle.teg_jit.specs.Laws.{LateExcludesMeet, PlansLead}
+use Rattle.teg_jit.specs.Plans.{IsPlanFor, KeepsSizes, PlanDates, dates_of}
+use Rattle.teg_jit.specs.Refusals.{LateIsRight}
+use Rattle.teg_net.specs.declared.entries.TransitionId.{TransitionId}
+use Rattle.teg_net.specs.declared.walks.Step.{Step}
+use Rattle.teg_net.specs.declared.walks.Step.TheVariants.{By, Next}
+use Rattle.teg_net.specs.declared.walks.Walk.{Walk}
+use Rattle.teg_net.specs.Circuits.{IsLive, no_place, place_at}
+use Rattle.teg_net.specs.Nets.{NetLists, IsNet}
+use Rattle.teg_net.specs.Walks.{Walks}
+use Rattle.teg_report.specs.Meanings.{late_lists}
+use Rattle.teg_report.specs.Plans.{IsLateTold}
+use Rattle.teg_report.proofs.Told.{path_told}
+use Rattle.teg_commands.specs.Inputs.{IsPlanOf, NoInputsMeet}
+
+pub plan_of : (net : NetLists) (rows : List DueRow) (plan : PlanDates) → IsNet net → PlansLead → KeepsSizes plan → IsGreatestNumber rows plan.numbers → IsPlanFor net (due_in rows) plan →
+    AreLatestInputs net (due_in rows) (dates_of plan) → InputsMeet net (due_in rows) inputs_at_zero → IsPlanOf net rows plan
+plan_of net rows plan ok leads sizes numbers stands inputs meets =
+    record { numbers = numbers; plan_for = stands; steps = leads net ok plan sizes (due_in rows) stands; inputs = inputs; in_time = meets }
+
+none_where_late : (net : NetLists) (rows : List DueRow) (refusal : JitRefusal) → IsDueOf net rows → LateExcludesMeet → refusal ≢ OutOfMemory → LateIsRight net rows refusal → InputsMeet net (due_in rows) inputs_at_zero → ⊥
+none_where_late net rows (Late t number due least start walk) of excludes other late meets = excludes net rows of t number due least start walk late meets
+none_where_late net rows OutOfMemory of excludes other late meets = absurd (other refl)
+
+-- where a row is late, no inputs meet the due dates
+pub none_meet : (net : NetLists) (rows : List DueRow) (refusal : JitRefusal) → IsNet net → IsLive net → IsDueOf net rows → ZeroInputsMeet → LateExcludesMeet → refusal ≢ OutOfMemory → LateIsRight net rows refusal →
+    NoInputsMeet net (due_in rows)
+none_meet net rows refusal ok live of zero excludes other late =
+    λ v meets. none_where_late net rows refusal of excludes other late (zero net ok live (due_in rows) v meets)
+
+-- a walk that starts at a transition of the net ends at one
+walk_stays : (net : NetLists) → IsNet net → (steps : List Step) (a s b k : ℕ) → a < length net.transitions → Walks net a s steps b k → b < length net.transitions
+walk_stays net ok [] a s b k h walk = omega (arith, h, walk.0)
+walk_stays net ok (By p ∷ steps) a s b k h walk =
+    walk_stays net ok steps (place_at net p).to.index _ b k (ok.each_place p.index no_place walk.0).to_in walk.2
+walk_stays net ok (Next ∷ steps) a s b k h walk = walk_stays net ok steps a _ b k h walk
+
+-- a late row can be told
+pub late_told : (net : NetLists) (rows : List DueRow) (refusal : JitRefusal) → IsNet net → refusal ≢ OutOfMemory → LateIsRight net rows refusal → IsLateTold net (late_lists refusal)
+late_told net rows (Late t number due least start walk) ok other late =
+    record {
+      transition = walk_stays net ok walk.steps.items walk.start.index walk.number t.index number late.1.is_walk.start_in late.1.ends;
+      path = path_told net walk late.1.is_walk;
+    }
+late_told net rows OutOfMemory ok other late = absurd (other refl)
