@@ -10,8 +10,8 @@ are run by bash, in order, in a folder that has the program as ./teg and the net
   command or the end of the block, are what it prints.
 - A fenced block of toml whose first line is `# NAME.toml` is a file of that name for the commands below.
 
-Each net of examples/ is named by a command of the guide, and each command that takes a net alone, by the
-usage, answers for it: with status 0, or, where the net is refused, as `check` does.
+Each file of examples/ is named by a command of the guide, and each command that takes a net alone, by the
+usage, answers for each net there: with status 0, or, where the net is refused, as `check` does.
 
 A difference is told. The last line is 'N passed, M failed', and the exit status 0 where M is 0.
 """
@@ -74,20 +74,26 @@ def run_blocks(guide, folder):
             yield well
 
 
+def odd_commands(commands, net, folder):
+    """The commands that end otherwise than they should on a net of examples/, each told."""
+    first = run(["./teg", "check", f"examples/{net}"], folder)
+    others = {command: run(["./teg", command, f"examples/{net}"], folder) for command in commands}
+    odd = [command for command, said in others.items() if said != first and (said[0] or first[0])]
+    for command in odd:
+        print(f"examples/{net}: {command} ends with {others[command][0]}, and check with {first[0]}")
+    return odd
+
+
 def run_nets(guide, folder):
     """Runs the commands that take a net alone on each net of examples/."""
     usage = run(["./teg"], folder)[1]
     of_net = re.findall(r"^(?:usage:| {6}) teg (\w+) NET(?: \[.*)?$", usage, re.M)
     shown = "\n".join(command for block in blocks_of(guide) for _, command, _ in commands_of(block))
-    for net in sorted(os.listdir(f"{folder}/examples")):
-        first = run(["./teg", "check", f"examples/{net}"], folder)
-        others = {command: run(["./teg", command, f"examples/{net}"], folder) for command in of_net}
-        odd = [command for command, said in others.items() if said != first and (said[0] or first[0])]
-        for command in odd:
-            print(f"examples/{net}: {command} ends with {others[command][0]}, and check with {first[0]}")
-        if f"examples/{net}" not in shown:
-            print(f"examples/{net}: no command of the guide names it")
-        yield not odd and f"examples/{net}" in shown
+    for name in sorted(os.listdir(f"{folder}/examples")):
+        odd = odd_commands(of_net, name, folder) if name.endswith(".toml") else []
+        if f"examples/{name}" not in shown:
+            print(f"examples/{name}: no command of the guide names it")
+        yield not odd and f"examples/{name}" in shown
 
 
 def main(program):
@@ -102,7 +108,7 @@ def main(program):
         shown, nets = list(run_blocks(guide, folder)), list(run_nets(guide, folder))
     passed = shown.count(True) + nets.count(True)
     failed = len(shown) + len(nets) - passed
-    print(f"the guide: {len(shown)} commands, and {len(nets)} nets of examples/\n{passed} passed, {failed} failed")
+    print(f"the guide: {len(shown)} commands, and {len(nets)} files of examples/\n{passed} passed, {failed} failed")
     return 1 if failed or not shown or not nets else 0
 
 
