@@ -1,6 +1,5 @@
 -- A table that is filled key by key beside the table that is written.
-use Rattle.std.proofs.Common.{◌≡◌, ℕ, ◌<◌, ◌≤◌, List, [], ◌∷◌, map, length, get_or, Option, Some, None, codes, String, Global, string_bytes, Ordering, Less, Equal, Greater, refl, ◌∙◌, arith}
-use Rattle.std.proofs.lemmas.Option.{slice_get_read}
+use Rattle.std.proofs.Common.{◌≡◌, ℕ, ◌<◌, ◌≤◌, List, [], ◌∷◌, map, length, Option, Some, None, codes, String, Global, string_bytes, Ordering, Less, Equal, Greater, refl, ◌∙◌, arith}
 use Rattle.std.specs.Ordering.{match_ordering}
 use Rattle.std.specs.String.{string_cmp}
 use Rattle.std.specs.BTreeMap.{insert_entry}
@@ -9,7 +8,6 @@ use Rattle.toml.specs.View.{view, items_of, members_view}
 use Rattle.toml.specs.declared.value.Value.{Value}
 use Rattle.teg_net.specs.Nets.{NetLists}
 use Rattle.teg_net.specs.declared.entries.Transition.{Transition}
-use Rattle.teg_net.specs.declared.entries.TransitionId.{TransitionId}
 use Rattle.teg_net.specs.declared.entries.Place.{Place}
 use Rattle.teg_net.specs.declared.entries.InputList.{InputList}
 use Rattle.teg_net.specs.declared.entries.Again.{Again}
@@ -35,9 +33,6 @@ members_view-insert (e ∷ es) k v = match_members (string_cmp k e.0) _ _ _ ∙ 
 pub with_some : (k : Key) (ds : List Data) (ms : Members) → 0 < length ds → with_list k ds ms ≡ with_member (key_text k) (array (items_of ds)) ms
 with_some k [] ms h = absurd (omega arith)
 with_some k (d ∷ ds) ms h = refl
-
-pub name_read : (ts : List Transition) (id : TransitionId) (t : Transition) → id.index < length ts → t ≡ get_or ts id.index t → t.name ≡ name_of ts id
-name_read ts id t lt is = rw (slice_get_read ts (length ts) id.index t refl lt is)
 
 -- ready dates are put among the keys of a place
 pub ready_put : (ready : List ℕ) (from hold name to tokens : Data)

@@ -1,5 +1,5 @@
 -- Plans, and firings that are later than due, are read back from their lines.
-use Rattle.std.proofs.Common.{◌≡◌, ℕ, zero, suc, ◌+◌, ◌-◌, ◌*◌, ◌/◌, ◌%◌, ◌<◌, ◌≤◌, true, false, ◌==◌, ⊎_elim, Option, Some, None, List, [], ◌∷◌, ◌++◌, map, length, get_or, slice_index_or, drop, refl, ap, sym, subst, ◌∙◌, arith, decimal, eqb-true, codes, div-add-mod', div-lt_iff_lt-mul, mod-lt}
+use Rattle.std.proofs.Common.{◌≡◌, ℕ, zero, suc, ◌+◌, ◌-◌, ◌*◌, ◌/◌, ◌%◌, ◌<◌, ◌≤◌, true, false, ◌==◌, ⊎_elim, Option, Some, None, List, [], ◌∷◌, ◌++◌, map, length, get_or, slice_index_or, refl, ap, sym, ◌∙◌, arith, decimal, eqb-true, codes, div-add-mod', div-lt_iff_lt-mul, mod-lt}
 use Rattle.std.proofs.lemmas.Bool.{and_from, cases_Bool}
 use Rattle.std.proofs.lemmas.List.{get_or_append_left, get_or-append-add}
 use Rattle.std.proofs.lemmas.List.FromFn.{get_or-map-range_with_len, length-map-range_with_len}
@@ -18,18 +18,17 @@ use Rattle.teg_net.specs.declared.walks.Step.TheVariants.{By, Next}
 use Rattle.teg_net.specs.Circuits.{place_at, no_place}
 use Rattle.teg_net.specs.Nets.{NetLists, IsNet}
 use Rattle.teg_net.specs.Walks.{Walks}
-use Rattle.teg_report.specs.Answering.{latest_in, late_in, onward_in, plan_in, planned_in, steps_in}
+use Rattle.teg_report.specs.Answering.{latest_in, late_in, onward_in, planned_in, steps_in}
 use Rattle.teg_report.specs.Answers.{Jit, Late}
 use Rattle.teg_report.specs.Forms.{name_of_transition, no_transition}
 use Rattle.teg_report.specs.Kept.{AreLateNumbers, AreLatestKept, IsLateKept, IsLatestKept}
-use Rattle.teg_report.specs.Plans.{IsLateIn, IsLateTold, IsLatestIn, IsOnwardIn, IsPlanIn, LateLists, late_line, late_lines, latest_line, latest_words, numbers_line, onward_words, path_line, plan_lines, planned_line, planned_lines, role_word, start_lines, step_number, step_to, step_words, steps_words}
-use Rattle.teg_report.specs.Texts.{name_of_place}
+use Rattle.teg_report.specs.Plans.{IsLateIn, IsLateTold, IsLatestIn, IsOnwardIn, IsPlanIn, LateLists, late_line, late_lines, latest_words, onward_words, path_line, plan_lines, planned_line, planned_lines, role_word, steps_words}
 use Rattle.teg_report.proofs.IsRead.{IsRead}
 use Rattle.teg_report.proofs.Words.{place_is_word, place_back, transition_is_word, transition_back}
 use Rattle.teg_text.specs.Lines.{is_line, is_word}
 use Rattle.teg_text.proofs.Back.{number_back, word32_back, word64_back}
 use Rattle.teg_text.proofs.Rows.{grid_passes, numbered_back}
-use Rattle.teg_text.proofs.Words.{all_append, decimal_is_word, decimal_is_numeral}
+use Rattle.teg_text.proofs.Words.{decimal_is_word, decimal_is_numeral}
 
 -- latest dates
 

@@ -1,6 +1,6 @@
 -- Lines of latest dates and of walks, as their parts.
-use Rattle.std.proofs.Common.{◌≡◌, ℕ, ◌+◌, ◌<◌, ◌≤◌, List, [], ◌∷◌, ◌++◌, All, decimal, length, get_or, drop, refl, sym, subst, ap, ◌∙◌, append_assoc, append-nil, arith}
-use Rattle.std.proofs.lemmas.List.Elements.{All-head, All-tail}
+use Rattle.std.proofs.Common.{◌≡◌, ℕ, ◌+◌, ◌<◌, ◌≤◌, List, [], ◌∷◌, ◌++◌, decimal, length, get_or, drop, refl, sym, subst, ap, ◌∙◌, append_assoc, arith}
+use Rattle.std.proofs.lemmas.List.Elements.{All-tail}
 use Rattle.std.specs.List.{flat_map}
 use Rattle.std.proofs.Math.ListN.{drop_of_length-le}
 use Rattle.std.proofs.Math.Seq.{drop-cons}
@@ -11,7 +11,7 @@ use Rattle.teg_net.specs.declared.walks.Step.TheVariants.{By, Next}
 use Rattle.teg_net.specs.Circuits.{place_at, no_place}
 use Rattle.teg_net.specs.Limits.{greatest_number}
 use Rattle.teg_net.specs.Nets.{NetLists, IsNet}
-use Rattle.teg_net.specs.Walks.{Walks, numbers_of, IsStepOf}
+use Rattle.teg_net.specs.Walks.{numbers_of, IsStepOf}
 use Rattle.teg_report.specs.Plans.{IsPathIn, step_number, step_to, step_words, steps_words}
 use Rattle.teg_text.specs.Lines.{further_then, line_then, written}
 use Rattle.teg_text.proofs.Joining.{line_append, written_append}

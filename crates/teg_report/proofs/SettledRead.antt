@@ -1,5 +1,5 @@
 -- Settled forms, and times from inputs to outputs, are read back from their lines.
-use Rattle.std.proofs.Common.{◌≡◌, ℕ, suc, ℤ, ◌+◌, ◌-◌, ◌<◌, ◌^◌, unsigned_abs, true, not, List, [], ◌∷◌, ◌++◌, All, map, take, drop, length, get_or, slice_index_or, refl, ap, subst, sym, ◌∙◌, arith, codes, pos}
+use Rattle.std.proofs.Common.{◌≡◌, ℕ, suc, ℤ, ◌+◌, ◌-◌, ◌<◌, ◌^◌, unsigned_abs, true, not, List, [], ◌∷◌, ◌++◌, All, map, take, length, get_or, refl, ap, ◌∙◌, arith, codes, pos}
 use Rattle.std.specs.Fmt.{signed_decimal}
 use Rattle.std.specs.List.{flat_map, list_all, range_with_len}
 use Rattle.std.specs.Prelude.{⊤}

@@ -1,5 +1,5 @@
 -- A plan for due dates can be told, and so can a walk.
-use Rattle.std.proofs.Common.{◌≡◌, ◌<◌, ℕ, Option, List, length, sym, subst, arith}
+use Rattle.std.proofs.Common.{ℕ, Option, length, sym, subst, arith}
 use Rattle.dioid.specs.declared.dates.Date.{Date}
 use Rattle.teg_jit.specs.declared.answers.LatestDate.{LatestDate}
 use Rattle.teg_jit.specs.declared.answers.LatestDate.TheVariants.{Free, At}

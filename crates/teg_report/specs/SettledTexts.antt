@@ -1,5 +1,5 @@
 -- The lines of settled forms: those of the dates of a net, and those of walks from its inputs to its outputs.
-use Rattle.std.specs.Prelude.{ℕ, ℤ, Bool, true, false, ◌<◌, ◌≡◌, List, [], ◌∷◌, ◌++◌, All, map, flat_map, length, count_by, codes}
+use Rattle.std.specs.Prelude.{ℕ, ℤ, Bool, true, false, ◌<◌, List, [], ◌∷◌, ◌++◌, All, map, flat_map, length, count_by, codes}
 use Rattle.std.specs.Fmt.{decimal, signed_decimal}
 use Rattle.std.specs.List.{range_with_len}
 use Rattle.dioid.specs.declared.dates.Date.{Date}

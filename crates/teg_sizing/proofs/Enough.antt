@@ -1,5 +1,5 @@
 -- How many further tokens are enough, by the best circuit that passes the place.
-use Rattle.std.proofs.Common.{ℕ, ℤ, pos, negsuc, zero, suc, nat_abs, ◌+◌, ◌-◌, ◌*◌, ◌/◌, ◌%◌, ◌<◌, ◌≤◌, ◌≡◌, ◌≢◌, ◌+ℤ◌, ◌-ℤ◌, List, ◌++◌, length, take, drop, refl, sym, ap, subst, ◌∙◌, arith, ⊎_elim, ◌⊎◌, inl, inr}
+use Rattle.std.proofs.Common.{ℕ, ℤ, pos, negsuc, zero, suc, ◌+◌, ◌-◌, ◌*◌, ◌/◌, ◌%◌, ◌<◌, ◌≤◌, ◌≡◌, ◌≢◌, ◌+ℤ◌, List, ◌++◌, take, drop, refl, sym, ap, subst, ◌∙◌, arith, ⊎_elim, inl, inr}
 use Rattle.std.specs.Prelude.{◌≤ℤ◌, Contains}
 use Rattle.std.proofs.lemmas.Int.{ints, by_lt_z}
 use Rattle.std.proofs.lemmas.Nat.{mod_below, div-add-mod'}
@@ -10,7 +10,7 @@ use Rattle.std.proofs.lemmas.List.Elements.{All-append}
 use Rattle.teg_net.specs.declared.entries.PlaceId.{PlaceId}
 use Rattle.teg_net.specs.Nets.{NetLists}
 use Rattle.teg_net.specs.Ratios.{Fraction}
-use Rattle.teg_net.specs.Circuits.{IsCircuit, BeginsLowest, time_of, tokens_of}
+use Rattle.teg_net.specs.Circuits.{IsCircuit, time_of, tokens_of}
 use Rattle.teg_sizing.specs.Rounds.{value_of, Avoids}
 use Rattle.teg_sizing.specs.Surpluses.{NoneIsAbove, IsAboveApart, NonePasses, IsBestThrough}
 use Rattle.teg_sizing.specs.Sizings.{IsEnough, IsFewest, IsNeverEnough, IsTurnedLowest}

@@ -1,5 +1,5 @@
 -- Rounds one after another: they keep their limits, never fall, and are complete for paths.
-use Rattle.std.proofs.Common.{ℕ, ℤ, pos, zero, suc, ◌+◌, ◌-◌, ◌*◌, ◌<◌, ◌≤◌, ◌≡◌, ◌≢◌, ◌+ℤ◌, ◌-ℤ◌, List, [], ◌∷◌, ◌++◌, length, get_or, Option, Some, None, refl, sym, ap, subst, ◌∙◌, arith, ⊎_elim, ◌⊎◌}
+use Rattle.std.proofs.Common.{ℕ, ℤ, zero, suc, ◌+◌, ◌-◌, ◌*◌, ◌<◌, ◌≤◌, ◌≡◌, ◌≢◌, ◌+ℤ◌, List, [], ◌∷◌, ◌++◌, length, get_or, Some, None, refl, sym, ap, subst, ◌∙◌, arith, ⊎_elim}
 use Rattle.std.specs.Prelude.{◌≤ℤ◌}
 use Rattle.std.proofs.lemmas.Int.{ints}
 use Rattle.std.proofs.lemmas.Bool.{cases_lt}
@@ -12,7 +12,7 @@ use Rattle.teg_net.specs.Circuits.{no_place, place_at, from_of, IsPathBetween}
 use Rattle.teg_net.specs.Parts.{to_of}
 use Rattle.teg_net.proofs.PathLaws.{no_id}
 use Rattle.teg_sizing.specs.declared.rounds.Cell.{Cell}
-use Rattle.teg_sizing.specs.Rounds.{IsTarget, weight_of, value_of, Avoids, most_weight, value_at, by_at, IsAtLeast, AreWithin, IsOffered, IsTakenBy, IsRoundAfter, round_at, AreRounds}
+use Rattle.teg_sizing.specs.Rounds.{IsTarget, weight_of, value_of, Avoids, most_weight, value_at, by_at, IsAtLeast, AreWithin, IsTakenBy, IsRoundAfter, round_at, AreRounds}
 use Rattle.teg_sizing.proofs.Values.{same_some, at_least_some, at_least_less, at_least_is, weight_within, value_cons, value_none, told_or_not}
 
 pub within_more : (m n : ℕ) (cells : List Cell) → m ≤ n → AreWithin m cells → AreWithin n cells

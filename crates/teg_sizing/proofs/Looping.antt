@@ -1,8 +1,7 @@
 -- A circuit taken out of a path, and circuits above a target that avoid a place.
-use Rattle.std.proofs.Common.{ℕ, ℤ, pos, zero, suc, ◌+◌, ◌-◌, ◌*◌, ◌<◌, ◌≤◌, ◌≡◌, ◌≢◌, ◌+ℤ◌, List, [], ◌∷◌, ◌++◌, length, get_or, map, take, drop, true, eqb, Option, Some, None, refl, sym, ap, subst, ◌∙◌, arith, ⊎_elim, ◌⊎◌}
-use Rattle.std.specs.Prelude.{◌≤ℤ◌, All, AllPairs}
+use Rattle.std.proofs.Common.{ℕ, ℤ, pos, suc, ◌+◌, ◌-◌, ◌<◌, ◌≤◌, ◌≡◌, ◌≢◌, ◌+ℤ◌, List, [], ◌∷◌, ◌++◌, length, get_or, map, take, drop, true, eqb, Option, Some, refl, sym, ap, subst, ◌∙◌, arith}
+use Rattle.std.specs.Prelude.{◌≤ℤ◌, AllPairs}
 use Rattle.std.specs.List.{Any}
-use Rattle.std.proofs.lemmas.Bool.{cases_lt}
 use Rattle.std.proofs.lemmas.Bool.Decides.{nat_tests, Decides-eqb}
 use Rattle.std.proofs.lemmas.Int.{ints, by_lt_z}
 use Rattle.std.proofs.lemmas.List.{get_or-map, length-append, length-map, get_or_default, length-take-le, length-drop, get_or-take, get_or-drop, take-append-drop}
@@ -21,9 +20,9 @@ use Rattle.teg_sizing.specs.declared.rounds.Cell.{Cell}
 use Rattle.teg_sizing.specs.Rounds.{weight_of, value_of, Avoids, value_at, by_at, IsAtLeast, IsRoundAfter, IsTakenBy, round_at, AreRounds}
 use Rattle.teg_sizing.specs.Paths.{no_id, left_at, NoneLeaves, IsFirstLoop, trace_of}
 use Rattle.teg_sizing.specs.Surpluses.{NoneIsAbove, IsAboveApart, StartsEverywhere, NoneIsBetter, IsBetter}
-use Rattle.teg_sizing.proofs.Values.{same_some, none_some, at_least_is, at_least_some, value_append, value_cons, value_none, all_first, all_second}
+use Rattle.teg_sizing.proofs.Values.{same_some, at_least_is, at_least_some, value_append, value_cons, value_none, all_first, all_second}
 use Rattle.teg_sizing.proofs.Going.{stepped, held_on, complete}
-use Rattle.teg_sizing.proofs.Traces.{IsTraced, traced, traced_long}
+use Rattle.teg_sizing.proofs.Traces.{traced, traced_long}
 
 -- ---- the first circuit of a path
 

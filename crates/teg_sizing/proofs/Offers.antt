@@ -1,5 +1,5 @@
 -- A round, place by place.
-use Rattle.std.proofs.Common.{ℕ, ℤ, pos, ◌+◌, ◌<◌, ◌≤◌, ◌≡◌, ◌≢◌, ◌+ℤ◌, List, [], ◌∷◌, ◌++◌, length, get_or, set, Option, Some, None, refl, sym, ap, subst, ◌∙◌, arith, ⊎_elim, ◌⊎◌}
+use Rattle.std.proofs.Common.{ℕ, ℤ, ◌+◌, ◌<◌, ◌≤◌, ◌≡◌, ◌≢◌, List, [], ◌∷◌, ◌++◌, length, get_or, set, Option, Some, None, refl, sym, ap, subst, ◌∙◌, arith, ⊎_elim}
 use Rattle.std.specs.Prelude.{◌≤ℤ◌}
 use Rattle.std.proofs.lemmas.Int.{ints}
 use Rattle.std.proofs.lemmas.Bool.{cases_lt, cases_eq}
@@ -11,8 +11,8 @@ use Rattle.teg_net.specs.Ratios.{Fraction}
 use Rattle.teg_net.specs.Circuits.{no_place, place_at}
 use Rattle.teg_net.specs.Parts.{to_of}
 use Rattle.teg_sizing.specs.declared.rounds.Cell.{Cell}
-use Rattle.teg_sizing.specs.Rounds.{weight_of, no_cell, value_at, by_at, IsAtLeast, IsOffered, AreFresh, IsTakenBy, IsRoundUpTo}
-use Rattle.teg_sizing.proofs.Values.{same_some, none_some, at_least_is, at_least_less, between_them, same_id}
+use Rattle.teg_sizing.specs.Rounds.{no_cell, value_at, by_at, IsAtLeast, IsOffered, AreFresh, IsTakenBy, IsRoundUpTo}
+use Rattle.teg_sizing.proofs.Values.{same_some, none_some, at_least_is, at_least_less, between_them}
 
 -- a place offers one value
 pub one_offer : (net : NetLists) (r : Fraction) (e : PlaceId) (before : List Cell) (p : PlaceId) (u v : ℤ) → IsOffered r e before p (place_at net p) u → IsOffered r e before p (place_at net p) v → u ≡ v

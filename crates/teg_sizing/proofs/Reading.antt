@@ -1,6 +1,6 @@
 -- An answer is read back from its text.
-use Rattle.std.proofs.Common.{ℕ, ◌<◌, ◌≤◌, ◌≡◌, ◌≢◌, ◌^◌, true, false, not, ◌==◌, ◌&&◌, nat_le, Bool, List, [], ◌∷◌, length, get_or, map, codes, drop, Option, Some, None, refl, sym, ap, ◌∙◌, arith, leb-true, decimal}
-use Rattle.std.specs.Prelude.{All, IsTrue, if◌then◌else◌}
+use Rattle.std.proofs.Common.{ℕ, ◌<◌, ◌≡◌, true, not, ◌==◌, ◌&&◌, nat_le, List, [], ◌∷◌, length, map, codes, drop, Option, Some, None, refl, sym, ap, ◌∙◌, leb-true}
+use Rattle.std.specs.Prelude.{IsTrue, if◌then◌else◌}
 use Rattle.std.specs.List.{list_all}
 use Rattle.std.proofs.lemmas.Bool.{and_parts}
 use Rattle.teg_net.specs.declared.entries.PlaceId.{PlaceId}
@@ -9,14 +9,18 @@ use Rattle.teg_net.specs.Names.{is_name, is_name_byte}
 use Rattle.teg_net.specs.Nets.{NetLists, IsNet}
 use Rattle.teg_net.specs.Ratios.{Fraction}
 use Rattle.teg_net.specs.Circuits.{no_place, AreInRange}
-use Rattle.teg_text.specs.Lines.{is_word_byte, is_word, are_lines, written}
+use Rattle.teg_text.specs.Lines.{is_word_byte, is_word, are_lines}
 use Rattle.teg_text.specs.Words.{ratio_word}
 use Rattle.teg_text.specs.Reading.{lines_in, line_at, word, stands_at, number_in, before_slash, behind_slash, index_in}
 use Rattle.teg_text.proofs.Back.{word64_back, time_back, tokens_back, ratio_is_word, index_back}
 use Rattle.teg_text.proofs.Reading.{written_read}
 use Rattle.teg_text.proofs.Rows.{rows, IsReadBack}
 use Rattle.teg_text.proofs.Words.{all_weaker, past_blank, decimal_is_word}
-use Rattle.teg_sizing.specs.Texts.{Told, EnoughTold, ImpossibleTold, name_of, sizing_lines, IsToldOf, TextsOfSizingsDiffer}
+use Rattle.teg_net.proofs.PathLaws.{IsPathBetween-in_range}
+use Rattle.teg_sizing.specs.declared.sizing.Sizing.{Sizing}
+use Rattle.teg_sizing.specs.declared.sizing.Sizing.TheVariants.{Enough, Impossible}
+use Rattle.teg_sizing.specs.Sizings.{IsSizing}
+use Rattle.teg_sizing.specs.Texts.{Told, EnoughTold, ImpossibleTold, told, name_of, sizing_lines, HasCircuitIn, IsToldOf, TextsOfSizingsDiffer}
 
 -- ---- what is read
 
@@ -63,6 +67,12 @@ circuits net rules = rows (λ (p : PlaceId). p.index < length net.places) is_wor
     (record { passes = λ p l. place_is_word net p rules l; back = λ p l. place_back net p rules l })
 
 -- ---- answers
+
+-- the circuit of an answer is in the net
+pub circuit_in_net : (net : NetLists) (r : Fraction) (p : PlaceId) (s : Sizing) → IsSizing net r p s → HasCircuitIn net (told s)
+circuit_in_net net r p (Enough extra None) h = tt
+circuit_in_net net r p (Enough extra (Some circuit)) h = IsPathBetween-in_range net circuit.places.items h.circuit.closed.0 h.circuit.closed.0 h.circuit.closed.1
+circuit_in_net net r p (Impossible circuit) h = IsPathBetween-in_range net circuit.places.items h.circuit.closed.0 h.circuit.closed.0 h.circuit.closed.1
 
 -- the lines are read back from their text, and the place, the target and the answer from the lines
 record IsRead (net : NetLists) (p : PlaceId) (r : Fraction) (s : Told) : Type 0 where

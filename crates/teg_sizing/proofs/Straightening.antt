@@ -1,6 +1,6 @@
 -- The best circuit that passes a place.
-use Rattle.std.proofs.Common.{ℕ, ℤ, pos, zero, suc, ◌+◌, ◌-◌, ◌*◌, ◌<◌, ◌≤◌, ◌≡◌, ◌≢◌, ◌+ℤ◌, ◌-ℤ◌, List, [], ◌∷◌, ◌++◌, length, get_or, Option, Some, None, refl, sym, ap, subst, ◌∙◌, arith, ⊎_elim, ◌⊎◌, inl, inr}
-use Rattle.std.specs.Prelude.{◌≤ℤ◌, All, Contains, sum_by}
+use Rattle.std.proofs.Common.{ℕ, ℤ, pos, zero, suc, ◌+◌, ◌*◌, ◌<◌, ◌≤◌, ◌≡◌, ◌≢◌, ◌+ℤ◌, List, [], ◌∷◌, ◌++◌, length, get_or, Option, Some, None, refl, sym, ap, subst, ◌∙◌, arith, ⊎_elim}
+use Rattle.std.specs.Prelude.{◌≤ℤ◌, Contains, sum_by}
 use Rattle.std.proofs.lemmas.List.Sums.{sum_by-cons}
 use Rattle.std.proofs.lemmas.Bool.{cases_eq}
 use Rattle.std.proofs.lemmas.Int.{ints}
@@ -17,10 +17,10 @@ use Rattle.teg_loops.proofs.Straight.{loop_or_apart, apart_straight, loop_short}
 use Rattle.teg_loops.proofs.Taking.{rest_leads, rest_shorter}
 use Rattle.teg_loops.proofs.Through.{IsThrough, through, closes}
 use Rattle.teg_sizing.specs.declared.rounds.Cell.{Cell}
-use Rattle.teg_sizing.specs.Rounds.{IsTarget, weight_of, value_of, Avoids, most_weight, most_value, value_at, by_at, IsAtLeast, IsRoundAfter, IsTakenBy, round_at, AreRounds}
+use Rattle.teg_sizing.specs.Rounds.{IsTarget, weight_of, value_of, Avoids, most_weight, value_at, by_at, IsAtLeast, IsRoundAfter, IsTakenBy, round_at, AreRounds}
 use Rattle.teg_sizing.specs.Paths.{trace_of}
 use Rattle.teg_sizing.specs.Surpluses.{NoneIsAbove, StartsAt, NonePasses, IsBestThrough}
-use Rattle.teg_sizing.proofs.Values.{same_some, none_some, at_least_is, at_least_some, weight_within, value_append, value_cons, value_one, told_or_not, all_first, all_second}
+use Rattle.teg_sizing.proofs.Values.{same_some, none_some, at_least_some, weight_within, value_append, value_cons, value_one, told_or_not, all_first, all_second}
 use Rattle.teg_sizing.proofs.Going.{complete}
 use Rattle.teg_sizing.proofs.Traces.{IsTraced, traced, trace_same}
 

@@ -1,6 +1,5 @@
 -- The path that rounds tell: where it leads, what it is worth, and how long it is.
-use Rattle.std.proofs.Common.{ℕ, ℤ, pos, zero, suc, ◌+◌, ◌-◌, ◌*◌, ◌<◌, ◌≤◌, ◌≡◌, ◌≢◌, ◌+ℤ◌, List, [], ◌∷◌, ◌++◌, length, get_or, reverse, Option, Some, None, refl, sym, ap, subst, ◌∙◌, arith, ⊎_elim, ◌⊎◌}
-use Rattle.std.specs.Prelude.{◌≤ℤ◌, All}
+use Rattle.std.proofs.Common.{ℕ, ℤ, zero, suc, ◌+◌, ◌-◌, ◌<◌, ◌≤◌, ◌≡◌, ◌≢◌, ◌+ℤ◌, List, [], ◌∷◌, ◌++◌, length, get_or, reverse, Option, Some, None, refl, sym, ap, subst, ◌∙◌, arith, ⊎_elim}
 use Rattle.std.proofs.lemmas.Int.{ints}
 use Rattle.std.proofs.lemmas.List.{length-append, append_assoc, reverse-append, get_or_read}
 use Rattle.std.proofs.lemmas.List.Elements.{All-append}
@@ -14,7 +13,7 @@ use Rattle.teg_sizing.specs.declared.rounds.Cell.{Cell}
 use Rattle.teg_sizing.specs.Rounds.{weight_of, value_of, Avoids, value_at, by_at, IsAtLeast, IsTakenBy, IsRoundAfter, round_at, AreRounds}
 use Rattle.teg_sizing.specs.Paths.{AreOfNet, by_place, trace_of}
 use Rattle.teg_sizing.proofs.Values.{same_some, none_some, value_append, value_one, value_none, told_or_not}
-use Rattle.teg_sizing.proofs.Going.{stepped, held}
+use Rattle.teg_sizing.proofs.Going.{stepped}
 use Rattle.teg_sizing.proofs.Values.{at_least_is}
 
 -- where no place is told

@@ -1,10 +1,10 @@
 -- The value of paths against a target ratio, and the rounds in which the greatest values are found (chapter 3).
-use Rattle.std.specs.Prelude.{ℕ, ℤ, pos, ◌+◌, ◌-◌, ◌*◌, ◌+ℤ◌, ◌-ℤ◌, ◌≤ℤ◌, ◌<◌, ◌≤◌, ◌≡◌, ◌≢◌, List, [], ◌∷◌, ◌++◌, length, All, Option, Some, None, slice_index_or}
+use Rattle.std.specs.Prelude.{ℕ, ℤ, pos, ◌+◌, ◌*◌, ◌+ℤ◌, ◌-ℤ◌, ◌≤ℤ◌, ◌<◌, ◌≤◌, ◌≡◌, ◌≢◌, List, [], length, All, Option, Some, None, slice_index_or}
 use Rattle.teg_net.specs.declared.entries.PlaceId.{PlaceId}
 use Rattle.teg_net.specs.declared.entries.Place.{Place}
 use Rattle.teg_net.specs.Nets.{NetLists}
 use Rattle.teg_net.specs.Ratios.{Fraction}
-use Rattle.teg_net.specs.Circuits.{place_at, from_of, time_of, tokens_of}
+use Rattle.teg_net.specs.Circuits.{place_at, time_of, tokens_of}
 use Rattle.teg_net.specs.Parts.{to_of}
 use Rattle.teg_sizing.specs.declared.rounds.Cell.{Cell}
 

@@ -3,7 +3,9 @@
 ghost use Rattle.std.specs.Prelude.{◌≡◌, ◌++◌, ◌∷◌, ◌<◌, [], flat_map, length, IfOk, string_bytes};
 ghost use Rattle.teg_net.specs.Circuits.{AreInRange};
 ghost use Rattle.teg_text.specs.Lines.{line_then, written};
-ghost use Rattle.teg_sizing.specs.Texts.{TextsOfSizingsDiffer, circuit_line, enough_line, impossible_line, name_of, sizing_lines, told, HasCircuitIn};
+ghost use Rattle.teg_sizing.specs.Rounds.{IsTarget};
+ghost use Rattle.teg_sizing.specs.Sizings.{IsSizing};
+ghost use Rattle.teg_sizing.specs.Texts.{TextsOfSizingsDiffer, circuit_line, enough_line, impossible_line, name_of, sizing_lines, told, HasCircuitIn, HasNumberIn, IsToldOf};
 
 use crate::sizing::Sizing;
 use std::alloc::{AllocError, Global};
@@ -70,19 +72,19 @@ fn push_impossible(
     write!(text, "size {name} {time}/{tokens} impossible\n")
 }
 
-/// The text of an answer of `size` about a place of the net: one line with the place, the target in
-/// lowest terms and the number or `impossible`, and a line of the circuit where one is told.
-/// `OutOfMemory` comes only where no memory is found.
-pub fn sizing_text(
+/// The lines of an answer: one with the place, the target and the number or `impossible`, and one of
+/// the circuit where one is told.
+fn told_text(
     alloc: Global,
     net: &Net,
     place: PlaceId,
     target: &Ratio,
     sizing: &Sizing,
-) -> Result<String, OutOfMemory>
+) -> Result<String, AllocError>
     requires place { place.index < length net.now.places }
     requires circuit { HasCircuitIn net.now (told sizing.now) }
-    ensures { IfOk result (λ text. string_bytes text ≡ written (sizing_lines net.now place target.now (told sizing.now))) }
+    ensures text { IfOk result (λ text. string_bytes text ≡ written (sizing_lines net.now place target.now (told sizing.now))) }
+    ensures number { IfOk result (λ _. HasNumberIn (told sizing.now)) }
 {
     let mut text = String::new(alloc);
     match sizing {
@@ -98,6 +100,25 @@ pub fn sizing_text(
         }
     }
     Ok(text)
+}
+
+/// The text of an answer of `size`: one line with the place, the target in lowest terms and the
+/// number or `impossible`, and a line of the circuit where one is told. `OutOfMemory` comes only
+/// where no memory is found.
+pub fn sizing_text(
+    alloc: Global,
+    net: &Net,
+    place: PlaceId,
+    target: &Ratio,
+    sizing: &Sizing,
+) -> Result<String, OutOfMemory>
+    requires place { place.index < length net.now.places }
+    requires target { IsTarget target.now }
+    requires sizing { IsSizing net.now target.now place sizing.now }
+    ensures text { IfOk result (λ text. string_bytes text ≡ written (sizing_lines net.now place target.now (told sizing.now))) }
+    ensures told { IfOk result (λ _. IsToldOf net.now place target.now (told sizing.now)) }
+{
+    Ok(told_text(alloc, net, place, target, sizing)?)
 }
 
 /// The law that different answers about one net have different texts. It does nothing when it runs.

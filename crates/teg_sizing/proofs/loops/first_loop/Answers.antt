@@ -1,6 +1,5 @@
-use Rattle.std.proofs.Common.{ℕ, ◌≡◌, ◌<◌, ◌≤◌, ◌+◌, ◌-◌, Result, Ok, Err, List, length, take, drop, sym, ap, subst, ◌∙◌, arith}
+use Rattle.std.proofs.Common.{◌≡◌, Result, Ok, Err, length, arith}
 use Rattle.std.specs.Prelude.{IfOk}
-use Rattle.teg_sizing.specs.Paths.{IsFirstLoop, NoneLeaves}
 use Rattle.teg_sizing.proofs.Looping.{once_short, loop_found}
 use Rattle.teg_sizing.proofs.loops.first_loop.Goals as goal
 

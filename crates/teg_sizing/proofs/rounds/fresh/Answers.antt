@@ -1,4 +1,4 @@
-use Rattle.std.proofs.Common.{ℕ, ◌≡◌, ◌≤◌, length, get_or, sym, subst, arith}
+use Rattle.std.proofs.Common.{◌≡◌, length, get_or, sym, subst, arith}
 use Rattle.std.proofs.lemmas.List.{get_or_default}
 use Rattle.teg_sizing.specs.Rounds.{no_cell}
 use Rattle.teg_sizing.proofs.Offers.{FreshUpTo, fresh_more, fresh_end}

@@ -1,7 +1,5 @@
-use Rattle.std.proofs.Common.{ℤ, pos, ◌≡◌, ◌+ℤ◌, ◌≤◌, Some, sym, subst, get_or, refl, rules}
-use Rattle.std.proofs.lemmas.List.{get_or_default}
-use Rattle.teg_sizing.specs.declared.rounds.Cell.{Cell}
-use Rattle.teg_sizing.specs.Rounds.{no_cell, value_at, weight_of, IsOffered}
+use Rattle.std.proofs.Common.{◌≡◌, Some, refl, rules}
+use Rattle.teg_sizing.specs.Rounds.{value_at, weight_of}
 use Rattle.teg_sizing.proofs.Values.{weight_within, sum_fits, sum_is}
 use Rattle.teg_sizing.proofs.rounds.offer.Goals as goal
 

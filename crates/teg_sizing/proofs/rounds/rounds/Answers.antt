@@ -1,8 +1,7 @@
-use Rattle.std.proofs.Common.{ℕ, ◌≡◌, ◌<◌, ◌≤◌, ◌+◌, ◌*◌, [], ◌∷◌, ◌++◌, List, length, get_or, refl, sym, ap, subst, ◌∙◌, arith}
-use Rattle.std.proofs.lemmas.Int.{ints}
+use Rattle.std.proofs.Common.{ℕ, ◌≡◌, ◌<◌, ◌≤◌, ◌+◌, ◌*◌, [], ◌∷◌, ◌++◌, List, length, get_or, refl, ap, subst, ◌∙◌, arith}
 use Rattle.std.proofs.lemmas.List.{length-append, get_or_read}
 use Rattle.teg_sizing.specs.declared.rounds.Cell.{Cell}
-use Rattle.teg_sizing.specs.Rounds.{most_weight, AreWithin, IsRoundAfter, round_at}
+use Rattle.teg_sizing.specs.Rounds.{most_weight, IsRoundAfter, round_at}
 use Rattle.teg_sizing.proofs.Going.{rounds_begun, rounds_more, within_more}
 use Rattle.teg_sizing.proofs.rounds.rounds.Goals as goal
 

@@ -1,4 +1,4 @@
-use Rattle.std.proofs.Common.{Option, refl, subst}
+use Rattle.std.proofs.Common.{refl, subst}
 use Rattle.std.specs.Prelude.{IfNone, IfSome}
 use Rattle.teg_sizing.specs.Surpluses.{NoneIsAbove, IsAboveApart, NonePasses}
 use Rattle.teg_sizing.proofs.Enough.{enough_alone, never_apart}

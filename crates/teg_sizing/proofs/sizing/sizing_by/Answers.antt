@@ -1,11 +1,9 @@
-use Rattle.std.proofs.Common.{ℕ, ℤ, pos, nat_abs, ◌≡◌, ◌<◌, ◌≤◌, ◌+◌, ◌-◌, ◌*◌, ◌/◌, Bool, true, false, FitsSigned, to_z, of_z, refl, sym, ap, subst, ◌∙◌, arith, rules}
+use Rattle.std.proofs.Common.{ℕ, ℤ, pos, nat_abs, ◌≡◌, ◌≤◌, ◌+◌, ◌-◌, ◌*◌, ◌/◌, true, false, FitsSigned, to_z, of_z, refl, sym, ap, subst, ◌∙◌, arith, rules}
 use Rattle.std.specs.Prelude.{◌≤ℤ◌}
 use Rattle.std.specs.Int.{w128}
 use Rattle.std.specs.Int.Signed.{le_z, le_z_yes}
 use Rattle.std.proofs.Math.Dec.{T}
 use Rattle.std.proofs.lemmas.Int.{ints, to_z-of_z}
-use Rattle.teg_sizing.specs.Rounds.{most_value}
-use Rattle.teg_sizing.specs.Sizings.{IsFewest}
 use Rattle.teg_sizing.proofs.Enough.{enough_none, fewest_by, never_by, quotient_up, quotient_low, number_of}
 use Rattle.teg_sizing.proofs.sizing.sizing_by.Goals as goal
 

@@ -1,12 +1,12 @@
-use Rattle.std.proofs.Common.{ℕ, ◌≡◌, ◌<◌, ◌≤◌, ◌+◌, List, length, get_or, sym, ap, subst, ◌∙◌, arith}
+use Rattle.std.proofs.Common.{ℕ, ◌≡◌, ◌+◌, List, length, get_or, sym, ap, subst, ◌∙◌, arith}
 use Rattle.teg_net.specs.declared.entries.Transition.{Transition}
 use Rattle.teg_net.specs.declared.entries.PlaceId.{PlaceId}
 use Rattle.teg_net.specs.Nets.{NetLists, IsNet}
 use Rattle.teg_net.specs.Ratios.{Fraction}
 use Rattle.teg_sizing.specs.declared.rounds.Cell.{Cell}
 use Rattle.teg_sizing.specs.Rounds.{round_at, AreRounds}
-use Rattle.teg_sizing.specs.Paths.{AreOfNet, IsFirstLoop, trace_of}
-use Rattle.teg_sizing.specs.Surpluses.{NoneIsAbove, IsAboveApart, StartsEverywhere, NoneIsBetter, IsBetter}
+use Rattle.teg_sizing.specs.Paths.{trace_of}
+use Rattle.teg_sizing.specs.Surpluses.{StartsEverywhere, NoneIsBetter, IsBetter}
 use Rattle.teg_sizing.proofs.Traces.{read_round, of_net}
 use Rattle.teg_sizing.proofs.Looping.{none_above, IsLongPath, long_path, above_found}
 use Rattle.teg_sizing.proofs.surpluses.above_apart.Goals as goal

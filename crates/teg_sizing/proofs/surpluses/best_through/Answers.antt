@@ -1,4 +1,4 @@
-use Rattle.std.proofs.Common.{ℕ, ℤ, pos, ◌≡◌, ◌<◌, ◌≤◌, ◌+◌, ◌*◌, ◌++◌, ◌∷◌, [], ◌+ℤ◌, ◌-ℤ◌, List, Option, Some, None, length, get_or, sym, ap, subst, ◌∙◌, arith}
+use Rattle.std.proofs.Common.{ℕ, ℤ, pos, ◌≡◌, ◌<◌, ◌≤◌, ◌+◌, ◌*◌, ◌-ℤ◌, List, Option, Some, None, length, get_or, sym, ap, subst, ◌∙◌, arith}
 use Rattle.std.specs.Prelude.{◌≤ℤ◌}
 use Rattle.std.proofs.lemmas.Int.{ints}
 use Rattle.teg_net.specs.declared.entries.Transition.{Transition}
@@ -11,7 +11,7 @@ use Rattle.teg_net.specs.Parts.{to_of}
 use Rattle.teg_sizing.specs.declared.rounds.Cell.{Cell}
 use Rattle.teg_sizing.specs.Rounds.{IsTarget, round_at, AreRounds, value_at, weight_of, most_weight, most_value, no_cell}
 use Rattle.teg_sizing.specs.Paths.{trace_of}
-use Rattle.teg_sizing.specs.Surpluses.{NoneIsAbove, StartsAt, IsBestThrough}
+use Rattle.teg_sizing.specs.Surpluses.{StartsAt}
 use Rattle.teg_sizing.proofs.Values.{read_place, weight_within, sum_fits, sum_is}
 use Rattle.teg_sizing.proofs.Traces.{read_round, of_net}
 use Rattle.teg_sizing.proofs.Straightening.{none_passes, best_is}

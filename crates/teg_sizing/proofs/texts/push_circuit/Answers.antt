@@ -1,4 +1,4 @@
-use Rattle.std.proofs.Common.{◌≡◌, [], ◌++◌, List, ℕ, map, codes, ap, ◌∙◌, append_assoc, string_bytes}
+use Rattle.std.proofs.Common.{[], ◌++◌, List, ℕ, map, codes, ap, ◌∙◌, append_assoc, string_bytes}
 use Rattle.teg_sizing.specs.Texts.{name_of}
 use Rattle.teg_text.specs.Lines.{further_then}
 use Rattle.teg_text.proofs.Joining.{line_ends}

@@ -1,11 +1,10 @@
-use Rattle.std.proofs.Common.{ℕ, ◌≡◌, ◌<◌, ◌≤◌, ◌+◌, ◌-◌, [], ◌∷◌, ◌++◌, List, length, get_or, reverse, refl, sym, ap, subst, ◌∙◌, arith, Some, None}
-use Rattle.std.proofs.lemmas.List.{get_or_default, reverse-reverse}
+use Rattle.std.proofs.Common.{ℕ, ◌≡◌, ◌<◌, ◌-◌, List, length, get_or, sym, ap, ◌∙◌, arith, Some, None}
+use Rattle.std.proofs.lemmas.List.{get_or_default}
 use Rattle.teg_net.specs.declared.entries.PlaceId.{PlaceId}
 use Rattle.teg_net.specs.declared.entries.Place.{Place}
 use Rattle.teg_net.specs.Circuits.{no_place, place_at}
 use Rattle.teg_sizing.specs.declared.rounds.Cell.{Cell}
 use Rattle.teg_sizing.specs.Rounds.{by_at, round_at, no_cell}
-use Rattle.teg_sizing.proofs.Values.{read_place}
 use Rattle.teg_sizing.proofs.Traces.{read_round, trace_by, trace_on}
 use Rattle.teg_sizing.proofs.tracing.trace.Goals as goal
 
