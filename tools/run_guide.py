@@ -1,10 +1,10 @@
 #!/usr/bin/env python3
-"""Runs the guide for planners: what docs/GUIDE.md shows is what the program prints.
+"""Runs the guide for planners: what docs/GUIDE*.md show is what the program prints.
 
     tools/run_guide.py [PROGRAM]
 
 PROGRAM is the built teg; where none is named it is the one that `rt ci` leaves. The guide's commands
-are run by bash, in order, in a folder that has the program as ./teg and the nets as examples/:
+are run by bash, file after file and in order, in a folder that has the program as ./teg and the nets as examples/:
 
 - In a fenced block, a line that begins with `$ ` is a command. The lines below it, up to the next
   command or the end of the block, are what it prints.
@@ -20,6 +20,7 @@ import re
 import subprocess
 import sys
 import tempfile
+from pathlib import Path
 
 TOP = os.path.dirname(os.path.dirname(os.path.abspath(__file__)))
 
@@ -59,18 +60,18 @@ def indented(text):
     return "".join(f"    {line}\n" for line in text.splitlines()) or "    (nothing)\n"
 
 
-def run_blocks(guide, folder):
-    """Runs the guide's commands, and tells for each whether it prints what the guide shows."""
+def run_blocks(name, guide, folder):
+    """Runs the commands of a file of the guide, and tells for each whether it prints what the file shows."""
     for block in blocks_of(guide):
-        name = re.fullmatch(r"# (\w+\.toml)", block[2][0]) if block[2] else None
-        if block[1] == "toml" and name:
-            with open(f"{folder}/{name[1]}", "w", encoding="utf-8") as file:
+        net = re.fullmatch(r"# (\w+\.toml)", block[2][0]) if block[2] else None
+        if block[1] == "toml" and net:
+            with open(f"{folder}/{net[1]}", "w", encoding="utf-8") as file:
                 file.write("".join(f"{line}\n" for line in block[2]))
         for number, command, wanted in commands_of(block):
             printed = run(["bash", "-c", command], folder)[1]
             well = printed == wanted
             if not well:
-                print(f"docs/GUIDE.md:{number}: {command}\n  the guide shows\n{indented(wanted)}  it prints\n{indented(printed)}", end="")
+                print(f"docs/{name}:{number}: {command}\n  the guide shows\n{indented(wanted)}  it prints\n{indented(printed)}", end="")
             yield well
 
 
@@ -84,11 +85,11 @@ def odd_commands(commands, net, folder):
     return odd
 
 
-def run_nets(guide, folder):
+def run_nets(guides, folder):
     """Runs the commands that take a net alone on each net of examples/."""
     usage = run(["./teg"], folder)[1]
     of_net = re.findall(r"^(?:usage:| {6}) teg (\w+) NET(?: \[.*)?$", usage, re.M)
-    shown = "\n".join(command for block in blocks_of(guide) for _, command, _ in commands_of(block))
+    shown = "\n".join(command for guide in guides for block in blocks_of(guide) for _, command, _ in commands_of(block))
     for name in sorted(os.listdir(f"{folder}/examples")):
         odd = odd_commands(of_net, name, folder) if name.endswith(".toml") else []
         if f"examples/{name}" not in shown:
@@ -100,12 +101,12 @@ def main(program):
     if not os.access(program, os.X_OK):
         print(f"{program} is no program: `rt ci` or ./teg builds it\n0 passed, 1 failed")
         return 1
-    with open(f"{TOP}/docs/GUIDE.md", encoding="utf-8") as file:
-        guide = file.read()
+    guides = {path.name: path.read_text(encoding="utf-8") for path in sorted(Path(TOP, "docs").glob("GUIDE*.md"))}
     with tempfile.TemporaryDirectory(prefix="teg-guide-") as folder:
         os.symlink(os.path.abspath(program), f"{folder}/teg")
         os.symlink(f"{TOP}/examples", f"{folder}/examples")
-        shown, nets = list(run_blocks(guide, folder)), list(run_nets(guide, folder))
+        shown = [well for name, guide in guides.items() for well in run_blocks(name, guide, folder)]
+        nets = list(run_nets(guides.values(), folder))
     passed = shown.count(True) + nets.count(True)
     failed = len(shown) + len(nets) - passed
     print(f"the guide: {len(shown)} commands, and {len(nets)} files of examples/\n{passed} passed, {failed} failed")
