@@ -12,7 +12,7 @@ use Rattle.teg_text.specs.Words.{date_word, label_word}
 
 -- the commands that are built, each with what follows it
 abbrev pub command_forms : List (List ℕ)
-command_forms = codes "check NET" ∷ codes "list NET K" ∷ codes "form NET" ∷ codes "cycle NET [--rounds]" ∷ codes "calc EXPR" ∷ []
+command_forms = codes "check NET" ∷ codes "list NET K" ∷ codes "form NET" ∷ codes "cycle NET [--rounds]" ∷ codes "calc EXPR" ∷ codes "replay NET LOG" ∷ codes "slack NET" ∷ codes "trial N" ∷ []
 
 -- a line of the usage but the first
 abbrev pub usage_line : List ℕ → List (List ℕ)

@@ -27,7 +27,7 @@ pub(crate) fn usage(alloc: Global) -> Result<Vec<u8>, OutOfMemory>
 {
     bytes_of(
         alloc,
-        "usage: teg check NET\n       teg list NET K\n       teg form NET\n       teg cycle NET [--rounds]\n       teg calc EXPR\n",
+        "usage: teg check NET\n       teg list NET K\n       teg form NET\n       teg cycle NET [--rounds]\n       teg calc EXPR\n       teg replay NET LOG\n       teg slack NET\n       teg trial N\n",
     )
 }
 

@@ -4,14 +4,15 @@ use Rattle.teg_net.specs.Nets.{NetLists}
 use Rattle.teg_outside.specs.declared.shelf.ShelfFault.{ShelfFault}
 use Rattle.teg_outside.specs.Shelves.{ShelfState}
 use Rattle.teg_run.specs.declared.status.Status.{Status}
-use Rattle.teg_run.specs.declared.status.Verdict.{Verdict}
+use Rattle.teg_commands.specs.declared.outcome.Verdict.{Verdict}
+use Rattle.teg_commands.specs.Outcomes.{Tells}
 use Rattle.teg_report.specs.declared.answer.Which.{Which}
 use Rattle.teg_report.specs.declared.answer.Which.TheVariants.{Net as NetFile}
 use Rattle.teg_run.specs.Endings.{Ending, Whole, Lost, ending_of}
 use Rattle.teg_run.specs.Openings.{Opening, Accepted, Refused, OpensNet}
 use Rattle.teg_run.specs.Reads.{GoesOn, ReadsAll, OpenedBy}
 use Rattle.teg_run.specs.Runs.{Answered}
-use Rattle.teg_run.specs.Says.{SaysFile, SaysOutcome, Tells}
+use Rattle.teg_run.specs.Says.{SaysFile, SaysOutcome}
 
 -- memory ran out at the first file
 pub lost_at : (A : Type 0) (which : Which) (name : List ℕ) (files : List (Which × List ℕ)) (old new : ShelfState) →
@@ -30,6 +31,11 @@ refused_at opens goes_on which name files old new status text h =
 pub after_net : (reply : Result (List ℕ) ShelfFault) (net : NetLists) (replies : List (Result (List ℕ) ShelfFault)) → OpensNet reply (Accepted net) → GoesOn NetFile reply replies
 after_net reply net [] h = tt
 after_net reply net (next ∷ replies) h = (net, h)
+
+-- after the last file nothing is read
+pub after_last : (which : Which) (reply : Result (List ℕ) ShelfFault) (mid new : ShelfState) (replies : List (Result (List ℕ) ShelfFault)) → ReadsAll mid new [] replies → GoesOn which reply replies
+after_last which reply mid new [] h = tt
+after_last which reply mid new (next ∷ replies) h = absurd h
 
 -- the first file is accepted, and the ending goes on with it
 pub accepted_at : {A : Type 0} (opens : Result (List ℕ) ShelfFault → Opening A → Type 0) (goes_on : A → List (Result (List ℕ) ShelfFault) → Status → List ℕ → Type 0)
@@ -51,9 +57,3 @@ came_to says files state (Some outcome) h = ([], refl, (refl, (outcome.0, refl, 
 pub closed_with : (says : Verdict → List ℕ → Type 0) (files : List (Which × List ℕ)) (state : ShelfState) (outcome : Option (Verdict × List ℕ)) (ending : Ending) →
     ending ≡ ending_of outcome → Tells says outcome → Answered (SaysOutcome says) files state state ending
 closed_with says files state outcome ending e h = subst (λ (x : Ending). Answered (SaysOutcome says) files state state x) (sym e) (came_to says files state outcome h)
-
--- what is told is told of weaker claims too
-pub tells_weaker : (says claims : Verdict → List ℕ → Type 0) (outcome : Option (Verdict × List ℕ)) →
-    ((verdict : Verdict) (text : List ℕ) → says verdict text → claims verdict text) → Tells says outcome → Tells claims outcome
-tells_weaker says claims None weaker h = tt
-tells_weaker says claims (Some outcome) weaker h = weaker outcome.0 outcome.1 h

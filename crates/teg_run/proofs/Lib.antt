@@ -1,14 +1,10 @@
 pub mod Answering
-pub mod CycleTold
 pub mod Faults
-pub mod Formed
 pub mod Growing
-pub mod Listed
 pub mod LiveNets
 pub mod Promises
 pub mod ReadOrder
 pub mod Refusals
 pub mod Refusing
-pub mod Rounds
 pub mod Verdicts
 pub mod Ways

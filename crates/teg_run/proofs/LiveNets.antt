@@ -8,13 +8,13 @@ use Rattle.teg_outside.specs.declared.shelf.ShelfFault.{ShelfFault}
 use Rattle.teg_outside.specs.declared.shelf.ShelfFault.TheVariants.{Failed, TooLarge, OutOfMemory}
 use Rattle.teg_outside.specs.Causes.{Rested}
 use Rattle.teg_outside.specs.Shelves.{ShelfState, Reads, file_of}
-use Rattle.teg_outside.proofs.Counts.{rose_not_rested, rested_first}
+use Rattle.teg_outside.proofs.Counts.{rose_not_rested, rested_then}
 use Rattle.teg_report.specs.declared.answer.Which.{Which}
 use Rattle.teg_report.specs.declared.answer.Which.TheVariants.{Net as NetFile}
 use Rattle.teg_run.specs.declared.status.Status.{Status}
-use Rattle.teg_run.specs.Headline.{Opens}
+use Rattle.teg_run.specs.Headline.{Opens, Holds}
 use Rattle.teg_run.specs.Limits.{most_bytes}
-use Rattle.teg_run.specs.Openings.{Opening, Accepted, Refused, OpensNet, OpensDocument}
+use Rattle.teg_run.specs.Openings.{Opening, Accepted, Refused, OpensNet, OpensDocument, OpensBytes}
 use Rattle.teg_run.specs.Reads.{ReadsAll}
 use Rattle.teg_run.specs.Says.{SaysFile, SaysOpening}
 use Rattle.teg_run.proofs.ReadOrder.{none_left}
@@ -54,11 +54,47 @@ pub live_goes_on : (files : List (List ℕ × List ℕ)) (old new : ShelfState) 
     (goes_on : NetLists → List (Result (List ℕ) ShelfFault) → Status → List ℕ → Type 0) (replies : List (Result (List ℕ) ShelfFault))
     (status : Status) (text : List ℕ) → old.files ≡ Some files → Rested old.faults new.faults → Opens files name net →
     ReadsAll old new ((NetFile, name) ∷ named) replies → SaysFile OpensNet goes_on replies status text →
-    (mid : ShelfState) × (more : List (Result (List ℕ) ShelfFault)) × ReadsAll mid new named more × goes_on net more status text
+    (mid : ShelfState) × (more : List (Result (List ℕ) ShelfFault)) × (mid.files ≡ Some files) × Rested mid.faults new.faults × ReadsAll mid new named more × goes_on net more status text
 live_goes_on files old new name named net goes_on [] status text told calm opens reads h = absurd h
 live_goes_on files old new name named net goes_on (reply ∷ replies) status text told calm opens reads h = (
   reads.0,
   replies,
+  reads.1.files ∙ told,
+  rested_then old.faults reads.0.faults new.faults reads.1.faults calm,
   reads.3,
   live_reply files old reads.0 new name named net goes_on reply replies status text h.0 told calm opens reads.1 reads.3 h.1 h.2,
 )
+
+-- ---- a second file
+
+same_held : (files : List (List ℕ × List ℕ)) (name xs ys : List ℕ) → file_of files name ≡ Some xs → file_of files name ≡ Some ys → xs ≡ ys
+same_held files name xs ys h k = cc
+
+held_reply : (files : List (List ℕ × List ℕ)) (old mid new : ShelfState) (which : Which) (name bytes : List ℕ)
+    (goes_on : List ℕ → List (Result (List ℕ) ShelfFault) → Status → List ℕ → Type 0) (reply : Result (List ℕ) ShelfFault)
+    (replies : List (Result (List ℕ) ShelfFault)) (status : Status) (text : List ℕ) (opening : Opening (List ℕ)) →
+    old.files ≡ Some files → Rested old.faults new.faults → Holds files name bytes → Reads old mid name most_bytes reply →
+    ReadsAll mid new [] replies → OpensBytes which reply opening → SaysOpening goes_on opening replies status text → goes_on bytes replies status text
+held_reply files old mid new which name bytes goes_on (Ok read_bytes) replies status text opening told calm holds read rest opened h =
+    let same = same_held files name read_bytes bytes (told_file files old.files name read_bytes told read.answer.3) holds.0 in
+    let said = subst (λ (o : Opening (List ℕ)). SaysOpening goes_on o replies status text) opened h in
+    subst (λ (b : List ℕ). goes_on b replies status text) same said
+held_reply files old mid new which name bytes goes_on (Err TooLarge) replies status text opening told calm holds read rest opened h =
+    let said = said_of_refused goes_on opening replies status _ text _ opened h in
+    let last = ends_here old mid new name (Err TooLarge) (none_left mid new [] replies said.0 rest) read in
+    absurd (not_long files name bytes holds.0 holds.1 (told_long files old.files name told (last.answer.1 calm)))
+held_reply files old mid new which name bytes goes_on (Err Failed) replies status text opening told calm holds read rest opened h =
+    let said = said_of_refused goes_on opening replies status _ text _ opened h in
+    let last = ends_here old mid new name (Err Failed) (none_left mid new [] replies said.0 rest) read in
+    absurd (rose_not_rested old.faults new.faults last.answer.0 calm)
+held_reply files old mid new which name bytes goes_on (Err OutOfMemory) replies status text opening told calm holds read rest opened h = absurd opened
+
+-- what is said goes on with the bytes of the told second file
+pub held_goes_on : (files : List (List ℕ × List ℕ)) (old new : ShelfState) (which : Which) (name bytes : List ℕ)
+    (goes_on : List ℕ → List (Result (List ℕ) ShelfFault) → Status → List ℕ → Type 0) (replies : List (Result (List ℕ) ShelfFault))
+    (status : Status) (text : List ℕ) → old.files ≡ Some files → Rested old.faults new.faults → Holds files name bytes →
+    ReadsAll old new ((which, name) ∷ []) replies → SaysFile (OpensBytes which) goes_on replies status text →
+    (more : List (Result (List ℕ) ShelfFault)) × goes_on bytes more status text
+held_goes_on files old new which name bytes goes_on [] status text told calm holds reads h = absurd h
+held_goes_on files old new which name bytes goes_on (reply ∷ replies) status text told calm holds reads h =
+    (replies, held_reply files old reads.0 new which name bytes goes_on reply replies status text h.0 told calm holds reads.1 reads.3 h.1 h.2)

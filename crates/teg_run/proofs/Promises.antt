@@ -1,28 +1,33 @@
 -- The promises of the whole call, from how it runs.
-use Rattle.std.proofs.Common.{◌≡◌, ◌≢◌, ℕ, true, false, ◌⊎◌, ⊎_elim, inl, inr, List, [], ◌++◌, map, Option, Some, None, refl, sym, ap, subst, ◌∙◌}
+use Rattle.std.proofs.Common.{◌≡◌, ◌≢◌, ℕ, ◌-◌, true, false, ◌⊎◌, ⊎_elim, inl, inr, List, [], ◌∷◌, ◌++◌, map, Option, Some, None, refl, sym, ap, subst, ◌∙◌}
 use Rattle.std.proofs.lemmas.List.{append_cancel_left}
 use Rattle.teg_net.specs.Nets.{NetLists}
 use Rattle.teg_outside.specs.Causes.{Rose}
 use Rattle.teg_outside.specs.Sinks.{BytesGrow}
 use Rattle.teg_outside.proofs.Counts.{rose_not_rested}
 use Rattle.teg_report.specs.declared.answer.Which.{Which}
+use Rattle.teg_outside.specs.declared.monitor.Firing.{Firing}
+use Rattle.teg_replay.specs.declared.replayed.Refused.{Refused}
 use Rattle.teg_report.specs.Meanings.{round_lists}
+use Rattle.teg_commands.specs.Recorded.{SaysEnd}
+use Rattle.teg_commands.specs.Slacks.{SaysTrial, critical_count, trial_number}
 use Rattle.teg_run.specs.declared.status.Status.{Status}
-use Rattle.teg_run.specs.declared.status.Status.TheVariants.{Done, Words, Text, Net, ReadFault, WriteFault, NoMemory}
-use Rattle.teg_run.specs.declared.status.Verdict.{Verdict}
-use Rattle.teg_run.specs.declared.status.Verdict.TheVariants.{Done as VerdictDone, Calc as VerdictCalc}
+use Rattle.teg_run.specs.declared.status.Status.TheVariants.{Done, Words, Text, Net, Log, ReadFault, WriteFault, NoMemory}
+use Rattle.teg_commands.specs.declared.outcome.Verdict.{Verdict}
+use Rattle.teg_commands.specs.declared.outcome.Verdict.TheVariants.{Done as VerdictDone, Log as VerdictLog, Calc as VerdictCalc}
 use Rattle.teg_run.specs.Calls.{Call}
 use Rattle.teg_run.specs.Endings.{Ending, Whole, Lost}
-use Rattle.teg_run.specs.Headline.{Ends, EndsLost, HasFault, Follows, ComesOnly, ReadsAreCalm, WritesAreCalm, OverlongRose, WroteWhole, WrotePrefix, ReadsFirstOf, NamesLastRead, AllowsNet, Allows, EndsAsAllowed, Concerns, SaysOfNet, SaysLive, SaysLeastDates, SaysStandardForm, SaysCycleTimes, SaysPolicyRuns, SaysNoCircuit, SaysValues, KeepsPromises}
-use Rattle.teg_run.specs.Requests.{NetCommand, CheckNet, ListNet, FormNet, CycleNet, Request, OfNet, ValueOf, request_of, files_of, asked_files}
+use Rattle.teg_run.specs.Headline.{Ends, EndsLost, HasFault, Follows, ComesOnly, ReadsAreCalm, WritesAreCalm, OverlongRose, WroteWhole, WrotePrefix, ReadsFirstOf, NamesLastRead, AllowsNet, AllowsFiles, Allows, EndsAsAllowed, EndsReplay, Concerns, ConcernsBoth, SaysOfNet, SaysOfBoth, SaysLive, SaysLeastDates, SaysStandardForm, SaysCycleTimes, SaysPolicyRuns, SaysNoCircuit, SaysSlackOfNet, SaysTrialOf, SaysReplayed, SaysValues, KeepsPromises}
+use Rattle.teg_run.specs.Requests.{NetCommand, CheckNet, ListNet, FormNet, CycleNet, SlackNet, FileCommand, ReplayNet, Request, OfNet, OfFiles, ValueOf, TrialOf, request_of, files_of, asked_files, second_of}
 use Rattle.teg_run.specs.Runs.{Answered, CarriesOut, Finished, Runs}
-use Rattle.teg_run.specs.Says.{Asked, SaysNet, SaysOutcome}
-use Rattle.teg_run.specs.Values.{SaysValue}
+use Rattle.teg_run.specs.Openings.{OpensBytes}
+use Rattle.teg_run.specs.Says.{Asked, SaysFile, SaysFiles, SaysNet, SaysOutcome}
+use Rattle.teg_commands.specs.Values.{SaysValue}
 use Rattle.teg_run.specs.Statuses.{status_of}
-use Rattle.teg_run.specs.Texts.{usage, live_text, list_text, form_text, cycle_text, no_circuit_text, runs_text, series_text, parse_text, series_refused_text, too_large_text, fault_text}
-use Rattle.teg_run.proofs.CycleTold.{no_circuit_said}
+use Rattle.teg_commands.specs.Texts.{usage, live_text, list_text, form_text, cycle_text, no_circuit_text, runs_text, slack_text, trial_text, log_text, replayed_text, refused_text, series_text, parse_text, series_refused_text, too_large_text, fault_text}
+use Rattle.teg_commands.proofs.CycleTold.{no_circuit_said}
 use Rattle.teg_run.proofs.Faults.{IsFaultOf, text_is_fault, net_is_fault, comes_only, follows, way_is_said, overlong_way, fault_way}
-use Rattle.teg_run.proofs.LiveNets.{live_goes_on}
+use Rattle.teg_run.proofs.LiveNets.{live_goes_on, held_goes_on}
 use Rattle.teg_run.proofs.ReadOrder.{none_read, reads_first}
 use Rattle.teg_run.proofs.Verdicts.{IsSaid}
 use Rattle.teg_run.proofs.Ways.{Way, way_of}
@@ -152,7 +157,7 @@ net_said call command net asks Lost h k = inr k
 net_said call command net asks (Whole said text) h k =
     let on = live_goes_on asks.files call.shelf_before call.shelf_after asks.name [] net (λ n. SaysOutcome (SaysNet command n)) h.0 said text
     asks.told asks.calm asks.opens h.1 h.2 in
-    inl (on.3.1.0, text, on.3.1.2, inl (subst (λ (s : Status). Finished call.sink_before call.sink_after (Whole s text) call.status) on.3.1.1 k))
+    inl (on.5.1.0, text, on.5.1.2, inl (subst (λ (s : Status). Finished call.sink_before call.sink_after (Whole s text) call.status) on.5.1.1 k))
 
 says_of_net : (call : Call) → Runs call → SaysOfNet call
 says_of_net call runs command net asks =
@@ -207,24 +212,90 @@ allowed (ListNet count) net verdict text h = h.0
 allowed FormNet net verdict text h = h.0
 allowed (CycleNet false) net verdict text h = h.0
 allowed (CycleNet true) net verdict text h = h.0
-
--- ---- values
-
-value_said : (call : Call) (text : List ℕ) (ending : Ending) → Answered (Asked (Some (ValueOf text)) call.lines) [] call.shelf_before call.shelf_after ending →
-    Finished call.sink_before call.sink_after ending call.status → ((verdict : Verdict) × (told : List ℕ) × SaysValue text verdict told × Ends call (status_of verdict) told) ⊎ EndsLost call
-value_said call text Lost h k = inr k
-value_said call text (Whole said told) h k =
-    inl (h.2.1.0, told, h.2.1.2, inl (subst (λ (s : Status). Finished call.sink_before call.sink_after (Whole s told) call.status) h.2.1.1 k))
-
-says_of_value : (call : Call) → Runs call → (text : List ℕ) → request_of call.words ≡ Some (ValueOf text) →
-    ((verdict : Verdict) × (told : List ℕ) × SaysValue text verdict told × Ends call (status_of verdict) told) ⊎ EndsLost call
-says_of_value call runs text asks =
-    let h = subst (λ (asked : Option Request). CarriesOut asked call) asks runs in value_said call text h.0 h.1 h.2
+allowed SlackNet net verdict text h = h.0
 
 -- an ending with this verdict and the text that is wanted
 ends_with : (call : Call) (verdict wanted : Verdict) (told text : List ℕ) → verdict ≡ wanted → told ≡ text → Ends call (status_of verdict) told → Ends call (status_of wanted) text
 ends_with call verdict wanted told text e t h =
     subst (λ (v : Verdict). Ends call (status_of v) text) e (subst (λ (l : List ℕ). Ends call (status_of verdict) l) t h)
+
+slack_follows : (call : Call) → Runs call → SaysSlackOfNet call
+slack_follows call runs net asks =
+    ⊎_elim
+    (λ (said : _). ⊎_elim
+    (λ (told : _). inl (told.0, told.1, told.2, told.3, ends_with call said.0 VerdictDone said.1 (slack_text net told.0 told.1) said.2.0 told.4 said.3))
+    (λ (none : _). inr (inl (none.0, ends_with call said.0 VerdictDone said.1 no_circuit_text said.2.0 none.1 said.3))) said.2.1)
+    (λ (lost : _). inr (inr lost)) (says_of_net call runs SlackNet net asks)
+
+-- ---- commands on a live net and a second file
+
+both_said : (call : Call) (command : FileCommand) (net : NetLists) (bytes : List ℕ) (asks : ConcernsBoth call command net bytes) (ending : Ending) →
+    Answered (Asked (Some (OfFiles command asks.name asks.second)) call.lines) (files_of (OfFiles command asks.name asks.second)) call.shelf_before call.shelf_after ending →
+    Finished call.sink_before call.sink_after ending call.status →
+    ((verdict : Verdict) × (text : List ℕ) × SaysFiles command call.lines net bytes verdict text × Ends call (status_of verdict) text) ⊎ EndsLost call
+both_said call command net bytes asks Lost h k = inr k
+both_said call command net bytes asks (Whole said text) h k =
+    let on = live_goes_on asks.files call.shelf_before call.shelf_after asks.name ((second_of command, asks.second) ∷ []) net
+    (λ n. SaysFile (OpensBytes (second_of command)) (λ b. SaysOutcome (SaysFiles command call.lines n b))) h.0 said text asks.told asks.calm asks.opens h.1 h.2 in
+    let then = held_goes_on asks.files on.0 call.shelf_after (second_of command) asks.second bytes (λ b. SaysOutcome (SaysFiles command call.lines net b)) on.1 said text
+    on.2 on.3 asks.holds on.4 on.5 in
+    inl (then.1.1.0, text, then.1.1.2, inl (subst (λ (s : Status). Finished call.sink_before call.sink_after (Whole s text) call.status) then.1.1.1 k))
+
+says_of_both : (call : Call) → Runs call → SaysOfBoth call
+says_of_both call runs command net bytes asks =
+    let h = subst (λ (asked : Option Request). CarriesOut asked call) asks.asks runs in both_said call command net bytes asks h.0 h.1 h.2
+
+replay_ends : (call : Call) (net : NetLists) (refused : Option Refused) (accepted : ℕ) (lines : List (List ℕ)) (verdict : Verdict) (text : List ℕ) →
+    SaysEnd net refused accepted lines verdict text → Ends call (status_of verdict) text → EndsReplay call net refused accepted lines
+replay_ends call net None accepted lines verdict text h k = ends_with call verdict VerdictDone text (replayed_text accepted lines) h.0 h.1 k
+replay_ends call net (Some refused) accepted lines verdict text h k =
+    (h.1.0, h.1.1, ends_with call verdict VerdictLog text (refused_text net refused.row h.1.0 lines) h.0 h.1.2 k)
+
+replay_follows : (call : Call) → Runs call → SaysReplayed call
+replay_follows call runs net bytes asks =
+    ⊎_elim
+    (λ (said : _). ⊎_elim
+    (λ (bad : _). inl (bad.0, bad.1, ends_with call said.0 VerdictLog said.1 (log_text bad.0) bad.2.0 bad.2.2 said.3))
+    (λ (ran : _). inr (inl (ran.0, ran.2.0, ran.2.1, ran.1, ran.2.2,
+    replay_ends call net ran.2.1.refused ran.2.1.accepted (call.lines ran.2.0) said.0 said.1 ran.2.3 said.3))) said.2)
+    (λ (lost : _). inr (inr lost)) (says_of_both call runs ReplayNet net bytes asks)
+
+end_allowed : (net : NetLists) (refused : Option Refused) (accepted : ℕ) (lines : List (List ℕ)) (verdict : Verdict) (text : List ℕ) →
+    SaysEnd net refused accepted lines verdict text → AllowsFiles ReplayNet verdict
+end_allowed net None accepted lines verdict text h = inl h.0
+end_allowed net (Some refused) accepted lines verdict text h = inr h.0
+
+files_allowed : (command : FileCommand) (lines : List Firing → List (List ℕ)) (net : NetLists) (bytes : List ℕ) (verdict : Verdict) (text : List ℕ) →
+    SaysFiles command lines net bytes verdict text → AllowsFiles command verdict
+files_allowed ReplayNet lines net bytes verdict text h =
+    ⊎_elim (λ (bad : _). inr bad.2.0) (λ (ran : _). end_allowed net ran.2.1.refused ran.2.1.accepted (lines ran.2.0) verdict text ran.2.3) h
+
+-- ---- values
+
+-- what is said without files
+fileless_said : (call : Call) (says : Verdict → List ℕ → Type 0) (ending : Ending) → Answered (SaysOutcome says) [] call.shelf_before call.shelf_after ending →
+    Finished call.sink_before call.sink_after ending call.status → ((verdict : Verdict) × (told : List ℕ) × says verdict told × Ends call (status_of verdict) told) ⊎ EndsLost call
+fileless_said call says Lost h k = inr k
+fileless_said call says (Whole said told) h k =
+    inl (h.2.1.0, told, h.2.1.2, inl (subst (λ (s : Status). Finished call.sink_before call.sink_after (Whole s told) call.status) h.2.1.1 k))
+
+says_of_value : (call : Call) → Runs call → (text : List ℕ) → request_of call.words ≡ Some (ValueOf text) →
+    ((verdict : Verdict) × (told : List ℕ) × SaysValue text verdict told × Ends call (status_of verdict) told) ⊎ EndsLost call
+says_of_value call runs text asks =
+    let h = subst (λ (asked : Option Request). CarriesOut asked call) asks runs in fileless_said call (SaysValue text) h.0 h.1 h.2
+
+says_of_trial : (call : Call) → Runs call → (machines : ℕ) → request_of call.words ≡ Some (TrialOf machines) →
+    ((verdict : Verdict) × (told : List ℕ) × SaysTrial machines verdict told × Ends call (status_of verdict) told) ⊎ EndsLost call
+says_of_trial call runs machines asks =
+    let h = subst (λ (asked : Option Request). CarriesOut asked call) asks runs in fileless_said call (SaysTrial machines) h.0 h.1 h.2
+
+trial_follows : (call : Call) → Runs call → SaysTrialOf call
+trial_follows call runs machines asks =
+    ⊎_elim
+    (λ (said : _). let told = said.2.1 in
+    inl (told.0, told.1, told.2, told.3, told.4, told.5,
+    ends_with call said.0 VerdictDone said.1 (trial_text machines told.0 (critical_count told.1) (told.2 (machines - 1) trial_number)) said.2.0 told.6 said.3))
+    (λ (lost : _). inr lost) (says_of_trial call runs machines asks)
 
 value_follows : (call : Call) → Runs call → SaysValues call
 value_follows call runs text asks =
@@ -252,9 +323,16 @@ ends_as_allowed call runs files (OfNet command name) asks told reads writes acce
     ended_as (OfNet command name) call writes
     (⊎_elim (λ (said : _). inl (said.0, said.1, allowed command accepts.0 said.0 said.1 said.2, said.3)) (λ (lost : _). inr lost)
     (says_of_net call runs command accepts.0 (record { name = name; files = files; asks = asks; told = told; calm = reads; opens = accepts.1 })))
+ends_as_allowed call runs files (OfFiles command name second) asks told reads writes accepts =
+    ended_as (OfFiles command name second) call writes
+    (⊎_elim (λ (said : _). inl (said.0, said.1, files_allowed command call.lines accepts.0.0 accepts.1.0 said.0 said.1 said.2, said.3)) (λ (lost : _). inr lost)
+    (says_of_both call runs command accepts.0.0 accepts.1.0 (record { name = name; second = second; files = files; asks = asks; told = told; calm = reads; opens = accepts.0.1; holds = accepts.1.1 })))
 ends_as_allowed call runs files (ValueOf text) asks told reads writes accepts =
     ended_as (ValueOf text) call writes
     (⊎_elim (λ (said : _). inl (said.0, said.1, (said.1, said.2), said.3)) (λ (lost : _). inr lost) (says_of_value call runs text asks))
+ends_as_allowed call runs files (TrialOf machines) asks told reads writes accepts =
+    ended_as (TrialOf machines) call writes
+    (⊎_elim (λ (said : _). inl (said.0, said.1, said.2.0, said.3)) (λ (lost : _). inr lost) (says_of_trial call runs machines asks))
 
 -- ---- what was written and read
 
@@ -310,12 +388,16 @@ keeps_promises call runs =
       net = fault_follows Net _ net_is_fault call runs;
       net_only = λ files told e. fault_only Net _ net_is_fault (λ w. cc) (λ w. cc) (λ w. cc) call (λ t. absurd (let bad : ⊥ = cc (t, e) in bad)) runs files told e;
       of_net = says_of_net call runs;
+      of_both = says_of_both call runs;
       check = check_follows call runs;
       list = list_follows call runs;
       form = form_follows call runs;
       cycle = cycle_follows call runs;
       cycle_rounds = rounds_follow call runs;
       no_circuit = no_circuit_follows call runs;
+      slack = slack_follows call runs;
+      replay = replay_follows call runs;
+      trial = trial_follows call runs;
       calc = value_follows call runs;
       written = λ other memory. wrote_whole call runs.0 other memory runs.1 runs.2;
       cut_off = λ e. (cut_off_with call runs.0 e runs.1 runs.2).1;

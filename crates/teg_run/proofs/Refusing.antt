@@ -1,11 +1,11 @@
 -- Refusals of files.
-use Rattle.std.proofs.Common.{◌≡◌, ℕ, ◌<◌, List, [], ◌∷◌, Option, Result, Ok, Err, subst, sym, IfOk, IfSome, length, arith}
-use Rattle.std.proofs.lemmas.List.Elements.{All-cons}
+use Rattle.std.proofs.Common.{◌≡◌, ℕ, List, Option, Result, Ok, Err, subst, sym, IfOk, IfSome}
 use Rattle.std.specs.Global.{Vec}
 use Rattle.teg_net.specs.declared.entries.PlaceId.{PlaceId}
 use Rattle.teg_net.specs.declared.memory.OutOfMemory.{OutOfMemory}
 use Rattle.teg_net.specs.Nets.{NetLists}
-use Rattle.teg_net.specs.Circuits.{IsPathBetween, IsTokenFree, AreInRange, place_at}
+use Rattle.teg_net.specs.Circuits.{IsTokenFree, AreInRange}
+use Rattle.teg_commands.proofs.Paths.{path_in_range}
 use Rattle.teg_run.specs.declared.status.Status.{Status}
 use Rattle.teg_run.specs.Meanings.{RefusesWith}
 use Rattle.teg_run.specs.Openings.{Opening, Refused}
@@ -17,10 +17,6 @@ refuses {A} P status (Ok t) said opening h e p =
     subst (λ (o : Option (Opening A)). IfSome o P) (sym h) (subst (λ (l : List ℕ). P (Refused status l)) (sym e) p)
 refuses {A} P status (Err x) said opening h e p = subst (λ (o : Option (Opening A)). IfSome o P) (sym h) tt
 
--- places of a path are places of the net
-pub path_in_range : (net : NetLists) (a b : ℕ) (ps : List PlaceId) → IsPathBetween net a ps b → AreInRange net ps
-path_in_range net a b [] h = λ k d lt. omega arith
-path_in_range net a b (p ∷ ps) h = All-cons (λ (q : PlaceId). q.index < length net.places) p ps h.0 (path_in_range net (place_at net p).to.index b ps h.2)
-
+-- places of a circuit without tokens are places of the net
 pub circuit_in_range : (net : NetLists) (ps : List PlaceId) → IsTokenFree net ps → AreInRange net ps
 circuit_in_range net ps h = path_in_range net h.circuit.closed.0 h.circuit.closed.0 ps h.circuit.closed.1

@@ -2,8 +2,8 @@
 use Rattle.std.proofs.Common.{◌≡◌, ◌≢◌, subst}
 use Rattle.teg_run.specs.declared.status.Status.{Status}
 use Rattle.teg_run.specs.declared.status.Status.TheVariants.{Done, Words, Text, Net, Schedule, Late, TooLong, Log, Calc, Name, ReadFault, WriteFault, NoMemory}
-use Rattle.teg_run.specs.declared.status.Verdict.{Verdict}
-use Rattle.teg_run.specs.declared.status.Verdict.TheVariants.{Done as VerdictDone, Calc as VerdictCalc}
+use Rattle.teg_commands.specs.declared.outcome.Verdict.{Verdict}
+use Rattle.teg_commands.specs.declared.outcome.Verdict.TheVariants.{Done as VerdictDone, Log as VerdictLog, Calc as VerdictCalc}
 use Rattle.teg_run.specs.Statuses.{status_of}
 
 -- none of Words, Text, Net, ReadFault, WriteFault and NoMemory
@@ -25,6 +25,7 @@ IsOwn NoMemory = ⊥
 -- a verdict is none of the statuses that only the call itself gives
 pub verdict_is_own : (verdict : Verdict) → IsOwn (status_of verdict)
 verdict_is_own VerdictDone = tt
+verdict_is_own VerdictLog = tt
 verdict_is_own VerdictCalc = tt
 
 -- none of the statuses of refused words, of a fault of the sink and of want of memory

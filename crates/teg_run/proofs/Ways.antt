@@ -11,14 +11,15 @@ use Rattle.teg_outside.specs.Shelves.{ShelfState, IsFile, Reads}
 use Rattle.teg_report.specs.declared.answer.Which.{Which}
 use Rattle.teg_report.specs.declared.answer.Which.TheVariants.{Net as NetFile}
 use Rattle.teg_run.specs.declared.status.Status.{Status}
-use Rattle.teg_run.specs.declared.status.Verdict.{Verdict}
+use Rattle.teg_commands.specs.declared.outcome.Verdict.{Verdict}
 use Rattle.teg_run.specs.Limits.{most_bytes}
-use Rattle.teg_run.specs.Openings.{Opening, Accepted, Refused, OpensNet, OpensDocument, read_status}
+use Rattle.teg_run.specs.Openings.{Opening, Accepted, Refused, OpensNet, OpensDocument, OpensBytes, read_status}
 use Rattle.teg_run.specs.Reads.{ReadsAll}
-use Rattle.teg_run.specs.Requests.{Request, OfNet, ValueOf, files_of}
-use Rattle.teg_run.specs.Says.{Says, SaysFile, SaysNet, SaysOpening, SaysOutcome}
-use Rattle.teg_run.specs.Values.{SaysValue}
-use Rattle.teg_run.specs.Texts.{read_text}
+use Rattle.teg_run.specs.Requests.{FileCommand, ReplayNet, Request, OfNet, OfFiles, ValueOf, TrialOf, files_of, second_of}
+use Rattle.teg_run.specs.Says.{Says, SaysFile, SaysFiles, SaysNet, SaysOpening, SaysOutcome}
+use Rattle.teg_commands.specs.Slacks.{SaysTrial}
+use Rattle.teg_commands.specs.Values.{SaysValue}
+use Rattle.teg_commands.specs.Texts.{read_text}
 use Rattle.teg_run.proofs.ReadOrder.{none_left}
 use Rattle.teg_run.proofs.Refusals.{Accepts, Refusal, Unread, Overlong, NoToml, NoNet, NotLive}
 use Rattle.teg_run.proofs.Verdicts.{IsOwn, verdict_is_own}
@@ -54,8 +55,8 @@ ends_here old mid new name reply e read = subst (λ (s : ShelfState). Reads old 
 refused_bytes : (old new : ShelfState) (name bytes : List ℕ) (status : Status) (text : List ℕ) (refusal : ReadRefusal) →
     IsFile old.files name bytes → length bytes ≤ most_bytes → document bytes ≡ Err refusal →
     status ≡ read_status refusal → text ≡ read_text refusal → Refusal old new NetFile name status text
-refused_bytes old new name bytes status text NotToml file short is s t = NoToml s t bytes file short is
-refused_bytes old new name bytes status text refusal file short is s t = NoNet s refusal t bytes file short is (λ e. cc)
+refused_bytes old new name bytes status text NotToml file short is s t = NoToml refl s t bytes file short is
+refused_bytes old new name bytes status text refusal file short is s t = NoNet refl s refusal t bytes file short is (λ e. cc)
 
 -- ---- the net file, and what comes after it
 
@@ -68,7 +69,7 @@ net_way_bytes : (old mid new : ShelfState) (name bytes : List ℕ) (files : List
 net_way_bytes old mid new name bytes files goes_on replies status text (Ok net) (Accepted file) read rest is opens h way =
     inr (mid, record { bytes = bytes; read = read; accepts = (net, is, opens.1) }, way file h)
 net_way_bytes old mid new name bytes files goes_on replies status text (Ok net) (Refused status' text') read rest is opens h way =
-    inl (NotLive (h.1.0 ∙ opens.0) net opens.1.0 (h.1.1 ∙ opens.1.2) bytes read.answer.3 read.answer.2 is opens.1.1)
+    inl (NotLive refl (h.1.0 ∙ opens.0) net opens.1.0 (h.1.1 ∙ opens.1.2) bytes read.answer.3 read.answer.2 is opens.1.1)
 net_way_bytes old mid new name bytes files goes_on replies status text (Err refusal) opening read rest is opens h way =
     let said = said_of_refused goes_on opening replies status _ text _ opens h in
     inl (refused_bytes old new name bytes status text refusal read.answer.3 read.answer.2 is said.1 said.2)
@@ -101,6 +102,41 @@ net_way old new name files goes_on [] status text reads h way = absurd h
 net_way old new name files goes_on (reply ∷ replies) status text reads h way =
     net_way_reply old reads.0 new name files goes_on reply replies status text h.0 reads.1 reads.3 h.1 h.2 (λ net k. way net reads.0 replies reads.3 k)
 
+-- ---- a second file, after which nothing is read
+
+bytes_way_reply : (old mid new : ShelfState) (which : Which) (name : List ℕ) (accepts : (bytes : List ℕ) → Accepts which bytes)
+    (goes_on : List ℕ → List (Result (List ℕ) ShelfFault) → Status → List ℕ → Type 0) (reply : Result (List ℕ) ShelfFault)
+    (replies : List (Result (List ℕ) ShelfFault)) (status : Status) (text : List ℕ) (opening : Opening (List ℕ)) →
+    Reads old mid name most_bytes reply → ReadsAll mid new [] replies → OpensBytes which reply opening →
+    SaysOpening goes_on opening replies status text → ((bytes : List ℕ) → goes_on bytes replies status text → Way mid new [] status text) →
+    Way old new ((which, name) ∷ []) status text
+bytes_way_reply old mid new which name accepts goes_on (Ok bytes) replies status text opening read rest opens h way =
+    let said = subst (λ (o : Opening (List ℕ)). SaysOpening goes_on o replies status text) opens h in
+    inr (mid, record { bytes = bytes; read = read; accepts = accepts bytes }, way bytes said)
+bytes_way_reply old mid new which name accepts goes_on (Err TooLarge) replies status text opening read rest opens h way =
+    let said = said_of_refused goes_on opening replies status _ text _ opens h in
+    let last = ends_here old mid new name (Err TooLarge) (none_left mid new [] replies said.0 rest) read in
+    inl (Overlong said.1 said.2 last.answer.0 last.answer.1)
+bytes_way_reply old mid new which name accepts goes_on (Err Failed) replies status text opening read rest opens h way =
+    let said = said_of_refused goes_on opening replies status _ text _ opens h in
+    let last = ends_here old mid new name (Err Failed) (none_left mid new [] replies said.0 rest) read in
+    inl (Unread said.1 said.2 last.answer.0 last.answer.1)
+bytes_way_reply old mid new which name accepts goes_on (Err OutOfMemory) replies status text opening read rest opens h way = absurd opens
+
+-- an answer by a second file and what goes on with its bytes
+pub bytes_way : (old new : ShelfState) (which : Which) (name : List ℕ) → ((bytes : List ℕ) → Accepts which bytes) →
+    (goes_on : List ℕ → List (Result (List ℕ) ShelfFault) → Status → List ℕ → Type 0) (replies : List (Result (List ℕ) ShelfFault))
+    (status : Status) (text : List ℕ) → ReadsAll old new ((which, name) ∷ []) replies → SaysFile (OpensBytes which) goes_on replies status text →
+    ((bytes : List ℕ) (mid : ShelfState) (more : List (Result (List ℕ) ShelfFault)) → goes_on bytes more status text → Way mid new [] status text) →
+    Way old new ((which, name) ∷ []) status text
+bytes_way old new which name accepts goes_on [] status text reads h way = absurd h
+bytes_way old new which name accepts goes_on (reply ∷ replies) status text reads h way =
+    bytes_way_reply old reads.0 new which name accepts goes_on reply replies status text h.0 reads.1 reads.3 h.1 h.2 (λ bytes k. way bytes reads.0 replies k)
+
+-- the bytes of a second file are accepted as they are
+second_accepts : (command : FileCommand) (bytes : List ℕ) → Accepts (second_of command) bytes
+second_accepts ReplayNet bytes = tt
+
 -- what a command comes to has its own status
 pub outcome_way : (old new : ShelfState) (says : Verdict → List ℕ → Type 0) (replies : List (Result (List ℕ) ShelfFault)) (status : Status) (text : List ℕ) →
     SaysOutcome says replies status text → Way old new [] status text
@@ -113,4 +149,9 @@ pub way_of : (request : Request) (lines : List Firing → List (List ℕ)) (old 
 way_of (OfNet command name) lines old new replies status text reads h =
     net_way old new name [] (λ net. SaysOutcome (SaysNet command net)) replies status text reads h
     (λ net mid more rest k. outcome_way mid new (SaysNet command net) more status text k)
+way_of (OfFiles command name second) lines old new replies status text reads h =
+    net_way old new name ((second_of command, second) ∷ []) (λ net. SaysFile (OpensBytes (second_of command)) (λ bytes. SaysOutcome (SaysFiles command lines net bytes))) replies status text reads h
+    (λ net mid more rest k. bytes_way mid new (second_of command) second (second_accepts command) (λ bytes. SaysOutcome (SaysFiles command lines net bytes)) more status text rest k
+    (λ bytes last further said. outcome_way last new (SaysFiles command lines net bytes) further status text said))
 way_of (ValueOf text) lines old new replies status told reads h = outcome_way old new (SaysValue text) replies status told h
+way_of (TrialOf machines) lines old new replies status told reads h = outcome_way old new (SaysTrial machines) replies status told h

@@ -1,7 +1,7 @@
 -- How the work on a request ends, before anything is written.
 use Rattle.std.specs.Prelude.{ℕ, List, Option, Some, None}
 use Rattle.teg_run.specs.declared.status.Status.{Status}
-use Rattle.teg_run.specs.declared.status.Verdict.{Verdict}
+use Rattle.teg_commands.specs.declared.outcome.Verdict.{Verdict}
 use Rattle.teg_run.specs.Statuses.{status_of}
 
 -- with a status and the whole of its text, or for want of memory

@@ -1,5 +1,5 @@
 -- What the whole call promises its caller, one promise at a time.
-use Rattle.std.specs.Prelude.{ℕ, ◌≡◌, ◌≢◌, ◌≤◌, ◌<◌, ◌⊎◌, Bool, true, false, List, [], ◌∷◌, ◌++◌, length, take, map, Some, None, Ok, Err, Result, ⊤}
+use Rattle.std.specs.Prelude.{ℕ, ◌≡◌, ◌≢◌, ◌≤◌, ◌<◌, ◌⊎◌, Bool, true, false, List, [], ◌∷◌, ◌++◌, length, take, map, Option, Some, None, Ok, Err, Result, ⊤, ◌-◌}
 use Rattle.dioid.specs.declared.dates.Date.{Date}
 use Rattle.series_form.specs.declared.forms.SeriesRefused.{SeriesRefused}
 use Rattle.series_form.specs.declared.forms.SeriesRefused.TheVariants.{OutOfMemory as NoRoom}
@@ -20,27 +20,41 @@ use Rattle.teg_net.specs.Circuits.{IsLive, IsTokenFree}
 use Rattle.teg_reader.specs.declared.refusals.ReadRefusal.{ReadRefusal}
 use Rattle.teg_reader.specs.declared.refusals.ReadRefusal.TheVariants.{NotToml}
 use Rattle.teg_reader.specs.Documents.{document}
+use Rattle.teg_critical.specs.declared.slacks.Slack.{Slack}
+use Rattle.teg_critical.specs.Slacks.{AreSlacks}
+use Rattle.teg_due.specs.declared.rows.LogRefusal.{LogRefusal}
+use Rattle.teg_due.specs.declared.rows.LogRow.{LogRow}
+use Rattle.teg_due.specs.Logs.{log_of}
+use Rattle.teg_net.specs.Ratios.{Fraction}
+use Rattle.teg_outside.specs.declared.monitor.Firing.{Firing}
+use Rattle.teg_replay.specs.declared.replayed.Refused.{Refused}
+use Rattle.teg_replay.specs.declared.replayed.Replayed.{Replayed}
+use Rattle.teg_replay.specs.Replays.{IsReplayOf}
+use Rattle.teg_report.specs.declared.answer.Failure.{Failure}
+use Rattle.trial_net.specs.Trials.{trial}
+use Rattle.teg_commands.specs.Recorded.{IsToldAs}
+use Rattle.teg_commands.specs.Slacks.{IsBestRatio, critical_count, trial_number}
 use Rattle.teg_outside.specs.declared.shelf.ShelfFault.{ShelfFault}
 use Rattle.teg_outside.specs.Causes.{Rose, Rested}
 use Rattle.teg_outside.specs.Shelves.{ShelfState, ReadsGrow, file_of}
 use Rattle.teg_outside.specs.Sinks.{BytesGrow, PrefixGrows}
 use Rattle.teg_report.specs.declared.answer.Which.{Which}
-use Rattle.teg_report.specs.declared.answer.Which.TheVariants.{Net as NetFile}
+use Rattle.teg_report.specs.declared.answer.Which.TheVariants.{Net as NetFile, Due as DueFile, Log as LogFile}
 use Rattle.teg_run.specs.declared.status.Status.{Status}
-use Rattle.teg_run.specs.declared.status.Status.TheVariants.{Done, Words, Text, Net, Calc, ReadFault, WriteFault, NoMemory}
-use Rattle.teg_run.specs.declared.status.Verdict.{Verdict}
-use Rattle.teg_run.specs.declared.status.Verdict.TheVariants.{Done as VerdictDone}
+use Rattle.teg_run.specs.declared.status.Status.TheVariants.{Done, Words, Text, Net, Log, Calc, ReadFault, WriteFault, NoMemory}
+use Rattle.teg_commands.specs.declared.outcome.Verdict.{Verdict}
+use Rattle.teg_commands.specs.declared.outcome.Verdict.TheVariants.{Done as VerdictDone, Log as VerdictLog}
 use Rattle.teg_run.specs.Calls.{Call}
-use Rattle.teg_run.specs.CycleTimes.{IsCycleAnswer, AreRuns}
+use Rattle.teg_commands.specs.CycleTimes.{IsCycleAnswer, AreRuns}
 use Rattle.teg_run.specs.Endings.{Whole, Lost}
 use Rattle.teg_run.specs.Limits.{most_bytes}
 use Rattle.teg_run.specs.Reads.{ReadsAll}
-use Rattle.teg_run.specs.Requests.{NetCommand, CheckNet, ListNet, FormNet, CycleNet, Request, OfNet, ValueOf, request_of, files_of, asked_files}
+use Rattle.teg_run.specs.Requests.{NetCommand, CheckNet, ListNet, FormNet, CycleNet, SlackNet, FileCommand, ReplayNet, Request, OfNet, OfFiles, ValueOf, TrialOf, request_of, files_of, asked_files}
 use Rattle.teg_run.specs.Runs.{Finished, Runs}
-use Rattle.teg_run.specs.Says.{Asked, SaysNet}
+use Rattle.teg_run.specs.Says.{Asked, SaysFiles, SaysNet}
 use Rattle.teg_run.specs.Statuses.{status_of}
-use Rattle.teg_run.specs.Values.{IsSeriesOf, SaysValue}
-use Rattle.teg_run.specs.Texts.{usage, read_text, live_text, list_text, form_text, cycle_text, no_circuit_text, runs_text, series_text, parse_text, series_refused_text, token_free_text, too_large_text, fault_text}
+use Rattle.teg_commands.specs.Values.{IsSeriesOf, SaysValue}
+use Rattle.teg_commands.specs.Texts.{usage, read_text, live_text, list_text, form_text, cycle_text, no_circuit_text, runs_text, slack_text, trial_text, log_text, replayed_text, refused_text, series_text, parse_text, series_refused_text, token_free_text, too_large_text, fault_text}
 
 -- ---- how a call ended
 
@@ -88,19 +102,33 @@ NetIsRefused files name text =
     ⊎ ((bytes : List ℕ) × (net : NetLists) × (circuit : List PlaceId) × Holds files name bytes × (document bytes ≡ Ok net)
     × IsTokenFree net circuit × (text ≡ token_free_text net circuit))
 
+-- a file that is not the net is too long, and this text says so
+abbrev pub SecondIsNoText : Which → List (List ℕ × List ℕ) → List ℕ → List ℕ → Type 0
+SecondIsNoText which files name text = IsTooLong files name × (text ≡ too_large_text which)
+
+-- the file of that name has bytes, at most as many as a file may have
+abbrev pub IsThere : List (List ℕ × List ℕ) → List ℕ → Type 0
+IsThere files name = (bytes : List ℕ) × Holds files name bytes
+
 -- ---- why files are refused
 
 -- the file is accepted as such a file
 abbrev pub IsAccepted : List (List ℕ × List ℕ) → Which → List ℕ → Type 0
 IsAccepted files NetFile name = (net : NetLists) × Opens files name net
+IsAccepted files DueFile name = IsThere files name
+IsAccepted files LogFile name = IsThere files name
 
 -- the file is no text of such a file, and this text says so
 abbrev pub IsNoText : List (List ℕ × List ℕ) → Which → List ℕ → List ℕ → Type 0
 IsNoText files NetFile name text = NetIsNoText files name text
+IsNoText files DueFile name text = SecondIsNoText DueFile files name text
+IsNoText files LogFile name text = SecondIsNoText LogFile files name text
 
 -- the file is one that says no live net, and this text says so
 abbrev pub IsNoNet : List (List ℕ × List ℕ) → Which → List ℕ → List ℕ → Type 0
 IsNoNet files NetFile name text = NetIsRefused files name text
+IsNoNet files DueFile name text = ⊥
+IsNoNet files LogFile name text = ⊥
 
 -- one of these files has this fault, which this text says, and those before it are accepted
 abbrev pub HasFault : (List (List ℕ × List ℕ) → Which → List ℕ → List ℕ → Type 0) → List (List ℕ × List ℕ) → List (Which × List ℕ) → List ℕ → Type 0
@@ -167,7 +195,9 @@ NamesLastRead call named =
 -- the files of the request are accepted: its net file, where it has one, says a live net
 abbrev pub AcceptsFiles : List (List ℕ × List ℕ) → Request → Type 0
 AcceptsFiles files (OfNet command name) = (net : NetLists) × Opens files name net
+AcceptsFiles files (OfFiles command name second) = ((net : NetLists) × Opens files name net) × IsThere files second
 AcceptsFiles files (ValueOf text) = ⊤
+AcceptsFiles files (TrialOf machines) = ⊤
 
 -- how a command on a net may end, once its files are accepted
 abbrev pub AllowsNet : NetCommand → Verdict → Type 0
@@ -175,15 +205,22 @@ AllowsNet CheckNet verdict = verdict ≡ VerdictDone
 AllowsNet (ListNet count) verdict = verdict ≡ VerdictDone
 AllowsNet FormNet verdict = verdict ≡ VerdictDone
 AllowsNet (CycleNet rounds) verdict = verdict ≡ VerdictDone
+AllowsNet SlackNet verdict = verdict ≡ VerdictDone
 
 -- how an expression may end: with a refusal only where it has one
 abbrev pub AllowsValue : List ℕ → Verdict → Type 0
 AllowsValue text verdict = (told : List ℕ) × SaysValue text verdict told
 
+-- how a command on a net and a second file may end, once its net is accepted and the bytes of the second file are there
+abbrev pub AllowsFiles : FileCommand → Verdict → Type 0
+AllowsFiles ReplayNet verdict = (verdict ≡ VerdictDone) ⊎ (verdict ≡ VerdictLog)
+
 -- how a request may end, once its files are accepted
 abbrev pub Allows : Request → Verdict → Type 0
 Allows (OfNet command name) verdict = AllowsNet command verdict
+Allows (OfFiles command name second) verdict = AllowsFiles command verdict
 Allows (ValueOf text) verdict = AllowsValue text verdict
+Allows (TrialOf machines) verdict = verdict ≡ VerdictDone
 
 -- over told files, accepted words and files and no fault lead to an ending of the command itself, or to want of memory
 abbrev pub EndsAsAllowed : Call → Type 0
@@ -206,6 +243,23 @@ abbrev pub SaysOfNet : Call → Type 0
 SaysOfNet call =
     (command : NetCommand) (net : NetLists) → Concerns call command net →
     ((verdict : Verdict) × (text : List ℕ) × SaysNet command net verdict text × Ends call (status_of verdict) text) ⊎ EndsLost call
+
+-- the words ask for this command on a net and a second file, whose told files say this live net and these bytes, and no read failed
+pub record ConcernsBoth (call : Call) (command : FileCommand) (net : NetLists) (bytes : List ℕ) : Type 0 where
+  pub name : List ℕ
+  pub second : List ℕ
+  pub files : List (List ℕ × List ℕ)
+  pub asks : request_of call.words ≡ Some (OfFiles command name second)
+  pub told : call.shelf_before.files ≡ Some files
+  pub calm : ReadsAreCalm call
+  pub opens : Opens files name net
+  pub holds : Holds files second bytes
+
+-- a command on a live net and a second file ends with what it says of them, or for want of memory
+abbrev pub SaysOfBoth : Call → Type 0
+SaysOfBoth call =
+    (command : FileCommand) (net : NetLists) (bytes : List ℕ) → ConcernsBoth call command net bytes →
+    ((verdict : Verdict) × (text : List ℕ) × SaysFiles command call.lines net bytes verdict text × Ends call (status_of verdict) text) ⊎ EndsLost call
 
 -- a live net that is checked is told with its size
 abbrev pub SaysLive : Call → Type 0
@@ -241,6 +295,38 @@ SaysPolicyRuns call =
 abbrev pub SaysNoCircuit : Call → Type 0
 SaysNoCircuit call =
     (rounds : Bool) (net : NetLists) → Concerns call (CycleNet rounds) net → HasNoCircuit net IsAnyPlace → Ends call Done no_circuit_text
+
+-- the slack of the places of a live net is told, with its greatest ratio, or that it has no circuit, unless memory ran out
+abbrev pub SaysSlackOfNet : Call → Type 0
+SaysSlackOfNet call =
+    (net : NetLists) → Concerns call SlackNet net →
+    ((r : Fraction) × (slacks : List Slack) × IsBestRatio net r × AreSlacks net r slacks × Ends call Done (slack_text net r slacks))
+    ⊎ ((HasNoCircuit net IsAnyPlace × Ends call Done no_circuit_text) ⊎ EndsLost call)
+
+-- of the line of so many machines its greatest ratio is told, how many places are critical, and the least date of a late firing, unless
+-- memory ran out
+abbrev pub SaysTrialOf : Call → Type 0
+SaysTrialOf call =
+    (machines : ℕ) → request_of call.words ≡ Some (TrialOf machines) →
+    ((r : Fraction) × (slacks : List Slack) × (x : ℕ → ℕ → Date) × IsBestRatio (trial machines) r × AreSlacks (trial machines) r slacks
+    × IsLeastDating (trial machines) x × Ends call Done (trial_text machines r (critical_count slacks) (x (machines - 1) trial_number)))
+    ⊎ EndsLost call
+
+-- a replay ends so: with the number of its firings, or with the first row that is refused and why; then the lines of the monitors
+abbrev pub EndsReplay : Call → NetLists → Option Refused → ℕ → List (List ℕ) → Type 0
+EndsReplay call net None accepted lines = Ends call Done (replayed_text accepted lines)
+EndsReplay call net (Some refused) accepted lines =
+    (failure : Failure) × IsToldAs refused.why failure × Ends call Log (refused_text net refused.row failure lines)
+
+-- a log is told with its first fault, or with how it was replayed: the lines of the monitors are those after just the firings that were
+-- accepted before the first refused row, in order, each once, unless memory ran out
+abbrev pub SaysReplayed : Call → Type 0
+SaysReplayed call =
+    (net : NetLists) (bytes : List ℕ) → ConcernsBoth call ReplayNet net bytes →
+    ((refusal : LogRefusal) × (log_of net bytes ≡ Err refusal) × Ends call Log (log_text refusal))
+    ⊎ (((rows : List LogRow) × (firings : List Firing) × (replayed : Replayed) × (log_of net bytes ≡ Ok rows) × IsReplayOf net rows firings replayed
+    × EndsReplay call net replayed.refused replayed.accepted (call.lines firings))
+    ⊎ EndsLost call)
 
 -- the canonical form of what an expression means is told
 abbrev pub IsValued : Call → List ℕ → Type 0
@@ -278,12 +364,18 @@ pub record KeepsPromises (call : Call) : Type 0 where
   pub net_only : ComesOnly IsNoNet Net call
   -- A command on a live net: what it says of that net is written.
   pub of_net : SaysOfNet call
+  pub of_both : SaysOfBoth call
   pub check : SaysLive call
   pub list : SaysLeastDates call
   pub form : SaysStandardForm call
   pub cycle : SaysCycleTimes call
   pub cycle_rounds : SaysPolicyRuns call
   pub no_circuit : SaysNoCircuit call
+  pub slack : SaysSlackOfNet call
+  -- A log: its first fault, or how it was replayed, and what the monitors print after just the accepted firings.
+  pub replay : SaysReplayed call
+  -- The line of machines: its numbers.
+  pub trial : SaysTrialOf call
   -- An expression: its value is written, or why it has none.
   pub calc : SaysValues call
   -- What was written: the whole text, a first part before a fault, nothing for want of memory.

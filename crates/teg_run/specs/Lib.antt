@@ -1,5 +1,4 @@
 pub mod Calls
-pub mod CycleTimes
 pub mod Endings
 pub mod Headline
 pub mod Limits
@@ -11,6 +10,4 @@ pub mod Requests
 pub mod Runs
 pub mod Says
 pub mod Statuses
-pub mod Texts
-pub mod Values
 pub mod Writing

@@ -4,7 +4,3 @@ use Rattle.std.specs.Prelude.{ℕ}
 -- bytes of a file
 abbrev pub most_bytes : ℕ
 most_bytes = 4194304
-
--- bytes of an expression
-abbrev pub most_expression : ℕ
-most_expression = 4096

@@ -1,22 +1,21 @@
 -- What values of the code mean.
-use Rattle.std.specs.Prelude.{ℕ, ◌≡◌, List, Option, Some, None, Result, Ok, Err, map}
+use Rattle.std.specs.Prelude.{ℕ, ◌≡◌, List, Option, Some, None, Result, Ok, Err}
 use Rattle.std.specs.Global.{Vec}
-use Rattle.teg_net.specs.declared.rounds.Round.{Round}
 use Rattle.teg_net.specs.declared.memory.OutOfMemory.{OutOfMemory}
 use Rattle.teg_run.specs.declared.ending.Ending.{Ending as CodedEnding}
 use Rattle.teg_run.specs.declared.ending.Ending.TheVariants.{Whole as CodedWhole, Lost as CodedLost}
-use Rattle.teg_run.specs.declared.ending.Outcome.{Outcome}
 use Rattle.teg_run.specs.declared.opening.Opened.{Opened}
 use Rattle.teg_run.specs.declared.opening.Opened.TheVariants.{Accepted as OpenedAccepted, Refused as OpenedRefused, Lost as OpenedLost}
 use Rattle.teg_run.specs.declared.request.NetCommand.{NetCommand as CodedCommand}
-use Rattle.teg_run.specs.declared.request.NetCommand.TheVariants.{Check, Cycle, Form, List as ListCommand}
+use Rattle.teg_run.specs.declared.request.NetCommand.TheVariants.{Check, Cycle, Form, List as ListCommand, Slack}
+use Rattle.teg_run.specs.declared.request.FileCommand.{FileCommand as CodedFileCommand}
+use Rattle.teg_run.specs.declared.request.FileCommand.TheVariants.{Replay}
 use Rattle.teg_run.specs.declared.request.Request.{Request as CodedRequest}
-use Rattle.teg_run.specs.declared.request.Request.TheVariants.{OfNet as CodedOfNet, ValueOf as CodedValueOf}
+use Rattle.teg_run.specs.declared.request.Request.TheVariants.{OfNet as CodedOfNet, OfFiles as CodedOfFiles, ValueOf as CodedValueOf, TrialOf as CodedTrialOf}
 use Rattle.teg_run.specs.declared.status.Status.{Status}
-use Rattle.teg_run.specs.declared.status.Verdict.{Verdict}
 use Rattle.teg_run.specs.Endings.{Ending, Whole, Lost}
 use Rattle.teg_run.specs.Openings.{Opening, Accepted, Refused}
-use Rattle.teg_run.specs.Requests.{NetCommand, CheckNet, ListNet, FormNet, CycleNet, Request, OfNet, ValueOf}
+use Rattle.teg_run.specs.Requests.{NetCommand, CheckNet, ListNet, FormNet, CycleNet, SlackNet, FileCommand, ReplayNet, Request, OfNet, OfFiles, ValueOf, TrialOf}
 
 -- the command on a net
 abbrev pub command_asked : CodedCommand → NetCommand
@@ -24,25 +23,23 @@ command_asked Check = CheckNet
 command_asked (ListCommand count) = ListNet count
 command_asked Form = FormNet
 command_asked (Cycle rounds) = CycleNet rounds
+command_asked Slack = SlackNet
+
+-- the command on a net and a second file
+abbrev pub file_command_asked : CodedFileCommand → FileCommand
+file_command_asked Replay = ReplayNet
 
 -- the request
 abbrev pub asked : CodedRequest → Request
 asked (CodedOfNet command net) = OfNet (command_asked command) net.now
+asked (CodedOfFiles command net second) = OfFiles (file_command_asked command) net.now second.now
 asked (CodedValueOf text) = ValueOf text.now
-
--- rounds, a list for each part
-abbrev pub rounds_in : List (Vec Round) → List (List Round)
-rounds_in runs = map (λ run. run.items) runs
+asked (CodedTrialOf machines) = TrialOf machines
 
 -- the ending of the work
 abbrev pub ended : CodedEnding → Ending
 ended (CodedWhole status text) = Whole status text.items
 ended CodedLost = Lost
-
--- what a command comes to, if it found memory
-abbrev pub outcome_of : Result Outcome OutOfMemory → Option (Verdict × List ℕ)
-outcome_of (Ok outcome) = Some (outcome.verdict, outcome.text.items)
-outcome_of (Err e) = None
 
 -- what a file opens, if memory was found
 abbrev pub opened : {A : Type 0} → Opened A → Option (Opening A)

@@ -11,8 +11,8 @@ use Rattle.teg_outside.specs.declared.shelf.ShelfFault.TheVariants.{Failed, TooL
 use Rattle.teg_run.specs.declared.status.Status.{Status}
 use Rattle.teg_run.specs.declared.status.Status.TheVariants.{Text, Net, ReadFault}
 use Rattle.teg_report.specs.declared.answer.Which.{Which}
-use Rattle.teg_report.specs.declared.answer.Which.TheVariants.{Net as NetFile}
-use Rattle.teg_run.specs.Texts.{read_text, token_free_text, too_large_text, fault_text}
+use Rattle.teg_report.specs.declared.answer.Which.TheVariants.{Net as NetFile, Due as DueFile, Log as LogFile}
+use Rattle.teg_commands.specs.Texts.{read_text, token_free_text, too_large_text, fault_text}
 
 -- what the file says, or the status and the text of its refusal
 pub data Opening (A : Type 0) : Type 0 where
@@ -50,6 +50,12 @@ OpensDocument (Err refusal) opening = opening ≡ Refused (read_status refusal) 
 abbrev pub OpensNet : Result (List ℕ) ShelfFault → Opening NetLists → Type 0
 OpensNet = OpensFile NetFile (λ bytes. OpensDocument (document bytes))
 
--- what was read is accepted as such a file, so that more may be read
+-- what a read of a second file opens: its bytes, whose rows are the business of the command
+abbrev pub OpensBytes : Which → Result (List ℕ) ShelfFault → Opening (List ℕ) → Type 0
+OpensBytes which = OpensFile which (λ bytes opening. opening ≡ Accepted bytes)
+
+-- what was read is accepted as such a file, so that more may be read; nothing is read after a second file
 abbrev pub IsTaken : Which → Result (List ℕ) ShelfFault → Type 0
 IsTaken NetFile reply = (net : NetLists) × OpensNet reply (Accepted net)
+IsTaken DueFile reply = ⊥
+IsTaken LogFile reply = ⊥

@@ -4,9 +4,9 @@ use Rattle.std.specs.Option.{option_map}
 use Rattle.teg_dates.specs.Tables.{most_numbers}
 use Rattle.teg_words.specs.Numbers.{number_of}
 use Rattle.teg_words.specs.Words.{Given, given_of}
-use Rattle.teg_run.specs.Limits.{most_expression}
+use Rattle.teg_commands.specs.Limits.{most_expression, most_machines}
 use Rattle.teg_report.specs.declared.answer.Which.{Which}
-use Rattle.teg_report.specs.declared.answer.Which.TheVariants.{Net as NetFile}
+use Rattle.teg_report.specs.declared.answer.Which.TheVariants.{Net as NetFile, Due as DueFile, Log as LogFile}
 
 -- a command on a net, with what else it is given
 pub data NetCommand : Type 0 where
@@ -14,11 +14,19 @@ pub data NetCommand : Type 0 where
   ListNet : (count : ℕ) → NetCommand
   FormNet : NetCommand
   CycleNet : (rounds : Bool) → NetCommand
+  SlackNet : NetCommand
 
--- what words can ask for: a command on the net in the file of this name, or the value of this expression
+-- a command on a net and on a second file
+pub data FileCommand : Type 0 where
+  ReplayNet : FileCommand
+
+-- what words can ask for: a command on the net in the file of this name, one on the net and on the second file of these names, the
+-- value of this expression, or a line of so many machines
 pub data Request : Type 0 where
   OfNet : (command : NetCommand) (net : List ℕ) → Request
+  OfFiles : (command : FileCommand) (net second : List ℕ) → Request
   ValueOf : (text : List ℕ) → Request
+  TrialOf : (machines : ℕ) → Request
 
 -- `check NET`
 abbrev pub check_asked : List (List ℕ) → Option (List ℕ) → Bool → Option Request
@@ -45,6 +53,21 @@ abbrev pub calc_asked : List (List ℕ) → Option (List ℕ) → Bool → Optio
 calc_asked (text ∷ []) None false = if nat_le (length text) most_expression then Some (ValueOf text) else None
 calc_asked rest limit rounds = None
 
+-- `slack NET`
+abbrev pub slack_asked : List (List ℕ) → Option (List ℕ) → Bool → Option Request
+slack_asked (net ∷ []) None false = Some (OfNet SlackNet net)
+slack_asked rest limit rounds = None
+
+-- `replay NET LOG`
+abbrev pub replay_asked : List (List ℕ) → Option (List ℕ) → Bool → Option Request
+replay_asked (net ∷ log ∷ []) None false = Some (OfFiles ReplayNet net log)
+replay_asked rest limit rounds = None
+
+-- `trial N`, with N from 1 to the most machines of a line
+abbrev pub trial_asked : List (List ℕ) → Option (List ℕ) → Bool → Option Request
+trial_asked (word ∷ []) None false = option_map TrialOf (number_of 1 most_machines word)
+trial_asked rest limit rounds = None
+
 -- the request of a command with what is given to it: nothing for a command that is not built
 abbrev pub asked_for : Given → Option Request
 asked_for given =
@@ -53,16 +76,25 @@ asked_for given =
     else (if bytes_eq given.command (codes "form") then form_asked given.rest given.limit given.rounds
     else (if bytes_eq given.command (codes "cycle") then cycle_asked given.rest given.limit given.rounds
     else (if bytes_eq given.command (codes "calc") then calc_asked given.rest given.limit given.rounds
-    else None))))
+    else (if bytes_eq given.command (codes "replay") then replay_asked given.rest given.limit given.rounds
+    else (if bytes_eq given.command (codes "slack") then slack_asked given.rest given.limit given.rounds
+    else (if bytes_eq given.command (codes "trial") then trial_asked given.rest given.limit given.rounds
+    else None)))))))
 
 -- the request that the words give, if they give one
 abbrev pub request_of : List (List ℕ) → Option Request
 request_of words = option_and_then asked_for (given_of words)
 
+-- what the second file is for
+abbrev pub second_of : FileCommand → Which
+second_of ReplayNet = LogFile
+
 -- the files that a request names, in the order in which they are read: what each is for, and its name
 abbrev pub files_of : Request → List (Which × List ℕ)
 files_of (OfNet command net) = (NetFile, net) ∷ []
+files_of (OfFiles command net second) = (NetFile, net) ∷ (second_of command, second) ∷ []
 files_of (ValueOf text) = []
+files_of (TrialOf machines) = []
 
 -- the files that the words name
 abbrev pub asked_files : Option Request → List (Which × List ℕ)

@@ -1,47 +1,20 @@
 -- What each command says, by what its reads gave.
 use Rattle.std.specs.Prelude.{ℕ, ◌≡◌, Bool, true, false, List, [], ◌∷◌, Option, Some, None, Result}
-use Rattle.dioid.specs.declared.dates.Date.{Date}
-use Rattle.teg_form.specs.Forms.{FormLists, IsFormOf}
-use Rattle.teg_model.specs.Datings.{IsLeastDating}
-use Rattle.teg_net.specs.declared.answers.CycleAnswer.{CycleAnswer}
-use Rattle.teg_net.specs.declared.rounds.Round.{Round}
 use Rattle.teg_net.specs.Nets.{NetLists}
 use Rattle.teg_outside.specs.declared.shelf.ShelfFault.{ShelfFault}
 use Rattle.teg_outside.specs.declared.monitor.Firing.{Firing}
 use Rattle.teg_run.specs.declared.status.Status.{Status}
 use Rattle.teg_run.specs.declared.status.Status.TheVariants.{Words}
-use Rattle.teg_run.specs.declared.status.Verdict.{Verdict}
-use Rattle.teg_run.specs.declared.status.Verdict.TheVariants.{Done as VerdictDone}
-use Rattle.teg_run.specs.CycleTimes.{IsCycleAnswer, AreRuns}
-use Rattle.teg_run.specs.Requests.{NetCommand, CheckNet, ListNet, FormNet, CycleNet, Request, OfNet, ValueOf}
-use Rattle.teg_run.specs.Openings.{Opening, Accepted, Refused, OpensNet}
+use Rattle.teg_commands.specs.declared.outcome.Verdict.{Verdict}
+use Rattle.teg_commands.specs.CycleTimes.{SaysCycle, SaysRounds}
+use Rattle.teg_commands.specs.Recorded.{SaysReplay}
+use Rattle.teg_commands.specs.Slacks.{SaysSlack, SaysTrial}
+use Rattle.teg_commands.specs.Sizes.{SaysCheck, SaysList, SaysForm}
+use Rattle.teg_commands.specs.Values.{SaysValue}
+use Rattle.teg_run.specs.Requests.{NetCommand, CheckNet, ListNet, FormNet, CycleNet, SlackNet, FileCommand, ReplayNet, Request, OfNet, OfFiles, ValueOf, TrialOf, second_of}
+use Rattle.teg_run.specs.Openings.{Opening, Accepted, Refused, OpensNet, OpensBytes}
 use Rattle.teg_run.specs.Statuses.{status_of}
-use Rattle.teg_run.specs.Values.{SaysValue}
-use Rattle.teg_run.specs.Texts.{usage, live_text, list_text, form_text, cycle_text, runs_text}
-
--- of a live net its size is said
-abbrev pub SaysCheck : NetLists → Verdict → List ℕ → Type 0
-SaysCheck net verdict text = (verdict ≡ VerdictDone) × (text ≡ live_text net)
-
--- of a live net the first dates of its least dating are said
-abbrev pub SaysList : ℕ → NetLists → Verdict → List ℕ → Type 0
-SaysList count net verdict text =
-    (verdict ≡ VerdictDone) × ((x : ℕ → ℕ → Date) × IsLeastDating net x × (text ≡ list_text net x count))
-
--- of a live net the standard form is said
-abbrev pub SaysForm : NetLists → Verdict → List ℕ → Type 0
-SaysForm net verdict text = (verdict ≡ VerdictDone) × ((form : FormLists) × IsFormOf net form × (text ≡ form_text net form))
-
--- of a live net the cycle times are said
-abbrev pub SaysCycle : NetLists → Verdict → List ℕ → Type 0
-SaysCycle net verdict text =
-    (verdict ≡ VerdictDone) × ((answer : CycleAnswer) × IsCycleAnswer net answer × (text ≡ cycle_text net answer None))
-
--- of a live net the cycle times are said, and the rounds that led to them
-abbrev pub SaysRounds : NetLists → Verdict → List ℕ → Type 0
-SaysRounds net verdict text =
-    (verdict ≡ VerdictDone)
-    × ((answer : CycleAnswer) × (runs : List (List Round)) × IsCycleAnswer net answer × AreRuns net answer runs × (text ≡ runs_text net answer runs))
+use Rattle.teg_commands.specs.Texts.{usage}
 
 -- what a command says of a live net
 abbrev pub SaysNet : NetCommand → NetLists → Verdict → List ℕ → Type 0
@@ -50,11 +23,7 @@ SaysNet (ListNet count) = SaysList count
 SaysNet FormNet = SaysForm
 SaysNet (CycleNet false) = SaysCycle
 SaysNet (CycleNet true) = SaysRounds
-
--- a claim on what a command comes to, where it found memory
-abbrev pub Tells : (Verdict → List ℕ → Type 0) → Option (Verdict × List ℕ) → Type 0
-Tells says None = Unit {0}
-Tells says (Some outcome) = says outcome.0 outcome.1
+SaysNet SlackNet = SaysSlack
 
 -- this status and this text
 abbrev pub Said : Status → List ℕ → Status → List ℕ → Type 0
@@ -76,10 +45,17 @@ abbrev pub SaysOutcome : (Verdict → List ℕ → Type 0) → List (Result (Lis
 SaysOutcome says replies status text =
     (replies ≡ []) × ((verdict : Verdict) × (status ≡ status_of verdict) × says verdict text)
 
+-- what a command says of a live net and of the bytes of a second file, with the lines of the monitors after given firings
+abbrev pub SaysFiles : FileCommand → (List Firing → List (List ℕ)) → NetLists → List ℕ → Verdict → List ℕ → Type 0
+SaysFiles ReplayNet lines = SaysReplay lines
+
 -- what a request says, with the lines of the monitors after given firings
 abbrev pub Says : Request → (List Firing → List (List ℕ)) → List (Result (List ℕ) ShelfFault) → Status → List ℕ → Type 0
 Says (OfNet command net) lines = SaysFile OpensNet (λ file. SaysOutcome (SaysNet command file))
+Says (OfFiles command net second) lines =
+    SaysFile OpensNet (λ file. SaysFile (OpensBytes (second_of command)) (λ bytes. SaysOutcome (SaysFiles command lines file bytes)))
 Says (ValueOf text) lines = SaysOutcome (SaysValue text)
+Says (TrialOf machines) lines = SaysOutcome (SaysTrial machines)
 
 -- what the words make the call say
 abbrev pub Asked : Option Request → (List Firing → List (List ℕ)) → List (Result (List ℕ) ShelfFault) → Status → List ℕ → Type 0

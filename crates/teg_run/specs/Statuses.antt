@@ -2,8 +2,8 @@
 use Rattle.std.specs.Prelude.{ℕ}
 use Rattle.teg_run.specs.declared.status.Status.{Status}
 use Rattle.teg_run.specs.declared.status.Status.TheVariants.{Done, Words, Text, Net, Schedule, Late, TooLong, Log, Calc, Name, ReadFault, WriteFault, NoMemory}
-use Rattle.teg_run.specs.declared.status.Verdict.{Verdict}
-use Rattle.teg_run.specs.declared.status.Verdict.TheVariants.{Done as VerdictDone, Calc as VerdictCalc}
+use Rattle.teg_commands.specs.declared.outcome.Verdict.{Verdict}
+use Rattle.teg_commands.specs.declared.outcome.Verdict.TheVariants.{Done as VerdictDone, Log as VerdictLog, Calc as VerdictCalc}
 
 -- the exit status of a program that ends so
 abbrev pub code_of : Status → ℕ
@@ -24,4 +24,5 @@ code_of NoMemory = 70
 -- the status of a call that ends with this verdict
 abbrev pub status_of : Verdict → Status
 status_of VerdictDone = Done
+status_of VerdictLog = Log
 status_of VerdictCalc = Calc

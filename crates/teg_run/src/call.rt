@@ -10,7 +10,7 @@ ghost use Rattle.teg_run.specs.Meanings.{ended};
 ghost use Rattle.teg_run.specs.Requests.{request_of, asked_files};
 ghost use Rattle.teg_run.specs.Runs.{Answered};
 ghost use Rattle.teg_run.specs.Says.{Said, Asked};
-ghost use Rattle.teg_run.specs.Texts.{usage};
+ghost use Rattle.teg_commands.specs.Texts.{usage};
 
 use crate::carry_out::answer_request;
 use crate::ending::Ending;

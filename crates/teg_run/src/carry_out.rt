@@ -2,20 +2,22 @@
 ghost use Rattle.std.specs.Prelude.{[], ◌∷◌, List, map};
 ghost use Rattle.teg_outside.specs.declared.monitor.Firing.{Firing};
 ghost use Rattle.teg_outside.specs.Shelves.{ShelfState};
-ghost use Rattle.teg_run.specs.Meanings.{asked, command_asked, ended};
-ghost use Rattle.teg_run.specs.Openings.{OpensNet};
+ghost use Rattle.teg_run.specs.Meanings.{asked, command_asked, ended, file_command_asked};
+ghost use Rattle.teg_run.specs.Openings.{OpensBytes, OpensNet};
 ghost use Rattle.teg_run.specs.Ranges.{IsInRange, IsRequestInRange};
-ghost use Rattle.teg_run.specs.Requests.{files_of};
+ghost use Rattle.teg_run.specs.Requests.{files_of, second_of};
 ghost use Rattle.teg_run.specs.Runs.{Answered};
-ghost use Rattle.teg_run.specs.Says.{Says, SaysFile, SaysNet, SaysOutcome};
+ghost use Rattle.teg_run.specs.Says.{Says, SaysFile, SaysFiles, SaysNet, SaysOutcome};
 
 use crate::ending::{Ending, closed};
+use crate::file_commands::{of_files, second_of};
 use crate::net_commands::of_net;
 use crate::net_file::open_net;
 use crate::opening::Opened;
-use crate::request::{NetCommand, Request};
-use crate::values::tell_value;
+use crate::request::{FileCommand, NetCommand, Request};
+use crate::second_file::open_bytes;
 use std::alloc::Global;
+use teg_commands::{LiveNet, tell_trial, tell_value};
 use teg_outside::{Monitor, Shelf};
 use teg_report::Which;
 
@@ -32,7 +34,48 @@ fn answer_net<S: Shelf>(alloc: Global, command: NetCommand, net: &str, shelf: &m
     }
 }
 
-/// Carries out a request. No command shows firings yet, so the monitors are dropped unseen.
+// Carries out a command on a live net and the second file of that name.
+fn answer_second<S: Shelf>(
+    alloc: Global,
+    command: FileCommand,
+    net: &LiveNet,
+    second: &str,
+    shelf: &mut S,
+    monitors: Vec<Box<dyn Monitor>>,
+) -> Ending
+    ensures { let asked = file_command_asked command in
+        Answered (SaysFile (OpensBytes (second_of asked)) (λ bytes. SaysOutcome (SaysFiles asked (λ firings. map (λ m. line_text m firings) monitors.items) net.now bytes)))
+        ((second_of asked, second.now) ∷ []) (S.state shelf.old) (S.state shelf.new) (ended result) }
+{
+    match open_bytes(alloc, second_of(command), second, shelf) {
+        Opened::Accepted(file) => closed(of_files(alloc, command, net, &file, monitors)),
+        Opened::Refused(status, text) => Ending::Whole { status, text },
+        Opened::Lost => Ending::Lost,
+    }
+}
+
+// Carries out a command on the net and on the second file in the files of these names. The second
+// file is read only where the net is accepted and live.
+fn answer_files<S: Shelf>(
+    alloc: Global,
+    command: FileCommand,
+    net: &str,
+    second: &str,
+    shelf: &mut S,
+    monitors: Vec<Box<dyn Monitor>>,
+) -> Ending
+    ensures { let asked = file_command_asked command in
+        Answered (SaysFile OpensNet (λ file. SaysFile (OpensBytes (second_of asked)) (λ bytes. SaysOutcome (SaysFiles asked (λ firings. map (λ m. line_text m firings) monitors.items) file bytes))))
+        ((Which.Net, net.now) ∷ (second_of asked, second.now) ∷ []) (S.state shelf.old) (S.state shelf.new) (ended result) }
+{
+    match open_net(alloc, net, shelf) {
+        Opened::Accepted(net) => answer_second(alloc, command, &net, second, shelf, monitors),
+        Opened::Refused(status, text) => Ending::Whole { status, text },
+        Opened::Lost => Ending::Lost,
+    }
+}
+
+/// Carries out a request. Commands that show no firings drop the monitors unseen.
 pub fn answer_request<S: Shelf>(
     alloc: Global,
     request: Request<'_>,
@@ -45,6 +88,12 @@ pub fn answer_request<S: Shelf>(
 {
     match request {
         Request::OfNet { command, net } => answer_net(alloc, command, net, shelf),
+        Request::OfFiles {
+            command,
+            net,
+            second,
+        } => answer_files(alloc, command, net, second, shelf, monitors),
         Request::ValueOf { text } => closed(tell_value(alloc, text)),
+        Request::TrialOf { machines } => closed(tell_trial(alloc, machines)),
     }
 }

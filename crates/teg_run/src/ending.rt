@@ -1,9 +1,11 @@
 //! How the work on a request ends, before anything is written.
 ghost use Rattle.std.specs.Prelude.{◌≡◌};
 ghost use Rattle.teg_run.specs.Endings.{ending_of};
-ghost use Rattle.teg_run.specs.Meanings.{ended, outcome_of};
+ghost use Rattle.teg_commands.specs.Outcomes.{outcome_of};
+ghost use Rattle.teg_run.specs.Meanings.{ended};
 
-use crate::status::{Status, Verdict};
+use crate::status::{Status, status_of};
+use teg_commands::Outcome;
 use teg_net::OutOfMemory;
 
 /// How the work on a request ends.
@@ -15,20 +17,13 @@ pub enum Ending {
     Lost,
 }
 
-/// What a command comes to on accepted files: how it ends, and its text.
-#[derive(Drop)]
-pub struct Outcome {
-    pub verdict: Verdict,
-    pub text: Vec<u8>,
-}
-
 /// The ending of a request whose command has this outcome.
 pub fn closed(outcome: Result<Outcome, OutOfMemory>) -> Ending
     ensures { ended result ≡ ending_of (outcome_of outcome) }
 {
     match outcome {
         Ok(outcome) => Ending::Whole {
-            status: outcome.verdict.status(),
+            status: status_of(outcome.verdict),
             text: outcome.text,
         },
         Err(_) => Ending::Lost,

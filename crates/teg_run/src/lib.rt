@@ -5,24 +5,23 @@
 //! and the sink before and after, the status). Its field `run` ties these in three parts: what the
 //! words ask for, what the reads gave and what answer they lead to, and how that answer was written.
 //! The other fields say what follows from it, one promise each.
-//! It stands on `teg_words`, `teg_net`, `teg_reader`, `teg_check`, `teg_dates`, `teg_form`,
-//! `teg_parts`, `teg_howard`, `teg_cycle`, `series_form`, `teg_calc`, what `teg_model` and `dioid` say of dates, `teg_report` for
-//! the texts, and `teg_outside`.
+//! It stands on `teg_commands` for what each command comes to, on `teg_words`, `teg_reader` and
+//! `teg_check` for what is accepted, on `teg_report` for the texts, and on `teg_outside`.
 #![tactic(auto)]
 
 mod call;
 mod carry_out;
-mod cycle_times;
 mod ending;
 mod fetching;
-mod live_net;
+mod file_commands;
 mod net_commands;
 mod net_file;
 mod opening;
 mod request;
+mod second_file;
 mod status;
-mod values;
 mod writing;
 
 pub use call::workbench;
 pub use status::Status;
+pub use trial_net::make_trial;

@@ -1,54 +1,15 @@
 //! The commands on a net.
-ghost use Rattle.std.specs.Prelude.{◌≤◌};
-ghost use Rattle.teg_dates.specs.Tables.{most_numbers};
-ghost use Rattle.teg_run.specs.Meanings.{command_asked, outcome_of};
+ghost use Rattle.teg_commands.specs.Outcomes.{Tells, outcome_of};
+ghost use Rattle.teg_run.specs.Meanings.{command_asked};
 ghost use Rattle.teg_run.specs.Ranges.{IsInRange};
-ghost use Rattle.teg_run.specs.Says.{Tells, SaysCheck, SaysForm, SaysList, SaysNet};
+ghost use Rattle.teg_run.specs.Says.{SaysNet};
 
-use crate::cycle_times::{tell_cycle, tell_rounds};
-use crate::ending::Outcome;
-use crate::live_net::LiveNet;
 use crate::request::NetCommand;
-use crate::status::Verdict;
 use std::alloc::Global;
+use teg_commands::{
+    LiveNet, Outcome, tell_cycle, tell_dates, tell_form, tell_rounds, tell_size, tell_slack,
+};
 use teg_net::OutOfMemory;
-use teg_report::{Answer, report};
-
-// The size of a live net.
-fn tell_size(alloc: Global, net: &LiveNet) -> Result<Outcome, OutOfMemory>
-    ensures { Tells (SaysCheck net.now) (outcome_of result) }
-{
-    let net = net.net();
-    let answer = Answer::Live {
-        transitions: net.transitions().len() as u32,
-        places: net.places().len() as u32,
-    };
-    let text = report(alloc, None, &answer)?;
-    let verdict = Verdict::Done;
-    Ok(Outcome { verdict, text })
-}
-
-// The dates of the first firings of a live net. It takes time of order `count (n + p)` for n
-// transitions and p places.
-fn tell_dates(alloc: Global, net: &LiveNet, count: u32) -> Result<Outcome, OutOfMemory>
-    requires { count ≤ most_numbers }
-    ensures { Tells (SaysList count net.now) (outcome_of result) }
-{
-    let table = net.first_dates(alloc, count)?;
-    let text = report(alloc, Some(net.net()), &Answer::List { table: &table })?;
-    let verdict = Verdict::Done;
-    Ok(Outcome { verdict, text })
-}
-
-// The standard form of a live net. It takes time of order n^3 + n p for n transitions and p places.
-fn tell_form(alloc: Global, net: &LiveNet) -> Result<Outcome, OutOfMemory>
-    ensures { Tells (SaysForm net.now) (outcome_of result) }
-{
-    let form = net.standard_form(alloc)?;
-    let text = report(alloc, Some(net.net()), &Answer::Form { form: &form })?;
-    let verdict = Verdict::Done;
-    Ok(Outcome { verdict, text })
-}
 
 /// What the command comes to on a live net.
 pub fn of_net(alloc: Global, command: NetCommand, net: &LiveNet) -> Result<Outcome, OutOfMemory>
@@ -61,5 +22,6 @@ pub fn of_net(alloc: Global, command: NetCommand, net: &LiveNet) -> Result<Outco
         NetCommand::Form => tell_form(alloc, net),
         NetCommand::Cycle { rounds: false } => tell_cycle(alloc, net),
         NetCommand::Cycle { rounds: true } => tell_rounds(alloc, net),
+        NetCommand::Slack => tell_slack(alloc, net),
     }
 }

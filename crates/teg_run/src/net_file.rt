@@ -8,11 +8,11 @@ ghost use Rattle.teg_run.specs.Openings.{OpensNet, OpensDocument, OpensNetLists,
 ghost use Rattle.teg_run.specs.Reads.{OpenedBy};
 
 use crate::fetching::fetch;
-use crate::live_net::LiveNet;
 use crate::opening::{Opened, refused, unread};
 use crate::status::Status;
 use std::alloc::Global;
 use teg_check::{CheckRefusal, check};
+use teg_commands::LiveNet;
 use teg_net::Net;
 use teg_outside::{Shelf, ShelfFault};
 use teg_reader::{ReadRefusal, read_net};

@@ -2,6 +2,8 @@
 ghost use Rattle.std.specs.Prelude.{◌≡◌};
 ghost use Rattle.teg_run.specs.Statuses.{code_of, status_of};
 
+use teg_commands::Verdict;
+
 /// How a call of [`crate::workbench`] ends.
 #[derive(Clone, Copy, Debug, PartialEq, Eq)]
 pub enum Status {
@@ -56,24 +58,13 @@ impl Status {
     }
 }
 
-/// How a command on accepted files ends: refusals of words and nets, faults and want of memory are
-/// none of its business.
-#[derive(Clone, Copy, Debug, PartialEq, Eq)]
-pub enum Verdict {
-    /// The command was carried out.
-    Done,
-    /// The expression has no value within the limits.
-    Calc,
-}
-
-impl Verdict {
-    /// The status of a call that ends with this verdict.
-    pub fn status(self) -> Status
-        ensures { result ≡ status_of self }
-    {
-        match self {
-            Verdict::Done => Status::Done,
-            Verdict::Calc => Status::Calc,
-        }
+/// The status of a call that ends with this verdict.
+pub fn status_of(verdict: Verdict) -> Status
+    ensures { result ≡ status_of verdict }
+{
+    match verdict {
+        Verdict::Done => Status::Done,
+        Verdict::Log => Status::Log,
+        Verdict::Calc => Status::Calc,
     }
 }

@@ -8,3 +8,4 @@ pub mod Limiting
 pub mod OwnForms
 pub mod Reaching
 pub mod Transferring
+pub mod WalkForms

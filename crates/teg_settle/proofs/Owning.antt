@@ -61,6 +61,15 @@ own_least net r ready w x h =
     let here : IsLeastIn (system_with net (initial_by Ready) rel) x = subst (λ t. IsLeastIn (system_with net (initial_by t) rel) x) ready h in
     least_of_system net (listed net) x (least_same net (initial_by Ready) rel (λ t k. at_input net t (listed net t k) Early) x (own_release net r w) here)
 
+waits_as_role : (r : Role) (list number : ℕ) → wait_by_role r number ≡ Dates list → r ≡ Input
+waits_as_role Internal list number e = absurd (cc)
+waits_as_role Input list number e = refl
+waits_as_role Output list number e = absurd (cc)
+
+waits_as_input : (o : Option Transition) (list number : ℕ) → wait_by o number ≡ Dates list → IsSomeAnd o (λ x. x.role ≡ Input)
+waits_as_input None list number e = absurd (cc)
+waits_as_input (Some t) list number e = waits_as_role t.role list number e
+
 -- what waits is a transition of the net
 pub waits_within : (net : NetLists) (f : ℕ → Wait) (r : Releases) → AreWaits net f r.waits.items → ((t list : ℕ) → f t ≡ Dates list → IsInput net t) → OnlyInputsWait net r.waits.items
 waits_within net f r w inputs = record {
@@ -74,3 +83,6 @@ waits_within net f r w inputs = record {
       absurd (cc))
       (cases_lt t (length net.transitions));
 }
+
+pub own_waits : (net : NetLists) (r : Releases) → AreWaits net (wait_of net) r.waits.items → OnlyInputsWait net r.waits.items
+own_waits net r w = waits_within net (wait_of net) r w (λ t list e. waits_as_input (slice_get net.transitions t) list (list_number net t) e)

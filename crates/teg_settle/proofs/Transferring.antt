@@ -34,7 +34,7 @@ use Rattle.teg_settle.proofs.Leasts.{rank_of, ranks_of}
 use Rattle.teg_settle.proofs.Owning.{least_same, waits_within}
 
 -- the input is released at 0, and nothing else at all
-abbrev released : ℕ → ℕ → ℕ → Date
+abbrev pub released : ℕ → ℕ → ℕ → Date
 released input t k = cond (eqb input t) (At (pos 0)) Early
 
 abbrev alone : NetLists → ℕ → System
@@ -44,7 +44,7 @@ is_transition : (o : Option Transition) → o ≡ None → IsSomeAnd o (λ x. x.
 is_transition None e h = h
 is_transition (Some t) e h = absurd (cc)
 
-input_within : (net : NetLists) (input : ℕ) → IsInput net input → input < length net.transitions
+pub input_within : (net : NetLists) (input : ℕ) → IsInput net input → input < length net.transitions
 input_within net input h =
     ⊎_elim
     (λ (l : input < length net.transitions). l)
@@ -104,7 +104,7 @@ zero_later : (n : ℕ) → At (pos n) ≡ delayed n (At (pos 0))
 zero_later n = ap At (omega (arith, ints))
 
 -- the greatest start plus time is the greatest time from the first firing of the input
-times_from : (net : NetLists) (input t k : ℕ) (d : Date) → input < length net.transitions → IsGreatestOfWalksIn net (alone net input) t k d → IsGreatestWalkTime net input t k d
+pub times_from : (net : NetLists) (input t k : ℕ) (d : Date) → input < length net.transitions → IsGreatestOfWalksIn net (alone net input) t k d → IsGreatestWalkTime net input t k d
 times_from net input t k d in' h =
     let most : (steps : List Step) → Walks net input 1 steps t k → IsAtMostDate (At (pos (walk_time net steps))) d =
     λ steps w. h.greatest (At (pos (walk_time net steps)))

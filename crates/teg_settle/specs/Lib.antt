@@ -7,3 +7,4 @@ pub mod Copies
 pub mod Transfers
 pub mod Endless
 pub mod Slopes
+pub mod Laws

@@ -15,6 +15,7 @@
 #![tactic(auto)]
 
 mod endless;
+mod laws;
 mod limited;
 mod refusals;
 mod releases;
@@ -25,6 +26,7 @@ mod tests;
 mod window;
 
 pub use endless::settle;
+pub use laws::walk_times_settle;
 pub use limited::{settle_within, transfer};
 pub use refusals::SettleRefusal;
 pub use settled::Settled;

@@ -22,7 +22,11 @@ pub(crate) struct Found {
     pub(crate) form: Repetition,
 }
 
-/// The least number past which the dates go on in this period, if the rows are enough to see it.
+/// The pairs of rows that are compared before the input lists are.
+const FIRST_PAIRS: u64 = 16;
+
+/// The least number past which the dates go on in this period, if the rows are enough to see it. What
+/// fails soonest is tested first: a few pairs of rows, then the lists, then all other pairs.
 fn seen_from(net: &Net, releases: &Releases, rows: &Rows, most: u64, period: u64) -> Option<u64>
     requires ready { IsReady net.now releases.now most }
     requires rows { AreRowsOf net.now releases.now rows.now }
@@ -33,16 +37,17 @@ fn seen_from(net: &Net, releases: &Releases, rows: &Rows, most: u64, period: u64
     if !is_rising(net, rows, period) {
         return None;
     }
-    let after = moved_past(net, rows, period);
     let latest = rows.count() - most - period - period;
-    if after > latest {
+    let near = latest.max((rows.count() - period).saturating_sub(FIRST_PAIRS));
+    let first = moved_past(net, rows, period, near);
+    if first > near {
         return None;
     }
-    if are_released_alike(net, releases, rows, period, latest) {
-        Some(after)
-    } else {
-        None
+    if !are_released_alike(net, releases, rows, period, latest) {
+        return None;
     }
+    let after = moved_past(net, rows, period, 0);
+    if after > latest { None } else { Some(after) }
 }
 
 /// The least number and the least period by which the dates go on, if the rows are enough to see them.

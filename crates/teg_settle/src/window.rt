@@ -95,21 +95,22 @@ fn is_moved(net: &Net, rows: &Rows, period: u64, number: u64) -> bool
     true
 }
 
-/// The least number past which the dates of the rows have moved so, found from the end.
-pub(crate) fn moved_past(net: &Net, rows: &Rows, period: u64) -> u64
+/// The least number, from `least` on, past which the dates of the rows have moved so, found from the end.
+pub(crate) fn moved_past(net: &Net, rows: &Rows, period: u64, least: u64) -> u64
     requires window { IsWindow net.now rows.now period }
+    requires least { least + period ≤ rows.now.count }
     ensures within { result + period ≤ rows.now.count }
     ensures moved { IsMovedPast rows.now period result }
-    ensures first { 1 ≤ result → IsMovedAt rows.now period result → ⊥ }
+    ensures first { least < result → IsMovedAt rows.now period result → ⊥ }
 {
     let mut number = rows.count() - period;
-    while number > 0 {
+    while number > least {
         if !is_moved(net, rows, period, number) {
             return number;
         }
         number -= 1;
     }
-    0
+    least
 }
 
 /// Whether past `after` the releases of the transition go on by the step in each period: tested from

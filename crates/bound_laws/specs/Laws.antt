@@ -1,0 +1,35 @@
+-- What holds of the dates past the bound.
+use Rattle.std.specs.Prelude.{ℕ, zero, suc, pos, ◌+◌, ◌*◌, ◌<◌, ◌≤◌, ◌≡◌, List, length}
+use Rattle.dioid.specs.declared.dates.Date.TheVariants.{At}
+use Rattle.teg_net.specs.declared.entries.PlaceId.{PlaceId}
+use Rattle.teg_net.specs.Nets.{IsNet, IsInput}
+use Rattle.teg_net.specs.Circuits.{IsPathBetween, IsCircuit, IsLive, time_of}
+use Rattle.dioid.specs.declared.dates.Date.{Date}
+use Rattle.dioid.specs.Dates.{delayed}
+use Rattle.teg_net.specs.Nets.{NetLists}
+use Rattle.teg_model.specs.Datings.{IsLeastDating}
+use Rattle.bound_laws.specs.Critical.{AllReadyAtZero, IsStrong, IsCommon, bound_of}
+
+abbrev pub DatesGoOnPastTheBound : Type 0
+DatesGoOnPastTheBound = (net : NetLists) (hold tokens a b : ℕ) → IsStrong net hold tokens a b → (x : ℕ → ℕ → Date) → IsLeastDating net x
+    → (L S : ℕ) → IsCommon net a b L → b * S ≡ a * L
+    → (t k : ℕ) → t < length net.transitions → bound_of (length net.transitions) hold tokens a b < k → x t (k + L) ≡ delayed S (x t k)
+
+abbrev pub factorial : ℕ → ℕ
+factorial zero = 1
+factorial (suc n) = suc n * factorial n
+
+-- a common multiple that needs no choice: the factorial of the most tokens that a circuit can have
+abbrev pub FactorialsAreCommon : Type 0
+FactorialsAreCommon = (net : NetLists) (hold tokens a b : ℕ) → IsStrong net hold tokens a b → IsCommon net a b (factorial (length net.transitions * tokens))
+
+-- each common multiple is that of a whole step
+abbrev pub StepsAreWhole : Type 0
+StepsAreWhole = (net : NetLists) (hold tokens a b L : ℕ) → IsStrong net hold tokens a b → IsCommon net a b L → (S : ℕ) × (b * S ≡ a * L)
+
+-- where no circuit takes time, all dates are 0
+abbrev pub StillNetsStayAtZero : Type 0
+StillNetsStayAtZero = (net : NetLists) → IsNet net → IsLive net → ((t : ℕ) → IsInput net t → ⊥)
+    → ((s t : ℕ) → s < length net.transitions → t < length net.transitions → (ps : List PlaceId) × IsPathBetween net s ps t)
+    → ((ps : List PlaceId) → IsCircuit net ps → time_of net ps ≡ 0) → AllReadyAtZero net
+    → (x : ℕ → ℕ → Date) → IsLeastDating net x → (t k : ℕ) → t < length net.transitions → 1 ≤ k → x t k ≡ At (pos 0)

@@ -1,0 +1,29 @@
+//! The laws of the settling bound. Each is a function that does nothing when it runs: its contract is
+//! the law.
+ghost use Rattle.bound_laws.specs.Laws.{DatesGoOnPastTheBound, FactorialsAreCommon, StepsAreWhole, StillNetsStayAtZero};
+ghost use Rattle.bound_laws.specs.Periods.{FormsKeepTheBound};
+
+/// Past the bound the least dates of a strongly connected net go on by every common multiple of the
+/// tokens of critical circuits, one through each critical transition (chapter 3).
+pub fn dates_go_on_past_the_bound()
+    ensures { DatesGoOnPastTheBound }
+{}
+
+/// A common multiple of the tokens of all critical circuits is there, and each common multiple has a
+/// whole step.
+pub fn common_multiples_exist()
+    ensures common { FactorialsAreCommon }
+    ensures whole { StepsAreWhole }
+{}
+
+/// The dates of a strongly connected net whose circuits take no time are all 0.
+pub fn still_nets_stay_at_zero()
+    ensures { StillNetsStayAtZero }
+{}
+
+/// The shortest settled form of a strongly connected net begins within the bound, and its period
+/// divides every common multiple of the tokens of critical circuits, one through each critical
+/// transition (chapter 3).
+pub fn forms_keep_the_bound()
+    ensures { FormsKeepTheBound }
+{}

@@ -1,0 +1,15 @@
+//! How soon the least dates of a net become periodic (chapter 3, cyclicity).
+//!
+//! For a strongly connected live net without inputs, whose tokens are all ready at 0, a number read
+//! off the net bounds the number past which its dates go on by steps, and the period divides every
+//! common multiple of the tokens of critical circuits, one through each critical transition. The one
+//! contract: each law is the contract of a function that does nothing when it runs. The crate stands
+//! on `teg_model` for datings, on `settled_laws` for forms and on `teg_loops` for loops of paths.
+#![tactic(auto)]
+
+mod laws;
+
+pub use laws::{
+    common_multiples_exist, dates_go_on_past_the_bound, forms_keep_the_bound,
+    still_nets_stay_at_zero,
+};

@@ -1,0 +1,9 @@
+use Rattle.std.proofs.Common.{inl, refl, ap, ◌∙◌}
+use Rattle.teg_net.specs.Nets.{NetLists}
+use Rattle.teg_commands.specs.Texts.{slack_text}
+use Rattle.teg_commands.proofs.slack.tell_slacks.Goals as goal
+
+pub returns : goal.returns
+returns c =
+    let told = c.in_ok-text.ensures.text ∙ ap (λ (net : NetLists). slack_text net c.args.ratio.now c.in_ok-slacks.slacks) c.net.ensures in
+    (refl, inl (c.args.ratio.now, c.in_ok-slacks.slacks, c.requires.best, c.in_ok-slacks.ensures.slacks c.args.ratio.now c.requires.best.greatest, told))

@@ -1,0 +1,62 @@
+-- What is said of the circuits of a net: its parts, the greatest ratio of each and of the net, and the rounds that led to them.
+use Rattle.std.specs.Prelude.{ℕ, ◌+◌, ◌≡◌, Bool, List, [], ◌∷◌, Option, Some, None, length, map}
+use Rattle.std.specs.Global.{Vec}
+use Rattle.teg_howard.specs.Rounds.{IsPolicyRun}
+use Rattle.teg_howard.specs.Runs.{IsAnswerOfLast}
+use Rattle.teg_net.specs.declared.answers.CycleAnswer.{CycleAnswer}
+use Rattle.teg_net.specs.declared.answers.PartAnswer.{PartAnswer}
+use Rattle.teg_net.specs.declared.answers.PartAnswer.TheVariants.{NoCircuit, Best}
+use Rattle.teg_net.specs.declared.rounds.Round.{Round}
+use Rattle.teg_net.specs.GreatestRatios.{IsCycleTime, IsFirstGreatest}
+use Rattle.teg_net.specs.Nets.{NetLists}
+use Rattle.teg_net.specs.PartAnswers.{ArePartAnswers}
+use Rattle.teg_parts.specs.Partitions.{AreParts}
+use Rattle.teg_commands.specs.declared.outcome.Verdict.{Verdict}
+use Rattle.teg_commands.specs.declared.outcome.Verdict.TheVariants.{Done as VerdictDone}
+use Rattle.teg_commands.specs.Texts.{cycle_text, runs_text}
+
+-- the numbers are those of the strong parts of the net in their order, with an answer for each
+abbrev pub HasStrongParts : NetLists → CycleAnswer → Type 0
+HasStrongParts net answer =
+    (inner : List Bool) × AreParts net (record { part_of = answer.part_of.items; inner = inner }) × (length answer.parts.items ≡ length inner)
+
+-- the cycle times of a net: of each of its strong parts the greatest ratio, a circuit that has it and the greatest sums as potentials, or
+-- that no circuit lies in it; the first part of greatest ratio, which is the greatest of the net, or none where the net has no circuit
+pub record IsCycleAnswer (net : NetLists) (answer : CycleAnswer) : Type 0 where
+  pub strong : HasStrongParts net answer
+  pub parts : ArePartAnswers net answer.part_of.items answer.parts.items
+  pub first : IsFirstGreatest answer.parts.items answer.best
+  pub of_net : IsCycleTime net answer.parts.items answer.best
+
+-- a policy run of the part that ends in this answer, and none where no circuit lies in it
+abbrev pub IsRunOf : NetLists → List ℕ → ℕ → PartAnswer → Option (List Round) → Type 0
+IsRunOf net part_of k NoCircuit rounds = rounds ≡ None
+IsRunOf net part_of k (Best ratio circuit potentials) None = ⊥
+IsRunOf net part_of k (Best ratio circuit potentials) (Some rounds) = IsPolicyRun net part_of k rounds × IsAnswerOfLast rounds (Best ratio circuit potentials)
+
+-- of each part with a circuit a policy run that ends in its answer, in order, where the parts from number k on have these answers
+abbrev pub AreRunsFrom : NetLists → List ℕ → ℕ → List PartAnswer → List (List Round) → Type 0
+AreRunsFrom net part_of k [] runs = runs ≡ []
+AreRunsFrom net part_of k (NoCircuit ∷ answers) runs = AreRunsFrom net part_of (k + 1) answers runs
+AreRunsFrom net part_of k (Best ratio circuit potentials ∷ answers) [] = ⊥
+AreRunsFrom net part_of k (Best ratio circuit potentials ∷ answers) (rounds ∷ runs) =
+    IsPolicyRun net part_of k rounds × IsAnswerOfLast rounds (Best ratio circuit potentials) × AreRunsFrom net part_of (k + 1) answers runs
+
+-- of each part with a circuit a policy run that ends in its answer, in order
+abbrev pub AreRuns : NetLists → CycleAnswer → List (List Round) → Type 0
+AreRuns net answer runs = AreRunsFrom net answer.part_of.items 0 answer.parts.items runs
+
+-- rounds as the code holds them, a list for each part
+abbrev pub rounds_in : List (Vec Round) → List (List Round)
+rounds_in runs = map (λ run. run.items) runs
+
+-- of a live net the cycle times are said
+abbrev pub SaysCycle : NetLists → Verdict → List ℕ → Type 0
+SaysCycle net verdict text =
+    (verdict ≡ VerdictDone) × ((answer : CycleAnswer) × IsCycleAnswer net answer × (text ≡ cycle_text net answer None))
+
+-- of a live net the cycle times are said, and the rounds that led to them
+abbrev pub SaysRounds : NetLists → Verdict → List ℕ → Type 0
+SaysRounds net verdict text =
+    (verdict ≡ VerdictDone)
+    × ((answer : CycleAnswer) × (runs : List (List Round)) × IsCycleAnswer net answer × AreRuns net answer runs × (text ≡ runs_text net answer runs))

@@ -1,0 +1,15 @@
+-- What a command comes to, if it found memory.
+use Rattle.std.specs.Prelude.{ℕ, List, Option, Some, None, Result, Ok, Err}
+use Rattle.teg_net.specs.declared.memory.OutOfMemory.{OutOfMemory}
+use Rattle.teg_commands.specs.declared.outcome.Outcome.{Outcome}
+use Rattle.teg_commands.specs.declared.outcome.Verdict.{Verdict}
+
+-- how it ends and its text, if memory was found
+abbrev pub outcome_of : Result Outcome OutOfMemory → Option (Verdict × List ℕ)
+outcome_of (Ok outcome) = Some (outcome.verdict, outcome.text.items)
+outcome_of (Err e) = None
+
+-- a claim on what a command comes to, where it found memory
+abbrev pub Tells : (Verdict → List ℕ → Type 0) → Option (Verdict × List ℕ) → Type 0
+Tells says None = Unit {0}
+Tells says (Some outcome) = says outcome.0 outcome.1

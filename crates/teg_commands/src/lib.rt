@@ -1,0 +1,25 @@
+//! What each command comes to on accepted files: how it ends, and its text.
+//!
+//! Each command is one function over values that are accepted already, as a live net, with one
+//! definition of what it says of them: `Tells (SaysX ..) (outcome_of result)`. Words, files, faults
+//! and writing are none of its business; `teg_run` puts them before it and behind it.
+//! It stands on the crates that answer, and on `teg_report` for the texts.
+#![tactic(auto)]
+
+mod cycle_times;
+mod live_net;
+mod outcome;
+mod recorded;
+mod sizes_and_dates;
+mod slack;
+mod trial;
+mod values;
+
+pub use cycle_times::{tell_cycle, tell_rounds};
+pub use live_net::LiveNet;
+pub use outcome::{Outcome, Verdict};
+pub use recorded::tell_replay;
+pub use sizes_and_dates::{tell_dates, tell_form, tell_size};
+pub use slack::tell_slack;
+pub use trial::tell_trial;
+pub use values::tell_value;

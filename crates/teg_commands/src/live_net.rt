@@ -1,0 +1,136 @@
+//! Nets that were found live.
+ghost use Rattle.std.specs.Prelude.{◌≡◌, ◌≤◌, length, IfOk};
+ghost use Rattle.teg_check.specs.Ranks.{IsRanking};
+ghost use Rattle.teg_dates.specs.Tables.{most_numbers, HasLeastDates};
+ghost use Rattle.teg_form.specs.Forms.{IsFormOf};
+ghost use Rattle.std.specs.Option.{option_map};
+ghost use Rattle.teg_cycle.specs.LastRounds.{AreLastOfRuns, IsLastOfRun};
+ghost use Rattle.teg_critical.specs.Slacks.{AreSlacks};
+ghost use Rattle.teg_net.specs.Certificates.{IsCertificate};
+ghost use Rattle.teg_net.specs.GreatestRatios.{IsAnyPlace, IsGreatestRatio};
+ghost use Rattle.teg_net.specs.Ratios.{Fraction};
+ghost use Rattle.teg_net.specs.PartAnswers.{IsPartAnswer};
+ghost use Rattle.teg_parts.specs.Partitions.{AreParts};
+ghost use Rattle.teg_report.specs.Forms.{IsFormWithin};
+ghost use Rattle.teg_commands.specs.CycleTimes.{IsCycleAnswer, IsRunOf};
+
+use std::alloc::Global;
+use std::marker::Model;
+use teg_check::Live;
+use teg_critical::{Slacks, critical};
+use teg_cycle::cycle;
+use teg_dates::{Table, first_dates};
+use teg_form::{Form, standard_form};
+use teg_howard::{howard, policy_runs_are_one};
+use teg_net::{CycleAnswer, Net, OutOfMemory, PartAnswer, Round};
+use teg_parts::{Parts, split};
+
+/// A live net with its ranks. Contracts see the net.
+#[derive(Drop)]
+pub struct LiveNet {
+    net: Net,
+    live: Live,
+}
+
+impl Model for LiveNet {
+    ghost use Rattle.teg_net.specs.Nets.{NetLists};
+    ghost use Rattle.teg_check.specs.Ranks.{IsRanking};
+
+    ghost Value = { NetLists };
+
+    ghost view = { λ a. a.net };
+
+    ghost invariant = { λ a. IsRanking a.net a.live };
+}
+
+impl LiveNet {
+    /// The net with these ranks of it.
+    pub fn new(net: Net, live: Live) -> LiveNet
+        requires { IsRanking net live }
+        ensures { result ≡ net }
+    {
+        LiveNet { net, live }
+    }
+
+    /// The net itself.
+    pub fn net(&self) -> &Net
+        ensures { result.now ≡ self.now }
+    {
+        &self.net
+    }
+
+    /// The least dates of the numbers 1 to `count`, which is at most 10,000.
+    pub fn first_dates(&self, alloc: Global, count: u32) -> Result<Table, OutOfMemory>
+        requires { count ≤ most_numbers }
+        ensures width { IfOk result (λ table. table.width ≡ length self.now.transitions) }
+        ensures count { IfOk result (λ table. table.count ≡ count) }
+        ensures least { IfOk result (λ table. HasLeastDates self.now table) }
+    {
+        first_dates(alloc, &self.net, &self.live, count)
+    }
+
+    /// The standard form.
+    pub fn standard_form(&self, alloc: Global) -> Result<Form, OutOfMemory>
+        ensures form { IfOk result (λ form. IsFormOf self.now form) }
+        ensures within { IfOk result (λ form. IsFormWithin self.now form) }
+    {
+        // The rules of the net, by which both ends of an entry are among these.
+        let _transitions = self.net.transitions();
+        standard_form(alloc, &self.net, &self.live)
+    }
+
+    /// The strong parts.
+    pub fn parts(&self, alloc: Global) -> Result<Parts, OutOfMemory>
+        ensures { IfOk result (λ parts. AreParts self.now parts) }
+    {
+        split(alloc, &self.net)
+    }
+
+    /// The cycle times of the net and of these parts of it.
+    pub fn cycle(&self, alloc: Global, parts: &Parts) -> Result<CycleAnswer, OutOfMemory>
+        requires { AreParts self.now parts.now }
+        ensures answer { IfOk result (λ answer. IsCycleAnswer self.now answer) }
+        ensures part_of { IfOk result (λ answer. answer.part_of.items ≡ parts.now.part_of) }
+        ensures count { IfOk result (λ answer. length answer.parts.items ≡ length parts.now.inner) }
+        ensures runs { IfOk result (λ answer. AreLastOfRuns self.now parts.now.part_of answer.parts.items) }
+        ensures certificate { IfOk result (λ answer. IsCertificate self.now answer) }
+    {
+        let answer = cycle(alloc, &self.net, &self.live, parts)?;
+        Ok(answer)
+    }
+
+    /// The slack of each place, by an answer on the cycle times of the net.
+    pub fn slacks(&self, alloc: Global, answer: &CycleAnswer) -> Result<Slacks, OutOfMemory>
+        requires { IsCertificate self.now answer.now }
+        ensures each { IfOk result (λ slacks. length slacks ≡ length self.now.places) }
+        ensures slacks { IfOk result (λ slacks. (r : Fraction) → IsGreatestRatio self.now IsAnyPlace r → AreSlacks self.now r slacks) }
+    {
+        critical(alloc, &self.net, answer)
+    }
+
+    /// The rounds of policy iteration that end in this answer of a part; none where no circuit lies
+    /// in the part.
+    pub fn rounds(
+        &self,
+        alloc: Global,
+        parts: &Parts,
+        part: u32,
+        answer: &PartAnswer,
+    ) -> Result<Option<Vec<Round>>, OutOfMemory>
+        requires strong { AreParts self.now parts.now }
+        requires answer { IsPartAnswer self.now parts.now.part_of part answer.now }
+        requires last { IsLastOfRun self.now parts.now.part_of part answer.now }
+        ensures { IfOk result (λ rounds. IsRunOf self.now parts.now.part_of part answer.now (option_map (λ r. r.items) rounds)) }
+    {
+        match answer {
+            PartAnswer::NoCircuit => Ok(None),
+            PartAnswer::Best { .. } => {
+                // A live net has one policy run a part, so this one ends in the answer.
+                let _transitions = self.net.transitions();
+                policy_runs_are_one();
+                let (_answer, rounds) = howard(alloc, &self.net, &self.live, parts, part)?;
+                Ok(Some(rounds))
+            }
+        }
+    }
+}

@@ -1,0 +1,64 @@
+//! The slack of the places of a live net.
+ghost use Rattle.std.specs.Prelude.{IfNone, IfSome};
+ghost use Rattle.teg_commands.specs.CycleTimes.{IsCycleAnswer};
+ghost use Rattle.teg_commands.specs.Outcomes.{Tells, outcome_of};
+ghost use Rattle.teg_commands.specs.Slacks.{IsBestRatio, SaysSlack};
+ghost use Rattle.teg_net.specs.Certificates.{IsCertificate};
+ghost use Rattle.teg_net.specs.GreatestRatios.{HasNoCircuit, IsAnyPlace};
+
+use crate::live_net::LiveNet;
+use crate::outcome::{Outcome, Verdict};
+use std::alloc::Global;
+use teg_net::{CycleAnswer, OutOfMemory, PartAnswer, Ratio};
+use teg_report::{Answer, report};
+
+/// The greatest ratio that the cycle times of a live net tell; none where it has no circuit.
+pub(crate) fn best_ratio(net: &LiveNet, answer: &CycleAnswer) -> Option<Ratio>
+    requires { IsCycleAnswer net.now answer.now }
+    ensures none { IfNone result (HasNoCircuit net.now IsAnyPlace) }
+    ensures some { IfSome result (IsBestRatio net.now) }
+{
+    let part = answer.best?;
+    match &answer.parts[part as usize] {
+        PartAnswer::NoCircuit => None,
+        PartAnswer::Best { ratio, .. } => Some(*ratio),
+    }
+}
+
+// The slack of each place, by the cycle times of a live net that has this greatest ratio.
+fn tell_slacks(
+    alloc: Global,
+    net: &LiveNet,
+    answer: &CycleAnswer,
+    ratio: &Ratio,
+) -> Result<Outcome, OutOfMemory>
+    requires certificate { IsCertificate net.now answer.now }
+    requires best { IsBestRatio net.now ratio.now }
+    ensures { Tells (SaysSlack net.now) (outcome_of result) }
+{
+    let slacks = net.slacks(alloc, answer)?;
+    let answer = Answer::Slack {
+        ratio,
+        slacks: &slacks,
+    };
+    let text = report(alloc, Some(net.net()), &answer)?;
+    let verdict = Verdict::Done;
+    Ok(Outcome { verdict, text })
+}
+
+/// The slack of each place of a live net, or that the net has no circuit. It takes time of order
+/// n (n^2 + p) for n transitions and p places, and that of the cycle times.
+pub fn tell_slack(alloc: Global, net: &LiveNet) -> Result<Outcome, OutOfMemory>
+    ensures { Tells (SaysSlack net.now) (outcome_of result) }
+{
+    let parts = net.parts(alloc)?;
+    let answer = net.cycle(alloc, &parts)?;
+    match best_ratio(net, &answer) {
+        Some(ratio) => tell_slacks(alloc, net, &answer, &ratio),
+        None => {
+            let text = report(alloc, None, &Answer::NoCircuit)?;
+            let verdict = Verdict::Done;
+            Ok(Outcome { verdict, text })
+        }
+    }
+}

@@ -1,0 +1,6 @@
+use Rattle.trial_net.proofs.Lines.{one_more}
+use Rattle.trial_net.specs.Trials.{own_place}
+use Rattle.trial_net.proofs.trial.push_own.Goals as goal
+
+pub loop-before-preserved : goal.loop-before-preserved
+loop-before-preserved c = one_more own_place c.loop-before.before _ _ _ _ c.loop-before.invariant c.in_ok-keep.ensures c.in_ok-place.ensures

@@ -1,0 +1,13 @@
+//! A line of machines with cards between neighbours, of any length up to the widest net: a net whose
+//! answers are known beforehand, to try the workbench on.
+//!
+//! Its one contract is that of [`make_trial`]: the net is `trial`, which `specs/Trials.antt` writes
+//! out place by place. The crate stands on `teg_net` alone.
+#![tactic(auto)]
+
+mod entries;
+#[cfg(test)]
+mod tests;
+mod trial;
+
+pub use trial::make_trial;
