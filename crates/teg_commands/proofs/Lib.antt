@@ -8,4 +8,5 @@ pub mod Replayed
 pub mod Rounds
 pub mod Sized
 pub mod Telling
+pub mod Transferred
 pub mod TrialLaws

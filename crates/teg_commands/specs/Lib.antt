@@ -9,4 +9,5 @@ pub mod Sizes
 pub mod Sizings
 pub mod Slacks
 pub mod Texts
+pub mod Transfers
 pub mod Values

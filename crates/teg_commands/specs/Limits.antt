@@ -4,7 +4,3 @@ use Rattle.std.specs.Prelude.{ℕ}
 -- bytes of an expression
 abbrev pub most_expression : ℕ
 most_expression = 4096
-
--- machines of a line
-abbrev pub most_machines : ℕ
-most_machines = 400

@@ -16,6 +16,7 @@ mod settled;
 mod sizes_and_dates;
 mod sizing;
 mod slack;
+mod transfers;
 mod trial;
 mod values;
 
@@ -29,5 +30,6 @@ pub use settled::{tell_date, tell_settled};
 pub use sizes_and_dates::{tell_dates, tell_form, tell_size};
 pub use sizing::tell_sizing;
 pub use slack::tell_slack;
+pub use transfers::tell_transfer;
 pub use trial::tell_trial;
 pub use values::tell_value;

@@ -13,8 +13,8 @@ use Rattle.teg_commands.specs.declared.outcome.Verdict.{Verdict}
 use Rattle.teg_commands.specs.declared.outcome.Verdict.TheVariants.{Done as VerdictDone, TooLong as VerdictTooLong, Name as VerdictName, Schedule as VerdictSchedule, Late as VerdictLate, Log as VerdictLog, Calc as VerdictCalc}
 use Rattle.teg_run.specs.Calls.{Call}
 use Rattle.teg_run.specs.Endings.{Ending, Whole, Lost}
-use Rattle.teg_run.specs.Headline.{Ends, EndsLost, HasFault, Follows, ComesOnly, ReadsAreCalm, WritesAreCalm, OverlongRose, WroteWhole, WrotePrefix, ReadsFirstOf, NamesLastRead, AllowsLimit, AllowsNet, AllowsFiles, Allows, EndsAsAllowed, Concerns, ConcernsBoth, SaysOfNet, SaysOfBoth, SaysLive, SaysLeastDates, SaysStandardForm, SaysCycleTimes, SaysPolicyRuns, SaysNoCircuit, SaysSlackOfPlaces, EndsTooLong, EndsReplay, SaysSettledDates, SaysOneDate, SaysLatestInputs, SaysReplayed, SaysMachines, SaysValues, KeepsPromises}
-use Rattle.teg_run.specs.Requests.{NetCommand, CheckNet, ListNet, FormNet, CycleNet, SlackNet, DatesNet, DateNet, FileCommand, JitNet, ReplayNet, Request, OfNet, OfFiles, ValueOf, TrialOf, request_of, files_of, asked_files, second_of}
+use Rattle.teg_run.specs.Headline.{Ends, EndsLost, HasFault, Follows, ComesOnly, ReadsAreCalm, WritesAreCalm, OverlongRose, WroteWhole, WrotePrefix, ReadsFirstOf, NamesLastRead, AllowsLimit, AllowsNet, AllowsFiles, Allows, EndsAsAllowed, Concerns, ConcernsBoth, SaysOfNet, SaysOfBoth, SaysLive, SaysLeastDates, SaysStandardForm, SaysCycleTimes, SaysPolicyRuns, SaysNoCircuit, SaysSlackOfPlaces, EndsTooLong, EndsReplay, SaysSettledDates, SaysOneDate, SaysTimes, SaysLatestInputs, SaysReplayed, SaysMachines, SaysValues, KeepsPromises}
+use Rattle.teg_run.specs.Requests.{NetCommand, CheckNet, ListNet, FormNet, CycleNet, SlackNet, DatesNet, DateNet, TransferNet, FileCommand, JitNet, ReplayNet, Request, OfNet, OfFiles, ValueOf, TrialOf, request_of, files_of, asked_files, second_of}
 use Rattle.teg_run.specs.Runs.{Answered, CarriesOut, Finished, Runs}
 use Rattle.teg_run.specs.Openings.{OpensBytes}
 use Rattle.teg_run.specs.Says.{Asked, SaysFile, SaysFiles, SaysNet, SaysOutcome}
@@ -24,9 +24,10 @@ use Rattle.teg_replay.specs.declared.replayed.Refused.{Refused}
 use Rattle.teg_commands.specs.Recorded.{SaysEnd}
 use Rattle.teg_commands.specs.Settled.{SaysTooLong}
 use Rattle.teg_commands.specs.Slacks.{SaysTrial, critical_count, trial_number}
+use Rattle.teg_commands.specs.Transfers.{TimesSettlePast}
 use Rattle.teg_commands.specs.Values.{SaysValue}
 use Rattle.teg_run.specs.Statuses.{status_of}
-use Rattle.teg_commands.specs.Texts.{usage, slack_text, settled_text, date_text, too_long_text, no_transition_text, due_text, jit_text, late_text, log_text, replayed_text, refused_text, trial_text, live_text, list_text, form_text, cycle_text, no_circuit_text, runs_text, series_text, parse_text, series_refused_text, too_large_text, fault_text}
+use Rattle.teg_commands.specs.Texts.{usage, slack_text, settled_text, date_text, transfer_text, too_long_text, no_transition_text, due_text, jit_text, late_text, log_text, replayed_text, refused_text, trial_text, live_text, list_text, form_text, cycle_text, no_circuit_text, runs_text, series_text, parse_text, series_refused_text, too_large_text, fault_text}
 use Rattle.teg_commands.proofs.CycleTold.{no_circuit_said}
 use Rattle.teg_run.proofs.Faults.{IsFaultOf, text_is_fault, net_is_fault, comes_only, follows, way_is_said, overlong_way, fault_way}
 use Rattle.teg_run.proofs.LiveNets.{live_goes_on, held_goes_on}
@@ -235,6 +236,8 @@ allowed (DatesNet limit) net verdict text h =
 allowed (DateNet word number limit) net verdict text h =
     ⊎_elim (λ (none : _). inl none.1.0)
     (λ (found : _). inr (⊎_elim (λ (done : _). limit_done limit verdict done.0) (λ (long : _). limit_long (NetSettlesPast net) limit verdict text long) found.2)) h
+allowed (TransferNet limit) net verdict text h =
+    ⊎_elim (λ (done : _). limit_done (Some limit) verdict done.0) (λ (long : _). limit_long (TimesSettlePast net) (Some limit) verdict text long) h
 
 slack_follows : (call : Call) → Runs call → SaysSlackOfPlaces call
 slack_follows call runs net asks =
@@ -267,6 +270,14 @@ date_follows call runs word number limit net asks =
     (λ (done : _). inl (found.0, done.1.0, found.1, done.1.1, done.1.2, done_with call said.0 said.1 (date_text net found.0 number (done.1.0 found.0.index number)) (ap status_of done.0) done.1.3 said.3))
     (λ (long : _). inr (inl (found.0, found.1, too_long_ends call (NetSettlesPast net) limit said.0 said.1 long said.3))) found.2) said.2)
     (λ (lost : _). inr (inr (inr lost))) (says_of_net call runs (DateNet word number limit) net asks)
+
+times_follow : (call : Call) → Runs call → SaysTimes call
+times_follow call runs limit net asks =
+    ⊎_elim
+    (λ (said : _). ⊎_elim
+    (λ (done : _). inl (done.1.0, done.1.1, done_with call said.0 said.1 (transfer_text net done.1.0) (ap status_of done.0) done.1.2 said.3))
+    (λ (long : _). inr (inl (long.1, ends_with call said.0 VerdictTooLong said.1 (too_long_text limit) long.0 long.2 said.3))) said.2)
+    (λ (lost : _). inr (inr lost)) (says_of_net call runs (TransferNet limit) net asks)
 
 -- ---- commands on a live net and a second file
 
@@ -458,6 +469,7 @@ keeps_promises call runs =
       slack = slack_follows call runs;
       dates = dates_follow call runs;
       date = date_follows call runs;
+      transfer = times_follow call runs;
       jit = latest_follow call runs;
       replay = replay_follows call runs;
       calc = value_follows call runs;

@@ -35,7 +35,7 @@ use Rattle.teg_commands.specs.CycleTimes.{IsCycleAnswer, AreRuns}
 use Rattle.teg_run.specs.Endings.{Whole, Lost}
 use Rattle.teg_run.specs.Limits.{most_bytes}
 use Rattle.teg_run.specs.Reads.{ReadsAll}
-use Rattle.teg_run.specs.Requests.{NetCommand, CheckNet, ListNet, FormNet, CycleNet, SlackNet, DatesNet, DateNet, FileCommand, JitNet, ReplayNet, Request, OfNet, OfFiles, ValueOf, TrialOf, request_of, files_of, asked_files}
+use Rattle.teg_run.specs.Requests.{NetCommand, CheckNet, ListNet, FormNet, CycleNet, SlackNet, DatesNet, DateNet, TransferNet, FileCommand, JitNet, ReplayNet, Request, OfNet, OfFiles, ValueOf, TrialOf, request_of, files_of, asked_files}
 use Rattle.teg_run.specs.Runs.{Finished, Runs}
 use Rattle.teg_run.specs.Says.{Asked, SaysFiles, SaysNet}
 use Rattle.teg_run.specs.Statuses.{status_of}
@@ -59,13 +59,15 @@ use Rattle.teg_replay.specs.Replays.{IsReplayOf}
 use Rattle.teg_replay.specs.declared.replayed.Replayed.{Replayed}
 use Rattle.teg_replay.specs.declared.replayed.Refused.{Refused}
 use Rattle.teg_outside.specs.declared.monitor.Firing.{Firing}
+use Rattle.teg_report.specs.SettledTexts.{TimesFrom}
 use Rattle.trial_net.specs.Trials.{trial}
 use Rattle.teg_commands.specs.Inputs.{IsPlanOf, IsLateFor}
 use Rattle.teg_commands.specs.Recorded.{IsToldAs}
 use Rattle.teg_commands.specs.Settled.{IsWithinLimit, SettlesWithin, HasName}
 use Rattle.teg_commands.specs.Slacks.{IsBestRatio, critical_count, trial_number}
+use Rattle.teg_commands.specs.Transfers.{AreTimesFrom, TimesSettlePast}
 use Rattle.teg_commands.specs.Values.{IsSeriesOf, SaysValue}
-use Rattle.teg_commands.specs.Texts.{usage, slack_text, settled_text, date_text, too_long_text, no_transition_text, due_text, jit_text, late_text, log_text, replayed_text, refused_text, trial_text, read_text, live_text, list_text, form_text, cycle_text, no_circuit_text, runs_text, series_text, parse_text, series_refused_text, token_free_text, too_large_text, fault_text}
+use Rattle.teg_commands.specs.Texts.{usage, slack_text, settled_text, date_text, transfer_text, too_long_text, no_transition_text, due_text, jit_text, late_text, log_text, replayed_text, refused_text, trial_text, read_text, live_text, list_text, form_text, cycle_text, no_circuit_text, runs_text, series_text, parse_text, series_refused_text, token_free_text, too_large_text, fault_text}
 
 -- ---- how a call ended
 
@@ -224,6 +226,7 @@ AllowsNet (CycleNet rounds) verdict = verdict ≡ VerdictDone
 AllowsNet SlackNet verdict = verdict ≡ VerdictDone
 AllowsNet (DatesNet limit) verdict = AllowsLimit limit verdict
 AllowsNet (DateNet word number limit) verdict = (verdict ≡ VerdictName) ⊎ AllowsLimit limit verdict
+AllowsNet (TransferNet limit) verdict = AllowsLimit (Some limit) verdict
 
 -- how an expression may end: with a refusal only where it has one
 abbrev pub AllowsValue : List ℕ → Verdict → Type 0
@@ -349,6 +352,13 @@ SaysOneDate call =
     ⊎ (((t : TransitionId) × HasName net t word × EndsTooLong call (NetSettlesPast net) limit)
     ⊎ ((All (λ t. t.name ≢ word) net.transitions × Ends call Name (no_transition_text word)) ⊎ EndsLost call))
 
+-- a live net is told with the times from each input to each output, or that those of an input settle past the limit, unless memory ran out
+abbrev pub SaysTimes : Call → Type 0
+SaysTimes call =
+    (limit : ℕ) (net : NetLists) → Concerns call (TransferNet limit) net →
+    ((times : List TimesFrom) × AreTimesFrom net limit times × Ends call Done (transfer_text net times))
+    ⊎ ((TimesSettlePast net limit × Ends call TooLong (too_long_text limit)) ⊎ EndsLost call)
+
 -- of a live net and a due file the latest dates are told, which at the inputs are the latest inputs that meet every due date; or the
 -- first row that comes late whatever the inputs are; or the first fault of the file; unless memory ran out
 abbrev pub SaysLatestInputs : Call → Type 0
@@ -429,6 +439,7 @@ pub record KeepsPromises (call : Call) : Type 0 where
   pub slack : SaysSlackOfPlaces call
   pub dates : SaysSettledDates call
   pub date : SaysOneDate call
+  pub transfer : SaysTimes call
   -- A command on a live net and a second file.
   pub jit : SaysLatestInputs call
   pub replay : SaysReplayed call

@@ -20,6 +20,7 @@ pub data NetCommand : Type 0 where
   SlackNet : NetCommand
   DatesNet : (limit : Option ℕ) → NetCommand
   DateNet : (word : List ℕ) (number : ℕ) (limit : Option ℕ) → NetCommand
+  TransferNet : (limit : ℕ) → NetCommand
 
 -- a command on a net and on a second file
 pub data FileCommand : Type 0 where
@@ -80,6 +81,11 @@ date_asked (net ∷ word ∷ count ∷ []) limit false =
     option_and_then (λ most. option_map (λ number. OfNet (DateNet word number most) net) (number_of 1 greatest_number count)) (limit_asked limit)
 date_asked rest limit rounds = None
 
+-- `transfer NET`, and perhaps `--limit N`
+abbrev pub transfer_asked : List (List ℕ) → Option (List ℕ) → Bool → Option Request
+transfer_asked (net ∷ []) limit false = option_map (λ most. OfNet (TransferNet most) net) (number_limit limit)
+transfer_asked rest limit rounds = None
+
 -- `jit NET DUE`
 abbrev pub jit_asked : List (List ℕ) → Option (List ℕ) → Bool → Option Request
 jit_asked (net ∷ due ∷ []) None false = Some (OfFiles JitNet net due)
@@ -113,8 +119,9 @@ asked_for given =
     else (if bytes_eq given.command (codes "calc") then calc_asked given.rest given.limit given.rounds
     else (if bytes_eq given.command (codes "replay") then replay_asked given.rest given.limit given.rounds
     else (if bytes_eq given.command (codes "slack") then slack_asked given.rest given.limit given.rounds
+    else (if bytes_eq given.command (codes "transfer") then transfer_asked given.rest given.limit given.rounds
     else (if bytes_eq given.command (codes "trial") then trial_asked given.rest given.limit given.rounds
-    else None))))))))))
+    else None)))))))))))
 
 -- the request that the words give, if they give one
 abbrev pub request_of : List (List ℕ) → Option Request

@@ -8,7 +8,7 @@ use crate::request::NetCommand;
 use std::alloc::Global;
 use teg_commands::{
     LiveNet, Outcome, tell_cycle, tell_date, tell_dates, tell_form, tell_rounds, tell_settled,
-    tell_size, tell_slack,
+    tell_size, tell_slack, tell_transfer,
 };
 use teg_net::OutOfMemory;
 
@@ -30,5 +30,6 @@ pub fn of_net(alloc: Global, command: NetCommand<'_>, net: &LiveNet) -> Result<O
             number,
             limit,
         } => tell_date(alloc, net, word, number, limit),
+        NetCommand::Transfer { limit } => tell_transfer(alloc, net, limit),
     }
 }

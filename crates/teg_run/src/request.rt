@@ -7,7 +7,7 @@ ghost use Rattle.teg_dates.specs.Tables.{most_numbers};
 ghost use Rattle.teg_net.specs.Limits.{greatest_number};
 ghost use Rattle.teg_settle.specs.Refusals.{greatest_limit};
 ghost use Rattle.teg_run.specs.Limits.{most_machines};
-ghost use Rattle.teg_run.specs.Requests.{asked_for, calc_asked, check_asked, cycle_asked, date_asked, dates_asked, form_asked, jit_asked, limit_asked, list_asked, number_limit, replay_asked, request_of, slack_asked, trial_asked};
+ghost use Rattle.teg_run.specs.Requests.{asked_for, calc_asked, check_asked, cycle_asked, date_asked, dates_asked, form_asked, jit_asked, limit_asked, list_asked, number_limit, replay_asked, request_of, slack_asked, transfer_asked, trial_asked};
 ghost use Rattle.teg_run.specs.Meanings.{asked};
 ghost use Rattle.teg_run.specs.Ranges.{IsFiringNumber, IsLimit, IsMachines, IsRequestInRange};
 
@@ -59,6 +59,10 @@ pub enum NetCommand<'a> {
         word: &'a str,
         number: u64,
         limit: Option<u32>,
+    },
+    /// The times from the inputs to the outputs, by settled forms of at most this length.
+    Transfer {
+        limit: u32,
     },
 }
 
@@ -261,6 +265,23 @@ fn date_asked<'a>(rest: &[&'a str], limit: Option<&'a str>, rounds: bool) -> Opt
     }
 }
 
+// `transfer NET`, and perhaps `--limit N`
+fn transfer_asked<'a>(rest: &[&'a str], limit: Option<&'a str>, rounds: bool) -> Option<Request<'a>>
+    ensures value { option_map asked result ≡ transfer_asked (texts rest.now) (option_copied limit.entry) rounds }
+    ensures in_range { IfSome (option_map asked result) IsRequestInRange }
+{
+    match (rest, rounds) {
+        ([net], false) => {
+            let limit = number_limit(limit)?;
+            Some(Request::OfNet {
+                command: NetCommand::Transfer { limit },
+                net,
+            })
+        }
+        _ => None,
+    }
+}
+
 // `jit NET DUE`
 fn jit_asked<'a>(rest: &[&'a str], limit: Option<&'a str>, rounds: bool) -> Option<Request<'a>>
     ensures value { option_map asked result ≡ jit_asked (texts rest.now) (option_copied limit.entry) rounds }
@@ -339,6 +360,7 @@ fn asked_for<'a>(given: &GivenWords<'a>) -> Option<Request<'a>>
         "calc" => calc_asked(rest, given.limit, given.rounds),
         "replay" => replay_asked(rest, given.limit, given.rounds),
         "slack" => slack_asked(rest, given.limit, given.rounds),
+        "transfer" => transfer_asked(rest, given.limit, given.rounds),
         "trial" => trial_asked(rest, given.limit, given.rounds),
         _ => None,
     }

@@ -7,6 +7,25 @@ use teg_run::{Status, workbench};
 /// A case: the words, what the file named `net` holds, how the call ends, and what it writes.
 pub type Row<'a> = (&'a [&'a str], &'a str, Status, &'a str);
 
+/// How the commands are used.
+pub const USAGE: &str =
+    "usage: teg check NET\n       teg list NET K\n       teg form NET\n       teg cycle NET [--rounds]\n       teg dates NET [--limit N|none]\n       teg date NET TRANSITION K [--limit N|none]\n       teg jit NET DUE\n       teg calc EXPR\n       teg replay NET LOG\n       teg slack NET\n       teg transfer NET [--limit N]\n       teg trial N\n";
+
+/// A shelf with two files, named `net` and `second`, whose reads with these numbers fail.
+pub fn two_files(
+    alloc: Global,
+    net: &str,
+    second: &str,
+    failing: Vec<u64>,
+) -> Result<MemoryShelf, Fail> {
+    let mut files = Vec::new(alloc);
+    for (name, text) in [("net", net), ("second", second)] {
+        let bytes = Vec::from_slice(alloc, text.as_bytes())?;
+        files.push((String::from_str(alloc, name)?, bytes))?;
+    }
+    Ok(MemoryShelf::new(alloc, files, failing))
+}
+
 /// A shelf with one file, named `net`, whose reads with these numbers fail.
 pub fn shelf_of(alloc: Global, net: &[u8], failing: Vec<u64>) -> Result<MemoryShelf, Fail> {
     let name = String::from_str(alloc, "net")?;

@@ -19,3 +19,9 @@ mod nets;
 mod ready_dates_and_durations;
 #[cfg(test)]
 mod rows;
+#[cfg(test)]
+mod second_files;
+#[cfg(test)]
+mod settled_rows;
+#[cfg(test)]
+mod slack_rows;

@@ -37,13 +37,18 @@ impl Monitor for Counter {
 #[test]
 fn monitors_are_dropped_once_and_see_nothing(rt: HostRuntime) -> Result<(), Fail> {
     let alloc = rt.alloc();
-    let table: [&[&str]; 7] = [
+    let table: [&[&str]; 12] = [
         &["check", "net"],
         &["list", "net", "3"],
         &["form", "net"],
         &["cycle", "net"],
         &["cycle", "net", "--rounds"],
         &["calc", "e"],
+        &["dates", "net"],
+        &["date", "net", "a", "3"],
+        &["slack", "net"],
+        &["transfer", "net"],
+        &["trial", "1"],
         &["check"],
     ];
     for words in table {

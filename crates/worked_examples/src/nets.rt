@@ -42,3 +42,35 @@ pub const TWO_PLACES: &str =
 /// A transition with a place of its own, and a loop with another by either of two places.
 pub const LOOP_AND_PAIR: &str =
     "[[transition]]\nname = \"a\"\n\n[[transition]]\nname = \"b\"\n\n[[place]]\nname = \"x\"\nfrom = \"a\"\nto = \"a\"\nhold = 5\ntokens = 1\n\n[[place]]\nname = \"p\"\nfrom = \"a\"\nto = \"b\"\nhold = 1\n\n[[place]]\nname = \"q\"\nfrom = \"a\"\nto = \"b\"\nhold = 2\n\n[[place]]\nname = \"r\"\nfrom = \"b\"\nto = \"a\"\ntokens = 1\n";
+
+/// A transition that follows two loops: a by 100, and d at once; d takes over at number 101.
+pub const TAKEOVER: &str =
+    "[[transition]]\nname = \"a\"\n\n[[transition]]\nname = \"d\"\n\n[[transition]]\nname = \"c\"\n\n[[place]]\nname = \"aa\"\nfrom = \"a\"\nto = \"a\"\nhold = 10\ntokens = 1\n\n[[place]]\nname = \"dd\"\nfrom = \"d\"\nto = \"d\"\nhold = 11\ntokens = 1\n\n[[place]]\nname = \"ac\"\nfrom = \"a\"\nto = \"c\"\nhold = 100\n\n[[place]]\nname = \"dc\"\nfrom = \"d\"\nto = \"c\"\n";
+
+/// An input u, a transition a with a place of its own, and an output y.
+pub const DRIVEN: &str =
+    "[[transition]]\nname = \"u\"\nrole = \"input\"\n\n[[transition]]\nname = \"a\"\n\n[[transition]]\nname = \"y\"\nrole = \"output\"\n\n[[place]]\nname = \"ua\"\nfrom = \"u\"\nto = \"a\"\nhold = 2\n\n[[place]]\nname = \"aa\"\nfrom = \"a\"\nto = \"a\"\nhold = 3\ntokens = 1\n\n[[place]]\nname = \"ay\"\nfrom = \"a\"\nto = \"y\"\nhold = 1\n";
+
+/// The loop of two transitions with two tokens, an input to b and an output from b.
+pub const LOOP_BESIDE: &str =
+    "[[transition]]\nname = \"a\"\n\n[[transition]]\nname = \"b\"\n\n[[transition]]\nname = \"u\"\nrole = \"input\"\n\n[[transition]]\nname = \"y\"\nrole = \"output\"\n\n[[place]]\nname = \"ab\"\nfrom = \"a\"\nto = \"b\"\nhold = 3\n\n[[place]]\nname = \"ba\"\nfrom = \"b\"\nto = \"a\"\nhold = 2\ntokens = 2\n\n[[place]]\nname = \"ub\"\nfrom = \"u\"\nto = \"b\"\n\n[[place]]\nname = \"by\"\nfrom = \"b\"\nto = \"y\"\n";
+
+/// The loop of two transitions, whose token is ready at 4.
+pub const READY_LOOP: &str =
+    "[[transition]]\nname = \"a\"\n\n[[transition]]\nname = \"b\"\n\n[[place]]\nname = \"ab\"\nfrom = \"a\"\nto = \"b\"\nhold = 3\n\n[[place]]\nname = \"ba\"\nfrom = \"b\"\nto = \"a\"\nhold = 2\ntokens = 1\nready = [4]\n";
+
+/// The loop of two transitions, and a place of hold 4 from a to itself.
+pub const LOOP_AND_OWN: &str =
+    "[[transition]]\nname = \"a\"\n\n[[transition]]\nname = \"b\"\n\n[[place]]\nname = \"ab\"\nfrom = \"a\"\nto = \"b\"\nhold = 3\n\n[[place]]\nname = \"ba\"\nfrom = \"b\"\nto = \"a\"\nhold = 2\ntokens = 1\n\n[[place]]\nname = \"aa\"\nfrom = \"a\"\nto = \"a\"\nhold = 4\ntokens = 1\n";
+
+/// The same with hold 5.
+pub const LOOP_AND_EQUAL: &str =
+    "[[transition]]\nname = \"a\"\n\n[[transition]]\nname = \"b\"\n\n[[place]]\nname = \"ab\"\nfrom = \"a\"\nto = \"b\"\nhold = 3\n\n[[place]]\nname = \"ba\"\nfrom = \"b\"\nto = \"a\"\nhold = 2\ntokens = 1\n\n[[place]]\nname = \"aa\"\nfrom = \"a\"\nto = \"a\"\nhold = 5\ntokens = 1\n";
+
+/// The net of u, a and y, with a transition w beside it.
+pub const DRIVEN_BESIDE: &str =
+    "[[transition]]\nname = \"u\"\nrole = \"input\"\n\n[[transition]]\nname = \"a\"\n\n[[transition]]\nname = \"y\"\nrole = \"output\"\n\n[[transition]]\nname = \"w\"\n\n[[place]]\nname = \"ua\"\nfrom = \"u\"\nto = \"a\"\nhold = 2\n\n[[place]]\nname = \"aa\"\nfrom = \"a\"\nto = \"a\"\nhold = 3\ntokens = 1\n\n[[place]]\nname = \"ay\"\nfrom = \"a\"\nto = \"y\"\nhold = 1\n";
+
+/// The net of u, a and y, whose token is ready at 6.
+pub const READY_DRIVEN: &str =
+    "[[transition]]\nname = \"u\"\nrole = \"input\"\n\n[[transition]]\nname = \"a\"\n\n[[transition]]\nname = \"y\"\nrole = \"output\"\n\n[[place]]\nname = \"ua\"\nfrom = \"u\"\nto = \"a\"\nhold = 2\n\n[[place]]\nname = \"aa\"\nfrom = \"a\"\nto = \"a\"\nhold = 3\ntokens = 1\nready = [6]\n\n[[place]]\nname = \"ay\"\nfrom = \"a\"\nto = \"y\"\nhold = 1\n";

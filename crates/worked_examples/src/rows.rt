@@ -1,15 +1,12 @@
 //! Cases whose answers were worked out by hand, as one table: the words, the net file, how the call
 //! ends, and what it writes.
-use crate::bench::{Row, answers};
+use crate::bench::{Row, USAGE, answers};
 use crate::nets::{
     DEAD_LOOP, ENDED_LIST, KANBAN, LONGEST_HOLD, LOOP, LOOP_AND_PAIR, ONE, TWO_LOOPS, TWO_PLACES,
     TWO_TOKENS, WITH_INPUTS,
 };
 use std::test::Fail;
 use teg_run::Status;
-
-const USAGE: &str =
-    "usage: teg check NET\n       teg list NET K\n       teg form NET\n       teg cycle NET [--rounds]\n       teg calc EXPR\n";
 
 const LIVE: &str = "live\ntransitions 2\nplaces 2\n";
 
