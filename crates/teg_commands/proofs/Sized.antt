@@ -1,5 +1,5 @@
 -- The circuit that is told of further tokens is in the net.
-use Rattle.std.proofs.Common.{ℕ, List, Some, None, tt}
+use Rattle.std.proofs.Common.{ℕ, List, Some, None}
 use Rattle.teg_net.specs.declared.entries.PlaceId.{PlaceId}
 use Rattle.teg_net.specs.Circuits.{IsCircuit, AreInRange}
 use Rattle.teg_net.specs.Nets.{NetLists}
