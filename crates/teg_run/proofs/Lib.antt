@@ -1,4 +1,5 @@
 pub mod Answering
+pub mod Causes
 pub mod Faults
 pub mod Growing
 pub mod LiveNets

@@ -1,5 +1,5 @@
 -- The promises of the whole call, from how it runs.
-use Rattle.std.proofs.Common.{◌≡◌, ◌≢◌, ◌-◌, ℕ, true, false, ◌⊎◌, ⊎_elim, inl, inr, List, [], ◌++◌, map, Option, Some, None, refl, sym, ap, subst, ◌∙◌}
+use Rattle.std.proofs.Common.{◌≡◌, ◌≢◌, ◌-◌, ℕ, true, false, ◌⊎◌, ⊎_elim, inl, inr, List, [], ◌∷◌, ◌++◌, map, Option, Some, None, refl, sym, ap, subst, ◌∙◌}
 use Rattle.std.proofs.lemmas.List.{append_cancel_left}
 use Rattle.teg_net.specs.Nets.{NetLists}
 use Rattle.teg_outside.specs.Causes.{Rose}
@@ -13,7 +13,7 @@ use Rattle.teg_commands.specs.declared.outcome.Verdict.{Verdict}
 use Rattle.teg_commands.specs.declared.outcome.Verdict.TheVariants.{Done as VerdictDone, TooLong as VerdictTooLong, Name as VerdictName, Schedule as VerdictSchedule, Late as VerdictLate, Log as VerdictLog, Calc as VerdictCalc}
 use Rattle.teg_run.specs.Calls.{Call}
 use Rattle.teg_run.specs.Endings.{Ending, Whole, Lost}
-use Rattle.teg_run.specs.Headline.{Ends, EndsLost, HasFault, Follows, ComesOnly, ReadsAreCalm, WritesAreCalm, OverlongRose, WroteWhole, WrotePrefix, ReadsFirstOf, NamesLastRead, AllowsLimit, AllowsNet, AllowsFiles, Allows, EndsAsAllowed, Concerns, ConcernsBoth, SaysOfNet, SaysOfBoth, SaysLive, SaysLeastDates, SaysStandardForm, SaysCycleTimes, SaysPolicyRuns, SaysNoCircuit, SaysSlackOfPlaces, EndsTooLong, EndsReplay, SaysSettledDates, SaysOneDate, SaysTimes, SaysLatestInputs, SaysReplayed, SaysMachines, SaysValues, KeepsPromises}
+use Rattle.teg_run.specs.Headline.{Ends, EndsLost, IsSaidOf, OwnOnly, HasFault, Follows, ComesOnly, ReadsAreCalm, WritesAreCalm, OverlongRose, WroteWhole, WrotePrefix, ReadsFirstOf, NamesLastRead, AllowsLimit, AllowsNet, AllowsFiles, Allows, EndsAsAllowed, Concerns, ConcernsBoth, SaysOfNet, SaysOfBoth, SaysLive, SaysLeastDates, SaysStandardForm, SaysCycleTimes, SaysPolicyRuns, SaysNoCircuit, SaysSlackOfPlaces, EndsTooLong, EndsReplay, SaysSettledDates, SaysOneDate, SaysTimes, SaysLatestInputs, SaysReplayed, SaysMachines, SaysValues, KeepsPromises}
 use Rattle.teg_run.specs.Requests.{NetCommand, CheckNet, ListNet, FormNet, CycleNet, SlackNet, DatesNet, DateNet, TransferNet, FileCommand, JitNet, ReplayNet, Request, OfNet, OfFiles, ValueOf, TrialOf, request_of, files_of, asked_files, second_of}
 use Rattle.teg_run.specs.Runs.{Answered, CarriesOut, Finished, Runs}
 use Rattle.teg_run.specs.Openings.{OpensBytes}
@@ -26,9 +26,10 @@ use Rattle.teg_commands.specs.Settled.{SaysTooLong}
 use Rattle.teg_commands.specs.Slacks.{SaysTrial, critical_count, trial_number}
 use Rattle.teg_commands.specs.Transfers.{TimesSettlePast}
 use Rattle.teg_commands.specs.Values.{SaysValue}
-use Rattle.teg_run.specs.Statuses.{status_of}
+use Rattle.teg_run.specs.Statuses.{IsOwn, status_of}
 use Rattle.teg_commands.specs.Texts.{usage, slack_text, settled_text, date_text, transfer_text, too_long_text, no_transition_text, due_text, jit_text, late_text, log_text, replayed_text, refused_text, trial_text, live_text, list_text, form_text, cycle_text, no_circuit_text, runs_text, series_text, parse_text, series_refused_text, too_large_text, fault_text}
 use Rattle.teg_commands.proofs.CycleTold.{no_circuit_said}
+use Rattle.teg_run.proofs.Causes.{said_of}
 use Rattle.teg_run.proofs.Faults.{IsFaultOf, text_is_fault, net_is_fault, comes_only, follows, way_is_said, overlong_way, fault_way}
 use Rattle.teg_run.proofs.LiveNets.{live_goes_on, held_goes_on}
 use Rattle.teg_run.proofs.ReadOrder.{none_read, reads_first}
@@ -304,7 +305,8 @@ latest_follow call runs net bytes asks =
     (λ (bad : _). inr (inr (inl (bad.0, bad.1, bad.2.1, ends_with call said.0 VerdictSchedule said.1 (due_text bad.0) bad.2.0 bad.2.2 said.3))))
     (λ (rows : _). ⊎_elim
     (λ (done : _). inl (rows.0, done.1.0, rows.1, done.1.1, done_with call said.0 said.1 (jit_text net done.1.0) (ap status_of done.0) done.1.2 said.3))
-    (λ (late : _). inr (inl (rows.0, late.0, rows.1, late.1, late.2.1, ends_with call said.0 VerdictLate said.1 (late_text net late.0) late.2.0 late.2.2 said.3))) rows.3) said.2)
+    (λ (late : _). inr (inl (rows.0, late.1.0, rows.1, late.1.1, late.1.2, late.1.3,
+    ends_with call said.0 VerdictLate said.1 (late_text net late.1.0) late.0 late.1.4 said.3))) rows.3) said.2)
     (λ (lost : _). inr (inr (inr lost))) (says_of_both call runs JitNet net bytes asks)
 
 replay_ends : (call : Call) (net : NetLists) (refused : Option Refused) (accepted : ℕ) (lines : List (List ℕ)) (verdict : Verdict) (text : List ℕ) →
@@ -365,7 +367,7 @@ end_allowed net (Some refused) accepted lines verdict text h = inr h.0
 files_allowed : (command : FileCommand) (lines : List Firing → List (List ℕ)) (net : NetLists) (bytes : List ℕ) (verdict : Verdict) (text : List ℕ) →
     SaysFiles command lines net bytes verdict text → AllowsFiles command verdict
 files_allowed JitNet lines net bytes verdict text h =
-    ⊎_elim (λ (bad : _). inr (inl bad.2.0)) (λ (rows : _). ⊎_elim (λ (done : _). inl done.0) (λ (late : _). inr (inr late.2.0)) rows.3) h
+    ⊎_elim (λ (bad : _). inr (inl bad.2.0)) (λ (rows : _). ⊎_elim (λ (done : _). inl done.0) (λ (late : _). inr (inr late.0)) rows.3) h
 files_allowed ReplayNet lines net bytes verdict text h =
     ⊎_elim (λ (bad : _). inr bad.2.0) (λ (rows : _). end_allowed net rows.2.1.refused rows.2.1.accepted (lines rows.2.0) verdict text rows.2.3) h
 
@@ -445,6 +447,25 @@ read_in_order : (call : Call) (ending : Ending) →
 read_in_order call Lost h = reads_first call.shelf_before call.shelf_after (asked_files (request_of call.words)) h.0 h.1
 read_in_order call (Whole said text) h = reads_first call.shelf_before call.shelf_after (asked_files (request_of call.words)) h.0 h.1
 
+-- ---- statuses of commands
+
+own_with : (asked : Option Request) (call : Call) (files : List (List ℕ × List ℕ)) (ending : Ending) → request_of call.words ≡ asked → call.shelf_before.files ≡ Some files → IsOwn call.status →
+    Answered (Asked asked call.lines) (asked_files asked) call.shelf_before call.shelf_after ending → Finished call.sink_before call.sink_after ending call.status →
+    (request : Request) × (text : List ℕ) × (request_of call.words ≡ Some request) × IsSaidOf files call.lines request call.status text
+    × BytesGrow call.sink_before.bytes call.sink_after.bytes text
+own_with asked call files Lost asks told own h k = absurd (subst IsOwn k.0 own)
+own_with None call files (Whole said text) asks told own h k =
+    ⊎_elim (λ (whole : _). absurd (subst IsOwn (whole.0 ∙ h.2.1.0) own)) (λ (cut : _). absurd (subst IsOwn cut.0 own)) k
+own_with (Some request) call files (Whole said text) asks told own h k =
+    ⊎_elim
+    (λ (whole : _). let is = subst (λ (s : Status). IsSaidOf files call.lines request s text) (sym whole.0)
+    (said_of files request call.lines call.shelf_before call.shelf_after h.0 said text told (subst IsOwn whole.0 own) h.1 h.2) in
+    (request, text, asks, is, whole.2))
+    (λ (cut : _). absurd (subst IsOwn cut.0 own)) k
+
+own_only : (call : Call) → Runs call → OwnOnly call
+own_only call runs files told own = own_with (request_of call.words) call files runs.0 refl told own runs.1 runs.2
+
 -- ---- all of them
 
 pub keeps_promises : (call : Call) → Runs call → KeepsPromises call
@@ -458,6 +479,7 @@ keeps_promises call runs =
       overlong = overlong_rose call runs;
       net = fault_follows Net _ net_is_fault call runs;
       net_only = λ files told e. fault_only Net _ net_is_fault (λ w. cc) (λ w. cc) (λ w. cc) call (λ t. absurd (let bad : ⊥ = cc (t, e) in bad)) runs files told e;
+      own_only = own_only call runs;
       of_net = says_of_net call runs;
       of_both = says_of_both call runs;
       check = check_follows call runs;

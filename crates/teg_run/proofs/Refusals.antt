@@ -16,7 +16,8 @@ use Rattle.teg_run.specs.declared.status.Status.TheVariants.{Text, Net, ReadFaul
 use Rattle.teg_run.specs.Headline.{IsTooLong, NetIsNoText, NetIsRefused, Opens, IsAccepted, IsNoText, IsNoNet}
 use Rattle.teg_run.specs.Limits.{most_bytes}
 use Rattle.teg_commands.specs.Texts.{read_text, token_free_text, too_large_text, fault_text}
-use Rattle.teg_run.proofs.Verdicts.{IsOwn, IsSaid}
+use Rattle.teg_run.specs.Statuses.{IsOwn}
+use Rattle.teg_run.proofs.Verdicts.{IsSaid}
 
 -- how the file is refused, with this status and text
 pub data Refusal (old new : ShelfState) (which : Which) (name : List ℕ) (status : Status) (text : List ℕ) : Type 0 where

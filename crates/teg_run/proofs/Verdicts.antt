@@ -1,26 +1,10 @@
 -- Statuses of commands, and those that the call itself gives.
 use Rattle.std.proofs.Common.{◌≡◌, ◌≢◌, subst}
 use Rattle.teg_run.specs.declared.status.Status.{Status}
-use Rattle.teg_run.specs.declared.status.Status.TheVariants.{Done, Words, Text, Net, Schedule, Late, TooLong, Log, Calc, Name, ReadFault, WriteFault, NoMemory}
+use Rattle.teg_run.specs.declared.status.Status.TheVariants.{Words, WriteFault, NoMemory}
 use Rattle.teg_commands.specs.declared.outcome.Verdict.{Verdict}
 use Rattle.teg_commands.specs.declared.outcome.Verdict.TheVariants.{Done as VerdictDone, TooLong as VerdictTooLong, Name as VerdictName, Schedule as VerdictSchedule, Late as VerdictLate, Log as VerdictLog, Calc as VerdictCalc}
-use Rattle.teg_run.specs.Statuses.{status_of}
-
--- none of Words, Text, Net, ReadFault, WriteFault and NoMemory
-abbrev pub IsOwn : Status → Type 0
-IsOwn Done = Unit {0}
-IsOwn Words = ⊥
-IsOwn Text = ⊥
-IsOwn Net = ⊥
-IsOwn Schedule = Unit {0}
-IsOwn Late = Unit {0}
-IsOwn TooLong = Unit {0}
-IsOwn Log = Unit {0}
-IsOwn Calc = Unit {0}
-IsOwn Name = Unit {0}
-IsOwn ReadFault = ⊥
-IsOwn WriteFault = ⊥
-IsOwn NoMemory = ⊥
+use Rattle.teg_run.specs.Statuses.{IsOwn, status_of}
 
 -- a verdict is none of the statuses that only the call itself gives
 pub verdict_is_own : (verdict : Verdict) → IsOwn (status_of verdict)

@@ -20,9 +20,10 @@ use Rattle.teg_run.specs.Says.{Says, SaysFile, SaysFiles, SaysNet, SaysOpening, 
 use Rattle.teg_commands.specs.Slacks.{SaysTrial}
 use Rattle.teg_commands.specs.Values.{SaysValue}
 use Rattle.teg_commands.specs.Texts.{read_text}
+use Rattle.teg_run.specs.Statuses.{IsOwn}
 use Rattle.teg_run.proofs.ReadOrder.{none_left}
 use Rattle.teg_run.proofs.Refusals.{Accepts, Refusal, Unread, Overlong, NoToml, NoNet, NotLive}
-use Rattle.teg_run.proofs.Verdicts.{IsOwn, verdict_is_own}
+use Rattle.teg_run.proofs.Verdicts.{verdict_is_own}
 
 -- the bytes of a file that was read and accepted
 pub record Taken (old mid : ShelfState) (which : Which) (name : List ℕ) : Type 0 where

@@ -38,7 +38,7 @@ use Rattle.teg_run.specs.Reads.{ReadsAll}
 use Rattle.teg_run.specs.Requests.{NetCommand, CheckNet, ListNet, FormNet, CycleNet, SlackNet, DatesNet, DateNet, TransferNet, FileCommand, JitNet, ReplayNet, Request, OfNet, OfFiles, ValueOf, TrialOf, request_of, files_of, asked_files}
 use Rattle.teg_run.specs.Runs.{Finished, Runs}
 use Rattle.teg_run.specs.Says.{Asked, SaysFiles, SaysNet}
-use Rattle.teg_run.specs.Statuses.{status_of}
+use Rattle.teg_run.specs.Statuses.{IsOwn, status_of}
 use Rattle.settled_laws.specs.Forms.{SettledForm, IsSettledFormOf, NetSettlesPast}
 use Rattle.teg_critical.specs.declared.slacks.Slack.{Slack}
 use Rattle.teg_critical.specs.Slacks.{AreSlacks}
@@ -51,7 +51,9 @@ use Rattle.teg_due.specs.Dues.{due_of}
 use Rattle.teg_due.specs.Logs.{log_of}
 use Rattle.teg_jit.specs.declared.answers.JitRefusal.{JitRefusal}
 use Rattle.teg_jit.specs.declared.answers.JitRefusal.TheVariants.{OutOfMemory as NoPlan}
+use Rattle.teg_jit.specs.DueDates.{due_in}
 use Rattle.teg_jit.specs.Plans.{PlanDates}
+use Rattle.teg_jit.specs.Refusals.{LateIsRight}
 use Rattle.teg_net.specs.declared.entries.TransitionId.{TransitionId}
 use Rattle.teg_net.specs.Ratios.{Fraction}
 use Rattle.teg_report.specs.declared.answer.Failure.{Failure}
@@ -61,10 +63,10 @@ use Rattle.teg_replay.specs.declared.replayed.Refused.{Refused}
 use Rattle.teg_outside.specs.declared.monitor.Firing.{Firing}
 use Rattle.teg_report.specs.SettledTexts.{TimesFrom}
 use Rattle.trial_net.specs.Trials.{trial}
-use Rattle.teg_commands.specs.Inputs.{IsPlanOf, IsLateFor}
+use Rattle.teg_commands.specs.Inputs.{IsPlanOf, NoInputsMeet}
 use Rattle.teg_commands.specs.Recorded.{IsToldAs}
 use Rattle.teg_commands.specs.Settled.{IsWithinLimit, SettlesWithin, HasName}
-use Rattle.teg_commands.specs.Slacks.{IsBestRatio, critical_count, trial_number}
+use Rattle.teg_commands.specs.Slacks.{SaysTrial, IsBestRatio, critical_count, trial_number}
 use Rattle.teg_commands.specs.Transfers.{AreTimesFrom, TimesSettlePast}
 use Rattle.teg_commands.specs.Values.{IsSeriesOf, SaysValue}
 use Rattle.teg_commands.specs.Texts.{usage, slack_text, settled_text, date_text, transfer_text, too_long_text, no_transition_text, due_text, jit_text, late_text, log_text, replayed_text, refused_text, trial_text, read_text, live_text, list_text, form_text, cycle_text, no_circuit_text, runs_text, series_text, parse_text, series_refused_text, token_free_text, too_large_text, fault_text}
@@ -217,6 +219,23 @@ abbrev pub AllowsLimit : Option ℕ → Verdict → Type 0
 AllowsLimit None verdict = verdict ≡ VerdictDone
 AllowsLimit (Some limit) verdict = (verdict ≡ VerdictDone) ⊎ (verdict ≡ VerdictTooLong)
 
+-- this status and text is what the request says of accepted files
+abbrev pub IsSaidOf : List (List ℕ × List ℕ) → (List Firing → List (List ℕ)) → Request → Status → List ℕ → Type 0
+IsSaidOf files lines (OfNet command name) status text =
+    (net : NetLists) × Opens files name net × ((verdict : Verdict) × (status ≡ status_of verdict) × SaysNet command net verdict text)
+IsSaidOf files lines (OfFiles command name second) status text =
+    (net : NetLists) × (bytes : List ℕ) × Opens files name net × Holds files second bytes
+    × ((verdict : Verdict) × (status ≡ status_of verdict) × SaysFiles command lines net bytes verdict text)
+IsSaidOf files lines (ValueOf value) status text = (verdict : Verdict) × (status ≡ status_of verdict) × SaysValue value verdict text
+IsSaidOf files lines (TrialOf machines) status text = (verdict : Verdict) × (status ≡ status_of verdict) × SaysTrial machines verdict text
+
+-- over told files, a status of a command comes only where the request says so of accepted files, and this text was written
+abbrev pub OwnOnly : Call → Type 0
+OwnOnly call =
+    (files : List (List ℕ × List ℕ)) → call.shelf_before.files ≡ Some files → IsOwn call.status →
+    (request : Request) × (text : List ℕ) × (request_of call.words ≡ Some request) × IsSaidOf files call.lines request call.status text
+    × BytesGrow call.sink_before.bytes call.sink_after.bytes text
+
 -- how a command on a net may end, once its files are accepted
 abbrev pub AllowsNet : NetCommand → Verdict → Type 0
 AllowsNet CheckNet verdict = verdict ≡ VerdictDone
@@ -365,8 +384,8 @@ abbrev pub SaysLatestInputs : Call → Type 0
 SaysLatestInputs call =
     (net : NetLists) (bytes : List ℕ) → ConcernsBoth call JitNet net bytes →
     ((rows : List DueRow) × (plan : PlanDates) × (due_of net bytes ≡ Ok rows) × IsPlanOf net rows plan × Ends call Done (jit_text net plan))
-    ⊎ (((rows : List DueRow) × (refusal : JitRefusal) × (due_of net bytes ≡ Ok rows) × IsLateFor net rows refusal × (refusal ≢ NoPlan)
-    × Ends call Late (late_text net refusal))
+    ⊎ (((rows : List DueRow) × (refusal : JitRefusal) × (due_of net bytes ≡ Ok rows) × (refusal ≢ NoPlan) × LateIsRight net rows refusal
+    × NoInputsMeet net (due_in rows) × Ends call Late (late_text net refusal))
     ⊎ (((refusal : DueRefusal) × (due_of net bytes ≡ Err refusal) × (refusal ≢ NoDue) × Ends call Schedule (due_text refusal)) ⊎ EndsLost call))
 
 -- a replay ends so: with the number of its firings, or with the first row that is refused and why; then the lines of the monitors
@@ -427,6 +446,8 @@ pub record KeepsPromises (call : Call) : Type 0 where
   -- A net file that says no net, or one with a token-free circuit: exactly then, where files are told.
   pub net : Follows IsNoNet Net call
   pub net_only : ComesOnly IsNoNet Net call
+  -- A status of a command comes only where it says so of accepted files.
+  pub own_only : OwnOnly call
   -- A command on a live net: what it says of that net is written.
   pub of_net : SaysOfNet call
   pub of_both : SaysOfBoth call

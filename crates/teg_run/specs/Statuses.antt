@@ -30,3 +30,19 @@ status_of VerdictSchedule = Schedule
 status_of VerdictLate = Late
 status_of VerdictLog = Log
 status_of VerdictCalc = Calc
+
+-- a status that a command gives: none of Words, Text, Net, ReadFault, WriteFault and NoMemory
+abbrev pub IsOwn : Status → Type 0
+IsOwn Done = Unit {0}
+IsOwn Words = ⊥
+IsOwn Text = ⊥
+IsOwn Net = ⊥
+IsOwn Schedule = Unit {0}
+IsOwn Late = Unit {0}
+IsOwn TooLong = Unit {0}
+IsOwn Log = Unit {0}
+IsOwn Calc = Unit {0}
+IsOwn Name = Unit {0}
+IsOwn ReadFault = ⊥
+IsOwn WriteFault = ⊥
+IsOwn NoMemory = ⊥

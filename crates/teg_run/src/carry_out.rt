@@ -24,7 +24,7 @@ use teg_report::Which;
 // Carries out a command on the net in the file of that name.
 fn answer_net<S: Shelf>(alloc: Global, command: NetCommand<'_>, net: &str, shelf: &mut S) -> Ending
     requires { IsInRange (command_asked command) }
-    ensures { Answered (SaysFile OpensNet (λ file. SaysOutcome (SaysNet (command_asked command) file))) ((Which.Net, net.now) ∷ [])
+    ensures { Answered (SaysFile OpensNet (λ file. SaysOutcome (SaysNet (command_asked command.entry) file))) ((Which.Net, net.now) ∷ [])
         (S.state shelf.old) (S.state shelf.new) (ended result) }
 {
     match open_net(alloc, net, shelf) {

@@ -15,7 +15,7 @@ use teg_net::OutOfMemory;
 /// What the command comes to on a live net.
 pub fn of_net(alloc: Global, command: NetCommand<'_>, net: &LiveNet) -> Result<Outcome, OutOfMemory>
     requires { IsInRange (command_asked command) }
-    ensures { Tells (SaysNet (command_asked command) net.now) (outcome_of result) }
+    ensures { Tells (SaysNet (command_asked command.entry) net.now) (outcome_of result) }
 {
     match command {
         NetCommand::Check => tell_size(alloc, net),
