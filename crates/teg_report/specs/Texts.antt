@@ -25,6 +25,7 @@ command_forms =
     ∷ codes "slack NET"
     ∷ codes "transfer NET [--limit N]"
     ∷ codes "trial N"
+    ∷ codes "migrate NET"
     ∷ []
 
 -- a line of the usage but the first

@@ -32,10 +32,11 @@ use Rattle.teg_commands.specs.declared.outcome.Verdict.{Verdict}
 use Rattle.teg_commands.specs.declared.outcome.Verdict.TheVariants.{Done as VerdictDone, TooLong as VerdictTooLong, Name as VerdictName, Schedule as VerdictSchedule, Late as VerdictLate, Log as VerdictLog}
 use Rattle.teg_run.specs.Calls.{Call}
 use Rattle.teg_commands.specs.CycleTimes.{IsCycleAnswer, AreRuns}
+use Rattle.teg_commands.specs.Migrations.{IsWrittenNet}
 use Rattle.teg_run.specs.Endings.{Whole, Lost}
 use Rattle.teg_run.specs.Limits.{most_bytes}
 use Rattle.teg_run.specs.Reads.{ReadsAll}
-use Rattle.teg_run.specs.Requests.{NetCommand, CheckNet, ListNet, FormNet, CycleNet, SlackNet, DatesNet, DateNet, TransferNet, FileCommand, JitNet, ReplayNet, Request, OfNet, OfFiles, ValueOf, TrialOf, request_of, files_of, asked_files}
+use Rattle.teg_run.specs.Requests.{NetCommand, CheckNet, ListNet, FormNet, CycleNet, SlackNet, DatesNet, DateNet, TransferNet, MigrateNet, FileCommand, JitNet, ReplayNet, Request, OfNet, OfFiles, ValueOf, TrialOf, request_of, files_of, asked_files}
 use Rattle.teg_run.specs.Runs.{Finished, Runs}
 use Rattle.teg_run.specs.Says.{Asked, SaysFiles, SaysNet}
 use Rattle.teg_run.specs.Statuses.{IsOwn, status_of}
@@ -246,6 +247,7 @@ AllowsNet SlackNet verdict = verdict ≡ VerdictDone
 AllowsNet (DatesNet limit) verdict = AllowsLimit limit verdict
 AllowsNet (DateNet word number limit) verdict = (verdict ≡ VerdictName) ⊎ AllowsLimit limit verdict
 AllowsNet (TransferNet limit) verdict = AllowsLimit (Some limit) verdict
+AllowsNet MigrateNet verdict = verdict ≡ VerdictDone
 
 -- how an expression may end: with a refusal only where it has one
 abbrev pub AllowsValue : List ℕ → Verdict → Type 0
@@ -378,6 +380,11 @@ SaysTimes call =
     ((times : List TimesFrom) × AreTimesFrom net limit times × Ends call Done (transfer_text net times))
     ⊎ ((TimesSettlePast net limit × Ends call TooLong (too_long_text limit)) ⊎ EndsLost call)
 
+-- a live net is told as a file of the second version, which says that net, unless memory ran out
+abbrev pub SaysMigration : Call → Type 0
+SaysMigration call =
+    (net : NetLists) → Concerns call MigrateNet net → ((text : List ℕ) × IsWrittenNet net text × Ends call Done text) ⊎ EndsLost call
+
 -- of a live net and a due file the latest dates are told, which at the inputs are the latest inputs that meet every due date; or the
 -- first row that comes late whatever the inputs are; or the first fault of the file; unless memory ran out
 abbrev pub SaysLatestInputs : Call → Type 0
@@ -461,6 +468,7 @@ pub record KeepsPromises (call : Call) : Type 0 where
   pub dates : SaysSettledDates call
   pub date : SaysOneDate call
   pub transfer : SaysTimes call
+  pub migrate : SaysMigration call
   -- A command on a live net and a second file.
   pub jit : SaysLatestInputs call
   pub replay : SaysReplayed call

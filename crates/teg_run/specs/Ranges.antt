@@ -5,7 +5,7 @@ use Rattle.teg_commands.specs.Limits.{most_expression}
 use Rattle.teg_net.specs.Limits.{greatest_number}
 use Rattle.teg_settle.specs.Refusals.{greatest_limit}
 use Rattle.teg_run.specs.Limits.{most_machines}
-use Rattle.teg_run.specs.Requests.{NetCommand, CheckNet, ListNet, FormNet, CycleNet, SlackNet, DatesNet, DateNet, TransferNet, Request, OfNet, OfFiles, ValueOf, TrialOf}
+use Rattle.teg_run.specs.Requests.{NetCommand, CheckNet, ListNet, FormNet, CycleNet, SlackNet, DatesNet, DateNet, TransferNet, MigrateNet, Request, OfNet, OfFiles, ValueOf, TrialOf}
 
 -- a firing number, counted from 1
 pub record IsFiringNumber (number : ℕ) : Type 0 where
@@ -31,6 +31,7 @@ IsInRange SlackNet = Unit {0}
 IsInRange (DatesNet limit) = IsLimit limit
 IsInRange (DateNet word number limit) = IsFiringNumber number × IsLimit limit
 IsInRange (TransferNet limit) = limit ≤ greatest_limit
+IsInRange MigrateNet = Unit {0}
 
 -- the numbers of the request keep their limits
 abbrev pub IsRequestInRange : Request → Type 0

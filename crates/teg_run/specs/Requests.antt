@@ -21,6 +21,7 @@ pub data NetCommand : Type 0 where
   DatesNet : (limit : Option ℕ) → NetCommand
   DateNet : (word : List ℕ) (number : ℕ) (limit : Option ℕ) → NetCommand
   TransferNet : (limit : ℕ) → NetCommand
+  MigrateNet : NetCommand
 
 -- a command on a net and on a second file
 pub data FileCommand : Type 0 where
@@ -101,6 +102,11 @@ abbrev pub trial_asked : List (List ℕ) → Option (List ℕ) → Bool → Opti
 trial_asked (count ∷ []) None false = option_map (λ machines. TrialOf machines) (number_of 1 most_machines count)
 trial_asked rest limit rounds = None
 
+-- `migrate NET`
+abbrev pub migrate_asked : List (List ℕ) → Option (List ℕ) → Bool → Option Request
+migrate_asked (net ∷ []) None false = Some (OfNet MigrateNet net)
+migrate_asked rest limit rounds = None
+
 -- `calc EXPR`, with an expression of at most 4,096 bytes
 abbrev pub calc_asked : List (List ℕ) → Option (List ℕ) → Bool → Option Request
 calc_asked (text ∷ []) None false = if nat_le (length text) most_expression then Some (ValueOf text) else None
@@ -121,7 +127,8 @@ asked_for given =
     else (if bytes_eq given.command (codes "slack") then slack_asked given.rest given.limit given.rounds
     else (if bytes_eq given.command (codes "transfer") then transfer_asked given.rest given.limit given.rounds
     else (if bytes_eq given.command (codes "trial") then trial_asked given.rest given.limit given.rounds
-    else None)))))))))))
+    else (if bytes_eq given.command (codes "migrate") then migrate_asked given.rest given.limit given.rounds
+    else None))))))))))))
 
 -- the request that the words give, if they give one
 abbrev pub request_of : List (List ℕ) → Option Request

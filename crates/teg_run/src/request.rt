@@ -7,7 +7,7 @@ ghost use Rattle.teg_dates.specs.Tables.{most_numbers};
 ghost use Rattle.teg_net.specs.Limits.{greatest_number};
 ghost use Rattle.teg_settle.specs.Refusals.{greatest_limit};
 ghost use Rattle.teg_run.specs.Limits.{most_machines};
-ghost use Rattle.teg_run.specs.Requests.{asked_for, calc_asked, check_asked, cycle_asked, date_asked, dates_asked, form_asked, jit_asked, limit_asked, list_asked, number_limit, replay_asked, request_of, slack_asked, transfer_asked, trial_asked};
+ghost use Rattle.teg_run.specs.Requests.{asked_for, calc_asked, check_asked, cycle_asked, date_asked, dates_asked, form_asked, jit_asked, limit_asked, list_asked, migrate_asked, number_limit, replay_asked, request_of, slack_asked, transfer_asked, trial_asked};
 ghost use Rattle.teg_run.specs.Meanings.{asked};
 ghost use Rattle.teg_run.specs.Ranges.{IsFiringNumber, IsLimit, IsMachines, IsRequestInRange};
 
@@ -64,6 +64,8 @@ pub enum NetCommand<'a> {
     Transfer {
         limit: u32,
     },
+    /// The net as a file of the second version.
+    Migrate,
 }
 
 /// A command that reads a net and a second file.
@@ -326,6 +328,20 @@ fn trial_asked<'a>(rest: &[&'a str], limit: Option<&'a str>, rounds: bool) -> Op
     }
 }
 
+// `migrate NET`
+fn migrate_asked<'a>(rest: &[&'a str], limit: Option<&'a str>, rounds: bool) -> Option<Request<'a>>
+    ensures value { option_map asked result ≡ migrate_asked (texts rest.now) (option_copied limit.entry) rounds }
+    ensures in_range { IfSome (option_map asked result) IsRequestInRange }
+{
+    match (rest, limit, rounds) {
+        ([net], None, false) => Some(Request::OfNet {
+            command: NetCommand::Migrate,
+            net,
+        }),
+        _ => None,
+    }
+}
+
 // `calc EXPR`
 fn calc_asked<'a>(rest: &[&'a str], limit: Option<&'a str>, rounds: bool) -> Option<Request<'a>>
     ensures value { option_map asked result ≡ calc_asked (texts rest.now) (option_copied limit.entry) rounds }
@@ -362,6 +378,7 @@ fn asked_for<'a>(given: &GivenWords<'a>) -> Option<Request<'a>>
         "slack" => slack_asked(rest, given.limit, given.rounds),
         "transfer" => transfer_asked(rest, given.limit, given.rounds),
         "trial" => trial_asked(rest, given.limit, given.rounds),
+        "migrate" => migrate_asked(rest, given.limit, given.rounds),
         _ => None,
     }
 }
