@@ -26,6 +26,7 @@ command_forms =
     ∷ codes "transfer NET [--limit N]"
     ∷ codes "trial N"
     ∷ codes "migrate NET"
+    ∷ codes "size NET PLACE A/B"
     ∷ []
 
 -- a line of the usage but the first

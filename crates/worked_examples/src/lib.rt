@@ -10,6 +10,8 @@ mod bench;
 #[cfg(test)]
 mod faults;
 #[cfg(test)]
+mod further_tokens;
+#[cfg(test)]
 mod limits;
 #[cfg(test)]
 mod migrations;
