@@ -38,8 +38,12 @@ pub run_said : (lines : List Firing → List (List ℕ)) (net other : NetLists) 
     other ≡ net → IsReplayOf other rows firings replayed → Tells (SaysEnd net replayed.refused replayed.accepted told) outcome → told ≡ lines firings → Tells (SaysRun lines net rows) outcome
 run_said lines net other rows firings replayed told outcome e of h same =
     tells_weaker (SaysEnd net replayed.refused replayed.accepted told) (SaysRun lines net rows) outcome
-    (λ verdict text k. (firings, replayed, subst (λ (n : NetLists). IsReplayOf n rows firings replayed) e of,
-    subst (λ (ls : List (List ℕ)). SaysEnd net replayed.refused replayed.accepted ls verdict text) same k)) h
+    (λ verdict text k. (
+      firings,
+      replayed,
+      subst (λ (n : NetLists). IsReplayOf n rows firings replayed) e of,
+      subst (λ (ls : List (List ℕ)). SaysEnd net replayed.refused replayed.accepted ls verdict text) same k,
+    )) h
 
 -- what is said of a log whose rows were read
 pub log_said : (lines : List Firing → List (List ℕ)) (net other : NetLists) (bytes : List ℕ) (rows given : List LogRow) (outcome : Option (Verdict × List ℕ)) →

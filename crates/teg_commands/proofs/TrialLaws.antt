@@ -66,8 +66,7 @@ trial_said machines net r slacks table places critical last text some e best eac
     let told = t
     ∙ (ap (λ (n : ℕ). text_of None (Trial machines n r critical last)) (p ∙ ap (λ (n : NetLists). length n.places) e)
     ∙ (ap (λ (n : ℕ). text_of None (Trial machines (length (trial machines).places) r n last)) q
-    ∙ ap (λ (x : Date). text_of None (Trial machines (length (trial machines).places) r (critical_count slacks) x)) (d ∙ dated))) in
-    (
+    ∙ ap (λ (x : Date). text_of None (Trial machines (length (trial machines).places) r (critical_count slacks) x)) (d ∙ dated))) in (
       refl,
       (
         r,

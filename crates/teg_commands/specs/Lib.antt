@@ -1,10 +1,12 @@
 pub mod CycleTimes
 pub mod Inputs
 pub mod Limits
+pub mod Migrations
 pub mod Outcomes
 pub mod Recorded
 pub mod Settled
 pub mod Sizes
+pub mod Sizings
 pub mod Slacks
 pub mod Texts
 pub mod Transfers

@@ -1,5 +1,5 @@
 //! Nets that were found live.
-ghost use Rattle.std.specs.Prelude.{◌≡◌, ◌≤◌, length, IfErr, IfOk, IfSome};
+ghost use Rattle.std.specs.Prelude.{◌≡◌, ◌≤◌, ◌<◌, length, IfErr, IfOk, IfSome};
 ghost use Rattle.teg_due.specs.Rules.{IsDueOf};
 ghost use Rattle.teg_check.specs.Ranks.{IsRanking};
 ghost use Rattle.teg_dates.specs.Tables.{most_numbers, HasLeastDates};
@@ -22,6 +22,8 @@ ghost use Rattle.teg_jit.specs.DueDates.{IsGreatestNumber, due_in};
 ghost use Rattle.teg_jit.specs.Plans.{IsPlanFor, dates_of};
 ghost use Rattle.teg_jit.specs.Refusals.{LateIsRight};
 ghost use Rattle.teg_net.specs.Circuits.{IsLive};
+ghost use Rattle.teg_sizing.specs.Rounds.{IsTarget};
+ghost use Rattle.teg_sizing.specs.Sizings.{IsSizing};
 ghost use Rattle.teg_commands.specs.Settled.{IsWithinLimit, ExceedsLimit};
 ghost use Rattle.teg_commands.specs.CycleTimes.{IsCycleAnswer, IsRunOf};
 
@@ -35,9 +37,10 @@ use teg_due::Due;
 use teg_form::{Form, standard_form};
 use teg_howard::{howard, policy_runs_are_one};
 use teg_jit::{JitRefusal, Plan, latest};
-use teg_net::{CycleAnswer, Net, OutOfMemory, PartAnswer, Round, TransitionId};
+use teg_net::{CycleAnswer, Net, OutOfMemory, PartAnswer, PlaceId, Ratio, Round, TransitionId};
 use teg_parts::{Parts, split};
 use teg_settle::{SettleRefusal, Settled, settle, settle_within, transfer};
+use teg_sizing::{Sizing, size};
 
 /// A live net with its ranks. Contracts see the net.
 #[derive(Drop)]
@@ -137,6 +140,20 @@ impl LiveNet {
         ranked_nets_are_live();
         let form = self.standard_form(alloc)?;
         latest(alloc, net, &self.live, &form, due)
+    }
+
+    /// The fewest further tokens of a place with which no circuit has a greater ratio than the target.
+    pub fn sizing(
+        &self,
+        alloc: Global,
+        place: PlaceId,
+        target: &Ratio,
+    ) -> Result<Sizing, OutOfMemory>
+        requires place { place.index < length self.now.places }
+        requires target { IsTarget target.now }
+        ensures { IfOk result (IsSizing self.now target.now place) }
+    {
+        size(alloc, &self.net, &self.live, place, target)
     }
 
     /// The strong parts.

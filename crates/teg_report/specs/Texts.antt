@@ -25,6 +25,8 @@ command_forms =
     ∷ codes "slack NET"
     ∷ codes "transfer NET [--limit N]"
     ∷ codes "trial N"
+    ∷ codes "migrate NET"
+    ∷ codes "size NET PLACE A/B"
     ∷ []
 
 -- a line of the usage but the first

@@ -40,6 +40,8 @@ pub(crate) fn usage(alloc: Global) -> Result<Vec<u8>, OutOfMemory>
             "       teg slack NET\n",
             "       teg transfer NET [--limit N]\n",
             "       teg trial N\n",
+            "       teg migrate NET\n",
+            "       teg size NET PLACE A/B\n",
         ),
     )
 }

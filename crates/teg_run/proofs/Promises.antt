@@ -13,8 +13,8 @@ use Rattle.teg_commands.specs.declared.outcome.Verdict.{Verdict}
 use Rattle.teg_commands.specs.declared.outcome.Verdict.TheVariants.{Done as VerdictDone, TooLong as VerdictTooLong, Name as VerdictName, Schedule as VerdictSchedule, Late as VerdictLate, Log as VerdictLog, Calc as VerdictCalc}
 use Rattle.teg_run.specs.Calls.{Call}
 use Rattle.teg_run.specs.Endings.{Ending, Whole, Lost}
-use Rattle.teg_run.specs.Headline.{Ends, EndsLost, IsSaidOf, OwnOnly, HasFault, Follows, ComesOnly, ReadsAreCalm, WritesAreCalm, OverlongRose, WroteWhole, WrotePrefix, ReadsFirstOf, NamesLastRead, AllowsLimit, AllowsNet, AllowsFiles, Allows, EndsAsAllowed, Concerns, ConcernsBoth, SaysOfNet, SaysOfBoth, SaysLive, SaysLeastDates, SaysStandardForm, SaysCycleTimes, SaysPolicyRuns, SaysNoCircuit, SaysSlackOfPlaces, EndsTooLong, EndsReplay, SaysSettledDates, SaysOneDate, SaysTimes, SaysLatestInputs, SaysReplayed, SaysMachines, SaysValues, KeepsPromises}
-use Rattle.teg_run.specs.Requests.{NetCommand, CheckNet, ListNet, FormNet, CycleNet, SlackNet, DatesNet, DateNet, TransferNet, FileCommand, JitNet, ReplayNet, Request, OfNet, OfFiles, ValueOf, TrialOf, request_of, files_of, asked_files, second_of}
+use Rattle.teg_run.specs.Headline.{Ends, EndsLost, IsSaidOf, OwnOnly, HasFault, Follows, ComesOnly, ReadsAreCalm, WritesAreCalm, OverlongRose, WroteWhole, WrotePrefix, ReadsFirstOf, NamesLastRead, AllowsLimit, AllowsNet, AllowsFiles, Allows, EndsAsAllowed, Concerns, ConcernsBoth, SaysOfNet, SaysOfBoth, SaysLive, SaysLeastDates, SaysStandardForm, SaysCycleTimes, SaysPolicyRuns, SaysNoCircuit, SaysSlackOfPlaces, EndsTooLong, EndsReplay, SaysSettledDates, SaysOneDate, SaysTimes, SaysMigration, SaysFewestTokens, SaysLatestInputs, SaysReplayed, SaysMachines, SaysValues, KeepsPromises}
+use Rattle.teg_run.specs.Requests.{NetCommand, CheckNet, ListNet, FormNet, CycleNet, SlackNet, DatesNet, DateNet, TransferNet, MigrateNet, SizeNet, FileCommand, JitNet, ReplayNet, Request, OfNet, OfFiles, ValueOf, TrialOf, request_of, files_of, asked_files, second_of}
 use Rattle.teg_run.specs.Runs.{Answered, CarriesOut, Finished, Runs}
 use Rattle.teg_run.specs.Openings.{OpensBytes}
 use Rattle.teg_run.specs.Says.{Asked, SaysFile, SaysFiles, SaysNet, SaysOutcome}
@@ -23,6 +23,7 @@ use Rattle.teg_outside.specs.declared.monitor.Firing.{Firing}
 use Rattle.teg_replay.specs.declared.replayed.Refused.{Refused}
 use Rattle.teg_commands.specs.Recorded.{SaysEnd}
 use Rattle.teg_commands.specs.Settled.{SaysTooLong}
+use Rattle.teg_commands.specs.Sizings.{no_place_text, sizing_text}
 use Rattle.teg_commands.specs.Slacks.{SaysTrial, critical_count, trial_number}
 use Rattle.teg_commands.specs.Transfers.{TimesSettlePast}
 use Rattle.teg_commands.specs.Values.{SaysValue}
@@ -239,6 +240,8 @@ allowed (DateNet word number limit) net verdict text h =
     (λ (found : _). inr (⊎_elim (λ (done : _). limit_done limit verdict done.0) (λ (long : _). limit_long (NetSettlesPast net) limit verdict text long) found.2)) h
 allowed (TransferNet limit) net verdict text h =
     ⊎_elim (λ (done : _). limit_done (Some limit) verdict done.0) (λ (long : _). limit_long (TimesSettlePast net) (Some limit) verdict text long) h
+allowed MigrateNet net verdict text h = h.0
+allowed (SizeNet word time tokens) net verdict text h = ⊎_elim (λ (none : _). inl none.1.0) (λ (found : _). inr found.4.0) h
 
 slack_follows : (call : Call) → Runs call → SaysSlackOfPlaces call
 slack_follows call runs net asks =
@@ -280,6 +283,27 @@ times_follow call runs limit net asks =
     (λ (long : _). inr (inl (long.1, ends_with call said.0 VerdictTooLong said.1 (too_long_text limit) long.0 long.2 said.3))) said.2)
     (λ (lost : _). inr (inr lost)) (says_of_net call runs (TransferNet limit) net asks)
 
+migrate_follows : (call : Call) → Runs call → SaysMigration call
+migrate_follows call runs net asks =
+    ⊎_elim (λ (said : _). inl (said.1, said.2.1, done_with call said.0 said.1 said.1 (ap status_of said.2.0) refl said.3))
+    (λ (lost : _). inr lost) (says_of_net call runs MigrateNet net asks)
+
+size_follows : (call : Call) → Runs call → SaysFewestTokens call
+size_follows call runs word time tokens net asks =
+    ⊎_elim
+    (λ (said : _). ⊎_elim
+    (λ (none : _). inr (inl (none.0, ends_with call said.0 VerdictName said.1 (no_place_text word) none.1.0 none.1.1 said.3)))
+    (λ (found : _). inl (
+      found.0,
+      found.1,
+      found.4.1.0,
+      found.2,
+      found.3,
+      found.4.1.1,
+      done_with call said.0 said.1 (sizing_text net found.0 found.1 found.4.1.0) (ap status_of found.4.0) found.4.1.2 said.3,
+    )) said.2)
+    (λ (lost : _). inr (inr lost)) (says_of_net call runs (SizeNet word time tokens) net asks)
+
 -- ---- commands on a live net and a second file
 
 both_said : (call : Call) (command : FileCommand) (net : NetLists) (bytes : List ℕ) (asks : ConcernsBoth call command net bytes) (ending : Ending) →
@@ -305,8 +329,15 @@ latest_follow call runs net bytes asks =
     (λ (bad : _). inr (inr (inl (bad.0, bad.1, bad.2.1, ends_with call said.0 VerdictSchedule said.1 (due_text bad.0) bad.2.0 bad.2.2 said.3))))
     (λ (rows : _). ⊎_elim
     (λ (done : _). inl (rows.0, done.1.0, rows.1, done.1.1, done_with call said.0 said.1 (jit_text net done.1.0) (ap status_of done.0) done.1.2 said.3))
-    (λ (late : _). inr (inl (rows.0, late.1.0, rows.1, late.1.1, late.1.2, late.1.3,
-    ends_with call said.0 VerdictLate said.1 (late_text net late.1.0) late.0 late.1.4 said.3))) rows.3) said.2)
+    (λ (late : _). inr (inl (
+      rows.0,
+      late.1.0,
+      rows.1,
+      late.1.1,
+      late.1.2,
+      late.1.3,
+      ends_with call said.0 VerdictLate said.1 (late_text net late.1.0) late.0 late.1.4 said.3,
+    ))) rows.3) said.2)
     (λ (lost : _). inr (inr (inr lost))) (says_of_both call runs JitNet net bytes asks)
 
 replay_ends : (call : Call) (net : NetLists) (refused : Option Refused) (accepted : ℕ) (lines : List (List ℕ)) (verdict : Verdict) (text : List ℕ) →
@@ -320,8 +351,14 @@ replay_follows call runs net bytes asks =
     ⊎_elim
     (λ (said : _). ⊎_elim
     (λ (bad : _). inl (bad.0, bad.1, ends_with call said.0 VerdictLog said.1 (log_text bad.0) bad.2.0 bad.2.2 said.3))
-    (λ (ran : _). inr (inl (ran.0, ran.2.0, ran.2.1, ran.1, ran.2.2,
-    replay_ends call net ran.2.1.refused ran.2.1.accepted (call.lines ran.2.0) said.0 said.1 ran.2.3 said.3))) said.2)
+    (λ (ran : _). inr (inl (
+      ran.0,
+      ran.2.0,
+      ran.2.1,
+      ran.1,
+      ran.2.2,
+      replay_ends call net ran.2.1.refused ran.2.1.accepted (call.lines ran.2.0) said.0 said.1 ran.2.3 said.3,
+    ))) said.2)
     (λ (lost : _). inr (inr lost)) (says_of_both call runs ReplayNet net bytes asks)
 
 -- ---- values
@@ -492,6 +529,8 @@ keeps_promises call runs =
       dates = dates_follow call runs;
       date = date_follows call runs;
       transfer = times_follow call runs;
+      migrate = migrate_follows call runs;
+      size = size_follows call runs;
       jit = latest_follow call runs;
       replay = replay_follows call runs;
       calc = value_follows call runs;

@@ -32,10 +32,14 @@ use Rattle.teg_commands.specs.declared.outcome.Verdict.{Verdict}
 use Rattle.teg_commands.specs.declared.outcome.Verdict.TheVariants.{Done as VerdictDone, TooLong as VerdictTooLong, Name as VerdictName, Schedule as VerdictSchedule, Late as VerdictLate, Log as VerdictLog}
 use Rattle.teg_run.specs.Calls.{Call}
 use Rattle.teg_commands.specs.CycleTimes.{IsCycleAnswer, AreRuns}
+use Rattle.teg_commands.specs.Migrations.{IsWrittenNet}
+use Rattle.teg_commands.specs.Sizings.{HasPlaceName, no_place_text, sizing_text}
+use Rattle.teg_sizing.specs.declared.sizing.Sizing.{Sizing}
+use Rattle.teg_sizing.specs.Sizings.{IsSizing}
 use Rattle.teg_run.specs.Endings.{Whole, Lost}
 use Rattle.teg_run.specs.Limits.{most_bytes}
 use Rattle.teg_run.specs.Reads.{ReadsAll}
-use Rattle.teg_run.specs.Requests.{NetCommand, CheckNet, ListNet, FormNet, CycleNet, SlackNet, DatesNet, DateNet, TransferNet, FileCommand, JitNet, ReplayNet, Request, OfNet, OfFiles, ValueOf, TrialOf, request_of, files_of, asked_files}
+use Rattle.teg_run.specs.Requests.{NetCommand, CheckNet, ListNet, FormNet, CycleNet, SlackNet, DatesNet, DateNet, TransferNet, MigrateNet, SizeNet, FileCommand, JitNet, ReplayNet, Request, OfNet, OfFiles, ValueOf, TrialOf, request_of, files_of, asked_files}
 use Rattle.teg_run.specs.Runs.{Finished, Runs}
 use Rattle.teg_run.specs.Says.{Asked, SaysFiles, SaysNet}
 use Rattle.teg_run.specs.Statuses.{IsOwn, status_of}
@@ -55,7 +59,7 @@ use Rattle.teg_jit.specs.DueDates.{due_in}
 use Rattle.teg_jit.specs.Plans.{PlanDates}
 use Rattle.teg_jit.specs.Refusals.{LateIsRight}
 use Rattle.teg_net.specs.declared.entries.TransitionId.{TransitionId}
-use Rattle.teg_net.specs.Ratios.{Fraction}
+use Rattle.teg_net.specs.Ratios.{Fraction, IsRatioOf}
 use Rattle.teg_report.specs.declared.answer.Failure.{Failure}
 use Rattle.teg_replay.specs.Replays.{IsReplayOf}
 use Rattle.teg_replay.specs.declared.replayed.Replayed.{Replayed}
@@ -246,6 +250,8 @@ AllowsNet SlackNet verdict = verdict ≡ VerdictDone
 AllowsNet (DatesNet limit) verdict = AllowsLimit limit verdict
 AllowsNet (DateNet word number limit) verdict = (verdict ≡ VerdictName) ⊎ AllowsLimit limit verdict
 AllowsNet (TransferNet limit) verdict = AllowsLimit (Some limit) verdict
+AllowsNet MigrateNet verdict = verdict ≡ VerdictDone
+AllowsNet (SizeNet word time tokens) verdict = (verdict ≡ VerdictName) ⊎ (verdict ≡ VerdictDone)
 
 -- how an expression may end: with a refusal only where it has one
 abbrev pub AllowsValue : List ℕ → Verdict → Type 0
@@ -378,6 +384,24 @@ SaysTimes call =
     ((times : List TimesFrom) × AreTimesFrom net limit times × Ends call Done (transfer_text net times))
     ⊎ ((TimesSettlePast net limit × Ends call TooLong (too_long_text limit)) ⊎ EndsLost call)
 
+-- a live net is told as a file of the second version, which says that net, unless memory ran out
+abbrev pub SaysMigration : Call → Type 0
+SaysMigration call =
+    (net : NetLists) → Concerns call MigrateNet net → ((text : List ℕ) × IsWrittenNet net text × Ends call Done text) ⊎ EndsLost call
+
+-- the fewest further tokens of the place of this name are told, for the ratio of this time to these tokens in lowest terms
+abbrev pub IsSized : Call → List ℕ → ℕ → ℕ → NetLists → Type 0
+IsSized call word time tokens net =
+    (p : PlaceId) × (r : Fraction) × (sizing : Sizing) × HasPlaceName net p word × IsRatioOf time tokens r × IsSizing net r p sizing
+    × Ends call Done (sizing_text net p r sizing)
+
+-- of a live net the fewest further tokens of a place are told; or that no place has the name; unless memory ran out
+abbrev pub SaysFewestTokens : Call → Type 0
+SaysFewestTokens call =
+    (word : List ℕ) (time tokens : ℕ) (net : NetLists) → Concerns call (SizeNet word time tokens) net →
+    IsSized call word time tokens net
+    ⊎ ((All (λ p. p.name ≢ word) net.places × Ends call Name (no_place_text word)) ⊎ EndsLost call)
+
 -- of a live net and a due file the latest dates are told, which at the inputs are the latest inputs that meet every due date; or the
 -- first row that comes late whatever the inputs are; or the first fault of the file; unless memory ran out
 abbrev pub SaysLatestInputs : Call → Type 0
@@ -461,6 +485,8 @@ pub record KeepsPromises (call : Call) : Type 0 where
   pub dates : SaysSettledDates call
   pub date : SaysOneDate call
   pub transfer : SaysTimes call
+  pub migrate : SaysMigration call
+  pub size : SaysFewestTokens call
   -- A command on a live net and a second file.
   pub jit : SaysLatestInputs call
   pub replay : SaysReplayed call

@@ -7,7 +7,7 @@ use Rattle.teg_run.specs.declared.ending.Ending.TheVariants.{Whole as CodedWhole
 use Rattle.teg_run.specs.declared.opening.Opened.{Opened}
 use Rattle.teg_run.specs.declared.opening.Opened.TheVariants.{Accepted as OpenedAccepted, Refused as OpenedRefused, Lost as OpenedLost}
 use Rattle.teg_run.specs.declared.request.NetCommand.{NetCommand as CodedCommand}
-use Rattle.teg_run.specs.declared.request.NetCommand.TheVariants.{Check, Cycle, Date as DateCommand, Dates, Form, List as ListCommand, Slack, Transfer}
+use Rattle.teg_run.specs.declared.request.NetCommand.TheVariants.{Check, Cycle, Date as DateCommand, Dates, Form, List as ListCommand, Migrate, Size, Slack, Transfer}
 use Rattle.teg_run.specs.declared.request.FileCommand.{FileCommand as CodedFileCommand}
 use Rattle.teg_run.specs.declared.request.FileCommand.TheVariants.{Jit, Replay}
 use Rattle.teg_run.specs.declared.request.Request.{Request as CodedRequest}
@@ -15,7 +15,7 @@ use Rattle.teg_run.specs.declared.request.Request.TheVariants.{OfNet as CodedOfN
 use Rattle.teg_run.specs.declared.status.Status.{Status}
 use Rattle.teg_run.specs.Endings.{Ending, Whole, Lost}
 use Rattle.teg_run.specs.Openings.{Opening, Accepted, Refused}
-use Rattle.teg_run.specs.Requests.{NetCommand, CheckNet, ListNet, FormNet, CycleNet, SlackNet, DatesNet, DateNet, TransferNet, FileCommand, JitNet, ReplayNet, Request, OfNet, OfFiles, ValueOf, TrialOf}
+use Rattle.teg_run.specs.Requests.{NetCommand, CheckNet, ListNet, FormNet, CycleNet, SlackNet, DatesNet, DateNet, TransferNet, MigrateNet, SizeNet, FileCommand, JitNet, ReplayNet, Request, OfNet, OfFiles, ValueOf, TrialOf}
 
 -- the command on a net
 abbrev pub command_asked : CodedCommand → NetCommand
@@ -27,6 +27,8 @@ command_asked Slack = SlackNet
 command_asked (Dates limit) = DatesNet limit
 command_asked (DateCommand word number limit) = DateNet word.now number limit
 command_asked (Transfer limit) = TransferNet limit
+command_asked Migrate = MigrateNet
+command_asked (Size word time tokens) = SizeNet word.now time tokens
 
 -- the command on a net and a second file
 abbrev pub file_command_asked : CodedFileCommand → FileCommand

@@ -4,8 +4,8 @@ use Rattle.teg_dates.specs.Tables.{most_numbers}
 use Rattle.teg_commands.specs.Limits.{most_expression}
 use Rattle.teg_net.specs.Limits.{greatest_number}
 use Rattle.teg_settle.specs.Refusals.{greatest_limit}
-use Rattle.teg_run.specs.Limits.{most_machines}
-use Rattle.teg_run.specs.Requests.{NetCommand, CheckNet, ListNet, FormNet, CycleNet, SlackNet, DatesNet, DateNet, TransferNet, Request, OfNet, OfFiles, ValueOf, TrialOf}
+use Rattle.teg_run.specs.Limits.{greatest_time, most_machines, most_tokens}
+use Rattle.teg_run.specs.Requests.{NetCommand, CheckNet, ListNet, FormNet, CycleNet, SlackNet, DatesNet, DateNet, TransferNet, MigrateNet, SizeNet, Request, OfNet, OfFiles, ValueOf, TrialOf}
 
 -- a firing number, counted from 1
 pub record IsFiringNumber (number : ℕ) : Type 0 where
@@ -21,6 +21,12 @@ pub record IsMachines (machines : ℕ) : Type 0 where
   pub some : 1 ≤ machines
   pub few : machines ≤ most_machines
 
+-- the time and the tokens of a target ratio
+pub record IsTargetInRange (time tokens : ℕ) : Type 0 where
+  pub time_within : time ≤ greatest_time
+  pub some : 1 ≤ tokens
+  pub few : tokens ≤ most_tokens
+
 -- the numbers that the command takes keep their limits
 abbrev pub IsInRange : NetCommand → Type 0
 IsInRange CheckNet = Unit {0}
@@ -31,6 +37,8 @@ IsInRange SlackNet = Unit {0}
 IsInRange (DatesNet limit) = IsLimit limit
 IsInRange (DateNet word number limit) = IsFiringNumber number × IsLimit limit
 IsInRange (TransferNet limit) = limit ≤ greatest_limit
+IsInRange MigrateNet = Unit {0}
+IsInRange (SizeNet word time tokens) = IsTargetInRange time tokens
 
 -- the numbers of the request keep their limits
 abbrev pub IsRequestInRange : Request → Type 0

@@ -1,13 +1,14 @@
 -- What the words of the command line ask for.
-use Rattle.std.specs.Prelude.{ℕ, Bool, false, List, [], ◌∷◌, Option, Some, None, codes, bytes_eq, nat_le, length, if◌then◌else◌, option_and_then}
+use Rattle.std.specs.Prelude.{ℕ, Bool, false, List, [], ◌∷◌, Option, Some, None, codes, bytes_eq, nat_le, length, if◌then◌else◌, option_and_then, ◌==◌}
 use Rattle.std.specs.Option.{option_map}
+use Rattle.std.specs.List.{before_first, after_first}
 use Rattle.teg_dates.specs.Tables.{most_numbers}
 use Rattle.teg_net.specs.Limits.{greatest_number}
 use Rattle.teg_settle.specs.Refusals.{greatest_limit}
 use Rattle.teg_words.specs.Numbers.{number_of}
 use Rattle.teg_words.specs.Words.{Given, given_of}
 use Rattle.teg_commands.specs.Limits.{most_expression}
-use Rattle.teg_run.specs.Limits.{most_machines, usual_limit}
+use Rattle.teg_run.specs.Limits.{greatest_time, most_machines, most_tokens, usual_limit}
 use Rattle.teg_report.specs.declared.answer.Which.{Which}
 use Rattle.teg_report.specs.declared.answer.Which.TheVariants.{Net as NetFile, Due as DueFile, Log as LogFile}
 
@@ -21,6 +22,8 @@ pub data NetCommand : Type 0 where
   DatesNet : (limit : Option ℕ) → NetCommand
   DateNet : (word : List ℕ) (number : ℕ) (limit : Option ℕ) → NetCommand
   TransferNet : (limit : ℕ) → NetCommand
+  MigrateNet : NetCommand
+  SizeNet : (word : List ℕ) (time tokens : ℕ) → NetCommand
 
 -- a command on a net and on a second file
 pub data FileCommand : Type 0 where
@@ -101,6 +104,26 @@ abbrev pub trial_asked : List (List ℕ) → Option (List ℕ) → Bool → Opti
 trial_asked (count ∷ []) None false = option_map (λ machines. TrialOf machines) (number_of 1 most_machines count)
 trial_asked rest limit rounds = None
 
+-- `migrate NET`
+abbrev pub migrate_asked : List (List ℕ) → Option (List ℕ) → Bool → Option Request
+migrate_asked (net ∷ []) None false = Some (OfNet MigrateNet net)
+migrate_asked rest limit rounds = None
+
+-- whether a byte is `/`
+abbrev pub is_slash : ℕ → Bool
+is_slash byte = byte == 47
+
+-- the time and the tokens of a target ratio: a number, `/`, and a number from 1 on
+abbrev pub target_asked : List ℕ → Option (ℕ × ℕ)
+target_asked word =
+    option_and_then (λ time. option_map (λ tokens. (time, tokens)) (number_of 1 most_tokens (after_first is_slash word)))
+    (number_of 0 greatest_time (before_first is_slash word))
+
+-- `size NET PLACE A/B`
+abbrev pub size_asked : List (List ℕ) → Option (List ℕ) → Bool → Option Request
+size_asked (net ∷ word ∷ target ∷ []) None false = option_map (λ ratio. OfNet (SizeNet word ratio.0 ratio.1) net) (target_asked target)
+size_asked rest limit rounds = None
+
 -- `calc EXPR`, with an expression of at most 4,096 bytes
 abbrev pub calc_asked : List (List ℕ) → Option (List ℕ) → Bool → Option Request
 calc_asked (text ∷ []) None false = if nat_le (length text) most_expression then Some (ValueOf text) else None
@@ -121,7 +144,9 @@ asked_for given =
     else (if bytes_eq given.command (codes "slack") then slack_asked given.rest given.limit given.rounds
     else (if bytes_eq given.command (codes "transfer") then transfer_asked given.rest given.limit given.rounds
     else (if bytes_eq given.command (codes "trial") then trial_asked given.rest given.limit given.rounds
-    else None)))))))))))
+    else (if bytes_eq given.command (codes "migrate") then migrate_asked given.rest given.limit given.rounds
+    else (if bytes_eq given.command (codes "size") then size_asked given.rest given.limit given.rounds
+    else None)))))))))))))
 
 -- the request that the words give, if they give one
 abbrev pub request_of : List (List ℕ) → Option Request

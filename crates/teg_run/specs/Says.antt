@@ -7,14 +7,16 @@ use Rattle.teg_run.specs.declared.status.Status.{Status}
 use Rattle.teg_run.specs.declared.status.Status.TheVariants.{Words}
 use Rattle.teg_commands.specs.declared.outcome.Verdict.{Verdict}
 use Rattle.teg_commands.specs.CycleTimes.{SaysCycle, SaysRounds}
+use Rattle.teg_commands.specs.Migrations.{SaysMigrated}
 use Rattle.teg_commands.specs.Sizes.{SaysCheck, SaysList, SaysForm}
 use Rattle.teg_commands.specs.Inputs.{SaysJit}
 use Rattle.teg_commands.specs.Recorded.{SaysReplay}
 use Rattle.teg_commands.specs.Settled.{SaysDate, SaysDates}
+use Rattle.teg_commands.specs.Sizings.{SaysSizing}
 use Rattle.teg_commands.specs.Slacks.{SaysSlack, SaysTrial}
 use Rattle.teg_commands.specs.Transfers.{SaysTransfer}
 use Rattle.teg_commands.specs.Values.{SaysValue}
-use Rattle.teg_run.specs.Requests.{NetCommand, CheckNet, ListNet, FormNet, CycleNet, SlackNet, DatesNet, DateNet, TransferNet, FileCommand, JitNet, ReplayNet, Request, OfNet, OfFiles, ValueOf, TrialOf, second_of}
+use Rattle.teg_run.specs.Requests.{NetCommand, CheckNet, ListNet, FormNet, CycleNet, SlackNet, DatesNet, DateNet, TransferNet, MigrateNet, SizeNet, FileCommand, JitNet, ReplayNet, Request, OfNet, OfFiles, ValueOf, TrialOf, second_of}
 use Rattle.teg_run.specs.Openings.{Opening, Accepted, Refused, OpensNet, OpensBytes}
 use Rattle.teg_run.specs.Statuses.{status_of}
 use Rattle.teg_commands.specs.Texts.{usage}
@@ -30,6 +32,8 @@ SaysNet SlackNet = SaysSlack
 SaysNet (DatesNet limit) = SaysDates limit
 SaysNet (DateNet word number limit) = SaysDate word number limit
 SaysNet (TransferNet limit) = SaysTransfer limit
+SaysNet MigrateNet = SaysMigrated
+SaysNet (SizeNet word time tokens) = SaysSizing word time tokens
 
 -- this status and this text
 abbrev pub Said : Status → List ℕ → Status → List ℕ → Type 0

@@ -7,8 +7,8 @@ ghost use Rattle.teg_run.specs.Says.{SaysNet};
 use crate::request::NetCommand;
 use std::alloc::Global;
 use teg_commands::{
-    LiveNet, Outcome, tell_cycle, tell_date, tell_dates, tell_form, tell_rounds, tell_settled,
-    tell_size, tell_slack, tell_transfer,
+    LiveNet, Outcome, tell_cycle, tell_date, tell_dates, tell_form, tell_migrated, tell_rounds,
+    tell_settled, tell_size, tell_sizing, tell_slack, tell_transfer,
 };
 use teg_net::OutOfMemory;
 
@@ -31,5 +31,7 @@ pub fn of_net(alloc: Global, command: NetCommand<'_>, net: &LiveNet) -> Result<O
             limit,
         } => tell_date(alloc, net, word, number, limit),
         NetCommand::Transfer { limit } => tell_transfer(alloc, net, limit),
+        NetCommand::Migrate => tell_migrated(alloc, net),
+        NetCommand::Size { word, time, tokens } => tell_sizing(alloc, net, word, time, tokens),
     }
 }

@@ -7,9 +7,9 @@ ghost use Rattle.teg_dates.specs.Tables.{most_numbers};
 ghost use Rattle.teg_net.specs.Limits.{greatest_number};
 ghost use Rattle.teg_settle.specs.Refusals.{greatest_limit};
 ghost use Rattle.teg_run.specs.Limits.{most_machines};
-ghost use Rattle.teg_run.specs.Requests.{asked_for, calc_asked, check_asked, cycle_asked, date_asked, dates_asked, form_asked, jit_asked, limit_asked, list_asked, number_limit, replay_asked, request_of, slack_asked, transfer_asked, trial_asked};
+ghost use Rattle.teg_run.specs.Requests.{asked_for, calc_asked, check_asked, cycle_asked, date_asked, dates_asked, form_asked, jit_asked, limit_asked, list_asked, migrate_asked, number_limit, replay_asked, request_of, size_asked, slack_asked, target_asked, transfer_asked, trial_asked};
 ghost use Rattle.teg_run.specs.Meanings.{asked};
-ghost use Rattle.teg_run.specs.Ranges.{IsFiringNumber, IsLimit, IsMachines, IsRequestInRange};
+ghost use Rattle.teg_run.specs.Ranges.{IsFiringNumber, IsLimit, IsMachines, IsRequestInRange, IsTargetInRange};
 
 use std::alloc::Global;
 use teg_net::OutOfMemory;
@@ -31,6 +31,12 @@ const GREATEST_NUMBER: u64 = 1_000_000_000_000_000_000;
 const GREATEST_LIMIT: u64 = 200_000;
 
 const USUAL_LIMIT: u32 = 20_000;
+
+// The greatest time of a target ratio.
+const GREATEST_TIME: u64 = 1_000_000_000_000;
+
+// The most tokens of a target ratio.
+const MOST_TOKENS: u64 = 1_000_000;
 
 /// A command that reads a net and no other file.
 #[derive(Clone, Copy, Debug, PartialEq, Eq)]
@@ -63,6 +69,15 @@ pub enum NetCommand<'a> {
     /// The times from the inputs to the outputs, by settled forms of at most this length.
     Transfer {
         limit: u32,
+    },
+    /// The net as a file of the second version.
+    Migrate,
+    /// The fewest further tokens of the place of this name for the ratio of this time, at most 10^12,
+    /// to these tokens, from 1 to 10^6.
+    Size {
+        word: &'a str,
+        time: u64,
+        tokens: u64,
     },
 }
 
@@ -326,6 +341,48 @@ fn trial_asked<'a>(rest: &[&'a str], limit: Option<&'a str>, rounds: bool) -> Op
     }
 }
 
+// `migrate NET`
+fn migrate_asked<'a>(rest: &[&'a str], limit: Option<&'a str>, rounds: bool) -> Option<Request<'a>>
+    ensures value { option_map asked result ≡ migrate_asked (texts rest.now) (option_copied limit.entry) rounds }
+    ensures in_range { IfSome (option_map asked result) IsRequestInRange }
+{
+    match (rest, limit, rounds) {
+        ([net], None, false) => Some(Request::OfNet {
+            command: NetCommand::Migrate,
+            net,
+        }),
+        _ => None,
+    }
+}
+
+// The time and the tokens of a target ratio, apart at the first `/`.
+fn target(word: &str) -> Option<(u64, u64)>
+    ensures value { result ≡ target_asked word.now }
+    ensures in_range { IfSome result (λ ratio. IsTargetInRange ratio.0 ratio.1) }
+{
+    let (time, tokens) = word.split_once('/')?;
+    let time = number(time, 0, GREATEST_TIME)?;
+    let tokens = number(tokens, 1, MOST_TOKENS)?;
+    Some((time, tokens))
+}
+
+// `size NET PLACE A/B`
+fn size_asked<'a>(rest: &[&'a str], limit: Option<&'a str>, rounds: bool) -> Option<Request<'a>>
+    ensures value { option_map asked result ≡ size_asked (texts rest.now) (option_copied limit.entry) rounds }
+    ensures in_range { IfSome (option_map asked result) IsRequestInRange }
+{
+    match (rest, limit, rounds) {
+        ([net, word, ratio], None, false) => {
+            let (time, tokens) = target(ratio)?;
+            Some(Request::OfNet {
+                command: NetCommand::Size { word, time, tokens },
+                net,
+            })
+        }
+        _ => None,
+    }
+}
+
 // `calc EXPR`
 fn calc_asked<'a>(rest: &[&'a str], limit: Option<&'a str>, rounds: bool) -> Option<Request<'a>>
     ensures value { option_map asked result ≡ calc_asked (texts rest.now) (option_copied limit.entry) rounds }
@@ -362,6 +419,8 @@ fn asked_for<'a>(given: &GivenWords<'a>) -> Option<Request<'a>>
         "slack" => slack_asked(rest, given.limit, given.rounds),
         "transfer" => transfer_asked(rest, given.limit, given.rounds),
         "trial" => trial_asked(rest, given.limit, given.rounds),
+        "migrate" => migrate_asked(rest, given.limit, given.rounds),
+        "size" => size_asked(rest, given.limit, given.rounds),
         _ => None,
     }
 }

@@ -9,7 +9,7 @@ pub type Row<'a> = (&'a [&'a str], &'a str, Status, &'a str);
 
 /// How the commands are used.
 pub const USAGE: &str =
-    "usage: teg check NET\n       teg list NET K\n       teg form NET\n       teg cycle NET [--rounds]\n       teg dates NET [--limit N|none]\n       teg date NET TRANSITION K [--limit N|none]\n       teg jit NET DUE\n       teg calc EXPR\n       teg replay NET LOG\n       teg slack NET\n       teg transfer NET [--limit N]\n       teg trial N\n";
+    "usage: teg check NET\n       teg list NET K\n       teg form NET\n       teg cycle NET [--rounds]\n       teg dates NET [--limit N|none]\n       teg date NET TRANSITION K [--limit N|none]\n       teg jit NET DUE\n       teg calc EXPR\n       teg replay NET LOG\n       teg slack NET\n       teg transfer NET [--limit N]\n       teg trial N\n       teg migrate NET\n       teg size NET PLACE A/B\n";
 
 /// A shelf with two files, named `net` and `second`, whose reads with these numbers fail.
 pub fn two_files(

@@ -10,7 +10,11 @@ mod bench;
 #[cfg(test)]
 mod faults;
 #[cfg(test)]
+mod further_tokens;
+#[cfg(test)]
 mod limits;
+#[cfg(test)]
+mod migrations;
 #[cfg(test)]
 mod monitors;
 #[cfg(test)]
