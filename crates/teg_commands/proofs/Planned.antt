@@ -1,5 +1,5 @@
 -- What a plan and a late row come to.
-use Rattle.std.proofs.Common.{◌≡◌, ◌≢◌, ◌<◌, ℕ, List, [], ◌∷◌, length, refl, sym, subst, arith}
+use Rattle.std.proofs.Common.{◌≢◌, ◌<◌, ℕ, List, [], ◌∷◌, length, refl, arith}
 use Rattle.due_laws.specs.Dues.{AreLatestInputs, InputsMeet, inputs_at_zero}
 use Rattle.due_laws.specs.Laws.{ZeroInputsMeet}
 use Rattle.teg_due.specs.declared.rows.DueRow.{DueRow}
@@ -10,10 +10,8 @@ use Rattle.teg_jit.specs.DueDates.{due_in, IsGreatestNumber}
 use Rattle.teg_jit.specs.Laws.{LateExcludesMeet, PlansLead}
 use Rattle.teg_jit.specs.Plans.{IsPlanFor, KeepsSizes, PlanDates, dates_of}
 use Rattle.teg_jit.specs.Refusals.{LateIsRight}
-use Rattle.teg_net.specs.declared.entries.TransitionId.{TransitionId}
 use Rattle.teg_net.specs.declared.walks.Step.{Step}
 use Rattle.teg_net.specs.declared.walks.Step.TheVariants.{By, Next}
-use Rattle.teg_net.specs.declared.walks.Walk.{Walk}
 use Rattle.teg_net.specs.Circuits.{IsLive, no_place, place_at}
 use Rattle.teg_net.specs.Nets.{NetLists, IsNet}
 use Rattle.teg_net.specs.Walks.{Walks}

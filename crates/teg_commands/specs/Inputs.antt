@@ -1,5 +1,5 @@
 -- What is said of the latest inputs of a live net for a due file.
-use Rattle.std.specs.Prelude.{ℕ, pos, ◌<◌, ◌≤◌, ◌≡◌, ◌≢◌, ◌⊎◌, List, Option, Some, Ok, Err, ⊤}
+use Rattle.std.specs.Prelude.{ℕ, pos, ◌<◌, ◌≤◌, ◌≡◌, ◌≢◌, ◌⊎◌, List, Option, Some, Ok, Err}
 use Rattle.dioid.specs.declared.dates.Date.{Date}
 use Rattle.dioid.specs.declared.dates.Date.TheVariants.{At as on_date}
 use Rattle.dioid.specs.Dates.{delayed}

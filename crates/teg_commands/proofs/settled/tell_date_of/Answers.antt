@@ -1,4 +1,4 @@
-use Rattle.std.proofs.Common.{◌≡◌, ℕ, length, refl, inl, ap, ◌∙◌}
+use Rattle.std.proofs.Common.{◌≡◌, length, refl, inl, ap, ◌∙◌}
 use Rattle.settled_laws.specs.Forms.{date_of}
 use Rattle.teg_net.specs.Nets.{NetLists}
 use Rattle.teg_commands.specs.Texts.{date_text}

@@ -1,9 +1,7 @@
-use Rattle.std.proofs.Common.{rules, ◌≡◌, ◌<◌, ◌++◌, ◌∷◌, [], ℕ, List, length, map, take, ap, ◌∙◌, subst, sym, get_or, arith}
+use Rattle.std.proofs.Common.{rules, ◌≡◌, ◌<◌, ◌++◌, ◌∷◌, [], List, length, map, ap, ◌∙◌, subst}
 use Rattle.std.proofs.lemmas.List.{map-append}
 use Rattle.teg_net.specs.declared.entries.Role.TheVariants.{Input}
 use Rattle.teg_net.specs.declared.entries.TransitionId.{TransitionId}
-use Rattle.teg_net.specs.Nets.{IsInput, NetLists}
-use Rattle.teg_report.specs.declared.answer.TransferFrom.{TransferFrom}
 use Rattle.teg_report.specs.Meanings.{times_from}
 use Rattle.teg_commands.specs.Transfers.{those_of_role}
 use Rattle.teg_commands.proofs.Transferred.{one_input_more, those_are_inputs}

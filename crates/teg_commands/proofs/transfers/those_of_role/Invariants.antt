@@ -1,4 +1,4 @@
-use Rattle.std.proofs.Common.{◌≡◌, ◌≤◌, map}
+use Rattle.std.proofs.Common.{◌≡◌, map}
 use Rattle.std.specs.List.{filter, range_with_len}
 use Rattle.teg_commands.specs.Transfers.{has_role, transition_id}
 use Rattle.teg_commands.proofs.transfers.those_of_role.Given as goal

@@ -1,4 +1,4 @@
-use Rattle.std.proofs.Common.{◌≡◌, ◌<◌, ℕ, List, All, length, sym, subst}
+use Rattle.std.proofs.Common.{◌<◌, ℕ, List, All, length, sym, subst}
 use Rattle.teg_net.specs.declared.entries.Role.TheVariants.{Output}
 use Rattle.teg_net.specs.declared.entries.TransitionId.{TransitionId}
 use Rattle.teg_commands.proofs.Transferred.{those_within}
