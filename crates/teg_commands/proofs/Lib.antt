@@ -6,7 +6,6 @@ pub mod Paths
 pub mod Planned
 pub mod Replayed
 pub mod Rounds
-pub mod Sized
 pub mod Telling
 pub mod Transferred
 pub mod TrialLaws
