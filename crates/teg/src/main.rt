@@ -15,9 +15,7 @@ ghost use Rattle.teg_run.specs.declared.status.Status.{Status};
 use std::alloc::{AllocError, Global};
 use std::process::ExitCode;
 use std::{env, io};
-use teg_outside::{
-    FileShelf, FiringCount, HighWater, Lateness, Monitor, Shelf, Sink, WriterSink,
-};
+use teg_outside::{FileShelf, FiringCount, HighWater, Lateness, Monitor, Shelf, Sink, WriterSink};
 use teg_run::{Status, workbench};
 
 // The words after the program's name; none where one of them is no text.
@@ -65,10 +63,7 @@ fn run<S: Shelf, W: Sink>(
 }
 
 // Appends a monitor.
-fn keep(
-    monitors: &mut Vec<Box<dyn Monitor>>,
-    monitor: Box<dyn Monitor>,
-) -> Result<(), AllocError> {
+fn keep(monitors: &mut Vec<Box<dyn Monitor>>, monitor: Box<dyn Monitor>) -> Result<(), AllocError> {
     monitors.push(monitor)?;
     Ok(())
 }

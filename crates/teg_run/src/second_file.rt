@@ -49,11 +49,7 @@ impl FileBytes {
 }
 
 // The bytes of the file that was read, or its refusal.
-fn judge_bytes(
-    alloc: Global,
-    which: Which,
-    reply: Result<Vec<u8>, ShelfFault>,
-) -> Opened<FileBytes>
+fn judge_bytes(alloc: Global, which: Which, reply: Result<Vec<u8>, ShelfFault>) -> Opened<FileBytes>
     requires { IfOk reply (λ bytes. length bytes.items ≤ most_bytes) }
     ensures { IfSome (opened result) (OpensBytes which (replied reply)) }
 {
