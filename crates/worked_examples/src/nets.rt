@@ -47,6 +47,10 @@ pub const LOOP_AND_PAIR: &str =
 pub const TAKEOVER: &str =
     "[[transition]]\nname = \"a\"\n\n[[transition]]\nname = \"d\"\n\n[[transition]]\nname = \"c\"\n\n[[place]]\nname = \"aa\"\nfrom = \"a\"\nto = \"a\"\nhold = 10\ntokens = 1\n\n[[place]]\nname = \"dd\"\nfrom = \"d\"\nto = \"d\"\nhold = 11\ntokens = 1\n\n[[place]]\nname = \"ac\"\nfrom = \"a\"\nto = \"c\"\nhold = 100\n\n[[place]]\nname = \"dc\"\nfrom = \"d\"\nto = \"c\"\n";
 
+/// The same with a by 250,000: d takes over at number 250,001.
+pub const LATE_TAKEOVER: &str =
+    "[[transition]]\nname = \"a\"\n\n[[transition]]\nname = \"d\"\n\n[[transition]]\nname = \"c\"\n\n[[place]]\nname = \"aa\"\nfrom = \"a\"\nto = \"a\"\nhold = 10\ntokens = 1\n\n[[place]]\nname = \"dd\"\nfrom = \"d\"\nto = \"d\"\nhold = 11\ntokens = 1\n\n[[place]]\nname = \"ac\"\nfrom = \"a\"\nto = \"c\"\nhold = 250000\n\n[[place]]\nname = \"dc\"\nfrom = \"d\"\nto = \"c\"\n";
+
 /// An input u, a transition a with a place of its own, and an output y.
 pub const DRIVEN: &str =
     "[[transition]]\nname = \"u\"\nrole = \"input\"\n\n[[transition]]\nname = \"a\"\n\n[[transition]]\nname = \"y\"\nrole = \"output\"\n\n[[place]]\nname = \"ua\"\nfrom = \"u\"\nto = \"a\"\nhold = 2\n\n[[place]]\nname = \"aa\"\nfrom = \"a\"\nto = \"a\"\nhold = 3\ntokens = 1\n\n[[place]]\nname = \"ay\"\nfrom = \"a\"\nto = \"y\"\nhold = 1\n";

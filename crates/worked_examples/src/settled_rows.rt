@@ -1,13 +1,25 @@
 //! Cases of dates for ever and of times from inputs to outputs, worked out by hand, as one table.
 use crate::bench::{Row, USAGE, answers};
 use crate::nets::{
-    DEAD_LOOP, DRIVEN, ENDED_LIST, KANBAN, LOOP, LOOP_BESIDE, ONE, READY_LOOP, TAKEOVER, TWO_LOOPS,
-    TWO_TOKENS,
+    DEAD_LOOP, DRIVEN, ENDED_LIST, KANBAN, LATE_TAKEOVER, LOOP, LOOP_BESIDE, ONE, READY_LOOP,
+    TAKEOVER, TWO_LOOPS, TWO_TOKENS,
 };
 use std::test::Fail;
 use teg_run::Status;
 
-const SETTLED: [Row<'static>; 35] = [
+const SETTLED: [Row<'static>; 37] = [
+    (
+        &["date", "net", "c", "1000000", "--limit", "none"],
+        LATE_TAKEOVER,
+        Status::Done,
+        "date c 1000000 10999989\n",
+    ),
+    (
+        &["date", "net", "c", "1000000", "--limit", "200000"],
+        LATE_TAKEOVER,
+        Status::TooLong,
+        "too long: no settled form within 200000\n",
+    ),
     (
         &["dates", "net"],
         ONE,
