@@ -2,7 +2,7 @@
 ghost use Rattle.std.specs.Prelude.{◌≡◌, ◌≤◌, ◌<◌, ◌+◌, ℕ, [], ◌∷◌, IfOk};
 ghost use Rattle.series_laws.specs.Forms.{table, monomial_at};
 
-use crate::shorten::shortest;
+use crate::shorten::{finish, shortest};
 use crate::values::{same_parts, value_of};
 use dioid::Date;
 use std::alloc::{AllocError, Global};
@@ -42,9 +42,10 @@ impl Model for Series {
 }
 
 impl Series {
-    ghost use Rattle.std.specs.Prelude.{◌≡◌, ◌≤◌, ◌<◌, ◌+◌, ◌↔◌, ℕ, IsTrue, IfOk};
+    ghost use Rattle.std.specs.Prelude.{◌≡◌, ◌≤◌, ◌<◌, ◌+◌, ◌↔◌, ℕ, IsTrue, IfOk, length};
     ghost use Rattle.std.specs.Int.RustNames.{unsigned_abs};
-    ghost use Rattle.series_laws.specs.Forms.{value_at, HasValues, monomial_at};
+    ghost use Rattle.series_laws.specs.Forms.{value_at, form_with, HasValues, monomial_at};
+    ghost use Rattle.series_laws.specs.Periodic.{Rising};
     ghost use Rattle.series_form.specs.Bounds.{IsSmallDate, IsSeries};
     ghost use Rattle.series_form.specs.Answer.{AnswersOf, IsConstant};
 
@@ -61,6 +62,33 @@ impl Series {
         }
         match monomial_values(alloc, shift as usize, date) {
             Ok(values) => shortest(values, 1, Date::At(date)),
+            Err(_) => Err(SeriesRefused::OutOfMemory),
+        }
+    }
+
+    /// The series of the function that a list gives: its values, of which the last `period` go on by
+    /// `step`, with numbers of any size. It may not fall. Where the last period is Never or Early
+    /// throughout, the step is of no account. Its need is the length: TooLong above 20,000, also for
+    /// a longer list than the canonical one; where not, TooGreat for a number of the canonical form
+    /// above 10^18. (Chapter 5.)
+    pub fn from_list(
+        alloc: Global,
+        values: &[Date],
+        period: usize,
+        step: i128,
+    ) -> Result<Series, SeriesRefused>
+        requires positive { 0 < period }
+        requires fits { period ≤ length values.now }
+        requires rising { Rising (value_at (form_with values.now period step)) }
+        ensures { AnswersOf (λ r. HasValues r (value_at (form_with values.now period step))) (length values.now) (length values.now) result }
+    {
+        if values.len() > 20_000 {
+            return Err(SeriesRefused::TooLong {
+                need: values.len() as u128,
+            });
+        }
+        match copied(alloc, values) {
+            Ok(list) => finish(list, period, step),
             Err(_) => Err(SeriesRefused::OutOfMemory),
         }
     }

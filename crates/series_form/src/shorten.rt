@@ -1,15 +1,41 @@
 //! The canonical form of a list of values: the least period, and with it the least length.
-ghost use Rattle.std.specs.Prelude.{◌≡◌, ◌≤◌, ◌<◌, ◌+◌, ◌-◌, length, MatchBool, MatchResult};
+ghost use Rattle.std.specs.Prelude.{◌≡◌, ◌≤◌, ◌<◌, ◌+◌, ◌-◌, ◌-ℤ◌, length, FitsSigned, MatchBool, MatchResult};
+ghost use Rattle.std.specs.Int.{w128};
 ghost use Rattle.std.specs.Int.RustNames.{unsigned_abs};
-ghost use Rattle.series_laws.specs.Forms.{value_at, form_with, moves, repeats_test, least_period_of, least_start_of};
+ghost use Rattle.series_laws.specs.Forms.{value_at, form_with, gap, moves, repeats_test, least_period_of, least_start_of};
 ghost use Rattle.series_form.specs.Bounds.{IsModerate, IsModerateDate};
 ghost use Rattle.series_laws.specs.Periodic.{Rising};
 ghost use Rattle.series_form.specs.Answer.{IsNumberCheck, IsBeginning, IsShortest, form_before};
 ghost use Rattle.series_form.specs.Shapes.{IsPart, IsCanonicalPart, IsShape, IsTooGreat};
 
 use crate::forms::{Series, SeriesRefused};
-use crate::values::{gap_of, is_moved, value_of};
+use crate::values::{gap_of, is_moved};
 use dioid::Date;
+
+/// Whether `turn` shifts move the value at a shift of the list by `jump`. A value past the list is
+/// one of the list, moved by the step, so that two values of the list are compared.
+fn moves_at(
+    values: &[Date],
+    period: usize,
+    step: i128,
+    turn: usize,
+    jump: i128,
+    shift: usize,
+) -> bool
+    requires positive { 0 < period }
+    requires fits { period ≤ length values.now }
+    requires short { length values.now ≤ 20000 }
+    requires turn { turn ≤ period }
+    requires shift { shift < length values.now }
+    requires rest { FitsSigned w128 (step -ℤ jump) }
+    ensures { result ≡ moves (value_at (form_with values.now period step)) turn jump shift }
+{
+    let there = shift + turn;
+    if there < values.len() {
+        return is_moved(values[shift], values[there], jump);
+    }
+    is_moved(values[there - period], values[shift], step - jump)
+}
 
 /// Whether `turn` shifts move the values at `from` and the next ones by `jump`.
 pub(crate) fn repeats(
@@ -23,62 +49,58 @@ pub(crate) fn repeats(
 ) -> bool
     requires positive { 0 < period }
     requires fits { period ≤ length values.now }
-    requires moderate { IsModerate (form_with values.now period step) }
-    requires turn { turn ≤ 100000 }
-    requires from { from ≤ 100000 }
-    requires count { count ≤ 100000 }
+    requires short { length values.now ≤ 20000 }
+    requires turn { turn ≤ period }
+    requires rest { FitsSigned w128 (step -ℤ jump) }
+    requires listed { from + count ≤ length values.now }
     ensures { result ≡ repeats_test (value_at (form_with values.now period step)) turn jump from count }
 {
     for index in 0..count {
-        let here = value_of(values, period, step, (from + index) as u64);
-        let there = value_of(values, period, step, (from + index + turn) as u64);
-        if !is_moved(here, there, jump) {
+        if !moves_at(values, period, step, turn, jump, from + index) {
             return false;
         }
     }
     true
 }
 
+/// What the function gains over up to a period from where the list repeats; 0 for Never and Early.
+fn gain_of(values: &[Date], period: usize, step: i128, turn: usize) -> i128
+    requires positive { 0 < period }
+    requires fits { period ≤ length values.now }
+    requires short { length values.now ≤ 20000 }
+    requires rising { Rising (value_at (form_with values.now period step)) }
+    requires turn { turn ≤ period }
+    ensures gain { let f = value_at (form_with values.now period step) in result ≡ gap (f (length values.now - period)) (f (length values.now - period + turn)) }
+    ensures rest { FitsSigned w128 (step -ℤ result) }
+{
+    let start = values.len() - period;
+    if turn < period {
+        return gap_of(values[start], values[start + turn]);
+    }
+    match values[start] {
+        Date::At(_) => step,
+        _ => 0,
+    }
+}
+
 /// The least period of the form's function.
 pub(crate) fn least_period(values: &[Date], period: usize, step: i128, from: usize) -> usize
     requires positive { 0 < period }
     requires fits { period ≤ length values.now }
-    requires moderate { IsModerate (form_with values.now period step) }
     requires short { length values.now ≤ 20000 }
-    requires from { from ≤ 100000 }
+    requires rising { Rising (value_at (form_with values.now period step)) }
+    requires from { from ≡ length values.now - period }
     ensures value { result ≡ least_period_of (value_at (form_with values.now period step)) from period }
     ensures positive { 0 < result }
     ensures within { result ≤ period }
 {
-    let first = value_of(values, period, step, from as u64);
     for turn in 1..period {
-        let jump = gap_of(first, value_of(values, period, step, (from + turn) as u64));
+        let jump = gain_of(values, period, step, turn);
         if repeats(values, period, step, turn, jump, from, period) {
             return turn;
         }
     }
     period
-}
-
-/// Whether `turn` shifts move the value at a shift by `jump`.
-fn moves_at(
-    values: &[Date],
-    period: usize,
-    step: i128,
-    turn: usize,
-    jump: i128,
-    shift: usize,
-) -> bool
-    requires positive { 0 < period }
-    requires fits { period ≤ length values.now }
-    requires moderate { IsModerate (form_with values.now period step) }
-    requires turn { turn ≤ 100000 }
-    requires shift { shift ≤ 100000 }
-    ensures { result ≡ moves (value_at (form_with values.now period step)) turn jump shift }
-{
-    let here = value_of(values, period, step, shift as u64);
-    let there = value_of(values, period, step, (shift + turn) as u64);
-    is_moved(here, there, jump)
 }
 
 /// The first shift from which the function repeats by `turn` shifts and `jump`, looked for from
@@ -93,10 +115,10 @@ pub(crate) fn least_start(
 ) -> usize
     requires positive { 0 < period }
     requires fits { period ≤ length values.now }
-    requires moderate { IsModerate (form_with values.now period step) }
     requires short { length values.now ≤ 20000 }
-    requires from { from ≤ 100000 }
-    requires turn { turn ≤ 100000 }
+    requires from { from ≤ length values.now }
+    requires turn { turn ≤ period }
+    requires rest { FitsSigned w128 (step -ℤ jump) }
     ensures value { result ≡ least_start_of (value_at (form_with values.now period step)) from turn jump }
     ensures within { result ≤ from }
 {
@@ -143,14 +165,12 @@ fn shape_of(values: &[Date], turn: usize, step: i128) -> Shape
     requires positive { 0 < turn }
     requires fits { turn ≤ length values.now }
     requires short { length values.now ≤ 20000 }
-    requires moderate { IsModerate (form_with values.now turn step) }
+    requires rising { Rising (value_at (form_with values.now turn step)) }
     ensures { IsPart values.now turn step result }
 {
     let start = values.len() - turn;
     let period = least_period(values, turn, step, start);
-    let first = value_of(values, turn, step, start as u64);
-    let second = value_of(values, turn, step, (start + period) as u64);
-    let jump = gap_of(first, second);
+    let jump = gain_of(values, turn, step, period);
     Shape {
         size: least_start(values, turn, step, start, period, jump) + period,
         period,
@@ -163,7 +183,7 @@ fn shorten(values: &[Date], turn: usize, step: i128) -> Result<Shape, i128>
     requires positive { 0 < turn }
     requires fits { turn ≤ length values.now }
     requires short { length values.now ≤ 20000 }
-    requires moderate { IsModerate (form_with values.now turn step) }
+    requires rising { Rising (value_at (form_with values.now turn step)) }
     ensures { MatchResult result (IsShape values.now turn step) (IsTooGreat values.now turn step) }
 {
     let shape = shape_of(values, turn, step);
@@ -185,12 +205,15 @@ pub fn canonical_part(values: &[Date], turn: usize, next: Date) -> Shape
     shape_of(values, turn, step_before(values, turn, next))
 }
 
-/// The series of the function of a form.
-fn finish(mut values: Vec<Date>, turn: usize, step: i128) -> Result<Series, SeriesRefused>
+/// The series of the function of a form with numbers of any size.
+pub(crate) fn finish(
+    mut values: Vec<Date>,
+    turn: usize,
+    step: i128,
+) -> Result<Series, SeriesRefused>
     requires positive { 0 < turn }
     requires fits { turn ≤ length values.items }
     requires short { length values.items ≤ 20000 }
-    requires moderate { IsModerate (form_with values.items turn step) }
     requires rising { Rising (value_at (form_with values.items turn step)) }
     ensures { IsShortest (value_at (form_with values.items turn step)) result }
 {

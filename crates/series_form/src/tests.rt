@@ -88,3 +88,30 @@ fn lists_of_20_000(rt: HostRuntime) -> Result<(), Fail> {
     );
     Ok(())
 }
+
+#[test]
+fn a_list_of_a_function(rt: HostRuntime) {
+    let even = Series::from_list(rt.alloc(), &[Date::At(0), Date::At(2), Date::At(4)], 1, 2);
+    assert!(rt; is_series(&even, &[Date::At(0)], 1, 2));
+}
+
+#[test]
+fn lists_of_great_numbers(rt: HostRuntime) {
+    let alloc = rt.alloc();
+    let apart = Series::from_list(alloc, &[Date::At(i128::MIN), Date::At(i128::MAX)], 1, 0);
+    assert!(rt; is_refused(&apart, SeriesRefused::TooGreat { value: i128::MIN }));
+    let steep = Series::from_list(
+        alloc,
+        &[Date::At(0), Date::At(2_000_000_000_000_000_000_000_000_000)],
+        2,
+        4_000_000_000_000_000_000_000_000_000,
+    );
+    assert!(rt;
+        is_refused(
+            &steep,
+            SeriesRefused::TooGreat {
+                value: 2_000_000_000_000_000_000_000_000_000
+            }
+        )
+    );
+}

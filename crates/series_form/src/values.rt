@@ -1,5 +1,6 @@
 //! Values of a form, far out too.
-ghost use Rattle.std.specs.Prelude.{◌≡◌, ◌≤◌, ◌<◌, ◌↔◌, ◌*◌, IsTrue, length};
+ghost use Rattle.std.specs.Prelude.{◌≡◌, ◌≤◌, ◌<◌, ◌↔◌, ◌*◌, IsTrue, length, FitsSigned};
+ghost use Rattle.std.specs.Int.{w128};
 ghost use Rattle.std.specs.Int.RustNames.{unsigned_abs};
 ghost use Rattle.dioid.specs.declared.dates.Date.{Date};
 ghost use Rattle.series_laws.specs.Forms.{value_at, form_with, date_eqb, gap};
@@ -96,8 +97,7 @@ pub(crate) fn is_moved(here: Date, there: Date, jump: i128) -> bool
 
 /// What the second date is above the first, 0 unless both are numbers.
 pub(crate) fn gap_of(first: Date, second: Date) -> i128
-    requires first { IsWithin first }
-    requires second { IsWithin second }
+    requires { FitsSigned w128 (gap first second) }
     ensures { result ≡ gap first second }
 {
     match (first, second) {

@@ -4,7 +4,8 @@ use Rattle.std.proofs.lemmas.Int.{to_z-of_z}
 use Rattle.std.specs.Int.RustNames.{unsigned_abs}
 use Rattle.dioid.specs.declared.dates.Date.{Date}
 use Rattle.series_laws.specs.Forms.{Form, value_at, gap}
-use Rattle.series_form.specs.Bounds.{IsUpTo, IsWithin, IsSeries}
+use Rattle.series_form.specs.Bounds.{IsUpTo, IsSeries}
+use Rattle.series_form.proofs.Numbers.{moderate_fits}
 use Rattle.series_form.proofs.Finished.{value_up_to, up_to_more, gap_up_to}
 use Rattle.series_form.proofs.pointwise.lead_at.Goals as goal
 
@@ -12,14 +13,12 @@ far : (f : Form) (k : ℕ) (d : Date) → IsSeries f → k ≤ 400020000 → d �
 far f k d h w e = subst (λ (z : Date). IsUpTo 400020001000000000000000000 z) (sym e)
     (up_to_more (1000000000000000000 + 400020000 * 1000000000000000000) 400020001000000000000000000 (value_at f k) (omega arith) (value_up_to f h k 400020000 w))
 
-within : (d : Date) → IsUpTo 400020001000000000000000000 d → IsWithin d
-within d h = up_to_more 400020001000000000000000000 (1000000000000000000000000000 + 10000000000000000000000000000000000000) d (omega arith) h
-
-pub gap_of-requires-clause-first : goal.gap_of-requires-clause-first
-gap_of-requires-clause-first c = within c.at.result (far c.args.first.now c.args.shift c.at.result c.at.ensures.series c.requires c.at.ensures.value)
-
-pub gap_of-requires-clause-second : goal.gap_of-requires-clause-second
-gap_of-requires-clause-second c = within c.at-2.result (far c.args.second.now c.args.shift c.at-2.result c.at-2.ensures.series c.requires c.at-2.ensures.value)
+pub gap_of-requires : goal.gap_of-requires
+gap_of-requires c =
+    let a = far c.args.first.now c.args.shift c.at.result c.at.ensures.series c.requires c.at.ensures.value in
+    let b = far c.args.second.now c.args.shift c.at-2.result c.at-2.ensures.series c.requires c.at-2.ensures.value in
+    let e : unsigned_abs (gap c.at.result c.at-2.result) ≤ 400020001000000000000000000 + 400020001000000000000000000 = gap_up_to 400020001000000000000000000 c.at.result c.at-2.result a b in
+    moderate_fits (gap c.at.result c.at-2.result) (omega arith)
 
 pub returns-clause-bound : goal.returns-clause-bound
 returns-clause-bound c =

@@ -2,8 +2,7 @@ use Rattle.std.proofs.Common.{◌≡◌, ap, ◌∙◌, sym, subst, ◌-◌, len
 use Rattle.std.specs.Int.{w128}
 use Rattle.std.proofs.lemmas.Int.{to_z-of_z}
 use Rattle.series_laws.specs.Forms.{Form, form_with, value_at, HasValues, IsCanonical, canonical_of}
-use Rattle.series_laws.specs.Periodic.{Repeats}
-use Rattle.series_form.specs.Bounds.{IsModerate}
+use Rattle.series_laws.specs.Periodic.{Rising, Repeats}
 use Rattle.series_form.specs.Answer.{form_before}
 use Rattle.series_form.specs.Shapes.{IsPart}
 use Rattle.series_laws.proofs.FormValues.{value_repeats}
@@ -14,7 +13,7 @@ pub shape_of-requires : goal.shape_of-requires
 shape_of-requires c =
     let e : form_with c.args.values.now c.args.turn (to_z w128 (of_z w128 c.step_before.result)) ≡ form_before c.args.values.now c.args.turn c.args.next =
     ap (form_with c.args.values.now c.args.turn) (to_z-of_z w128 c.step_before.result (record { sfits = c.step_before.type_inv })) ∙ c.step_before.ensures in
-    record { positive = c.requires.positive; fits = c.requires.fits; short = c.requires.short; moderate = subst (λ (z : Form). IsModerate z) (sym e) c.requires.moderate }
+    record { positive = c.requires.positive; fits = c.requires.fits; short = c.requires.short; rising = subst (λ (z : Form). Rising (value_at z)) (sym e) c.requires.rising }
 
 pub returns : goal.returns
 returns c =

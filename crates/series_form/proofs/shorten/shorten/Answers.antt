@@ -1,14 +1,13 @@
-use Rattle.std.proofs.Common.{◌≡◌, sym, ℤ, ◌≤◌, ◌<◌, to_z, of_z, take, subst, inl, inr}
+use Rattle.std.proofs.Common.{◌≡◌, sym, ℤ, ◌≤◌, ◌<◌, to_z, of_z, take, subst, inl, inr, rules, FitsSigned}
 use Rattle.std.specs.Int.{w128}
 use Rattle.std.specs.Int.RustNames.{unsigned_abs}
 use Rattle.std.proofs.lemmas.Int.{to_z-of_z}
 use Rattle.dioid.specs.declared.dates.Date.{Date}
 use Rattle.dioid.specs.declared.dates.Date.TheVariants.{At}
 use Rattle.series_laws.specs.Forms.{Form, form_with}
-use Rattle.series_form.specs.Bounds.{IsModerateDate, HasSmallNumbers}
+use Rattle.series_form.specs.Bounds.{HasSmallNumbers}
 use Rattle.series_form.specs.Answer.{IsFirstGreat, IsFirstGreatValue, IsGreatStep}
 use Rattle.series_form.specs.Shapes.{IsPart}
-use Rattle.series_form.proofs.Numbers.{moderate_fits}
 use Rattle.series_form.proofs.FirstPart.{small_taken, great_taken}
 use Rattle.series_form.proofs.shorten.shorten.Goals as goal
 
@@ -33,8 +32,8 @@ pub returns-in-Some : goal.returns-in-Some
 returns-in-Some c =
     let h : IsPart c.args.values.now c.args.turn c.args.step c.shape_of-shape.result = subst (λ (z : ℤ). IsPart c.args.values.now c.args.turn z c.shape_of-shape.result) (to_z-of_z w128 c.args.step c.ranges.step) c.shape_of-shape.ensures in
     let found : IsFirstGreat c.args.values.now c.shape_of-shape.result.size c.in-Some.value = c.in-Some.ensures in
-    let low : IsModerateDate (At c.in-Some.value) = subst (λ (z : Date). IsModerateDate z) found.value (c.requires.moderate.values found.place) in
-    let ev : to_z w128 (of_z w128 c.in-Some.value) ≡ c.in-Some.value = to_z-of_z w128 c.in-Some.value (moderate_fits c.in-Some.value low) in
+    let fits : FitsSigned w128 c.in-Some.value = search rules in
+    let ev : to_z w128 (of_z w128 c.in-Some.value) ≡ c.in-Some.value = to_z-of_z w128 c.in-Some.value fits in
     let great : IsFirstGreatValue (form_with (take c.shape_of-shape.result.size c.args.values.now) c.shape_of-shape.result.period c.shape_of-shape.result.step) c.in-Some.value =
     great_taken c.args.values.now c.shape_of-shape.result.size c.shape_of-shape.result.period c.shape_of-shape.result.step c.in-Some.value found in
     rw ev (inl (subst (λ (z : Form). IsFirstGreatValue z c.in-Some.value) (sym h.form) great))

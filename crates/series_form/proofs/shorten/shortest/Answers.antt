@@ -4,16 +4,8 @@ use Rattle.std.proofs.lemmas.Int.{to_z-of_z}
 use Rattle.dioid.specs.declared.dates.Date.{Date}
 use Rattle.series_laws.specs.Forms.{Form, form_with, value_at}
 use Rattle.series_laws.specs.Periodic.{Rising}
-use Rattle.series_form.specs.Bounds.{IsModerate}
 use Rattle.series_form.specs.Answer.{form_before, IsShortest}
 use Rattle.series_form.proofs.shorten.shortest.Goals as goal
-
-pub finish-requires-clause-moderate : goal.finish-requires-clause-moderate
-finish-requires-clause-moderate c =
-    let e : form_with c.args.values.items c.args.turn (to_z w128 (of_z w128 c.step_before-step.result)) ≡ form_before c.args.values.items c.args.turn c.args.next =
-    ap (form_with c.args.values.items c.args.turn) (to_z-of_z w128 c.step_before-step.result (record { sfits = c.step_before-step.type_inv }))
-    ∙ subst (λ (z : List Date). form_with z c.args.turn c.step_before-step.result ≡ form_before z c.args.turn c.args.next) c.as_slice.ensures.value c.step_before-step.ensures in
-    subst (λ (z : Form). IsModerate z) (sym e) c.requires.moderate
 
 pub finish-requires-clause-rising : goal.finish-requires-clause-rising
 finish-requires-clause-rising c =
