@@ -1,7 +1,7 @@
 -- The least dating of a system of a net, made from the net's ranks: how late it can be, and what rows and tables have of it.
 use Rattle.std.proofs.Common.{ℕ, ◌+◌, ◌*◌, ◌^◌, ◌≤◌, List, sym, subst, arith}
 use Rattle.teg_net.specs.Nets.{NetLists, IsNet}
-use Rattle.teg_net.specs.Limits.{greatest_hold}
+use Rattle.teg_net.specs.Limits.{greatest_hold, greatest_number}
 use Rattle.teg_model.specs.Systems.{Dating, InitialDates, System, IsLeastIn}
 use Rattle.teg_model.specs.Datings.{extended_places, listed, system_with, system_of, IsLeastDating}
 use Rattle.teg_model.specs.Bounds.{IsWithin}
@@ -14,7 +14,7 @@ use Rattle.teg_model.proofs.Within.{within_more, least_in_within, net_is_bounded
 use Rattle.teg_model.proofs.ListDates.{first_bound, listed_within}
 use Rattle.teg_check.specs.Ranks.{IsRanking}
 use Rattle.teg_dates.specs.Tables.{TableDates, HasDatesOf, HasDatesOfWalks}
-use Rattle.teg_dates.specs.Rows.{most_rows, KeepsBounds}
+use Rattle.teg_dates.specs.Rows.{KeepsBounds}
 use Rattle.teg_dates.proofs.Ranking.{rank_of, ranks_of}
 
 unfoldable pub earliest : System → List ℕ → Dating
@@ -30,12 +30,12 @@ earliest_is_least net init rel ranks ok r = least_over_is_least (system_with net
 
 -- its dates fit
 pub earliest_within : (net : NetLists) (init : InitialDates) (rel : Dating) (ranks : List ℕ) → IsNet net → IsRanking net ranks → KeepsBounds (system_with net init rel)
-    → (t k : ℕ) → 1 ≤ k → k ≤ most_rows → IsWithin (2 ^ 126) (earliest (system_with net init rel) ranks t k)
+    → (t k : ℕ) → 1 ≤ k → k ≤ greatest_number → IsWithin (2 ^ 126) (earliest (system_with net init rel) ranks t k)
 earliest_within net init rel ranks ok r b t k o few =
     let s : System = system_with net init rel in
     let re = extended net ranks ok r in
     let low = re.below t in
-    let first = b.1.grows k most_rows few in
+    let first = b.1.grows k greatest_number few in
     within_more (b.0 k + greatest_hold * (k * 400 + rank_of ranks t)) (2 ^ 126) (earliest s ranks t k) (omega (arith, low, first, b.2, few))
     (least_in_within s 400 greatest_hold (rank_of ranks) b.0 (earliest s ranks) re b.1 (earliest_is_least net init rel ranks ok r) t k o)
 

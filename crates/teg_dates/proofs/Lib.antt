@@ -1,7 +1,9 @@
 mod Sorting
 mod Ranking
 mod Cells
+mod Seeing
 mod Filling
 mod Beginning
 mod Earliest
 mod NextRow
+mod Keeping

@@ -1,12 +1,35 @@
 -- Rows of a system's least dating are its first dates, and so are the rows of one number more.
-use Rattle.std.proofs.Common.{◌*◌, ap, ◌∙◌}
+use Rattle.std.proofs.Common.{ℕ, ◌-◌, ◌*◌, ◌<◌, ◌≤◌, ◌≡◌, ◌++◌, List, length, get_or, refl, ap, ◌∙◌, arith, ⊎_elim, length-append}
+use Rattle.std.proofs.lemmas.Bool.{cases_lt}
+use Rattle.std.proofs.lemmas.List.{get_or_append_left, get_or-append_right}
+use Rattle.dioid.specs.declared.dates.Date.{Date}
+use Rattle.dioid.specs.declared.dates.Date.TheVariants.{Early}
 use Rattle.teg_net.specs.Nets.{NetLists}
-use Rattle.teg_model.specs.Systems.{System}
-use Rattle.teg_dates.specs.Tables.{TableDates}
-use Rattle.teg_dates.specs.Rows.{IsRows, AreLeastRows, AreFirstLeast}
+use Rattle.teg_model.specs.Systems.{System, Dating}
+use Rattle.teg_dates.specs.Tables.{TableDates, cell_of}
+use Rattle.teg_dates.specs.Rows.{IsRows, AreLeastRows, AreFirst, AreFirstLeast}
+use Rattle.teg_dates.specs.Passes.{IsRowOf}
+use Rattle.teg_dates.proofs.Cells.{rows_before, cell_before}
 
 pub rows_are_first : (net : NetLists) (s : System) (rows : TableDates) → IsRows rows → AreLeastRows net s rows → AreFirstLeast net s rows.count rows.dates
 rows_are_first net s rows is h x least = record {
   full = is.full ∙ ap (λ w. rows.count * w) h.width;
   same = λ t k l o m. rw h.width at (h.least x least t k l o m);
 }
+
+-- the first dates and the row of the next number are the first dates of one number more
+pub first_with_row : (net : NetLists) (x : Dating) (k : ℕ) (before row : List Date) → 1 ≤ k → AreFirst net x (k - 1) before → IsRowOf net x k row → AreFirst net x k (before ++ row)
+first_with_row net x k before row o first is =
+    let w = length net.transitions in
+    record {
+      full = omega (arith, length-append before row, first.full, is.full, rows_before w k o);
+      same = λ t j l p m.
+          ⊎_elim
+          (λ (q : j < k).
+          get_or_append_left before row Early (cell_of w t j) (omega (arith, cell_before w t j k l p q, first.full)) ∙ first.same t j l p (omega arith))
+          (λ (q : k ≤ j).
+          let last : j ≡ k = omega arith in
+          let at : cell_of w t k - length before ≡ t = omega (arith, first.full) in
+          rw last (get_or-append_right before row (length before) (cell_of w t k) Early refl (omega (arith, first.full)) ∙ (ap (λ z. get_or row z Early) at ∙ is.same t l)))
+          (cases_lt j k);
+    }

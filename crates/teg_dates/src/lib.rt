@@ -3,16 +3,20 @@
 //! [`first_dates`] gives a [`Table`] whose dates are the least dating of the net (chapter 2), with its
 //! ready dates and its input lists, and with that the greatest start plus time of the walks that end
 //! at each firing. It stands on [`Rows`], which makes one row after another of the least dating of any
-//! system of a net: a [`Source`] gives the dates of its initial tokens and its releases. The crate
-//! stands on `teg_net`, on `teg_check` for the ranks, on `teg_model` for what a least dating is, and
-//! on `dioid` for dates.
+//! system of a net: a [`Source`] gives the dates of its initial tokens and its releases. A [`Stream`]
+//! gives the rows of the net one after another and keeps only the last of them. The crate stands on
+//! `teg_net`, on `teg_check` for the ranks, on `teg_form` for the form that a stream is asked with, on
+//! `teg_model` for what a least dating is, on `circular_buffer`, and on `dioid` for dates.
 #![tactic(auto)]
 
 mod first;
+mod last_rows;
 mod order;
 mod passes;
+mod past;
 mod rows;
 mod sources;
+mod stream;
 mod table;
 #[cfg(test)]
 mod tests;
@@ -21,4 +25,5 @@ pub use first::first_dates;
 pub use order::PlaceOrder;
 pub use rows::Rows;
 pub use sources::{NetInputs, Source};
+pub use stream::Stream;
 pub use table::Table;

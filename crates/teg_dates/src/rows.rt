@@ -1,19 +1,54 @@
 //! The rows of the least dating of a system, as many as a caller asks for.
-ghost use Rattle.std.specs.Prelude.{◌≡◌, ◌+◌, ◌<◌, ◌≤◌, length, [], IfOk};
+ghost use Rattle.std.specs.Prelude.{◌≡◌, ◌+◌, ◌-◌, ◌*◌, ◌<◌, ◌≤◌, length, take, [], IfOk};
 ghost use Rattle.dioid.specs.declared.dates.Date.{Date};
 ghost use Rattle.teg_net.specs.Nets.{IsNet};
 ghost use Rattle.teg_dates.specs.Tables.{date_at};
 ghost use Rattle.teg_dates.specs.Order.{OrdersPlaces};
 ghost use Rattle.teg_dates.specs.Sources.{system_by};
-ghost use Rattle.teg_dates.specs.Rows.{most_rows, KeepsBounds, AreLeastRows, HasLeastDating};
+ghost use Rattle.teg_dates.specs.Rows.{most_rows, KeepsBounds, AreFirstLeast, AreLeastRows, HasLeastDating};
 
-use crate::order::PlaceOrder;
-use crate::passes::{begin_row, cell_of, raise_row};
+use crate::order::{PlaceOrder, Ranked};
+use crate::passes::fill_row;
+use crate::past::{AllRows, cell_of};
 use crate::sources::Source;
 use dioid::Date;
-use std::alloc::Global;
+use std::alloc::{AllocError, Global};
 use std::marker::Model;
 use teg_net::{Net, OutOfMemory, TransitionId};
+
+/// Appends room for one row.
+fn extend(dates: &mut Vec<Date>, width: usize) -> Result<(), AllocError>
+    ensures more { IfOk result (λ _. length dates.new.items ≡ length dates.old.items + width) }
+    ensures before { IfOk result (λ _. take (length dates.old.items) dates.new.items ≡ dates.old.items) }
+{
+    for _index in 0..width {
+        dates.push(Date::Early)?;
+    }
+    Ok(())
+}
+
+/// Writes the last of the rows, that of the number.
+fn fill_last<S: Source>(net: &Net, order: &[Ranked], source: &S, dates: &mut [Date], number: u64)
+    requires order { OrdersPlaces net.now order.now }
+    requires bounded { KeepsBounds (system_by S.Source source.now net.now) }
+    requires number { 1 ≤ number }
+    requires few { number ≤ most_rows }
+    requires full { length dates.old ≡ number * length net.now.transitions }
+    requires before { AreFirstLeast net.now (system_by S.Source source.now net.now) (number - 1) (take ((number - 1) * length net.now.transitions) dates.old) }
+    ensures full { length dates.new ≡ number * length net.now.transitions }
+    ensures least { AreFirstLeast net.now (system_by S.Source source.now net.now) number dates.new }
+    ensures exists { HasLeastDating (system_by S.Source source.now net.now) }
+{
+    let width = net.transitions().len();
+    let count = number - 1;
+    let (before, row) = dates.split_at_mut(count as usize * width);
+    let past = AllRows {
+        width,
+        count,
+        dates: before,
+    };
+    fill_row(net, order, source, &past, row, number);
+}
 
 /// The dates of the first firings of each transition, number by number: one row a number, at most
 /// 10^15 of them, which is more than any memory holds. Contracts see them as those of a table.
@@ -72,8 +107,8 @@ impl Rows {
     {
         let mut rows = self;
         let number = rows.count + 1;
-        begin_row(net, source, &mut rows.dates, number)?;
-        raise_row(net, order.places(), source, &mut rows.dates, number);
+        extend(&mut rows.dates, rows.width)?;
+        fill_last(net, order.places(), source, &mut rows.dates, number);
         rows.count = number;
         Ok(rows)
     }

@@ -3,7 +3,7 @@
 ghost use Rattle.std.specs.Prelude.{◌≡◌, ◌<◌, ◌≤◌, length};
 ghost use Rattle.teg_net.specs.Circuits.{place_at};
 ghost use Rattle.teg_model.specs.Datings.{implicit_place};
-ghost use Rattle.teg_dates.specs.Rows.{most_rows};
+ghost use Rattle.teg_net.specs.Limits.{greatest_number};
 
 use dioid::Date;
 use teg_net::{Net, PlaceId, Role, TransitionId};
@@ -38,7 +38,7 @@ pub trait Source {
     fn release(&self, net: &Net, transition: TransitionId, number: u64) -> Date
         requires transition { transition.index < length net.now.transitions }
         requires first { 1 ≤ number }
-        requires last { number ≤ most_rows }
+        requires last { number ≤ greatest_number }
         ensures { result ≡ release self.now net.now transition.index number };
 }
 

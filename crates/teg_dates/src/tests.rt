@@ -1,13 +1,17 @@
 //! Small nets whose dates are plain to see.
-ghost use Rattle.std.specs.Prelude.{◌<◌};
+ghost use Rattle.std.specs.Prelude.{◌≡◌, ◌+◌, ◌<◌, length};
+ghost use Rattle.teg_net.specs.Limits.{greatest_number};
+ghost use Rattle.teg_form.specs.Forms.{IsFormOf};
+ghost use Rattle.teg_dates.specs.Streams.{IsStreamOf};
 
-use crate::{Table, first_dates};
+use crate::{Stream, Table, first_dates};
 use dioid::Date;
 use sample_nets::{ended, ready_ring, ring, two_ways};
 use std::alloc::Global;
 use std::test::Fail;
 use teg_check::check;
-use teg_net::TransitionId;
+use teg_form::{Form, standard_form};
+use teg_net::{Net, TransitionId};
 
 /// The dates of a transition in the table.
 fn dates_of(alloc: Global, table: &Table, index: u32) -> Result<Vec<Date>, Fail>
@@ -99,5 +103,64 @@ fn a_table_goes_up_to_ten_thousand(rt: HostRuntime) -> Result<(), Fail> {
     let table = first_dates(alloc, &net, &live, 10_000)?;
     let last = table.date(TransitionId { index: 1 }, 10_000);
     assert_eq!(rt; last, Date::At(49_998));
+    Ok(())
+}
+
+/// The row that comes next, of two transitions.
+fn next_of(stream: &mut Stream, net: &Net, form: &Form) -> (Date, Date)
+    requires two { length net.now.transitions ≡ 2 }
+    requires stands { IsStreamOf net.now stream.old }
+    requires form { IsFormOf net.now form.now }
+    requires few { stream.old.last.number < greatest_number }
+    ensures stands { IsStreamOf net.now stream.new }
+    ensures number { stream.new.last.number ≡ stream.old.last.number + 1 }
+{
+    let mut row = [Date::Early; 2];
+    stream.next_row(net, form, &mut row);
+    (row[0], row[1])
+}
+
+#[test]
+fn a_stream_gives_row_after_row(rt: HostRuntime) -> Result<(), Fail> {
+    let alloc = rt.alloc();
+    let net = ring(alloc, 1)?;
+    assert_eq!(rt; net.transitions().len(), 2);
+    let live = check(alloc, &net)?;
+    let form = standard_form(alloc, &net, &live)?;
+    let mut stream = Stream::new(alloc, &net, &form)?;
+    let first = next_of(&mut stream, &net, &form);
+    let second = next_of(&mut stream, &net, &form);
+    assert_eq!(rt; first, (Date::At(0), Date::At(3)));
+    assert_eq!(rt; second, (Date::At(5), Date::At(8)));
+    assert_eq!(rt; stream.number(), 2);
+    Ok(())
+}
+
+#[test]
+fn the_place_of_less_time_may_have_the_later_token(rt: HostRuntime) -> Result<(), Fail> {
+    let alloc = rt.alloc();
+    let net = two_ways(alloc)?;
+    assert_eq!(rt; net.transitions().len(), 2);
+    let live = check(alloc, &net)?;
+    let form = standard_form(alloc, &net, &live)?;
+    let mut stream = Stream::new(alloc, &net, &form)?;
+    let first = next_of(&mut stream, &net, &form);
+    assert_eq!(rt; first, (Date::At(0), Date::At(100)));
+    Ok(())
+}
+
+#[test]
+fn a_stream_by_ranks_goes_past_the_end_of_a_list(rt: HostRuntime) -> Result<(), Fail> {
+    let alloc = rt.alloc();
+    let net = ended(alloc)?;
+    assert_eq!(rt; net.transitions().len(), 2);
+    let live = check(alloc, &net)?;
+    let mut stream = Stream::of_live(alloc, &net, &live)?;
+    let mut row = [Date::Early; 2];
+    stream.next_of_live(&net, &mut row);
+    stream.next_of_live(&net, &mut row);
+    assert_eq!(rt; row.as_slice(), [Date::At(4), Date::At(6)].as_slice());
+    stream.next_of_live(&net, &mut row);
+    assert_eq!(rt; row.as_slice(), [Date::Never, Date::Never].as_slice());
     Ok(())
 }

@@ -1,10 +1,9 @@
 //! What firings wait for beside the tokens of earlier firings: the net's own initial tokens and input
 //! lists, or one input alone.
 ghost use Rattle.std.specs.Prelude.{◌≡◌, ◌<◌, ◌≤◌, ◌^◌, length, IfOk};
-ghost use Rattle.teg_net.specs.Limits.{most_dates, most_every};
+ghost use Rattle.teg_net.specs.Limits.{greatest_number, most_dates, most_every};
 ghost use Rattle.teg_net.specs.Nets.{IsNet};
 ghost use Rattle.teg_model.specs.Bounds.{IsWithin};
-ghost use Rattle.teg_dates.specs.Rows.{most_rows};
 ghost use Rattle.teg_settle.specs.Releases.{AreWaits, HasSpan, date_of_list, list_number, release_by, wait_by_role, wait_from, wait_in, wait_of};
 
 use dioid::Date;
@@ -47,7 +46,7 @@ pub(crate) struct Releases {
 /// The date that the list of this number gives the firing, and 0 where the net has no such list.
 fn date_of_list(net: &Net, list: usize, number: u64) -> Date
     requires first { 1 ≤ number }
-    requires last { number ≤ most_rows }
+    requires last { number ≤ greatest_number }
     ensures value { result ≡ date_of_list net.now list number }
     ensures within { IsWithin (2 ^ 126) result }
 {
@@ -145,7 +144,7 @@ impl Releases {
     /// The date before which this firing is not released.
     pub(crate) fn date(&self, net: &Net, transition: TransitionId, number: u64) -> Date
         requires first { 1 ≤ number }
-        requires last { number ≤ most_rows }
+        requires last { number ≤ greatest_number }
         ensures value { result ≡ release_by self.now.waits.items net.now transition.index number }
         ensures within { IsWithin (2 ^ 126) result }
     {

@@ -8,4 +8,4 @@ abbrev pub invariant-loop-ranked : goal.invariant-loop-ranked
 invariant-loop-ranked g l =
     let init = g.S.Source.initial l.source in
     let rel = g.S.Source.release l.source l.net in
-    (x : Dating) → IsLeastIn (system_with l.net init rel) x → FilledTo l.net init rel x l.number l.order l.dates l.ranked-index
+    (x : Dating) → IsLeastIn (system_with l.net init rel) x → FilledTo l.net init rel x l.number l.order l.row l.ranked-index

@@ -1,0 +1,68 @@
+//! What is kept of the rows before one.
+ghost use Rattle.std.specs.Prelude.{◌≡◌, ◌+◌, ◌*◌, ◌<◌, ◌≤◌, length};
+ghost use Rattle.teg_net.specs.Limits.{most_transitions};
+ghost use Rattle.teg_dates.specs.Tables.{cell_of};
+ghost use Rattle.teg_dates.specs.Rows.{most_rows};
+
+use dioid::Date;
+use teg_net::TransitionId;
+
+/// The rows before one, as far as they are kept. A pass asks them for dates, so many rows back.
+pub(crate) trait Past {
+    ghost use Rattle.std.specs.Prelude.{ℕ};
+    ghost use Rattle.dioid.specs.declared.dates.Date.{Date};
+
+    // how many dates a row has
+    ghost width: { Self → ℕ };
+
+    // how many rows are there
+    ghost kept: { Self → ℕ };
+
+    // the date of a transition so many rows back, 1 being the last
+    ghost back: { Self → ℕ → ℕ → Date };
+
+    /// The date of the transition so many rows back, 1 being the last. It takes no memory.
+    fn back(&self, transition: TransitionId, rows: u64) -> Date
+        requires transition { transition.index < width self.now }
+        requires first { 1 ≤ rows }
+        requires last { rows ≤ kept self.now }
+        ensures { result ≡ back self.now transition.index rows };
+}
+
+/// Where the date of a firing stands in rows of this width.
+pub(crate) fn cell_of(width: usize, transition: TransitionId, number: u64) -> usize
+    requires width { width ≤ most_transitions }
+    requires transition { transition.index < width }
+    requires number { 1 ≤ number }
+    requires few { number ≤ most_rows }
+    ensures value { result ≡ cell_of width transition.index number }
+    ensures within { result < number * width }
+{
+    (number as usize - 1) * width + transition.index as usize
+}
+
+/// All rows up to number `count`, one after another.
+#[derive(Drop)]
+pub(crate) struct AllRows<'a> {
+    pub(crate) width: usize,
+    pub(crate) count: u64,
+    pub(crate) dates: &'a [Date],
+    ghost width_in: { width ≤ most_transitions },
+    ghost count_in: { count ≤ most_rows },
+    ghost full: { length dates.now ≡ count * width },
+}
+
+impl Past for AllRows<'_> {
+    ghost use Rattle.std.specs.Prelude.{◌+◌, ◌-◌};
+    ghost use Rattle.teg_dates.specs.Tables.{date_in};
+
+    ghost width = { λ p. p.width };
+
+    ghost kept = { λ p. p.count };
+
+    ghost back = { λ p t b. date_in p.width p.dates.now t (p.count + 1 - b) };
+
+    fn back(&self, transition: TransitionId, rows: u64) -> Date {
+        self.dates[cell_of(self.width, transition, self.count + 1 - rows)]
+    }
+}
