@@ -1,0 +1,12 @@
+pub mod GoingOn
+pub mod Late
+pub mod FirstLate
+pub mod Zeros
+pub mod Soon
+pub mod Turns
+pub mod Inputs
+pub mod Meeting
+pub mod Series
+pub mod Residuals
+pub mod FirstRows
+pub mod OneColumn

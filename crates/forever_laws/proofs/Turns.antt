@@ -1,0 +1,128 @@
+-- What is looked up to a turn past the numbers from which dates and due dates repeat tells all late numbers of a row.
+use Rattle.std.proofs.Common.{ℕ, ℤ, zero, suc, ◌+◌, ◌-◌, ◌*◌, ◌<◌, ◌≤◌, ◌≡◌, length, refl, sym, ap, subst, ◌∙◌, arith, ⊎_elim, ◌+ℤ◌}
+use Rattle.std.specs.Prelude.{pos, ◌*ℤ◌}
+use Rattle.std.proofs.lemmas.Bool.{cases_lt}
+use Rattle.std.proofs.lemmas.Int.{ints}
+use Rattle.dioid.specs.declared.dates.Date.{Date}
+use Rattle.dioid.specs.declared.dates.Date.TheVariants.{At}
+use Rattle.dioid.specs.Dates.{IsAtMostDate, move}
+use Rattle.dioid.proofs.Moves.{at_inj}
+use Rattle.teg_net.specs.Nets.{NetLists, IsNet}
+use Rattle.teg_net.specs.Circuits.{IsLive}
+use Rattle.teg_model.specs.Datings.{IsLeastUnder}
+use Rattle.teg_model.proofs.Tokens.{dates_climb}
+use Rattle.settled_laws.specs.Forms.{SettledForm, StandsFor, step_of}
+use Rattle.settled_laws.proofs.Telling.{rounds_on}
+use Rattle.due_laws.specs.Dues.{inputs_at_zero}
+use Rattle.bound_laws.proofs.WalkTimes.{number_of}
+use Rattle.forever_laws.specs.declared.rows.EndlessRow.{EndlessRow}
+use Rattle.forever_laws.specs.Rows.{IsEndlessRow}
+use Rattle.forever_laws.specs.Late.{IsLateAt, NoneLateTo, NoneLate, IsLeastLate}
+use Rattle.forever_laws.specs.Searches.{IsTurnOf, turns_to, IsSoonest}
+use Rattle.forever_laws.specs.Laws.{TurnsTellLate, StepsAreFromZero}
+use Rattle.forever_laws.proofs.GoingOn.{due_number, due_is, due_only, due_again}
+use Rattle.forever_laws.proofs.FirstLate.{GoOn, on_by, never_late, IsFewest, IsFirstOver, first_late}
+use Rattle.forever_laws.proofs.Zeros.{least_number, date_is, at_most_numbers}
+use Rattle.forever_laws.proofs.Soon.{late_from, late_to}
+
+moved : (z m n : ℕ) → number_of (move (pos m *ℤ pos n) (At (pos z))) ≡ z + m * n
+moved z m n = refl
+
+module _ (net : NetLists) (ok : IsNet net) (live : IsLive net) (x : ℕ → ℕ → Date) (least : IsLeastUnder net inputs_at_zero x)
+    (f : SettledForm) (stands : StandsFor (length net.transitions) f x) (r : EndlessRow) (row : IsEndlessRow net r) (past turn rise fall : ℕ) (s : IsTurnOf f r past turn rise fall) where
+  abbrev z : ℕ → ℕ
+  z k = least_number net ok live x least r.transition.index k
+
+  goes_on : GoOn z (due_number r) past turn rise fall
+  goes_on = record {
+    some = s.some;
+    dates = λ k l. (
+        let far = s.past_form in
+        let on = rounds_on (length net.transitions) x f.after f.period (step_of f) stands.repeats r.transition.index k s.periods row.in_range (omega arith) in
+        let here : x r.transition.index k ≡ At (pos (z k)) = date_is net ok live x least r.transition.index k row.in_range (omega arith) in
+        let there : k + turn ≡ k + s.periods * f.period = ap (λ (n : ℕ). k + n) s.by_form in
+        ap z there ∙ (ap number_of (on ∙ (ap (λ w. move (pos s.periods *ℤ w) (x r.transition.index k)) s.step_is ∙ ap (move (pos s.periods *ℤ pos s.step)) here)) ∙ (moved (z k) s.periods s.step ∙ ap (λ (n : ℕ). z k + n) (sym s.rise_is)))
+        );
+    dues = λ k l. (
+        let far = s.past_list in
+        let there : k + turn ≡ k + s.rounds * r.every = ap (λ (n : ℕ). k + n) s.by_list in
+        ap (due_number r) there ∙ (on_by (due_number r) past r.every r.gap (λ j m. due_again net r row j (omega arith)) s.rounds k l ∙ ap (λ (n : ℕ). due_number r k + n) (sym s.fall_is))
+        );
+  }
+
+  kept : NoneLateTo x r (past + turn) → (k : ℕ) → 1 ≤ k → k ≤ past + turn → z k ≤ due_number r k
+  kept none k one l =
+      ⊎_elim
+      (λ (late : due_number r k < z k). absurd (none k (due_number r k) (z k) l (late_from net ok live x least r row k one late)))
+      (λ (not : z k ≤ due_number r k). not)
+      (cases_lt (due_number r k) (z k))
+
+  pub none_at_all : NoneLateTo x r (past + turn) → rise ≤ fall → NoneLate x r
+  none_at_all none slow k due date late =
+      let never = never_late z (due_number r) past turn rise fall goes_on (kept none) slow k late.from_one in
+      let here = late_to net ok live x least r k due date late in
+      absurd (omega arith)
+
+  fewest : (gain base : ℕ) → IsSoonest x r past (past + turn) gain base (due_number r base) (z base) → IsFewest z (due_number r) past turn gain base
+  fewest gain base h = record {
+    above = h.above;
+    within = h.within;
+    fewest = λ k l m. h.soonest k (due_number r k) (z k) l m (due_is r k) (date_is net ok live x least r.transition.index k row.in_range (omega arith));
+  }
+
+  least_of : (gain base : ℕ) → NoneLateTo x r (past + turn) → 0 < gain → rise ≡ fall + gain → IsSoonest x r past (past + turn) gain base (due_number r base) (z base)
+      → (let turns : ℕ = turns_to (due_number r base) (z base) gain in IsLeastLate x r (base + turns * turn) (due_number r base + turns * fall) (z base + turns * rise))
+  least_of gain base none some e h =
+      let turns : ℕ = turns_to (due_number r base) (z base) gain in
+      let first : IsFirstOver z (due_number r) (base + turns * turn) = first_late z (due_number r) past turn rise fall gain base goes_on some e (kept none) (fewest gain base h) in
+      let above = h.above in
+      let dates : z (base + turns * turn) ≡ z base + turns * rise = on_by z past turn rise goes_on.dates turns base above in
+      let dues : due_number r (base + turns * turn) ≡ due_number r base + turns * fall = on_by (due_number r) past turn fall goes_on.dues turns base above in
+      let late : IsLateAt x r (base + turns * turn) (due_number r (base + turns * turn)) (z (base + turns * turn)) = late_from net ok live x least r row (base + turns * turn) (omega arith) first.late in
+      record {
+        late = subst (λ n. IsLateAt x r (base + turns * turn) n (z base + turns * rise)) dues (subst (IsLateAt x r (base + turns * turn) (due_number r (base + turns * turn))) dates late);
+        first = λ j d y l. first.first j l.from_one (late_to net ok live x least r j d y l);
+      }
+
+  pub least_late : (gain base due date : ℕ) → NoneLateTo x r (past + turn) → 0 < gain → rise ≡ fall + gain → IsSoonest x r past (past + turn) gain base due date
+      → IsLeastLate x r (base + turns_to due date gain * turn) (due + turns_to due date gain * fall) (date + turns_to due date gain * rise)
+  least_late gain base due date none some e h =
+      let one : due_number r base ≡ due = sym (due_only r base due h.is_due) in
+      let two : z base ≡ date = ap number_of h.comes in
+      let own : IsSoonest x r past (past + turn) gain base (due_number r base) (z base) = subst (λ n. IsSoonest x r past (past + turn) gain base n (z base)) (sym one) (subst (IsSoonest x r past (past + turn) gain base due) (sym two) h) in
+      subst (λ n. IsLeastLate x r (base + turns_to n date gain * turn) (n + turns_to n date gain * fall) (date + turns_to n date gain * rise)) one
+      (subst (λ n. IsLeastLate x r (base + turns_to (due_number r base) n gain * turn) (due_number r base + turns_to (due_number r base) n gain * fall) (n + turns_to (due_number r base) n gain * rise)) two (least_of gain base none some e own))
+
+pub turns_tell : TurnsTellLate
+turns_tell net ok live x least f stands r row past turn rise fall s none = (
+  none_at_all net ok live x least f stands r row past turn rise fall s none,
+  λ gain base due date some e h. least_late net ok live x least f stands r row past turn rise fall s gain base due date none some e h,
+)
+
+-- ---- steps
+
+rises_on : (net : NetLists) (ok : IsNet net) (live : IsLive net) (x : ℕ → ℕ → Date) (least : IsLeastUnder net inputs_at_zero x) (t k m : ℕ) → t < length net.transitions → 1 ≤ k
+    → least_number net ok live x least t k ≤ least_number net ok live x least t (k + m)
+rises_on net ok live x least t k zero l one = let e : k + 0 ≡ k = omega arith in rw e (omega arith)
+rises_on net ok live x least t k (suc m) l one =
+    let e : k + suc m ≡ k + m + 1 = omega arith in
+    let old = rises_on net ok live x least t k m l one in
+    let here = date_is net ok live x least t (k + m) l (omega arith) in
+    let there = date_is net ok live x least t (k + m + 1) l (omega arith) in
+    let next = at_most_numbers (least_number net ok live x least t (k + m)) (least_number net ok live x least t (k + m + 1))
+    (subst (λ d. IsAtMostDate (At (pos (least_number net ok live x least t (k + m)))) d) there (subst (λ d. IsAtMostDate d (x t (k + m + 1))) here (dates_climb net inputs_at_zero x least.feasible t (k + m) l (omega arith)))) in
+    rw e (omega arith)
+
+step_between : (a b : ℕ) (s : ℤ) → a ≤ b → At (pos b) ≡ move s (At (pos a)) → s ≡ pos (b - a)
+step_between a b s l e = let same : pos b ≡ pos a +ℤ s = at_inj (pos b) (pos a +ℤ s) e in omega (arith, ints)
+
+pub steps_from_zero : StepsAreFromZero
+steps_from_zero net ok live x least f stands t l =
+    let z : ℕ → ℕ = least_number net ok live x least t in
+    let k : ℕ = f.after + 1 in
+    let here = date_is net ok live x least t k l (omega arith) in
+    let there = date_is net ok live x least t (k + f.period) l (omega arith) in
+    let again = stands.repeats.again t k l (omega arith) in (
+      z (k + f.period) - z k,
+      step_between (z k) (z (k + f.period)) (step_of f t) (rises_on net ok live x least t k f.period l (omega arith)) (sym there ∙ (again ∙ ap (move (step_of f t)) here)),
+    )

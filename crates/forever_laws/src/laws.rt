@@ -1,0 +1,91 @@
+//! The laws of endless due dates. Each is a function that does nothing when it runs: its contract is
+//! the law.
+ghost use Rattle.forever_laws.specs.ColumnLaws.{ColumnsAreOne, ColumnsExist, RowsFitAlike, TransfersHaveOneLength};
+ghost use Rattle.forever_laws.specs.Laws.{DuesAreSeries, FreeAtEachNumber, LateExcludesMeet, LateIsSoon, LateNumbersHaveLeast, LatestAtInputsAreLatest, LatestDatesFromZero, MeetOrLate, ResidualsAreFreeOrNumbers, ResidualsAreLatestDates, StepsAreFromZero, TransfersAreSeries, TurnsTellLate, ZeroInputsAreNoLists, ZeroMeetsWhereNoneLate};
+
+use teg_settle::walk_times_settle;
+
+/// In a live net each input has series of its walk times to the transitions of due rows, and these
+/// rows have due series.
+pub fn columns_exist()
+    ensures { ColumnsExist }
+{
+    walk_times_settle();
+}
+
+/// The least dating of a net with all inputs at 0 is that of the net without its input lists.
+pub fn zero_inputs_are_no_lists()
+    ensures { ZeroInputsAreNoLists }
+{}
+
+/// Inputs at 0 meet endless due dates exactly where no number of any row is late.
+pub fn zero_meets_where_none_late()
+    ensures { ZeroMeetsWhereNoneLate }
+{}
+
+/// What a table of dates tells of all late numbers of a row: up to a turn past the number from which
+/// dates and due dates repeat together they are looked up, past that the steps tell them.
+///
+/// The step of each transition is a number from 0 on.
+pub fn turns_tell_late()
+    ensures turns { TurnsTellLate }
+    ensures steps { StepsAreFromZero }
+{}
+
+/// A row with a late number has a least one.
+pub fn late_numbers_have_least()
+    ensures { LateNumbersHaveLeast }
+{}
+
+/// The least late number of a row is below 10^23, and its dates are below 10^35.
+pub fn late_is_soon()
+    ensures { LateIsSoon }
+{}
+
+/// In a live net inputs at 0 meet endless due dates, or some row is the first with a late number, and
+/// not both.
+pub fn meet_or_late()
+    ensures one { MeetOrLate }
+    ensures not_both { LateExcludesMeet }
+{}
+
+/// In a live net where inputs at 0 meet the due dates, the latest dates at the inputs are the latest
+/// inputs that meet them (chapter 5).
+pub fn latest_at_inputs_are_latest()
+    ensures { LatestAtInputsAreLatest }
+{}
+
+/// The latest dates of a transition under endless due dates are the meet over the rows of the
+/// residuals of their due series by the series of its walk times (chapter 5).
+///
+/// They are all never, where no walk leads to a due firing, or all numbers from 0 on.
+pub fn residuals_are_latest_dates()
+    ensures latest { ResidualsAreLatestDates }
+    ensures numbers { ResidualsAreFreeOrNumbers }
+{}
+
+/// Under endless due dates a walk leads from one firing of a transition to a due one exactly where
+/// one leads from each of its firings.
+pub fn free_at_each_number()
+    ensures { FreeAtEachNumber }
+{}
+
+/// Where inputs at 0 meet the due dates, each latest date is a number from 0 on, or never.
+pub fn latest_dates_from_zero()
+    ensures { LatestDatesFromZero }
+{}
+
+/// The shortest settled form of walk times and the list of a due row give series of these dates.
+pub fn forms_are_series()
+    ensures walks { TransfersAreSeries }
+    ensures dues { DuesAreSeries }
+{}
+
+/// There is one such series each, so whether the residual of a row fits, and its meet with the meet
+/// of those before it, does not depend on a choice; nor does the length of the shortest settled form
+/// of the walk times.
+pub fn columns_are_one()
+    ensures columns { ColumnsAreOne }
+    ensures fit { RowsFitAlike }
+    ensures length { TransfersHaveOneLength }
+{}

@@ -1,0 +1,23 @@
+//! Due dates without end, and the latest inputs that meet them, as laws (chapter 5).
+//!
+//! A row gives a transition a due date for each firing: a list that goes on past its end. The
+//! definitions say which firings come too late for a row, and where such a firing is looked for; the
+//! laws, that the least late number of a row is found so and is not great, and that the meet of the
+//! residuals of due series by series of walk times has the latest dates of a transition. Each law is
+//! the contract of a function that does nothing when it runs. The one plain type is that of a row.
+//! The crate stands on `due_laws` for due dates of any kind, on `teg_settle` for what series of walk
+//! times are, on `series_laws`, `series_ops` and `dioid_matrix` for residuals, on `settled_laws` for
+//! settled forms, on `teg_loops` for loops of walks, and on `teg_net`, `teg_model` and `dioid` for
+//! datings.
+#![tactic(auto)]
+
+mod laws;
+mod rows;
+
+pub use laws::{
+    columns_are_one, columns_exist, forms_are_series, free_at_each_number, late_is_soon,
+    late_numbers_have_least, latest_at_inputs_are_latest, latest_dates_from_zero, meet_or_late,
+    residuals_are_latest_dates, turns_tell_late, zero_inputs_are_no_lists,
+    zero_meets_where_none_late,
+};
+pub use rows::EndlessRow;

@@ -1,0 +1,62 @@
+-- The releases so far, with those of one transition more; and what they come to.
+use Rattle.std.proofs.Common.{ℕ, ◌+◌, ◌<◌, ◌≤◌, ◌≡◌, ◌∷◌, [], ◌++◌, List, true, false, length, refl, sym, subst, ap, ◌∙◌, arith, ⊎_elim}
+use Rattle.std.proofs.lemmas.Bool.{cases_lt}
+use Rattle.std.proofs.lemmas.List.{length-append}
+use Rattle.teg_net.specs.Nets.{NetLists, IsNet, IsInput}
+use Rattle.teg_net.specs.Circuits.{IsLive}
+use Rattle.teg_due.specs.Names.{is_input}
+use Rattle.due_laws.specs.Dues.{InputsMeet, inputs_at_zero}
+use Rattle.due_laws.specs.LatestDates.{IsLatestDate}
+use Rattle.forever_laws.specs.declared.rows.EndlessRow.{EndlessRow}
+use Rattle.forever_laws.specs.Rows.{due_on}
+use Rattle.forever_laws.specs.Laws.{LatestAtInputsAreLatest}
+use Rattle.teg_forever.specs.declared.releases.Release.{Release}
+use Rattle.teg_forever.specs.declared.releases.Release.TheVariants.{Free, Latest}
+use Rattle.teg_forever.specs.Releases.{AreBeside, AreReleases, IsFine, IsReleaseOf, inputs_below, inputs_of, release_date, released, release_in}
+use Rattle.teg_forever.specs.Columns.{AreReleasesBelow}
+use Rattle.teg_forever.proofs.InputLists.{inputs_more, inputs_same, input_test, input_within, input_in, beside_more, beside_in}
+
+module _ (net : NetLists) (rows : List EndlessRow) (n : ℕ) (releases : List Release) (h : AreReleasesBelow net rows n releases) where
+  one_fine : (IsInput net n → IsFine net rows n) → (u : ℕ) → u < n + 1 → IsInput net u → IsFine net rows u
+  one_fine here u w i = ⊎_elim (λ low. h.fine u low i) (λ high. let e : n ≡ u = omega arith in subst (IsFine net rows) e (here (subst (IsInput net) (sym e) i))) (cases_lt u n)
+
+  -- a transition that is no input
+  pub below_same : is_input net n ≡ false → (IsInput net n → ⊥) → AreReleasesBelow net rows (n + 1) releases
+  below_same none other =
+      let e = inputs_same net n none in
+      record {
+        fine = one_fine (λ i. absurd (other i));
+        each_input = h.each_input ∙ ap (λ (l : List ℕ). length l) (sym e);
+        right = subst (λ (l : List ℕ). AreBeside (IsReleaseOf net rows) l releases) (sym e) h.right;
+      }
+
+  -- an input with its release
+  pub below_more : (r : Release) → is_input net n ≡ true → IsFine net rows n → IsReleaseOf net rows n r → AreReleasesBelow net rows (n + 1) (releases ++ r ∷ [])
+  below_more r told fine is =
+      let e = inputs_more net n told in
+      record {
+        fine = one_fine (λ i. fine);
+        each_input = length-append releases (r ∷ []) ∙ ap (λ (k : ℕ). k + 1) h.each_input ∙ sym (length-append (inputs_below net n) (n ∷ [])) ∙ ap (λ (l : List ℕ). length l) (sym e);
+        right = subst (λ (l : List ℕ). AreBeside (IsReleaseOf net rows) l (releases ++ r ∷ [])) (sym e) (beside_more (IsReleaseOf net rows) (inputs_below net n) releases n r h.right is);
+      }
+
+-- a right release has the latest date of each firing
+latest_is : (net : NetLists) (rows : List EndlessRow) (u k : ℕ) (r : Release) → 1 ≤ k → IsReleaseOf net rows u r → IsLatestDate net (due_on rows) u k (release_date r k)
+latest_is net rows u k Free one h = record {
+  attained = λ other. absurd (other refl);
+  least = λ d is. absurd (h k one is.steps is.to is.number is.due_date is.walk is.is_due);
+}
+latest_is net rows u k (Latest s) one h = (h.1 k one).0
+
+-- the releases of all inputs
+pub all_releases : (net : NetLists) (rows : List EndlessRow) (releases : List Release) → LatestAtInputsAreLatest → IsNet net → IsLive net → InputsMeet net (due_on rows) inputs_at_zero
+    → AreReleasesBelow net rows (length net.transitions) releases → AreReleases net rows releases
+all_releases net rows releases law ok live meet h = record {
+  meet = meet;
+  fine = λ u i. h.fine u (input_within net u i) i;
+  each_input = h.each_input;
+  right = h.right;
+  latest = law net ok live (due_on rows) meet (released net releases)
+      (λ t k i one. latest_is net rows t k (release_in (inputs_of net) releases t) one
+      (beside_in (IsReleaseOf net rows) (inputs_of net) releases t h.right (input_in net t (length net.transitions) (input_test net t i) (input_within net t i))));
+}

@@ -1,0 +1,10 @@
+pub mod Gathered
+pub mod Headers
+pub mod InputLists
+pub mod LateNumbers
+pub mod LateTurns
+pub mod ReadBack
+pub mod Residues
+pub mod RowRules
+pub mod Series
+pub mod Written

@@ -1,0 +1,158 @@
+-- What the rows of a file of due dates without end keep.
+use Rattle.std.proofs.Common.{ℕ, zero, suc, ◌<◌, ◌≤◌, ◌+◌, ◌-◌, ◌==◌, ◌&&◌, ◌≡◌, ◌≢◌, ◌++◌, ◌∷◌, [], List, true, false, length, get_or, map, Option, Some, None, Ok, All, AllPairs, inl, inr, refl, sym, subst, arith, leb-true}
+use Rattle.std.specs.Prelude.{nat_le, nat_lt, slice_index}
+use Rattle.std.specs.List.{list_all}
+use Rattle.std.specs.List.Sorted.{IsNonDecreasing}
+use Rattle.std.specs.Str.Parse.{digits_value}
+use Rattle.std.proofs.lemmas.Bool.{cases_Bool, and_parts}
+use Rattle.std.proofs.lemmas.Bool.Decides.{nat_tests}
+use Rattle.std.proofs.lemmas.List.{length-append}
+use Rattle.std.proofs.lemmas.List.Elements.{All-append}
+use Rattle.std.proofs.lemmas.List.Folds.{list_all_at, list_any_at}
+use Rattle.std.proofs.lemmas.List.Sorted.{IsNonDecreasingBy-from_default}
+use Rattle.std.proofs.Math.ListN.{get_or-append}
+use Rattle.std.proofs.Math.Seq.{get_or-append_seam}
+use Rattle.csv_records.specs.Numbers.{is_number}
+use Rattle.teg_net.specs.Limits.{greatest_date, most_every}
+use Rattle.teg_net.specs.Nets.{NetLists}
+use Rattle.teg_due.specs.Names.{number_named, is_input}
+use Rattle.teg_due.proofs.DueRules.{named_in, no_input}
+use Rattle.forever_laws.specs.declared.rows.EndlessRow.{EndlessRow}
+use Rattle.forever_laws.specs.Rows.{IsEndlessRow, IsEndlessOf, most_endless_dates}
+use Rattle.teg_forever.specs.Rows.{has_row, in_endless_limits, rises_from, goes_on, endless_numbered, endless_placed, endless_row}
+
+-- ---- dates
+
+first_below : (before : ℕ) (dates : List ℕ) → rises_from before dates ≡ true → (j : ℕ) → j < length dates → before ≤ get_or dates j 0
+first_below before [] h j w = absurd (omega arith)
+first_below before (date ∷ dates) h zero w = leb-true before date (and_parts (nat_le before date) (rises_from date dates) h).0
+first_below before (date ∷ dates) h (suc j) w =
+    let parts = and_parts (nat_le before date) (rises_from date dates) h in
+    let low : before ≤ date = leb-true before date parts.0 in
+    let high : date ≤ get_or dates j 0 = first_below date dates parts.1 j (omega arith) in
+    omega arith
+
+in_order : (before : ℕ) (dates : List ℕ) → rises_from before dates ≡ true → (i j : ℕ) → i ≤ j → j < length dates → get_or dates i 0 ≤ get_or dates j 0
+in_order before [] h i j w v = absurd (omega arith)
+in_order before (date ∷ dates) h zero zero w v = omega arith
+in_order before (date ∷ dates) h zero (suc j) w v = first_below date dates (and_parts (nat_le before date) (rises_from date dates) h).1 j (omega arith)
+in_order before (date ∷ dates) h (suc i) zero w v = absurd (omega arith)
+in_order before (date ∷ dates) h (suc i) (suc j) w v = in_order date dates (and_parts (nat_le before date) (rises_from date dates) h).1 i j (omega arith) (omega arith)
+
+never_fall : (dates : List ℕ) → rises_from 0 dates ≡ true → IsNonDecreasing dates
+never_fall dates h = IsNonDecreasingBy-from_default (λ x. x) dates 0 (in_order 0 dates h)
+
+all_low : (dates : List ℕ) → list_all (λ d. nat_le d greatest_date) dates ≡ true → All (λ d. d ≤ greatest_date) dates
+all_low dates h k d lt = elim (cases_Bool (nat_le (get_or dates k d) greatest_date)) [
+  | inl low ↦ leb-true (get_or dates k d) greatest_date low
+  | inr high ↦ cc (h, list_all_at (λ z. nat_le z greatest_date) dates k d lt high)
+]
+
+-- ---- a row
+
+-- a row that is accepted keeps the rules, and none before it has its transition
+pub record IsNewRow (net : NetLists) (rows : List EndlessRow) (r : EndlessRow) : Type 0 where
+  pub rule : IsEndlessRow net r
+  pub fresh : has_row rows r.transition.index ≡ false
+
+kept_rule : (net : NetLists) (k t every gap : ℕ) (dates : List ℕ) → t < length net.transitions → is_input net t ≡ false → in_endless_limits every gap dates ≡ true → goes_on every gap dates ≡ true
+    → IsEndlessRow net (record { row = k; transition = record { index = t }; every = every; gap = gap; dates = dates })
+kept_rule net k t every gap dates lt role low on =
+    let one = and_parts (nat_le 1 every) (nat_le every most_every && (nat_le gap greatest_date && (nat_le (length dates) most_endless_dates && list_all (λ d. nat_le d greatest_date) dates))) low in
+    let two = and_parts (nat_le every most_every) (nat_le gap greatest_date && (nat_le (length dates) most_endless_dates && list_all (λ d. nat_le d greatest_date) dates)) one.1 in
+    let three = and_parts (nat_le gap greatest_date) (nat_le (length dates) most_endless_dates && list_all (λ d. nat_le d greatest_date) dates) two.1 in
+    let four = and_parts (nat_le (length dates) most_endless_dates) (list_all (λ d. nat_le d greatest_date) dates) three.1 in
+    let five = and_parts (rises_from 0 dates) (nat_le every (length dates) && nat_le (slice_index dates (length dates - 1)) (slice_index dates (length dates - every) + gap)) on in
+    let six = and_parts (nat_le every (length dates)) (nat_le (slice_index dates (length dates - 1)) (slice_index dates (length dates - every) + gap)) five.1 in
+    record {
+      in_range = lt;
+      no_input = no_input net t role;
+      few = leb-true (length dates) most_endless_dates four.0;
+      dates_in = all_low dates four.1;
+      never_falls = never_fall dates five.0;
+      goes_on = record {
+        some = leb-true 1 every one.0;
+        every_in = leb-true every most_every two.0;
+        gap_in = leb-true gap greatest_date three.0;
+        enough = leb-true every (length dates) six.0;
+        joins = leb-true (slice_index dates (length dates - 1)) (slice_index dates (length dates - every) + gap) six.1;
+      };
+    }
+
+numbered_new : (net : NetLists) (rows : List EndlessRow) (k t every gap : ℕ) (dates : List ℕ) (r : EndlessRow) → t < length net.transitions → is_input net t ≡ false → endless_numbered rows k t every gap dates ≡ Ok r → IsNewRow net rows r
+numbered_new net rows k t every gap dates r lt role e = elim (cases_Bool (has_row rows t)) [
+  | inl twice ↦ cc (rw twice at e)
+  | inr fresh ↦ elim (cases_Bool (in_endless_limits every gap dates)) [
+    | inr out ↦ cc (rw (fresh, out) at e)
+    | inl within ↦ elim (cases_Bool (goes_on every gap dates)) [
+      | inr falls ↦ cc (rw (fresh, within, falls) at e)
+      | inl on ↦
+          let same : record { row = k; transition = record { index = t }; every = every; gap = gap; dates = dates } ≡ r = cc (rw (fresh, within, on) at e) in
+          subst (IsNewRow net rows) same (record { rule = kept_rule net k t every gap dates lt role within on; fresh = fresh })
+    ]
+  ]
+]
+
+placed_new : (net : NetLists) (rows : List EndlessRow) (k every gap : ℕ) (dates : List ℕ) (name : List ℕ) (o : Option ℕ) (r : EndlessRow) → number_named net name ≡ o → endless_placed net rows k o every gap dates ≡ Ok r → IsNewRow net rows r
+placed_new net rows k every gap dates name None r named e = cc e
+placed_new net rows k every gap dates name (Some t) r named e = elim (cases_Bool (is_input net t)) [
+  | inl input ↦ cc (rw input at e)
+  | inr other ↦ numbered_new net rows k t every gap dates r (named_in net name t named) other (rw other at e)
+]
+
+-- a row that is accepted is new
+pub accepted_new : (net : NetLists) (rows : List EndlessRow) (k : ℕ) (fields : List (List ℕ)) (r : EndlessRow) → endless_row net rows k fields ≡ Ok r → IsNewRow net rows r
+accepted_new net rows k [] r e = cc e
+accepted_new net rows k (a ∷ []) r e = cc e
+accepted_new net rows k (a ∷ b ∷ []) r e = cc e
+accepted_new net rows k (a ∷ b ∷ c ∷ []) r e = cc e
+accepted_new net rows k (name ∷ every ∷ gap ∷ date ∷ dates) r e = elim (cases_Bool (list_all is_number (every ∷ gap ∷ date ∷ dates))) [
+  | inl digits ↦ placed_new net rows k (digits_value 10 every) (digits_value 10 gap) (map (digits_value 10) (date ∷ dates)) name (number_named net name) r refl (rw digits at e)
+  | inr other ↦ cc (rw other at e)
+]
+
+-- transitions that differ
+abbrev Differ : EndlessRow → EndlessRow → Type 0
+Differ r s = r.transition.index ≢ s.transition.index
+
+differs : (r s : EndlessRow) → (r.transition.index == s.transition.index) ≡ false → Differ r s
+differs r s e same = cc (rw (same, equal s.transition.index) at e)
+  where
+    equal : (n : ℕ) → (n == n) ≡ true
+    equal n = grind (arith, nat_tests)
+
+-- the rows with a new one
+pub one_row_more : (net : NetLists) (rows : List EndlessRow) (r : EndlessRow) → IsEndlessOf net rows → IsNewRow net rows r → IsEndlessOf net (rows ++ r ∷ [])
+one_row_more net rows r due new = record {
+  each = All-append (IsEndlessRow net) rows (r ∷ []) due.each (All-one r new.rule);
+  once = pairs_more rows r due.once (λ i d lt. differs (get_or rows i d) r (each_other rows i d lt new.fresh));
+}
+  where
+    All-one : (r : EndlessRow) → IsEndlessRow net r → All (IsEndlessRow net) (r ∷ [])
+    All-one r h zero d lt = h
+    All-one r h (suc k) d lt = absurd (omega (arith, lt))
+
+    each_other : (rows : List EndlessRow) (i : ℕ) (d : EndlessRow) → i < length rows → has_row rows r.transition.index ≡ false → ((get_or rows i d).transition.index == r.transition.index) ≡ false
+    each_other rows i d lt e = elim (cases_Bool ((get_or rows i d).transition.index == r.transition.index)) [
+      | inl same ↦ cc (e, list_any_at (λ x. x.transition.index == r.transition.index) rows i d lt same)
+      | inr other ↦ other
+    ]
+
+    number_below : (j n : ℕ) → nat_lt j n ≡ true → j < n
+    number_below j n h = grind (arith, nat_tests)
+
+    at_end : (j n : ℕ) → nat_lt j n ≡ false → j < n + 1 → j ≡ n
+    at_end j n h within = grind (arith, nat_tests)
+
+    pairs_more : (rows : List EndlessRow) (r : EndlessRow) → AllPairs Differ rows → ((i : ℕ) (d : EndlessRow) → i < length rows → Differ (get_or rows i d) r) → AllPairs Differ (rows ++ r ∷ [])
+    pairs_more rows r pairs new i j d lt within = elim (cases_Bool (nat_lt j (length rows))) [
+      | inl before ↦
+          let below = number_below j (length rows) before in
+          subst (λ x. Differ x (get_or (rows ++ r ∷ []) j d)) (sym (get_or-append rows (r ∷ []) d i (omega (arith, lt, below))))
+          (subst (λ x. Differ (get_or rows i d) x) (sym (get_or-append rows (r ∷ []) d j below)) (pairs i j d lt below))
+      | inr last ↦
+          let at : j ≡ length rows = at_end j (length rows) last (rw length-append at within) in
+          subst (λ x. Differ x (get_or (rows ++ r ∷ []) j d)) (sym (get_or-append rows (r ∷ []) d i (omega (arith, lt, at))))
+          (subst (λ k. Differ (get_or rows i d) (get_or (rows ++ r ∷ []) k d)) (sym at)
+          (subst (λ x. Differ (get_or rows i d) x) (sym (get_or-append_seam rows r [] d)) (new i d (omega (arith, lt, at)))))
+    ]

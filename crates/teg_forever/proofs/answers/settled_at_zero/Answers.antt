@@ -1,0 +1,12 @@
+use Rattle.std.proofs.Common.{subst}
+use Rattle.teg_net.specs.Nets.{NetLists}
+use Rattle.settled_laws.specs.Forms.{IsSettledFormOf}
+use Rattle.teg_forever.proofs.LateTurns.{climbing, zero_form}
+use Rattle.teg_forever.proofs.answers.settled_at_zero.Goals as goal
+
+pub returns-clause-climbing : goal.returns-clause-climbing
+returns-clause-climbing c t lt =
+    let net = c.args.net.now in
+    let f = c.in_ok-settled.settled in
+    let form = zero_form net f c.zero_inputs_are_no_lists.ensures (subst (λ (n : NetLists). IsSettledFormOf n f) c.in_ok-plain.ensures c.in_ok-settled.ensures.form) in
+    climbing net c.requires.rules c.requires.live f form c.turns_tell_late.ensures.steps c.after.ensures.kept t lt

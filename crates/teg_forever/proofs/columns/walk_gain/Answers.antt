@@ -1,0 +1,29 @@
+use Rattle.std.proofs.Common.{◌≡◌, ◌+◌, ◌∙◌, ℤ, ℕ, List, sym, ap, subst, length, to_z, of_z}
+use Rattle.std.specs.Int.{w128}
+use Rattle.std.proofs.lemmas.Int.{to_z-of_z}
+use Rattle.dioid.specs.declared.dates.Date.{Date}
+use Rattle.series_laws.specs.Forms.{Form, form_with, value_at}
+use Rattle.series_laws.specs.Periodic.{Rising}
+use Rattle.settled_laws.specs.Forms.{row_of, step_of}
+use Rattle.teg_settle.specs.Transfers.{IsGreatestWalkTime}
+use Rattle.teg_forever.proofs.Series.{walk_made}
+use Rattle.teg_forever.proofs.columns.walk_gain.Goals as goal
+
+same : (l m : List Date) (n p : ℕ) (x y : ℤ) → l ≡ m → n ≡ p → x ≡ y → form_with l n x ≡ form_with m p y
+same l m n p x y a b e = ap (λ (z : List Date). form_with z n x) a ∙ ap (λ (z : ℕ). form_with m z x) b ∙ ap (form_with m p) e
+
+pub from_list-requires-clause-rising : goal.from_list-requires-clause-rising
+from_list-requires-clause-rising c =
+    let f = c.args.settled.now in
+    let t = c.args.transition.index in
+    let e = same c.row.result.now (row_of f t) c.period.result f.period (to_z w128 (of_z w128 c.step.result)) (step_of f t) c.row.ensures.value c.period.ensures.value (to_z-of_z w128 c.step.result (record { sfits = c.step.type_inv }) ∙ c.step.ensures.value) in
+    subst (λ (z : Form). Rising (value_at z)) (sym e) (c.forms_are_series.ensures.walks c.args.net.now c.requires.rules c.args.input.index f c.requires.transfer t c.requires.transition).rising
+
+pub returns : goal.returns
+returns c =
+    let f = c.args.settled.now in
+    let t = c.args.transition.index in
+    let e = same c.row.result.now (row_of f t) c.period.result f.period (to_z w128 (of_z w128 c.step.result)) (step_of f t) c.row.ensures.value c.period.ensures.value (to_z-of_z w128 c.step.result (record { sfits = c.step.type_inv }) ∙ c.step.ensures.value) in
+    walk_made c.args.net.now c.args.input.index t (form_with c.row.result.now c.period.result (to_z w128 (of_z w128 c.step.result))) (length c.row.result.now) c.from_list.result c.gain_of.result
+    (λ k. subst (λ (z : Form). IsGreatestWalkTime c.args.net.now c.args.input.index t (k + 1) (value_at z k)) (sym e) ((c.forms_are_series.ensures.walks c.args.net.now c.requires.rules c.args.input.index f c.requires.transfer t c.requires.transition).each k))
+    c.from_list.ensures c.gain_of.ensures

@@ -1,0 +1,5 @@
+use Rattle.teg_forever.specs.Columns.{AreReleasesBelow}
+use Rattle.teg_forever.proofs.inputs.releases_by.Given as goal
+
+abbrev pub invariant-loop-index : goal.invariant-loop-index
+invariant-loop-index l = AreReleasesBelow l.net l.rows l.index l.releases.items

@@ -1,0 +1,5 @@
+pub mod Rows
+pub mod Releases
+pub mod Columns
+pub mod Searches
+pub mod Texts

@@ -1,0 +1,37 @@
+-- What the search for a late firing goes by.
+use Rattle.std.specs.Prelude.{ℕ, pos, ◌<◌, ◌≤◌, ◌≡◌, length}
+use Rattle.dioid.specs.declared.dates.Date.{Date}
+use Rattle.dioid.specs.declared.dates.Date.TheVariants.{At}
+use Rattle.teg_net.specs.Nets.{NetLists}
+use Rattle.teg_model.specs.Bounds.{greatest_least_date}
+use Rattle.teg_model.specs.Datings.{IsLeastUnder}
+use Rattle.settled_laws.specs.Forms.{SettledForm, StandsFor, date_of, step_of}
+use Rattle.due_laws.specs.Dues.{inputs_at_zero}
+use Rattle.forever_laws.specs.declared.rows.EndlessRow.{EndlessRow}
+use Rattle.forever_laws.specs.Rows.{IsEndlessRow}
+use Rattle.forever_laws.specs.Late.{IsLeastLate}
+
+-- the form stands for the least dating of the net with all inputs at 0
+pub record IsZeroForm (net : NetLists) (f : SettledForm) : Type 0 where
+  pub dating : ℕ → ℕ → Date
+  pub least : IsLeastUnder net inputs_at_zero dating
+  pub stands : StandsFor (length net.transitions) f dating
+
+-- the row keeps the rules of some net
+abbrev pub IsGoingRow : EndlessRow → Type 0
+IsGoingRow r = (net : NetLists) × IsEndlessRow net r
+
+-- the dates of the transition are numbers from 0 on, and so is its step, which is not great
+pub record IsClimbing (f : SettledForm) (t : ℕ) : Type 0 where
+  pub in_range : t < length f.rows
+  pub numbers : (k : ℕ) → 1 ≤ k → (m : ℕ) × (date_of f t k ≡ At (pos m))
+  pub step : ℕ
+  pub step_is : step_of f t ≡ pos step
+  pub step_low : step ≤ greatest_least_date
+
+-- the least late number of the row, and how great it is
+pub record IsSoonLate (f : SettledForm) (r : EndlessRow) (k due least : ℕ) : Type 0 where
+  pub is : IsLeastLate (date_of f) r k due least
+  pub number_in : k < 100000000000000000000000
+  pub due_in : due < 100000000000000000000000000000000000
+  pub least_in : least < 100000000000000000000000000000000000

@@ -1,0 +1,111 @@
+//! The latest releases of the inputs under endless due dates.
+ghost use Rattle.std.specs.Prelude.{◌<◌, ℕ, length, All, IfOk, IfErr};
+ghost use Rattle.due_laws.specs.Dues.{InputsMeet, inputs_at_zero};
+ghost use Rattle.teg_check.specs.Ranks.{IsRanking};
+ghost use Rattle.teg_net.specs.Circuits.{IsLive};
+ghost use Rattle.teg_net.specs.Nets.{IsNet};
+ghost use Rattle.settled_laws.specs.Forms.{date_of};
+ghost use Rattle.forever_laws.specs.Late.{NoneLate};
+ghost use Rattle.forever_laws.specs.Rows.{IsEndlessOf, due_on};
+ghost use Rattle.teg_forever.specs.Releases.{AreReleases, ForeverRefused};
+ghost use Rattle.teg_forever.specs.Searches.{IsClimbing, IsZeroForm};
+
+use crate::inputs::releases_of;
+use crate::late::late_in_row;
+use crate::releases::{ForeverRefusal, Release};
+use forever_laws::{
+    EndlessRow, latest_at_inputs_are_latest, turns_tell_late, zero_inputs_are_no_lists,
+    zero_meets_where_none_late,
+};
+use std::alloc::Global;
+use teg_check::{Live, ranked_nets_are_live};
+use teg_net::{Net, OutOfMemory};
+use teg_settle::{Settled, settle};
+
+// The settled form of the least dating with all inputs at 0.
+fn settled_at_zero(alloc: Global, net: &Net, live: &Live) -> Result<Settled, OutOfMemory>
+    requires rules { IsNet net.now }
+    requires live { IsLive net.now }
+    requires stands { IsRanking net.now live.now }
+    ensures form { IfOk result (IsZeroForm net.now) }
+    ensures climbing { IfOk result (λ f. (t : ℕ) → t < length net.now.transitions → IsClimbing f t) }
+{
+    zero_inputs_are_no_lists();
+    turns_tell_late();
+    let plain = net.without_inputs(alloc)?;
+    let settled = settle(alloc, &plain, live)?;
+    settled.after();
+    Ok(settled)
+}
+
+// Refuses the first row that has a late number, with its least one.
+fn keep_rows(net: &Net, settled: &Settled, rows: &[EndlessRow]) -> Result<(), ForeverRefusal>
+    requires rules { IsNet net.now }
+    requires live { IsLive net.now }
+    requires form { IsZeroForm net.now settled.now }
+    requires climbing { (t : ℕ) → t < length net.now.transitions → IsClimbing settled.now t }
+    requires rows { IsEndlessOf net.now rows.now }
+    ensures kept { IfOk result (λ _. All (NoneLate (date_of settled.now)) rows.now) }
+    ensures late { IfErr result (ForeverRefused net.now rows.now) }
+{
+    for row in rows {
+        let Ok(late) = late_in_row(net, settled, row) else {
+            return Err(ForeverRefusal::OutOfMemory);
+        };
+        if let Some(late) = late {
+            return Err(ForeverRefusal::Late {
+                transition: row.transition,
+                number: late.number,
+                due: late.due,
+                least: late.least,
+            });
+        }
+    }
+    Ok(())
+}
+
+// Refuses due dates that inputs at 0 do not meet. The settled form is dropped here.
+fn keep_dues(
+    alloc: Global,
+    net: &Net,
+    live: &Live,
+    rows: &[EndlessRow],
+) -> Result<(), ForeverRefusal>
+    requires rules { IsNet net.now }
+    requires live { IsLive net.now }
+    requires stands { IsRanking net.now live.now }
+    requires rows { IsEndlessOf net.now rows.now }
+    ensures meet { IfOk result (λ _. InputsMeet net.now (due_on rows.now) inputs_at_zero) }
+    ensures late { IfErr result (ForeverRefused net.now rows.now) }
+{
+    zero_meets_where_none_late();
+    let Ok(settled) = settled_at_zero(alloc, net, live) else {
+        return Err(ForeverRefusal::OutOfMemory);
+    };
+    keep_rows(net, &settled, rows)
+}
+
+/// The latest releases of the inputs of a live net, one for each input in order, with which no
+/// firing comes after a date at which it is due; the input lists of the net play no part. Or why they
+/// are not told, by the order of [`ForeverRefusal`]: the first row, and its least number, that comes
+/// late whatever the inputs are; or the first input, in order, whose walk times have no settled form
+/// of at most 20,000 numbers, or for which a residual or a meet over the rows does not fit.
+pub fn forever(
+    alloc: Global,
+    net: &Net,
+    live: &Live,
+    rows: &[EndlessRow],
+) -> Result<Vec<Release>, ForeverRefusal>
+    requires stands { IsRanking net.now live.now }
+    requires rows { IsEndlessOf net.now rows.now }
+    ensures releases { IfOk result (λ releases. AreReleases net.now rows.now releases.items) }
+    ensures refused { IfErr result (ForeverRefused net.now rows.now) }
+{
+    net.transitions();
+    ranked_nets_are_live();
+    latest_at_inputs_are_latest();
+    if let Err(why) = keep_dues(alloc, net, live, rows) {
+        return Err(why);
+    }
+    releases_of(alloc, net, live, rows)
+}

@@ -1,0 +1,149 @@
+//! The series of walk times from an input and of due dates, a column of each over the rows.
+ghost use Rattle.std.specs.Prelude.{◌≡◌, ◌<◌, ◌≤◌, Ok, length, map, pos, IfOk};
+ghost use Rattle.dioid.specs.declared.dates.Date.TheVariants.{At};
+ghost use Rattle.teg_net.specs.Nets.{IsNet};
+ghost use Rattle.settled_laws.specs.Forms.{settled_length};
+ghost use Rattle.teg_settle.specs.Transfers.{IsTransferOf};
+ghost use Rattle.forever_laws.specs.Columns.{IsDueSeries, IsWalkSeries};
+ghost use Rattle.forever_laws.specs.Rows.{IsEndlessOf, IsEndlessRow};
+ghost use Rattle.teg_forever.specs.Columns.{AreGainsOf, IsDueColumn, IsWalkColumn};
+ghost use Rattle.teg_forever.specs.Releases.{longest_form};
+
+use dioid::Date;
+use dioid_matrix::Matrix;
+use forever_laws::{EndlessRow, forms_are_series};
+use series_form::{Series, SeriesRefused};
+use series_ops::Gain;
+use std::alloc::{AllocError, Global};
+use teg_net::{Net, OutOfMemory, TransitionId};
+use teg_settle::Settled;
+
+// The listed dates.
+fn listed(alloc: Global, dates: &[u64]) -> Result<Vec<Date>, AllocError>
+    ensures { IfOk result (λ list. list.items ≡ map (λ d. At (pos d)) dates.now) }
+{
+    dates
+        .iter()
+        .map(|date| Date::At(*date as i128))
+        .collect(alloc)
+}
+
+// The gain of a series that was made. The lists here are of at most 20,000 numbers up to 10^16, so
+// that no other refusal than want of memory comes.
+fn gain_of(made: Result<Series, SeriesRefused>) -> Result<Gain, OutOfMemory>
+    ensures { IfOk result (λ gain. made ≡ Ok gain.series) }
+{
+    match made {
+        Ok(series) => Ok(Gain { series }),
+        Err(_) => Err(OutOfMemory),
+    }
+}
+
+// The due series of a row.
+fn due_gain(alloc: Global, net: &Net, row: &EndlessRow) -> Result<Gain, OutOfMemory>
+    requires { IsEndlessRow net.now row.now }
+    ensures { IfOk result (λ gain. IsDueSeries row.now gain.series) }
+{
+    forms_are_series();
+    let list = listed(alloc, row.dates.as_slice())?;
+    gain_of(Series::from_list(alloc, list.as_slice(), row.every as usize, row.gap as i128))
+}
+
+// The series of the times of walks from the input to a transition.
+fn walk_gain(
+    alloc: Global,
+    net: &Net,
+    settled: &Settled,
+    input: TransitionId,
+    transition: TransitionId,
+) -> Result<Gain, OutOfMemory>
+    requires rules { IsNet net.now }
+    requires transfer { IsTransferOf net.now input.index settled.now }
+    requires short { settled_length settled.now ≤ longest_form }
+    requires transition { transition.index < length net.now.transitions }
+    ensures { IfOk result (λ gain. IsWalkSeries net.now input.index transition.index gain.series) }
+{
+    forms_are_series();
+    gain_of(Series::from_list(
+        alloc,
+        settled.row(transition),
+        settled.period() as usize,
+        settled.step(transition),
+    ))
+}
+
+// The due series of the rows.
+fn due_gains(alloc: Global, net: &Net, rows: &[EndlessRow]) -> Result<Vec<Gain>, OutOfMemory>
+    requires { IsEndlessOf net.now rows.now }
+    ensures { IfOk result (λ gains. AreGainsOf rows.now (λ r g. IsDueSeries r g.series) gains.items) }
+{
+    let mut gains = Vec::new(alloc);
+    for row in rows {
+        if gains.push(due_gain(alloc, net, row)?).is_err() {
+            return Err(OutOfMemory);
+        }
+    }
+    Ok(gains)
+}
+
+// The walk series from an input to the transitions of the rows.
+fn walk_gains(
+    alloc: Global,
+    net: &Net,
+    settled: &Settled,
+    input: TransitionId,
+    rows: &[EndlessRow],
+) -> Result<Vec<Gain>, OutOfMemory>
+    requires rules { IsNet net.now }
+    requires transfer { IsTransferOf net.now input.index settled.now }
+    requires short { settled_length settled.now ≤ longest_form }
+    requires rows { IsEndlessOf net.now rows.now }
+    ensures { IfOk result (λ gains. AreGainsOf rows.now (λ r g. IsWalkSeries net.now input.index r.transition.index g.series) gains.items) }
+{
+    let mut gains = Vec::new(alloc);
+    for row in rows {
+        let gain = walk_gain(alloc, net, settled, input, row.transition)?;
+        if gains.push(gain).is_err() {
+            return Err(OutOfMemory);
+        }
+    }
+    Ok(gains)
+}
+
+/// The column of the due series of the rows.
+pub(crate) fn due_column(
+    alloc: Global,
+    net: &Net,
+    rows: &[EndlessRow],
+) -> Result<Matrix<Gain>, OutOfMemory>
+    requires rules { IsNet net.now }
+    requires rows { IsEndlessOf net.now rows.now }
+    requires some { 1 ≤ length rows.now }
+    ensures { IfOk result (IsDueColumn rows.now) }
+{
+    match Matrix::new(rows.len(), 1, due_gains(alloc, net, rows)?) {
+        Ok(column) => Ok(column),
+        Err(_) => Err(OutOfMemory),
+    }
+}
+
+/// The column of the walk series from an input to the transitions of the rows.
+pub(crate) fn walk_column(
+    alloc: Global,
+    net: &Net,
+    settled: &Settled,
+    input: TransitionId,
+    rows: &[EndlessRow],
+) -> Result<Matrix<Gain>, OutOfMemory>
+    requires rules { IsNet net.now }
+    requires transfer { IsTransferOf net.now input.index settled.now }
+    requires short { settled_length settled.now ≤ longest_form }
+    requires rows { IsEndlessOf net.now rows.now }
+    requires some { 1 ≤ length rows.now }
+    ensures { IfOk result (IsWalkColumn net.now input.index rows.now) }
+{
+    match Matrix::new(rows.len(), 1, walk_gains(alloc, net, settled, input, rows)?) {
+        Ok(column) => Ok(column),
+        Err(_) => Err(OutOfMemory),
+    }
+}

@@ -1,0 +1,257 @@
+//! The least late number of a row: the firing that comes later than due, whatever the inputs are.
+ghost use Rattle.std.specs.Prelude.{◌≡◌, ◌<◌, ◌≤◌, ◌+◌, ◌*◌, ◌%◌, ◌⊎◌, pos, IfOk, IfNone, IfSome};
+ghost use Rattle.dioid.specs.declared.dates.Date.TheVariants.{At};
+ghost use Rattle.teg_net.specs.Circuits.{IsLive};
+ghost use Rattle.teg_net.specs.Nets.{IsNet};
+ghost use Rattle.settled_laws.specs.Forms.{date_of};
+ghost use Rattle.forever_laws.specs.Rows.{IsEndlessRow, row_due};
+ghost use Rattle.forever_laws.specs.Late.{IsLeastLate, NoneLate, NoneLateTo};
+ghost use Rattle.forever_laws.specs.Searches.{IsSoonest, IsTurnOf, turns_to};
+ghost use Rattle.teg_forever.specs.Searches.{IsClimbing, IsGoingRow, IsSoonLate, IsZeroForm};
+
+use dioid::Date;
+use forever_laws::{EndlessRow, late_is_soon, turns_tell_late};
+use teg_net::{Net, OutOfMemory, TransitionId};
+use teg_settle::Settled;
+
+/// The greatest number that a settled form tells.
+const GREATEST_NUMBER: u64 = 1_000_000_000_000_000_000;
+
+/// A late firing of a row: its number, its due date, and its least date.
+#[derive(Clone, Copy)]
+pub(crate) struct LateFiring {
+    pub number: u128,
+    pub due: u128,
+    pub least: u128,
+}
+
+/// Past number `past` each turn of firings adds `rise` to the least dates and `fall` to the due dates.
+#[derive(Clone, Copy)]
+struct Turn {
+    past: u64,
+    firings: u64,
+    rise: u128,
+    fall: u128,
+}
+
+/// Of the numbers past which dates repeat that which is late after the fewest turns.
+#[derive(Clone, Copy)]
+struct Soonest {
+    number: u64,
+    due: u128,
+    least: u128,
+    turns: u128,
+}
+
+// The due date of a firing.
+fn due_at(row: &EndlessRow, number: u64) -> u128
+    requires row { IsGoingRow row.now }
+    requires first { 1 ≤ number }
+    requires last { number ≤ 1000000000000000000 }
+    ensures due { row_due row.now number ≡ Some result }
+    ensures low { result ≤ 1000000000000 * (number + 1) }
+{
+    let dates = row.dates.as_slice();
+    let listed = dates.len() as u64;
+    if number <= listed {
+        return dates[number as usize - 1] as u128;
+    }
+    let every = row.every as u64;
+    let rounds = (number - listed - 1) / every + 1;
+    let before = number - rounds * every;
+    dates[before as usize - 1] as u128 + rounds as u128 * row.gap as u128
+}
+
+// The least date of a firing.
+fn least_at(settled: &Settled, transition: TransitionId, number: u64) -> u128
+    requires climbing { IsClimbing settled.now transition.index }
+    requires first { 1 ≤ number }
+    requires last { number ≤ 1000000000000000000 }
+    ensures least { date_of settled.now transition.index number ≡ At (pos result) }
+    ensures low { result ≤ 2000000000000000000000000000000 }
+{
+    settled.after();
+    match settled.date(transition, number) {
+        Date::At(date) => date as u128,
+        _ => 0,
+    }
+}
+
+// The first late number up to a last one.
+fn late_listed(settled: &Settled, row: &EndlessRow, last: u64) -> Option<LateFiring>
+    requires climbing { IsClimbing settled.now row.now.transition.index }
+    requires row { IsGoingRow row.now }
+    requires last { last ≤ 1000000000000000000 }
+    ensures none { IfNone result (NoneLateTo (date_of settled.now) row.now last) }
+    ensures some { IfSome result (λ l. IsLeastLate (date_of settled.now) row.now l.number l.due l.least) }
+{
+    for number in 1..last + 1 {
+        let due = due_at(row, number);
+        let least = least_at(settled, row.transition, number);
+        if due < least {
+            return Some(LateFiring {
+                number: number as u128,
+                due,
+                least,
+            });
+        }
+    }
+    None
+}
+
+// After how many turns, each of which gains so much, a firing is late.
+fn turns_at(settled: &Settled, row: &EndlessRow, number: u64, gain: u128) -> Soonest
+    requires climbing { IsClimbing settled.now row.now.transition.index }
+    requires row { IsGoingRow row.now }
+    requires first { 1 ≤ number }
+    requires last { number ≤ 1000000000000000000 }
+    requires gain { 0 < gain }
+    requires in_time { NoneLateTo (date_of settled.now) row.now number }
+    ensures number { result.number ≡ number }
+    ensures due { row_due row.now number ≡ Some result.due }
+    ensures least { date_of settled.now row.now.transition.index number ≡ At (pos result.least) }
+    ensures turns { result.turns ≡ turns_to result.due result.least gain }
+{
+    let due = due_at(row, number);
+    let least = least_at(settled, row.transition, number);
+    let turns = (due - least) / gain + 1;
+    Soonest {
+        number,
+        due,
+        least,
+        turns,
+    }
+}
+
+// That which is late after fewer turns, the first where they are as many.
+fn sooner(first: Soonest, next: Soonest) -> Soonest
+    ensures { ((next.turns < first.turns) × (result ≡ next)) ⊎ ((first.turns ≤ next.turns) × (result ≡ first)) }
+{
+    if next.turns < first.turns {
+        next
+    } else {
+        first
+    }
+}
+
+// Of the numbers past `past` up to `last`, of which none is late, that which is late after the fewest
+// turns.
+fn fewest_turns(settled: &Settled, row: &EndlessRow, past: u64, last: u64, gain: u128) -> Soonest
+    requires climbing { IsClimbing settled.now row.now.transition.index }
+    requires row { IsGoingRow row.now }
+    requires some { past < last }
+    requires last { last ≤ 1000000000000000000 }
+    requires gain { 0 < gain }
+    requires in_time { NoneLateTo (date_of settled.now) row.now last }
+    ensures is { IsSoonest (date_of settled.now) row.now past last gain result.number result.due result.least }
+    ensures turns { result.turns ≡ turns_to result.due result.least gain }
+{
+    let mut best = turns_at(settled, row, past + 1, gain);
+    for number in past + 2..last + 1 {
+        best = sooner(best, turns_at(settled, row, number, gain));
+    }
+    best
+}
+
+// A number of periods, from 1 to `every`, that take a multiple of `every` firings.
+fn common_periods(period: u64, every: u64) -> u64
+    requires some { 1 ≤ every }
+    requires every { every ≤ 1000 }
+    requires period { period ≤ 1000000000000000 }
+    ensures from_one { 1 ≤ result }
+    ensures within { result ≤ every }
+    ensures common { result * period % every ≡ 0 }
+{
+    for periods in 1..every {
+        if periods * period % every == 0 {
+            return periods;
+        }
+    }
+    every
+}
+
+// The greater of two numbers.
+fn greater(first: u64, second: u64) -> u64
+    ensures first { first ≤ result }
+    ensures second { second ≤ result }
+    ensures one { (result ≡ first) ⊎ (result ≡ second) }
+{
+    if first < second { second } else { first }
+}
+
+// From which number on, and after how many firings, dates and due dates repeat together.
+fn turn_of(settled: &Settled, row: &EndlessRow) -> Turn
+    requires climbing { IsClimbing settled.now row.now.transition.index }
+    requires row { IsGoingRow row.now }
+    ensures turn { IsTurnOf settled.now row.now result.past result.firings result.rise result.fall }
+    ensures past { result.past ≤ 1000000000010000 }
+    ensures firings { result.firings ≤ 1000000000000000000 }
+{
+    let every = row.every as u64;
+    let past_list = row.dates.as_slice().len() as u64 - every;
+    let after = settled.after();
+    let period = settled.period();
+    let periods = common_periods(period, every);
+    let firings = periods * period;
+    Turn {
+        past: greater(after, past_list),
+        firings,
+        rise: periods as u128 * settled.step(row.transition) as u128,
+        fall: (firings / every) as u128 * row.gap as u128,
+    }
+}
+
+// The late number that the search by turns finds.
+fn late_by_turns(net: &Net, settled: &Settled, row: &EndlessRow, turn: Turn) -> LateFiring
+    requires rules { IsNet net.now }
+    requires live { IsLive net.now }
+    requires form { IsZeroForm net.now settled.now }
+    requires climbing { IsClimbing settled.now row.now.transition.index }
+    requires row { IsEndlessRow net.now row.now }
+    requires turn { IsTurnOf settled.now row.now turn.past turn.firings turn.rise turn.fall }
+    requires last { turn.past + turn.firings ≤ 1000000000000000000 }
+    requires steep { turn.fall < turn.rise }
+    requires in_time { NoneLateTo (date_of settled.now) row.now (turn.past + turn.firings) }
+    ensures { IsSoonLate settled.now row.now result.number result.due result.least }
+{
+    turns_tell_late();
+    late_is_soon();
+    let gain = turn.rise - turn.fall;
+    let best = fewest_turns(settled, row, turn.past, turn.past + turn.firings, gain);
+    LateFiring {
+        number: best.number as u128 + best.turns * turn.firings as u128,
+        due: best.due + best.turns * turn.fall,
+        least: best.least + best.turns * turn.rise,
+    }
+}
+
+/// The least late number of a row, if it has one. A form whose dates and due dates repeat together
+/// only past the greatest number that it tells has more dates than any memory holds.
+pub(crate) fn late_in_row(
+    net: &Net,
+    settled: &Settled,
+    row: &EndlessRow,
+) -> Result<Option<LateFiring>, OutOfMemory>
+    requires rules { IsNet net.now }
+    requires live { IsLive net.now }
+    requires form { IsZeroForm net.now settled.now }
+    requires climbing { IsClimbing settled.now row.now.transition.index }
+    requires row { IsEndlessRow net.now row.now }
+    ensures none { IfOk result (λ late. IfNone late (NoneLate (date_of settled.now) row.now)) }
+    ensures some { IfOk result (λ late. IfSome late (λ l. IsSoonLate settled.now row.now l.number l.due l.least)) }
+{
+    turns_tell_late();
+    late_is_soon();
+    let turn = turn_of(settled, row);
+    let last = turn.past + turn.firings;
+    if last > GREATEST_NUMBER {
+        return Err(OutOfMemory);
+    }
+    if let Some(late) = late_listed(settled, row, last) {
+        return Ok(Some(late));
+    }
+    if turn.rise <= turn.fall {
+        return Ok(None);
+    }
+    Ok(Some(late_by_turns(net, settled, row, turn)))
+}

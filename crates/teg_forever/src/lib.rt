@@ -1,0 +1,33 @@
+//! Due dates without end, and the latest releases of the inputs that meet them (chapter 5).
+//!
+//! [`read_endless`] answers the rows of a due file: each gives a transition dates that go on for
+//! ever. [`forever`] answers for each input the series of the latest dates of its firings, or that
+//! it is free; or the first row that comes late whatever the inputs are, with its least late number;
+//! or the first input whose series are too long. [`releases_text`], [`forever_refusal_text`] and
+//! [`endless_refusal_text`] are the texts of the answers, and different answers have different
+//! texts. The crate stands on `forever_laws` and `due_laws` for what endless due dates are and what
+//! holds of them, on `teg_settle` for settled forms of dates and of walk times, on `series_form`,
+//! `series_ops` and `dioid_matrix` for residuals of series, on `csv_records` and `teg_due` for rows,
+//! and on `teg_text` for texts.
+#![tactic(auto)]
+
+mod answers;
+mod columns;
+mod inputs;
+mod late;
+mod numbers;
+mod reading;
+mod releases;
+mod rows;
+#[cfg(test)]
+mod tests;
+mod texts;
+
+pub use answers::forever;
+pub use forever_laws::EndlessRow;
+pub use reading::read_endless;
+pub use releases::{ForeverRefusal, Release};
+pub use rows::EndlessRefusal;
+pub use texts::{
+    endless_refusal_text, forever_refusal_text, releases_text, texts_of_endless_differ,
+};

@@ -1,0 +1,38 @@
+//! What is answered of endless due dates.
+use series_form::Series;
+use teg_net::TransitionId;
+
+/// When an input is released at the latest.
+#[derive(Drop)]
+pub enum Release {
+    /// No date is asked of it: no walk leads from its firings to a due one.
+    Free,
+    /// Shift k - 1 of the series has the latest date of firing k.
+    Latest { series: Series },
+}
+
+/// Why the releases are not told, in this order; of several inputs the first is named.
+#[derive(Clone, Copy, Debug, PartialEq, Eq)]
+pub enum ForeverRefusal {
+    /// The firing comes later than due whatever the inputs are: it is the least late number of the
+    /// first row that has one, with its due date and its least date.
+    Late {
+        transition: TransitionId,
+        number: u128,
+        due: u128,
+        least: u128,
+    },
+    /// The shortest settled form of the greatest times of walks from the first firing of the input is
+    /// longer than 20,000.
+    TooLong {
+        input: TransitionId,
+    },
+    /// A residual of the due series by the walk series, or its meet with the meet of those before it,
+    /// is no series of at most 20,000 values and of numbers up to 10^18; `row` is the first such row.
+    TooWide {
+        input: TransitionId,
+        row: u32,
+    },
+    /// No memory was found.
+    OutOfMemory,
+}

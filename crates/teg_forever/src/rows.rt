@@ -1,0 +1,23 @@
+//! The faults of a file of due dates without end.
+
+/// Why a file has no endless due dates: its first faulty row, and the first of its faults in this
+/// order.
+#[derive(Clone, Copy, Debug, PartialEq, Eq)]
+pub enum EndlessRefusal {
+    /// It has fewer than four fields, or one from the second on is no number in decimal digits.
+    BadRow { row: u32 },
+    /// No transition of the net has its name.
+    UnknownTransition { row: u32 },
+    /// Its transition is an input, for which dates are found and not asked.
+    NotDue { row: u32 },
+    /// An earlier row has the same transition.
+    RepeatedDue { row: u32 },
+    /// The dates go on after a number of firings that is not 1 to 1,000, or the gap or a date is above
+    /// 10^12, or there are more than 10,000 dates.
+    OutOfRange { row: u32 },
+    /// A date is less than the one before it, or there are fewer dates than firings after which they
+    /// go on, or the first date past the list is less than the last one listed.
+    Falls { row: u32 },
+    /// No memory was found.
+    OutOfMemory,
+}
