@@ -1,0 +1,26 @@
+-- The settled form of a net of releases is that of the delayed dating and the releases together.
+use Rattle.std.proofs.Common.{ℕ, ◌+◌, length, subst}
+use Rattle.teg_model.specs.Systems.{Dating}
+use Rattle.teg_model.specs.Datings.{listed}
+use Rattle.settled_laws.specs.Forms.{IsShortest, SettlesPast}
+use Rattle.delay_laws.specs.Delays.{together}
+use Rattle.delay_laws.specs.SettlingLaws.{ReleaseNetsTellDelays}
+use Rattle.delay_laws.proofs.Alike.{shortest_alike, past_alike}
+use Rattle.delay_laws.proofs.DerivedDates.{beside, is_delayed, are_alike}
+
+pub release_nets_tell_delays : ReleaseNetsTellDelays
+release_nets_tell_delays net ends live period t derived ok r =
+    let n : ℕ = length net.transitions in
+    let w : Dating = λ i k. listed derived (n + i) k in
+    record {
+      forms = λ f h.
+          let y : Dating = h.0 in
+          let x : Dating = beside n y w in
+          let short : IsShortest (n + n) f y = subst (λ (c : ℕ). IsShortest c f y) r.twice h.2 in
+          (x, w, is_delayed net ends live period t derived ok r y h.1, shortest_alike (n + n) f y (together n x w) (are_alike net ends live period t derived ok r y h.1) short);
+      past = λ limit h.
+          let y : Dating = h.0 in
+          let x : Dating = beside n y w in
+          let long : SettlesPast (n + n) y limit = subst (λ (c : ℕ). SettlesPast c y limit) r.twice h.2 in
+          (x, w, is_delayed net ends live period t derived ok r y h.1, past_alike (n + n) y (together n x w) limit (are_alike net ends live period t derived ok r y h.1) long);
+    }

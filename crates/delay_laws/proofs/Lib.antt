@@ -1,0 +1,15 @@
+pub mod Plans
+pub mod Releases
+pub mod Dated
+pub mod Spare
+pub mod Steps
+pub mod Passing
+pub mod PassedOn
+pub mod Keeping
+pub mod ReleaseLists
+pub mod Derived
+pub mod Alike
+pub mod DerivedDates
+pub mod DerivedForms
+pub mod Together
+pub mod OneForm

@@ -1,0 +1,13 @@
+pub mod EntryRules
+pub mod Splitting
+pub mod Refused
+pub mod Building
+pub mod Releasing
+pub mod DerivedNet
+pub mod Trail
+pub mod Feeding
+pub mod Settling
+pub mod Tops
+pub mod Planning
+pub mod ReadBack
+pub mod Telling

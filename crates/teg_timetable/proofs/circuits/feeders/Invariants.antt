@@ -1,0 +1,5 @@
+use Rattle.teg_timetable.specs.Working.{AreFeeders}
+use Rattle.teg_timetable.proofs.circuits.feeders.Given as goal
+
+abbrev pub invariant-loop-index : goal.invariant-loop-index
+invariant-loop-index l = AreFeeders l.net l.period l.table l.tops l.most l.index l.feeders.items

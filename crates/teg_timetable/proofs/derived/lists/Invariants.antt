@@ -1,0 +1,6 @@
+use Rattle.std.proofs.Common.{length}
+use Rattle.teg_timetable.specs.Working.{AreBuilt, IsDerivedList}
+use Rattle.teg_timetable.proofs.derived.lists.Given as goal
+
+abbrev pub invariant-loop-index : goal.invariant-loop-index
+invariant-loop-index l = AreBuilt (IsDerivedList l.period l.table (length l.net.transitions)) l.index l.lists.items

@@ -1,0 +1,5 @@
+use Rattle.teg_timetable.specs.Working.{AreBuilt, IsDerivedPlace}
+use Rattle.teg_timetable.proofs.derived.places.Given as goal
+
+abbrev pub invariant-loop-index : goal.invariant-loop-index
+invariant-loop-index l = AreBuilt (IsDerivedPlace l.net) l.index l.places.items

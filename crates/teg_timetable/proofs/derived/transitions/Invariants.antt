@@ -1,0 +1,5 @@
+use Rattle.teg_timetable.specs.Working.{AreBuilt, IsDerivedTransition}
+use Rattle.teg_timetable.proofs.derived.transitions.Given as goal
+
+abbrev pub invariant-loop-index : goal.invariant-loop-index
+invariant-loop-index l = AreBuilt (IsDerivedTransition l.count) l.index l.transitions.items

@@ -1,0 +1,5 @@
+use Rattle.teg_timetable.specs.Working.{AreBuilt, IsTop}
+use Rattle.teg_timetable.proofs.late.tops.Given as goal
+
+abbrev pub invariant-loop-index : goal.invariant-loop-index
+invariant-loop-index l = AreBuilt (IsTop l.left) l.index l.tops.items

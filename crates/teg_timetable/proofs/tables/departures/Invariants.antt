@@ -1,0 +1,6 @@
+use Rattle.std.proofs.Common.{take}
+use Rattle.teg_timetable.specs.Gathered.{AreDepartures}
+use Rattle.teg_timetable.proofs.tables.departures.Given as goal
+
+abbrev pub invariant-loop-entry : goal.invariant-loop-entry
+invariant-loop-entry l = AreDepartures l.fn.width (take l.entry-index l.entries) l.cells.items

@@ -1,0 +1,53 @@
+use Rattle.std.proofs.Common.{rules, ℕ, ◌+◌, ◌≡◌, [], ◌++◌, List, map, length, sym, ap, subst, ◌∙◌, string_bytes, arith}
+use Rattle.std.specs.List.{range_with_len}
+use Rattle.std.proofs.lemmas.List.FromFn.{length-map-range_with_len}
+use Rattle.settled_laws.specs.Forms.{settled_length}
+use Rattle.teg_text.specs.Lines.{line_then, written}
+use Rattle.teg_text.proofs.Joining.{lines_end}
+use Rattle.teg_timetable.specs.Spreads.{OutcomeTold, delay_of}
+use Rattle.teg_timetable.specs.Texts.{IsOutcomeToldOf, delays_line, delays_lines, delays_up_to, outcome_lines, settled_line}
+use Rattle.teg_timetable.proofs.Telling.{lines_from, three_parts, rows_small}
+use Rattle.teg_timetable.proofs.texts.spread_text.Goals as goal
+
+pub returns-clause-text : goal.returns-clause-text
+returns-clause-text c =
+    let net = c.args.net.now in
+    let s = c.args.delayed.now in
+    let n = length net.transitions in
+    let count = settled_length s.form in
+    let delays : ℕ → List ℕ = λ i. delays_up_to (delay_of s i) count in
+    let first = settled_line s.form.after s.form.period in
+    let one = outcome_lines net s.outcome in
+    let two = delays_lines net 0 (map delays (range_with_len 0 (length s.firsts))) in
+    let head : string_bytes c.in_ok-text.text ≡ line_then first [] = rw (← c.after-after.ensures.value) (rw (← c.period-period.ensures.value) c.in_ok-text.ensures.ok) in
+    let after = c.after-after.ensures.value in
+    let period = c.period-period.ensures.value in
+    let size : c.after-after.result + c.period-period.result ≡ count = omega arith in
+    let became : string_bytes c.push_outcome.new.text ≡ string_bytes c.in_ok-text.text ++ written one =
+    c.in_ok-push_outcome.ensures.text ∙ ap (λ (o : OutcomeTold). string_bytes c.in_ok-text.text ++ written (outcome_lines net o)) c.outcome.ensures in
+    let rest : string_bytes c.push_lines.new.text ≡ string_bytes c.push_outcome.new.text ++ written (map (λ i. delays_line net i (delays i)) (range_with_len 0 n)) =
+    lines_end (λ i. delays_line net i (delays i)) (range_with_len 0 n) (string_bytes c.push_outcome.new.text) (string_bytes c.push_lines.new.text) (rw size at c.in_ok-push_lines.ensures.text) in
+    let same : map (λ i. delays_line net i (delays i)) (range_with_len 0 n) ≡ two =
+    sym (lines_from net delays 0 n) ∙ ap (λ (z : ℕ). delays_lines net 0 (map delays (range_with_len 0 z))) (sym c.requires.width) in
+    rest
+    ∙ ap (λ (l : List (List (List ℕ))). string_bytes c.push_outcome.new.text ++ written l) same
+    ∙ ap (λ (l : List ℕ). l ++ written two) (became ∙ ap (λ (l : List ℕ). l ++ written one) head)
+    ∙ three_parts first one two
+
+pub returns-clause-told : goal.returns-clause-told
+returns-clause-told c =
+    let net = c.args.net.now in
+    let s = c.args.delayed.now in
+    let n = length net.transitions in
+    let count = settled_length s.form in
+    let after = c.after-after.ensures.value in
+    let period = c.period-period.ensures.value in
+    let size : c.after-after.result + c.period-period.result ≡ count = omega arith in
+    let delays : ℕ → List ℕ = λ i. delays_up_to (delay_of s i) count in
+    record {
+      after_in = search rules;
+      period_in = search rules;
+      outcome_in = subst (IsOutcomeToldOf net) c.outcome.ensures c.in_ok-push_outcome.ensures.told;
+      each = length-map-range_with_len delays 0 (length s.firsts) ∙ c.requires.width;
+      small = rows_small s (length s.firsts) count (λ i l. rw size at (c.in_ok-push_lines.ensures.small i (omega (arith, l, c.requires.width))));
+    }

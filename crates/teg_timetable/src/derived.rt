@@ -1,0 +1,201 @@
+//! The net by which a delayed timetable is settled: each departure also waits for an input of its own,
+//! whose list has the releases.
+ghost use Rattle.std.specs.Prelude.{◌≡◌, ◌≤◌, ◌<◌, ◌+◌, length, IfOk};
+ghost use Rattle.delay_laws.specs.ReleaseNets.{IsReleaseNet};
+ghost use Rattle.delay_laws.specs.Tables.{first_of, greatest_departure, IsTableOf};
+ghost use Rattle.teg_net.specs.Nets.{IsNet, lists_of};
+ghost use Rattle.teg_timetable.specs.Spreads.{greatest_period};
+ghost use Rattle.teg_timetable.specs.Working.{AreBuilt, AreSmall, IsDerivedList, IsDerivedPlace, IsDerivedTransition, IsMade, IsNumber};
+
+use crate::releases::{number_past, releases};
+use delay_laws::Timetable;
+use std::alloc::{AllocError, Global};
+use teg_net::{
+    Again, DateList, InputList, Name, Net, OutOfMemory, Place, Role, Transition, TransitionId,
+};
+
+// A name that is a number.
+fn number(alloc: Global, number: usize) -> Result<Name, AllocError>
+    ensures { IfOk result (IsNumber number) }
+{
+    let text = format!(in alloc; "{number}")?;
+    match Name::new(alloc, text.as_str()) {
+        Ok(name) => Ok(name),
+        Err(_) => Err(AllocError),
+    }
+}
+
+// The role of transition `index`: an input where it is none of the net's, which are `count`.
+fn role(count: usize, index: usize) -> Role
+    ensures own { index < count → result ≡ Role.Internal }
+    ensures input { count ≤ index → result ≡ Role.Input }
+{
+    if index < count {
+        Role::Internal
+    } else {
+        Role::Input
+    }
+}
+
+// Transition `index`.
+fn transition(alloc: Global, count: usize, index: usize) -> Result<Transition, AllocError>
+    ensures { IfOk result (IsDerivedTransition count index) }
+{
+    let name = number(alloc, index)?;
+    let role = role(count, index);
+    Ok(Transition { name, role })
+}
+
+// The transitions of the net, which are `count`, and an input for each.
+fn transitions(alloc: Global, count: usize) -> Result<Vec<Transition>, AllocError>
+    requires { count ≤ 200 }
+    ensures { IfOk result (λ transitions. AreBuilt (IsDerivedTransition count) (count + count) transitions.items) }
+{
+    let mut transitions = Vec::new(alloc);
+    for index in 0..count + count {
+        let made = transition(alloc, count, index)?;
+        transitions.push(made)?;
+    }
+    Ok(transitions)
+}
+
+// A place of the net under another name.
+fn own_place(alloc: Global, place: &Place, name: Name) -> Result<Place, AllocError>
+    ensures { IfOk result (λ p. p ≡ record place.now { name = name }) }
+{
+    let ready = Vec::from_slice(alloc, place.ready.as_slice())?;
+    Ok(Place {
+        name,
+        from: place.from,
+        to: place.to,
+        hold: place.hold,
+        tokens: place.tokens,
+        ready: DateList::new(ready),
+    })
+}
+
+// Place `index`: one of the net, or the one from an input to its transition.
+fn place(alloc: Global, net: &Net, index: usize) -> Result<Place, AllocError>
+    requires { index < length net.now.places + length net.now.transitions }
+    ensures { IfOk result (IsDerivedPlace net.now index) }
+{
+    let name = number(alloc, index)?;
+    let own = net.places();
+    if index < own.len() {
+        return own_place(alloc, &own[index], name);
+    }
+    let to = index - own.len();
+    let from = net.transitions().len() + to;
+    Ok(Place {
+        name,
+        from: TransitionId { index: from as u32 },
+        to: TransitionId { index: to as u32 },
+        hold: 0,
+        tokens: 0,
+        ready: DateList::new(Vec::new(alloc)),
+    })
+}
+
+// The places of the net, and one from each input to its transition.
+fn places(alloc: Global, net: &Net) -> Result<Vec<Place>, AllocError>
+    ensures { IfOk result (λ places. AreBuilt (IsDerivedPlace net.now) (length net.now.places + length net.now.transitions) places.items) }
+{
+    let count = net.places().len() + net.transitions().len();
+    let mut places = Vec::new(alloc);
+    for index in 0..count {
+        let made = place(alloc, net, index)?;
+        places.push(made)?;
+    }
+    Ok(places)
+}
+
+// The list of the input of this transition.
+fn list(
+    alloc: Global,
+    period: u64,
+    table: &Timetable,
+    count: usize,
+    transition: u32,
+) -> Result<InputList, AllocError>
+    requires some { 1 ≤ period }
+    requires period { period ≤ greatest_period }
+    requires small { AreSmall table.now }
+    requires few { count ≤ 200 }
+    requires transition { transition < count }
+    requires firsts { length table.now.firsts.items ≡ count }
+    requires first { first_of table.now transition ≤ greatest_departure }
+    ensures { IfOk result (IsDerivedList period table.now count transition) }
+{
+    let last = number_past(period, table, transition);
+    let dates = releases(alloc, period, table, transition, last as usize)?;
+    Ok(InputList {
+        transition: TransitionId {
+            index: count as u32 + transition,
+        },
+        dates: DateList::new(dates),
+        again: Some(Again {
+            every: 1,
+            gap: period,
+        }),
+    })
+}
+
+// The list of each input.
+fn lists(
+    alloc: Global,
+    net: &Net,
+    period: u64,
+    table: &Timetable,
+) -> Result<Vec<InputList>, AllocError>
+    requires some { 1 ≤ period }
+    requires period { period ≤ greatest_period }
+    requires table { IsTableOf net.now table.now }
+    requires few { length net.now.transitions ≤ 200 }
+    ensures { IfOk result (λ lists. AreBuilt (IsDerivedList period table.now (length net.now.transitions)) (length net.now.transitions) lists.items) }
+{
+    let count = net.transitions().len();
+    let mut lists = Vec::new(alloc);
+    for index in 0..count {
+        let made = list(alloc, period, table, count, index as u32)?;
+        lists.push(made)?;
+    }
+    Ok(lists)
+}
+
+// The net of these lists.
+fn net_of(
+    _net: &Net,
+    _period: u64,
+    _table: &Timetable,
+    transitions: Vec<Transition>,
+    places: Vec<Place>,
+    lists: Vec<InputList>,
+) -> Net
+    requires rules { IsNet _net.now }
+    requires made { IsMade _net.now _period _table.now (lists_of transitions.items places.items lists.items) }
+    ensures derived { IsReleaseNet _net.now _period _table.now result }
+    ensures rules { IsNet result }
+{
+    Net::new(transitions, places, lists)
+}
+
+/// The net with an input for each transition, whose list has the releases of its departures.
+pub(crate) fn derived(
+    alloc: Global,
+    net: &Net,
+    period: u64,
+    table: &Timetable,
+) -> Result<Net, OutOfMemory>
+    requires some { 1 ≤ period }
+    requires period { period ≤ greatest_period }
+    requires table { IsTableOf net.now table.now }
+    requires few { length net.now.transitions ≤ 200 }
+    requires fits { length net.now.transitions + length net.now.places ≤ 4000 }
+    ensures derived { IfOk result (IsReleaseNet net.now period table.now) }
+    ensures rules { IfOk result IsNet }
+{
+    let transitions = transitions(alloc, net.transitions().len())?;
+    let places = places(alloc, net)?;
+    let lists = lists(alloc, net, period, table)?;
+    Ok(net_of(net, period, table, transitions, places, lists))
+}

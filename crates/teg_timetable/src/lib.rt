@@ -1,0 +1,37 @@
+//! How delays spread through a timetable (chapters 2 and 3).
+//!
+//! [`read_timetable`] answers the timetable that a file says of a net, or its first faulty row with
+//! the first of its faults. [`spread`] follows its delays: a [`Delayed`] tells the delay that is left
+//! at each departure, past which number the delays go on in periods, and whether they die out or a
+//! circuit without spare time keeps them. [`spread_text`], [`table_refusal_text`] and
+//! [`delay_refusal_text`] are the texts of answers; different ones about one net have different texts.
+//! The dates are settled as those of a net in which each departure also waits for an input of its own.
+//! The crate stands on `delay_laws` for what delays are, on `teg_settle` for settled forms, on
+//! `teg_net` and `teg_check` for nets, on `csv_records` for the records of a file, and on `teg_text`
+//! for texts.
+#![tactic(auto)]
+
+mod circuits;
+mod delayed;
+mod derived;
+mod entries;
+mod gathered;
+mod late;
+mod left;
+mod outcomes;
+mod reading;
+mod refusals;
+mod releases;
+mod spreading;
+mod tables;
+#[cfg(test)]
+mod tests;
+mod texts;
+mod workable;
+
+pub use delay_laws::{Delay, Outcome, Timetable};
+pub use delayed::Delayed;
+pub use refusals::{DelayRefusal, TableRefusal};
+pub use spreading::spread;
+pub use tables::read_timetable;
+pub use texts::{delay_refusal_text, spread_text, table_refusal_text, texts_of_timetables_differ};

@@ -1,0 +1,46 @@
+//! Why a file is no timetable, and why delays are not spread.
+ghost use Rattle.std.specs.Prelude.{◌≡◌};
+ghost use Rattle.teg_timetable.specs.declared.refusals.DelayRefusal.TheVariants.{OutOfMemory as DelayMemory};
+
+use teg_net::{OutOfMemory, PlaceId, TransitionId};
+
+/// Why a file is no timetable of a net: its first faulty row, and the first of its faults in this
+/// order; or, where no row is faulty, a transition without a first departure.
+#[derive(Clone, Copy, Debug, PartialEq, Eq)]
+pub enum TableRefusal {
+    /// The row has not two or three fields, or one from the second on is no number in decimal digits.
+    BadRow { row: u32 },
+    /// No transition of the net has its name.
+    UnknownTransition { row: u32 },
+    /// An earlier row gives the transition's first departure, or delays the same departure of it.
+    Repeated { row: u32 },
+    /// Its first departure is above 10^9, the number of its departure is not 1 to 10,000, or its
+    /// delay is not 1 to 50,000.
+    OutOfRange { row: u32 },
+    /// No row gives the first departure of this transition, which is the lowest numbered such one.
+    Missing { transition: TransitionId },
+    /// No memory was found.
+    OutOfMemory,
+}
+
+/// Why the delays of a timetable are not spread: the first cause in this order.
+#[derive(Clone, Copy, Debug, PartialEq, Eq)]
+pub enum DelayRefusal {
+    /// The net has more than 200 transitions, or more than 4,000 transitions and places together.
+    TooLarge { transitions: u32, places: u32 },
+    /// The plan does not leave this place the time that it takes, or departs before its initial
+    /// tokens are ready; it is the lowest numbered such place.
+    Unworkable { place: PlaceId },
+    /// The delayed dates settle only past this limit.
+    TooLong { limit: u32 },
+    /// No memory was found.
+    OutOfMemory,
+}
+
+impl From<OutOfMemory> for DelayRefusal {
+    ghost from_gives = { λ _ e. e ≡ DelayMemory };
+
+    fn from(_error: OutOfMemory) -> DelayRefusal {
+        DelayRefusal::OutOfMemory
+    }
+}

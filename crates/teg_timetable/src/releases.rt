@@ -1,0 +1,110 @@
+//! The releases of a transition: its planned departures with their delays, none before an earlier one.
+ghost use Rattle.std.specs.Prelude.{ℕ, ◌≡◌, ◌≤◌, ◌<◌, ◌+◌, ◌*◌, ◌∷◌, [], None, length, IfOk, slice_index_or};
+ghost use Rattle.delay_laws.specs.Tables.{IsPastDelays, first_of, greatest_departure};
+ghost use Rattle.teg_timetable.specs.Gathered.{or_second};
+ghost use Rattle.teg_timetable.specs.Spreads.{greatest_period};
+ghost use Rattle.teg_timetable.specs.Working.{AreBuilt, AreReleases, AreSmall, IsSmall, given_in, most_releases};
+
+use delay_laws::{Delay, Timetable};
+use std::alloc::{AllocError, Global};
+
+// How many periods are as long as the delay.
+fn periods_for(by: u64, period: u64) -> u64
+    requires some { 1 ≤ period }
+    requires period { period ≤ greatest_period }
+    requires by { by ≤ 50000 }
+    ensures enough { by ≤ period * result }
+    ensures few { result ≤ by }
+{
+    (by + period - 1) / period
+}
+
+// A number that is past this delay too.
+fn past_delay(period: u64, last: u64, delay: &Delay) -> u64
+    requires some { 1 ≤ period }
+    requires period { period ≤ greatest_period }
+    requires small { IsSmall delay.now }
+    requires few { last ≤ most_releases }
+    ensures rises { last ≤ result }
+    ensures few { result ≤ most_releases }
+    ensures past { period * delay.now.number + delay.now.by ≤ period * result }
+{
+    let own = u64::from(delay.number) + periods_for(delay.by, period);
+    own.max(last)
+}
+
+/// A number at which the departures of the transition are past its delays: from there on they are
+/// released as they are planned.
+pub(crate) fn number_past(period: u64, table: &Timetable, transition: u32) -> u64
+    requires some { 1 ≤ period }
+    requires period { period ≤ greatest_period }
+    requires small { AreSmall table.now }
+    ensures some { 1 ≤ result }
+    ensures few { result ≤ most_releases }
+    ensures past { IsPastDelays period table.now transition result }
+{
+    let mut last = 1;
+    for delay in &table.delays {
+        if delay.transition.index == transition {
+            last = past_delay(period, last, delay);
+        }
+    }
+    last
+}
+
+// Takes down the delay at its number, if it is one of this transition and none is there.
+fn take_down(cells: &mut Vec<Option<u64>>, transition: u32, delay: &Delay)
+    ensures long { length cells.new.items ≡ length cells.old.items }
+    ensures each { (s : ℕ) → s < length cells.old.items → slice_index_or cells.new.items s None ≡ or_second (slice_index_or cells.old.items s None) (given_in (delay.now ∷ []) transition (s + 1)) }
+{
+    let number = delay.number as usize;
+    if delay.transition.index == transition && 1 <= number && number <= cells.len() {
+        if cells[number - 1].is_none() {
+            cells[number - 1] = Some(delay.by);
+        }
+    }
+}
+
+// The delays that are given for the first `count` departures of the transition, where one is.
+fn given(
+    alloc: Global,
+    table: &Timetable,
+    transition: u32,
+    count: usize,
+) -> Result<Vec<Option<u64>>, AllocError>
+    ensures { IfOk result (λ cells. AreBuilt (λ s by. by ≡ given_in table.now.delays.items transition (s + 1)) count cells.items) }
+{
+    let mut cells = vec![in alloc; None; count]?;
+    for delay in &table.delays {
+        take_down(&mut cells, transition, delay);
+    }
+    Ok(cells)
+}
+
+/// The releases of the first `count` departures of the transition.
+pub(crate) fn releases(
+    alloc: Global,
+    period: u64,
+    table: &Timetable,
+    transition: u32,
+    count: usize,
+) -> Result<Vec<u64>, AllocError>
+    requires period { period ≤ greatest_period }
+    requires small { AreSmall table.now }
+    requires transition { transition < length table.now.firsts.items }
+    requires first { first_of table.now transition ≤ greatest_departure }
+    requires few { count ≤ most_releases }
+    ensures { IfOk result (λ dates. AreReleases period table.now transition count dates.items) }
+{
+    let given = given(alloc, table, transition, count)?;
+    let first = table.firsts[transition as usize];
+    let mut dates = Vec::new(alloc);
+    let mut latest = 0;
+    for index in 0..count {
+        let by = given[index].unwrap_or(0);
+        let date = first + period * (index as u64) + by;
+        latest = date.max(latest);
+        dates.push(latest)?;
+    }
+    Ok(dates)
+}

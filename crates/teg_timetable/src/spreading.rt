@@ -1,0 +1,137 @@
+//! How the delays of a timetable spread, or why they are not followed.
+ghost use Rattle.std.specs.Prelude.{◌≡◌, ◌≤◌, ◌+◌, length, IfOk, IfErr, IfSome};
+ghost use Rattle.delay_laws.specs.Tables.{IsTableOf, IsWorkable};
+ghost use Rattle.delay_laws.specs.Delays.{IsFormOfDelays};
+ghost use Rattle.settled_laws.specs.Forms.{IsSettledFormOf, settled_length};
+ghost use Rattle.teg_check.specs.Ranks.{IsRanking};
+ghost use Rattle.teg_net.specs.Circuits.{IsLive};
+ghost use Rattle.teg_net.specs.Nets.{IsNet};
+ghost use Rattle.teg_settle.specs.Refusals.{greatest_limit};
+ghost use Rattle.teg_timetable.specs.Answers.{ExceedsLimit, IsDelayRefusal, IsOutcomeIn, IsSettlingRefusal, IsSpread, IsWithinLimit};
+ghost use Rattle.teg_timetable.specs.Spreads.{greatest_period};
+
+use crate::delayed::Delayed;
+use crate::derived::derived;
+use crate::left::Left;
+use crate::outcomes::outcome;
+use crate::refusals::DelayRefusal;
+use crate::workable::first_unworkable;
+use delay_laws::Timetable;
+use std::alloc::Global;
+use teg_check::{CheckRefusal, Live, check};
+use teg_net::{Net, OutOfMemory};
+use teg_settle::{SettleRefusal, Settled, settle, settle_within};
+
+// The ranks of a live net.
+fn ranks(alloc: Global, net: &Net) -> Result<Live, OutOfMemory>
+    requires { IsLive net.now }
+    ensures { IfOk result (λ live. IsRanking net.now live) }
+{
+    match check(alloc, net) {
+        Ok(live) => Ok(live),
+        Err(CheckRefusal::OutOfMemory) => Err(OutOfMemory),
+        Err(CheckRefusal::TokenFree { .. }) => unreachable!(),
+    }
+}
+
+// The settled form of a live net, within the limit if there is one.
+fn settled_in(alloc: Global, net: &Net, limit: Option<u32>) -> Result<Settled, DelayRefusal>
+    requires live { IsLive net.now }
+    requires few { IfSome limit (λ l. l ≤ greatest_limit) }
+    ensures form { IfOk result (IsSettledFormOf net.now) }
+    ensures within { IfOk result (λ form. IsWithinLimit limit (settled_length form)) }
+    ensures refused { IfErr result (IsSettlingRefusal net.now limit) }
+{
+    let live = ranks(alloc, net)?;
+    match limit {
+        None => Ok(settle(alloc, net, &live)?),
+        Some(limit) => match settle_within(alloc, net, &live, limit) {
+            Ok(settled) => Ok(settled),
+            Err(SettleRefusal::TooLong { limit }) => Err(DelayRefusal::TooLong { limit }),
+            Err(SettleRefusal::OutOfMemory) => Err(DelayRefusal::OutOfMemory),
+        },
+    }
+}
+
+// The first departures once more.
+fn firsts_of(alloc: Global, table: &Timetable) -> Result<Vec<u64>, OutOfMemory>
+    ensures { IfOk result (λ firsts. firsts.items ≡ table.now.firsts.items) }
+{
+    Ok(Vec::from_slice(alloc, &table.firsts)?)
+}
+
+// The delays that are left, by the settled form of the net with the releases as inputs.
+fn left_by(
+    alloc: Global,
+    net: &Net,
+    _live: &Live,
+    period: u64,
+    table: &Timetable,
+    limit: Option<u32>,
+) -> Result<Left, DelayRefusal>
+    requires rules { IsNet net.now }
+    requires stands { IsRanking net.now _live.now }
+    requires some { 1 ≤ period }
+    requires period { period ≤ greatest_period }
+    requires table { IsTableOf net.now table.now }
+    requires limit { IfSome limit (λ l. l ≤ greatest_limit) }
+    requires few { length net.now.transitions ≤ 200 }
+    requires fits { length net.now.transitions + length net.now.places ≤ 4000 }
+    requires workable { IsWorkable net.now period table.now }
+    ensures firsts { IfOk result (λ left. left.firsts ≡ table.now.firsts.items) }
+    ensures every { IfOk result (λ left. left.every ≡ period) }
+    ensures form { IfOk result (λ left. IsFormOfDelays net.now period table.now left.form) }
+    ensures within { IfOk result (λ left. IsWithinLimit limit (settled_length left.form)) }
+    ensures refused { IfErr result (ExceedsLimit net.now period table.now limit) }
+{
+    let derived = derived(alloc, net, period, table)?;
+    let settled = settled_in(alloc, &derived, limit)?;
+    let firsts = firsts_of(alloc, table)?;
+    settled.period();
+    Ok(Left::new(firsts, period, settled))
+}
+
+/// How the delays of a timetable spread through a live net that departs again every `period`
+/// (chapters 2 and 3).
+///
+/// Each departure is released at its planned date with its delay, and not before an earlier one of
+/// its transition; the delayed dates are the least that the releases, the places and their ready
+/// dates allow. The net's input lists and the roles of its transitions play no part. Number and
+/// period are those of the shortest settled form of delayed dates and releases together. `TooLarge`
+/// comes exactly where the net has more than 200 transitions, or more than 4,000 transitions and
+/// places together; `Unworkable` exactly where the plan does not leave some place its time, with the
+/// lowest numbered such place; `TooLong` exactly where there is a limit, from 1 to 200,000, that
+/// the settling length exceeds. `OutOfMemory` comes only where no memory is found. For n transitions,
+/// p places, r delays and a settling length l it takes time of order `n r + (n + p) l`.
+pub fn spread(
+    alloc: Global,
+    net: &Net,
+    live: &Live,
+    period: u64,
+    table: &Timetable,
+    limit: Option<u32>,
+) -> Result<Delayed, DelayRefusal>
+    requires stands { IsRanking net.now live.now }
+    requires some { 1 ≤ period }
+    requires period { period ≤ greatest_period }
+    requires table { IsTableOf net.now table.now }
+    requires limit { IfSome limit (λ l. l ≤ greatest_limit) }
+    ensures spread { IfOk result (IsSpread net.now period table.now limit) }
+    ensures about { IfOk result (λ delayed. IsOutcomeIn net.now delayed.outcome) }
+    ensures refused { IfErr result (IsDelayRefusal net.now period table.now limit) }
+{
+    let transitions = net.transitions().len();
+    let places = net.places().len();
+    if transitions > 200 || transitions + places > 4000 {
+        return Err(DelayRefusal::TooLarge {
+            transitions: transitions as u32,
+            places: places as u32,
+        });
+    }
+    if let Some(place) = first_unworkable(net, period, table) {
+        return Err(DelayRefusal::Unworkable { place });
+    }
+    let left = left_by(alloc, net, live, period, table, limit)?;
+    let outcome = outcome(alloc, net, period, table, &left)?;
+    Ok(Delayed::new(left, outcome))
+}

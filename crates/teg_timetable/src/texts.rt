@@ -1,0 +1,213 @@
+//! The texts of answers about timetables.
+ghost use Rattle.std.specs.Prelude.{ℕ, ◌≡◌, ◌++◌, ◌∷◌, ◌<◌, ◌≤◌, [], IfOk, codes, IfSome, length, string_bytes};
+ghost use Rattle.std.specs.Fmt.{decimal};
+ghost use Rattle.std.specs.List.{flat_map, range_with_len};
+ghost use Rattle.teg_net.specs.Circuits.{AreInRange};
+ghost use Rattle.teg_net.specs.Limits.{greatest_number};
+ghost use Rattle.teg_text.specs.Lines.{line_then, phrase, written};
+ghost use Rattle.teg_timetable.specs.Answers.{IsOutcomeIn, IsDelayRefusalIn};
+ghost use Rattle.teg_timetable.specs.Spreads.{delay_of, outcome_told};
+ghost use Rattle.teg_timetable.specs.Tables.{IsTableRefusalIn};
+ghost use Rattle.teg_timetable.specs.Texts.{AreSmall, IsOutcomeToldOf, IsTextOf, IsToldOf, TextsOfTimetablesDiffer, delay_told, delays_line, delays_up_to, kept_lines, outcome_lines, place_name, row_line, spread_told, table_told, told_lines, transition_name};
+
+use crate::delayed::Delayed;
+use crate::refusals::{DelayRefusal, TableRefusal};
+use delay_laws::Outcome;
+use std::alloc::{AllocError, Global};
+use teg_net::{Circuit, Net, OutOfMemory, TransitionId};
+
+/// Appends the delays of a transition at the numbers from 1 to `count`, each behind a blank.
+fn push_delays(
+    text: &mut String,
+    delayed: &Delayed,
+    transition: TransitionId,
+    count: u64,
+) -> Result<(), AllocError>
+    requires transition { transition.index < length delayed.now.firsts }
+    requires count { count ≤ greatest_number }
+    ensures text { IfOk result (λ _. string_bytes text.new ≡
+        string_bytes text.old ++ flat_map (λ k. 32 ∷ decimal (delay_of delayed.now transition.index k)) (range_with_len 1 count)) }
+    ensures small { IfOk result (λ _. AreSmall delayed.now transition.index count) }
+{
+    for index in 0..count {
+        let delay = delayed.delay(transition, index + 1);
+        write!(text, " {delay}")?;
+    }
+    Ok(())
+}
+
+/// Begins the line of the delays of the transition of this number, counted from 0.
+fn begin_line(text: &mut String, net: &Net, index: usize) -> Result<(), AllocError>
+    requires { index < length net.now.transitions }
+    ensures { IfOk result (λ _. string_bytes text.new ≡
+        string_bytes text.old ++ (codes "delays " ++ transition_name net.now index)) }
+{
+    let name = net.transitions()[index].name.as_str();
+    write!(text, "delays {name}")
+}
+
+/// Appends the line of the delays of the transition of this number, counted from 0.
+fn push_line(
+    text: &mut String,
+    net: &Net,
+    delayed: &Delayed,
+    index: usize,
+    count: u64,
+) -> Result<(), AllocError>
+    requires index { index < length net.now.transitions }
+    requires width { length delayed.now.firsts ≡ length net.now.transitions }
+    requires count { count ≤ greatest_number }
+    ensures text { IfOk result (λ _. string_bytes text.new ≡
+        string_bytes text.old ++ line_then (delays_line net.now index (delays_up_to (delay_of delayed.now index) count)) []) }
+    ensures small { IfOk result (λ _. AreSmall delayed.now index count) }
+{
+    // That the net keeps its rules, and so has few transitions.
+    net.transitions();
+    let transition = TransitionId {
+        index: index as u32,
+    };
+    begin_line(text, net, index)?;
+    push_delays(text, delayed, transition, count)?;
+    text.push('\n')?;
+    Ok(())
+}
+
+/// Appends the lines of the delays of all transitions in order.
+fn push_lines(text: &mut String, net: &Net, delayed: &Delayed, count: u64) -> Result<(), AllocError>
+    requires width { length delayed.now.firsts ≡ length net.now.transitions }
+    requires count { count ≤ greatest_number }
+    ensures text { IfOk result (λ _. string_bytes text.new ≡
+        string_bytes text.old ++ flat_map (λ i. line_then (delays_line net.now i (delays_up_to (delay_of delayed.now i) count)) []) (range_with_len 0 (length net.now.transitions))) }
+    ensures small { IfOk result (λ _. (i : ℕ) → i < length net.now.transitions → AreSmall delayed.now i count) }
+{
+    for index in 0..net.transitions().len() {
+        push_line(text, net, delayed, index, count)?;
+    }
+    Ok(())
+}
+
+/// Appends the names of the places of a circuit in their order, each behind a blank.
+fn push_names(text: &mut String, net: &Net, circuit: &Circuit) -> Result<(), AllocError>
+    requires { AreInRange net.now circuit.now.places.items }
+    ensures { IfOk result (λ _. string_bytes text.new ≡
+        string_bytes text.old ++ flat_map (λ id. 32 ∷ place_name net.now id) circuit.now.places.items) }
+{
+    let places = net.places();
+    for id in &circuit.places {
+        text.push(' ')?;
+        text.push_str(places[id.index as usize].name.as_str())?;
+    }
+    Ok(())
+}
+
+/// Appends the two lines of the circuit that keeps delays.
+fn push_kept(text: &mut String, net: &Net, circuit: &Circuit) -> Result<(), AllocError>
+    requires { AreInRange net.now circuit.now.places.items }
+    ensures { IfOk result (λ _. string_bytes text.new ≡
+        string_bytes text.old ++ written (kept_lines net.now circuit.now.places.items)) }
+{
+    text.push_str("kept\ncircuit")?;
+    push_names(text, net, circuit)?;
+    text.push('\n')?;
+    Ok(())
+}
+
+/// Appends what becomes of the delays.
+fn push_outcome(text: &mut String, net: &Net, outcome: &Outcome) -> Result<(), AllocError>
+    requires { IsOutcomeIn net.now (outcome_told outcome.now) }
+    ensures text { IfOk result (λ _. string_bytes text.new ≡
+        string_bytes text.old ++ written (outcome_lines net.now (outcome_told outcome.now))) }
+    ensures told { IfOk result (λ _. IsOutcomeToldOf net.now (outcome_told outcome.now)) }
+{
+    match outcome {
+        Outcome::Recovered { after } => {
+            let after = *after;
+            write!(text, "recovered after {after}\n")
+        }
+        Outcome::Kept { circuit } => push_kept(text, net, circuit),
+    }
+}
+
+/// The text of how delays spread: a line of the number past which dates go on, and of the period; one
+/// that the delays are over after a number, or two of the circuit that keeps them; and for each
+/// transition a line of its delays at the numbers up to the end of the first period.
+pub fn spread_text(alloc: Global, net: &Net, delayed: &Delayed) -> Result<String, OutOfMemory>
+    requires width { length delayed.now.firsts ≡ length net.now.transitions }
+    requires outcome { IsOutcomeIn net.now delayed.now.outcome }
+    ensures text { IfOk result (λ text. string_bytes text ≡ written (told_lines net.now (spread_told delayed.now))) }
+    ensures told { IfOk result (λ _. IsToldOf net.now (spread_told delayed.now)) }
+{
+    let after = delayed.after();
+    let period = delayed.period();
+    let mut text = format!(in alloc; "settled after {after} period {period}\n")?;
+    push_outcome(&mut text, net, delayed.outcome())?;
+    push_lines(&mut text, net, delayed, after + period)?;
+    Ok(text)
+}
+
+/// The line of a faulty row.
+fn row_text(alloc: Global, row: u32, fault: &str) -> Result<String, AllocError>
+    ensures { IfOk result (λ text. string_bytes text ≡ written (row_line row (phrase fault.now) ∷ [])) }
+{
+    let text = format!(in alloc; "refused: timetable row {row} {fault}\n")?;
+    Ok(text)
+}
+
+/// The text that a file is no timetable; there is none that no memory was found.
+pub fn table_refusal_text(
+    alloc: Global,
+    net: &Net,
+    refusal: &TableRefusal,
+) -> Result<String, OutOfMemory>
+    requires { IsTableRefusalIn net.now refusal.now }
+    ensures text { IfOk result (λ text. IsTextOf net.now (table_told refusal.now) (string_bytes text)) }
+    ensures told { IfOk result (λ _. IfSome (table_told refusal.now) (IsToldOf net.now)) }
+{
+    match *refusal {
+        TableRefusal::BadRow { row } => Ok(row_text(alloc, row, "is not an entry")?),
+        TableRefusal::UnknownTransition { row } => Ok(row_text(alloc, row, "unknown transition")?),
+        TableRefusal::Repeated { row } => Ok(row_text(alloc, row, "repeated")?),
+        TableRefusal::OutOfRange { row } => Ok(row_text(alloc, row, "out of range")?),
+        TableRefusal::Missing { transition } => {
+            let name = net.transitions()[transition.index as usize].name.as_str();
+            Ok(format!(in alloc; "refused: no departure of {name}\n")?)
+        }
+        TableRefusal::OutOfMemory => Err(OutOfMemory),
+    }
+}
+
+/// The text that the delays of a timetable are not followed; there is none that no memory was found.
+pub fn delay_refusal_text(
+    alloc: Global,
+    net: &Net,
+    refusal: &DelayRefusal,
+) -> Result<String, OutOfMemory>
+    requires { IsDelayRefusalIn net.now refusal.now }
+    ensures text { IfOk result (λ text. IsTextOf net.now (delay_told refusal.now) (string_bytes text)) }
+    ensures told { IfOk result (λ _. IfSome (delay_told refusal.now) (IsToldOf net.now)) }
+{
+    match *refusal {
+        DelayRefusal::TooLarge {
+            transitions,
+            places,
+        } => {
+            Ok(format!(in alloc;
+                "refused: timetable of {transitions} transitions and {places} places\n"
+            )?)
+        }
+        DelayRefusal::Unworkable { place } => {
+            let name = net.places()[place.index as usize].name.as_str();
+            Ok(format!(in alloc; "refused: place {name} does not fit the timetable\n")?)
+        }
+        DelayRefusal::TooLong { limit } => Ok(format!(in alloc;
+            "too long: no settled form within {limit}\n"
+        )?),
+        DelayRefusal::OutOfMemory => Err(OutOfMemory),
+    }
+}
+
+/// The law that different answers and refusals about one net have different texts. It does nothing
+/// when it runs.
+pub fn texts_of_timetables_differ()
+    ensures { TextsOfTimetablesDiffer }
+{}
