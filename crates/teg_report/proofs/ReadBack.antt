@@ -4,7 +4,7 @@ use Rattle.dioid.specs.declared.dates.Date.{Date as DateOf}
 use Rattle.teg_net.specs.declared.entries.TransitionId.{TransitionId}
 use Rattle.teg_net.specs.Nets.{NetLists, IsNet}
 use Rattle.teg_report.specs.declared.answer.Which.{Which}
-use Rattle.teg_report.specs.declared.answer.Which.TheVariants.{Net as NetFile, Due as DueFile, Log as LogFile}
+use Rattle.teg_report.specs.declared.answer.Which.TheVariants.{Net as NetFile, Due as DueFile, Log as LogFile, Timetable as TimetableFile}
 use Rattle.teg_report.specs.Answering.{answer_of, answer_in, AreOfOneNet, IsNamedBy}
 use Rattle.teg_report.specs.Answers.{Answer, Usage, Live, Listed, Form, NoCircuit, Cycle, Dates, Date, Jit, Late, Slack, Transfer, Replayed, Refused, Calc, Trial, Read, TooLarge, TokenFree, NoTransition, Due, Log, TooLong, Parse, Series, Fault}
 use Rattle.teg_report.specs.Forms.{name_of_transition}
@@ -31,11 +31,13 @@ too_large_read : (names net : NetLists) (file : Which) → IsRead names (lines_o
 too_large_read names net NetFile = record { words = refl; back = refl }
 too_large_read names net DueFile = record { words = refl; back = refl }
 too_large_read names net LogFile = record { words = refl; back = refl }
+too_large_read names net TimetableFile = record { words = refl; back = refl }
 
 fault_read : (names net : NetLists) (file : Which) → IsRead names (lines_of net (Fault file)) (Fault file)
 fault_read names net NetFile = record { words = refl; back = refl }
 fault_read names net DueFile = record { words = refl; back = refl }
 fault_read names net LogFile = record { words = refl; back = refl }
+fault_read names net TimetableFile = record { words = refl; back = refl }
 
 -- the date of a firing
 date_read : (transition : TransitionId) (number : ℕ) (date : DateOf) → IsWord64 number × IsDate date → (net : NetLists) → IsNet net → transition.index < length net.transitions →

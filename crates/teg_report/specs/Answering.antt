@@ -39,7 +39,7 @@ use Rattle.teg_due.specs.declared.rows.LogRefusal.TheVariants.{BadRow as BadLogR
 use Rattle.teg_report.specs.declared.answer.Failure.{Failure}
 use Rattle.teg_report.specs.declared.answer.Failure.TheVariants.{Illegal, BackInTime, BeforeRelease}
 use Rattle.teg_report.specs.declared.answer.Which.{Which}
-use Rattle.teg_report.specs.declared.answer.Which.TheVariants.{Net as NetFile, Due as DueFile, Log as LogFile}
+use Rattle.teg_report.specs.declared.answer.Which.TheVariants.{Net as NetFile, Due as DueFile, Log as LogFile, Timetable as TimetableFile}
 use Rattle.teg_report.specs.Answers.{Answer, Usage, Live, Listed, Form, NoCircuit, Cycle, Dates, Date, Jit, Late, Slack, Transfer, Replayed, Refused, Calc, Trial, Read, TooLarge, TokenFree, NoTransition, Due, Log, TooLong, Parse, Series, Fault}
 use Rattle.teg_report.specs.Cycles.{PartLists, NoCircuitIn, BestOf, CycleLists, has_ratio}
 use Rattle.teg_report.specs.Rounds.{RoundLists}
@@ -264,7 +264,7 @@ trial_in lines =
 
 -- a file that is not the net, by its first word
 abbrev pub file_in : List ℕ → Which
-file_in word = if bytes_eq word (codes "net") then NetFile else if bytes_eq word (codes "due") then DueFile else LogFile
+file_in word = if bytes_eq word (codes "net") then NetFile else if bytes_eq word (codes "due") then DueFile else if bytes_eq word (codes "log") then LogFile else TimetableFile
 
 -- a refused due file
 abbrev pub due_in : List (List ℕ) → DueRefusal

@@ -6,7 +6,7 @@ use Rattle.teg_net.specs.declared.entries.PlaceId.{PlaceId}
 use Rattle.teg_net.specs.Nets.{NetLists}
 use Rattle.teg_net.specs.Circuits.{place_at}
 use Rattle.teg_report.specs.declared.answer.Which.{Which}
-use Rattle.teg_report.specs.declared.answer.Which.TheVariants.{Net as NetFile, Due as DueFile, Log as LogFile}
+use Rattle.teg_report.specs.declared.answer.Which.TheVariants.{Net as NetFile, Due as DueFile, Log as LogFile, Timetable as TimetableFile}
 use Rattle.teg_text.specs.Lines.{phrase}
 use Rattle.teg_text.specs.Words.{date_word, label_word}
 
@@ -26,7 +26,10 @@ command_forms =
     ∷ codes "transfer NET [--limit N]"
     ∷ codes "trial N"
     ∷ codes "migrate NET"
+    ∷ codes "forever NET DUE"
     ∷ codes "size NET PLACE A/B"
+    ∷ codes "timetable NET A FILE [--limit N|none]"
+    ∷ codes "bound NET"
     ∷ []
 
 -- a line of the usage but the first
@@ -59,6 +62,7 @@ abbrev pub file_words : Which → List (List ℕ)
 file_words NetFile = phrase (codes "the net")
 file_words DueFile = phrase (codes "the due file")
 file_words LogFile = phrase (codes "the log")
+file_words TimetableFile = phrase (codes "the timetable")
 
 -- that a file is longer than its limit
 abbrev pub too_large_line : Which → List (List ℕ)

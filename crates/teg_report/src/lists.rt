@@ -35,7 +35,7 @@ fn push_line(text: &mut String, table: &Table, width: usize, number: u64) -> Res
 
 /// The lines before the dates.
 #[tactic(auto, using(teg_text::proofs::Joining::further_map))]
-fn head(alloc: Global, net: &Net, count: u32) -> Result<String, AllocError>
+pub(crate) fn head(alloc: Global, net: &Net, count: u32) -> Result<String, AllocError>
     ensures { IfOk result (λ text. string_bytes text ≡ line_then (count_line count) (line_then (names_line net.now) [])) }
 {
     let mut text = format!(in alloc; "dates of {count} firings\ntransition")?;

@@ -41,7 +41,10 @@ pub(crate) fn usage(alloc: Global) -> Result<Vec<u8>, OutOfMemory>
             "       teg transfer NET [--limit N]\n",
             "       teg trial N\n",
             "       teg migrate NET\n",
+            "       teg forever NET DUE\n",
             "       teg size NET PLACE A/B\n",
+            "       teg timetable NET A FILE [--limit N|none]\n",
+            "       teg bound NET\n",
         ),
     )
 }
@@ -88,6 +91,10 @@ pub(crate) fn too_large(alloc: Global, file: Which) -> Result<Vec<u8>, OutOfMemo
             "refused: the due file is longer than 4194304 bytes\n",
         ),
         Which::Log => bytes_of(alloc, "refused: the log is longer than 4194304 bytes\n"),
+        Which::Timetable => bytes_of(
+            alloc,
+            "refused: the timetable is longer than 4194304 bytes\n",
+        ),
     }
 }
 
@@ -99,6 +106,7 @@ pub(crate) fn fault(alloc: Global, file: Which) -> Result<Vec<u8>, OutOfMemory>
         Which::Net => bytes_of(alloc, "fault: cannot read the net\n"),
         Which::Due => bytes_of(alloc, "fault: cannot read the due file\n"),
         Which::Log => bytes_of(alloc, "fault: cannot read the log\n"),
+        Which::Timetable => bytes_of(alloc, "fault: cannot read the timetable\n"),
     }
 }
 
