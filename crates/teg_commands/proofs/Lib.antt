@@ -1,9 +1,9 @@
 pub mod BestRatios
 pub mod CycleTold
 pub mod Formed
-pub mod Listed
 pub mod Paths
 pub mod Planned
+pub mod Released
 pub mod Replayed
 pub mod Rounds
 pub mod Telling

@@ -1,4 +1,6 @@
+pub mod Bounds
 pub mod CycleTimes
+pub mod EndlessInputs
 pub mod Inputs
 pub mod Limits
 pub mod Migrations
@@ -9,5 +11,6 @@ pub mod Sizes
 pub mod Sizings
 pub mod Slacks
 pub mod Texts
+pub mod Timetables
 pub mod Transfers
 pub mod Values

@@ -6,7 +6,9 @@
 //! It stands on the crates that answer, and on `teg_report` for the texts.
 #![tactic(auto)]
 
+mod bound;
 mod cycle_times;
+mod endless_inputs;
 mod inputs;
 mod live_net;
 mod migrated;
@@ -16,20 +18,24 @@ mod settled;
 mod sizes_and_dates;
 mod sizing;
 mod slack;
+mod timetables;
 mod transfers;
 mod trial;
 mod values;
 
+pub use bound::tell_bound;
 pub use cycle_times::{tell_cycle, tell_rounds};
+pub use endless_inputs::tell_forever;
 pub use inputs::tell_jit;
 pub use live_net::LiveNet;
 pub use migrated::tell_migrated;
 pub use outcome::{Outcome, Verdict};
 pub use recorded::tell_replay;
 pub use settled::{tell_date, tell_settled};
-pub use sizes_and_dates::{tell_dates, tell_form, tell_size};
+pub use sizes_and_dates::{tell_form, tell_size};
 pub use sizing::tell_sizing;
 pub use slack::tell_slack;
+pub use timetables::tell_timetable;
 pub use transfers::tell_transfer;
 pub use trial::tell_trial;
 pub use values::tell_value;

@@ -2,7 +2,10 @@
 ghost use Rattle.std.specs.Prelude.{◌≡◌, ◌≤◌, ◌<◌, length, IfErr, IfOk, IfSome};
 ghost use Rattle.teg_due.specs.Rules.{IsDueOf};
 ghost use Rattle.teg_check.specs.Ranks.{IsRanking};
+ghost use Rattle.teg_dates.specs.Streams.{HasLeast, IsStreamOf};
 ghost use Rattle.teg_dates.specs.Tables.{most_numbers, HasLeastDates};
+ghost use Rattle.forever_laws.specs.Rows.{IsEndlessOf};
+ghost use Rattle.teg_forever.specs.Releases.{AreReleases, ForeverRefused};
 ghost use Rattle.teg_form.specs.Forms.{IsFormOf};
 ghost use Rattle.std.specs.Option.{option_map};
 ghost use Rattle.teg_cycle.specs.LastRounds.{AreLastOfRuns, IsLastOfRun};
@@ -22,6 +25,10 @@ ghost use Rattle.teg_jit.specs.DueDates.{IsGreatestNumber, due_in};
 ghost use Rattle.teg_jit.specs.Plans.{IsPlanFor, dates_of};
 ghost use Rattle.teg_jit.specs.Refusals.{LateIsRight};
 ghost use Rattle.teg_net.specs.Circuits.{IsLive};
+ghost use Rattle.teg_bound.specs.Bounds.{IsRightBound};
+ghost use Rattle.delay_laws.specs.Tables.{IsTableOf};
+ghost use Rattle.teg_timetable.specs.Answers.{IsDelayRefusal, IsOutcomeIn, IsSpread};
+ghost use Rattle.teg_timetable.specs.Spreads.{greatest_period};
 ghost use Rattle.teg_sizing.specs.Rounds.{IsTarget};
 ghost use Rattle.teg_sizing.specs.Sizings.{IsSizing};
 ghost use Rattle.teg_commands.specs.Settled.{IsWithinLimit, ExceedsLimit};
@@ -29,11 +36,13 @@ ghost use Rattle.teg_commands.specs.CycleTimes.{IsCycleAnswer, IsRunOf};
 
 use std::alloc::Global;
 use std::marker::Model;
+use teg_bound::{BoundAnswer, settling_bound};
 use teg_check::{Live, ranked_nets_are_live};
 use teg_critical::{Slacks, critical};
 use teg_cycle::cycle;
-use teg_dates::{Table, first_dates};
+use teg_dates::{Stream, Table, first_dates};
 use teg_due::Due;
+use teg_forever::{EndlessRow, ForeverRefusal, Release, forever};
 use teg_form::{Form, standard_form};
 use teg_howard::{howard, policy_runs_are_one};
 use teg_jit::{JitRefusal, Plan, latest};
@@ -41,6 +50,7 @@ use teg_net::{CycleAnswer, Net, OutOfMemory, PartAnswer, PlaceId, Ratio, Round, 
 use teg_parts::{Parts, split};
 use teg_settle::{SettleRefusal, Settled, settle, settle_within, transfer};
 use teg_sizing::{Sizing, size};
+use teg_timetable::{DelayRefusal, Delayed, Timetable, spread};
 
 /// A live net with its ranks. Contracts see the net.
 #[derive(Drop)]
@@ -86,6 +96,15 @@ impl LiveNet {
         first_dates(alloc, &self.net, &self.live, count)
     }
 
+    /// The rows of the least dates, one number after another.
+    pub fn stream(&self, alloc: Global) -> Result<Stream, OutOfMemory>
+        ensures stands { IfOk result (IsStreamOf self.now) }
+        ensures number { IfOk result (λ stream. stream.last.number ≡ 0) }
+        ensures exists { IfOk result (λ _. HasLeast self.now) }
+    {
+        Stream::of_live(alloc, &self.net, &self.live)
+    }
+
     /// The standard form.
     pub fn standard_form(&self, alloc: Global) -> Result<Form, OutOfMemory>
         ensures form { IfOk result (λ form. IsFormOf self.now form) }
@@ -105,8 +124,25 @@ impl LiveNet {
     {
         match limit {
             Some(most) => settle_within(alloc, &self.net, &self.live, most),
-            None => Ok(settle(alloc, &self.net, &self.live)?),
+            None => Ok(self.settled_for_ever(alloc)?),
         }
+    }
+
+    /// The shortest settled form of the least dates, of any length.
+    pub fn settled_for_ever(&self, alloc: Global) -> Result<Settled, OutOfMemory>
+        ensures { IfOk result (IsSettledFormOf self.now) }
+    {
+        settle(alloc, &self.net, &self.live)
+    }
+
+    /// A number past which the least dates go on by steps, or why none is told, by an answer on the
+    /// cycle times of the net.
+    pub fn bound(&self, parts: &Parts, answer: &CycleAnswer) -> BoundAnswer
+        requires parts { AreParts self.now parts.now }
+        requires certificate { IsCertificate self.now answer.now }
+        ensures { IsRightBound self.now result }
+    {
+        settling_bound(&self.net, &self.live, parts, answer)
     }
 
     /// The shortest settled form of the greatest times of walks from the first firing of an input, if it
@@ -142,6 +178,19 @@ impl LiveNet {
         latest(alloc, net, &self.live, &form, due)
     }
 
+    /// The latest releases of the inputs by which endless due dates are met.
+    pub fn releases(
+        &self,
+        alloc: Global,
+        rows: &[EndlessRow],
+    ) -> Result<Vec<Release>, ForeverRefusal>
+        requires { IsEndlessOf self.now rows.now }
+        ensures releases { IfOk result (λ releases. AreReleases self.now rows.now releases.items) }
+        ensures refused { IfErr result (ForeverRefused self.now rows.now) }
+    {
+        forever(alloc, &self.net, &self.live, rows)
+    }
+
     /// The fewest further tokens of a place with which no circuit has a greater ratio than the target.
     pub fn sizing(
         &self,
@@ -154,6 +203,25 @@ impl LiveNet {
         ensures { IfOk result (IsSizing self.now target.now place) }
     {
         size(alloc, &self.net, &self.live, place, target)
+    }
+
+    /// How the delays of a timetable spread, departing again every `period`.
+    pub fn spread(
+        &self,
+        alloc: Global,
+        period: u64,
+        table: &Timetable,
+        limit: Option<u32>,
+    ) -> Result<Delayed, DelayRefusal>
+        requires some { 1 ≤ period }
+        requires period { period ≤ greatest_period }
+        requires table { IsTableOf self.now table.now }
+        requires limit { IfSome limit (λ most. most ≤ greatest_limit) }
+        ensures spread { IfOk result (IsSpread self.now period table.now limit) }
+        ensures about { IfOk result (λ delayed. IsOutcomeIn self.now delayed.outcome) }
+        ensures refused { IfErr result (IsDelayRefusal self.now period table.now limit) }
+    {
+        spread(alloc, &self.net, &self.live, period, table, limit)
     }
 
     /// The strong parts.

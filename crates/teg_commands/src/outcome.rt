@@ -6,11 +6,11 @@
 pub enum Verdict {
     /// The command was carried out.
     Done,
-    /// The settled form is longer than the limit.
+    /// A settled form, or a series, is longer than it may be.
     TooLong,
     /// No transition has the name that was asked for.
     Name,
-    /// The due file has a faulty row.
+    /// The due file or the timetable has a faulty row, or the timetable does not fit the net.
     Schedule,
     /// A firing is later than due whatever the inputs are.
     Late,

@@ -1,0 +1,54 @@
+-- What is said of a timetable of a live net and its delays.
+use Rattle.std.specs.Prelude.{ℕ, ◌≡◌, ◌⊎◌, List, Option, Ok, Err}
+use Rattle.delay_laws.specs.declared.table.Timetable.{Timetable}
+use Rattle.delay_laws.specs.Tables.{IsTableOf}
+use Rattle.teg_net.specs.Nets.{NetLists}
+use Rattle.teg_text.specs.Lines.{written}
+use Rattle.teg_timetable.specs.declared.refusals.DelayRefusal.{DelayRefusal}
+use Rattle.teg_timetable.specs.declared.refusals.DelayRefusal.TheVariants.{TooLarge, Unworkable, TooLong, OutOfMemory}
+use Rattle.teg_timetable.specs.declared.refusals.TableRefusal.{TableRefusal}
+use Rattle.teg_timetable.specs.Answers.{IsDelayRefusal, IsSpread}
+use Rattle.teg_timetable.specs.Spreads.{Spread}
+use Rattle.teg_timetable.specs.Tables.{lists_of_table, timetable_of}
+use Rattle.teg_timetable.specs.Texts.{Told, IsTextOf, delay_told, spread_told, table_told, told_lines}
+use Rattle.teg_commands.specs.declared.outcome.Verdict.{Verdict}
+use Rattle.teg_commands.specs.declared.outcome.Verdict.TheVariants.{Done as VerdictDone, Schedule as VerdictSchedule, TooLong as VerdictTooLong}
+
+-- the text of what is told of a timetable
+abbrev pub timetable_text : NetLists → Told → List ℕ
+timetable_text net told = written (told_lines net told)
+
+-- why a file says no timetable is told; it is not want of memory, of which nothing is told
+abbrev pub TellsBadTable : NetLists → TableRefusal → Verdict → List ℕ → Type 0
+TellsBadTable net fault verdict text = (verdict ≡ VerdictSchedule) × IsTextOf net (table_told fault) text
+
+-- the first fault of the file is said
+abbrev pub SaysBadTable : NetLists → List ℕ → Verdict → List ℕ → Type 0
+SaysBadTable net bytes verdict text = (fault : TableRefusal) × (timetable_of net bytes ≡ Err fault) × TellsBadTable net fault verdict text
+
+-- of a timetable is said how its delays spread
+abbrev pub SaysSpread : ℕ → Option ℕ → NetLists → Timetable → Verdict → List ℕ → Type 0
+SaysSpread period limit net table verdict text =
+    (verdict ≡ VerdictDone) × ((spread : Spread) × IsSpread net period table limit spread × (text ≡ timetable_text net (spread_told spread)))
+
+-- how a command ends that does not say how delays spread; it does not end so for want of memory
+abbrev pub EndsUnspread : DelayRefusal → Verdict → Type 0
+EndsUnspread (TooLarge transitions places) verdict = verdict ≡ VerdictSchedule
+EndsUnspread (Unworkable place) verdict = verdict ≡ VerdictSchedule
+EndsUnspread (TooLong limit) verdict = verdict ≡ VerdictTooLong
+EndsUnspread OutOfMemory verdict = ⊥
+
+-- of a timetable is said why it is not told how its delays spread
+abbrev pub SaysUnspread : ℕ → Option ℕ → NetLists → Timetable → Verdict → List ℕ → Type 0
+SaysUnspread period limit net table verdict text =
+    (refusal : DelayRefusal) × EndsUnspread refusal verdict × IsDelayRefusal net period table limit refusal × IsTextOf net (delay_told refusal) text
+
+-- of a timetable is said how its delays spread, or why not
+abbrev pub SaysDelays : ℕ → Option ℕ → NetLists → Timetable → Verdict → List ℕ → Type 0
+SaysDelays period limit net table verdict text = SaysSpread period limit net table verdict text ⊎ SaysUnspread period limit net table verdict text
+
+-- of a live net, a period and a file its first fault is said, or what the delays of its timetable come to
+abbrev pub SaysTimetable : ℕ → Option ℕ → NetLists → List ℕ → Verdict → List ℕ → Type 0
+SaysTimetable period limit net bytes verdict text =
+    SaysBadTable net bytes verdict text
+    ⊎ ((table : Timetable) × (timetable_of net bytes ≡ Ok (lists_of_table table)) × IsTableOf net table × SaysDelays period limit net table verdict text)

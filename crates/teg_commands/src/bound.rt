@@ -1,0 +1,57 @@
+//! How soon the dates of a live net become periodic.
+ghost use Rattle.teg_bound.specs.Bounds.{IsBoundOf, IsRightBound};
+ghost use Rattle.teg_bound.specs.Texts.{IsCause};
+ghost use Rattle.teg_commands.specs.Bounds.{SaysBound};
+ghost use Rattle.teg_commands.specs.Outcomes.{Tells, outcome_of};
+
+use crate::live_net::LiveNet;
+use crate::outcome::{Outcome, Verdict};
+use std::alloc::Global;
+use teg_bound::{BoundAnswer, bound_text, no_bound_text};
+use teg_net::OutOfMemory;
+
+// A bound, and from when on the dates are periodic.
+fn tell_number(alloc: Global, net: &LiveNet, number: u128) -> Result<Outcome, OutOfMemory>
+    requires { IsBoundOf net.now number }
+    ensures { Tells (SaysBound net.now) (outcome_of result) }
+{
+    let settled = net.settled_for_ever(alloc)?;
+    let text = bound_text(alloc, number, settled.after(), settled.period())?;
+    let verdict = Verdict::Done;
+    let text = text.into_bytes();
+    Ok(Outcome { verdict, text })
+}
+
+// Why there is no bound.
+fn tell_no_number(
+    alloc: Global,
+    net: &LiveNet,
+    answer: &BoundAnswer,
+) -> Result<Outcome, OutOfMemory>
+    requires right { IsRightBound net.now answer.now }
+    requires cause { IsCause answer.now }
+    ensures { Tells (SaysBound net.now) (outcome_of result) }
+{
+    let text = no_bound_text(alloc, answer)?;
+    let verdict = Verdict::Done;
+    let text = text.into_bytes();
+    Ok(Outcome { verdict, text })
+}
+
+/// A number past which the dates of a live net are periodic, with the number and the period of its
+/// shortest settled form; or why there is no such bound. It takes the time of the cycle times and of
+/// the search for that form.
+pub fn tell_bound(alloc: Global, net: &LiveNet) -> Result<Outcome, OutOfMemory>
+    ensures { Tells (SaysBound net.now) (outcome_of result) }
+{
+    let parts = net.parts(alloc)?;
+    let times = net.cycle(alloc, &parts)?;
+    let answer = net.bound(&parts, &times);
+    match answer {
+        BoundAnswer::Bound { number } => tell_number(alloc, net, number),
+        BoundAnswer::HasInputs
+        | BoundAnswer::NoPlace
+        | BoundAnswer::NotStrong
+        | BoundAnswer::ReadyDates => tell_no_number(alloc, net, &answer),
+    }
+}
