@@ -48,7 +48,8 @@ accepted_at opens goes_on which name file files old mid new Lost more h k =
 accepted_at opens goes_on which name file files old mid new (Whole status text) more h k =
     (h.0 ∷ k.0, (mid, h.1, more h.0 k.0 h.2 k.1, k.1), (Accepted file, h.2, k.2))
 
-came_to : (says : Verdict → List ℕ → Type 0) (files : List (Which × List ℕ)) (state : ShelfState) (outcome : Option (Verdict × List ℕ)) →
+-- with no more reads, what a command comes to
+pub came_to : (says : Verdict → List ℕ → Type 0) (files : List (Which × List ℕ)) (state : ShelfState) (outcome : Option (Verdict × List ℕ)) →
     Tells says outcome → Answered (SaysOutcome says) files state state (ending_of outcome)
 came_to says files state None h = ([], refl)
 came_to says files state (Some outcome) h = ([], refl, (refl, (outcome.0, refl, h)))

@@ -1,5 +1,5 @@
 -- A status of a command comes only with what the command says of its accepted files.
-use Rattle.std.proofs.Common.{◌≡◌, ℕ, ◌⊎◌, ⊎_elim, List, [], ◌∷◌, Option, Some, None, Result, Ok, Err, sym, subst, ap, ◌∙◌}
+use Rattle.std.proofs.Common.{◌≡◌, ℕ, List, [], ◌∷◌, Some, Result, Ok, Err, sym, subst, ap, ◌∙◌}
 use Rattle.teg_net.specs.Nets.{NetLists}
 use Rattle.teg_net.specs.Circuits.{IsLive}
 use Rattle.teg_reader.specs.declared.refusals.ReadRefusal.{ReadRefusal}
@@ -28,7 +28,7 @@ document_accepted : (said : Result NetLists ReadRefusal) (net : NetLists) → Op
 document_accepted (Ok found) net h = (ap (λ (n : NetLists). Ok n) (sym h.0), subst IsLive (sym h.0) h.1)
 document_accepted (Err refusal) net h = absurd (let bad : ⊥ = cc in bad)
 
-net_opened : (files : List (List ℕ × List ℕ)) (old mid : ShelfState) (name : List ℕ) (reply : Result (List ℕ) ShelfFault) (net : NetLists) → old.files ≡ Some files →
+pub net_opened : (files : List (List ℕ × List ℕ)) (old mid : ShelfState) (name : List ℕ) (reply : Result (List ℕ) ShelfFault) (net : NetLists) → old.files ≡ Some files →
     Reads old mid name most_bytes reply → OpensNet reply (Accepted net) → Opens files name net
 net_opened files old mid name (Ok bytes) net told read opens =
     let is = document_accepted (document bytes) net opens in (bytes, (told_file files old.files name bytes told read.answer.3, read.answer.2), is.0, is.1)

@@ -1,5 +1,5 @@
 -- What a way to an answer tells of the files of its request.
-use Rattle.std.proofs.Common.{◌≡◌, ◌≢◌, ℕ, ◌⊎◌, ⊎_elim, inl, inr, List, [], ◌∷◌, ◌++◌, map, Some, Ok, refl, subst, ap, ◌∙◌}
+use Rattle.std.proofs.Common.{◌≡◌, ℕ, ⊎_elim, inl, inr, List, [], ◌∷◌, ◌++◌, map, Some, refl, subst, ap, ◌∙◌}
 use Rattle.teg_outside.specs.Causes.{Rose, Rested}
 use Rattle.teg_outside.specs.Shelves.{ShelfState, ReadsGrow}
 use Rattle.teg_outside.proofs.Counts.{rose_then, rested_then}

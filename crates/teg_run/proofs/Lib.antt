@@ -3,9 +3,11 @@ pub mod Causes
 pub mod Faults
 pub mod Growing
 pub mod LiveNets
+pub mod WrittenLists
 pub mod Promises
 pub mod ReadOrder
 pub mod Refusals
 pub mod Refusing
+pub mod SecondReads
 pub mod Verdicts
 pub mod Ways

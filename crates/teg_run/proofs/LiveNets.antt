@@ -1,5 +1,5 @@
 -- What is said where the net file is told and says a live net.
-use Rattle.std.proofs.Common.{◌≡◌, ℕ, ◌≤◌, ◌⊎◌, List, [], ◌∷◌, length, Some, Result, Ok, Err, sym, subst, ◌∙◌}
+use Rattle.std.proofs.Common.{◌≡◌, ℕ, List, [], ◌∷◌, Some, Result, Ok, Err, subst, ◌∙◌}
 use Rattle.teg_net.specs.Nets.{NetLists}
 use Rattle.teg_net.specs.Circuits.{IsLive}
 use Rattle.teg_reader.specs.declared.refusals.ReadRefusal.{ReadRefusal}

@@ -13,28 +13,38 @@ use Rattle.teg_commands.specs.declared.outcome.Verdict.{Verdict}
 use Rattle.teg_commands.specs.declared.outcome.Verdict.TheVariants.{Done as VerdictDone, TooLong as VerdictTooLong, Name as VerdictName, Schedule as VerdictSchedule, Late as VerdictLate, Log as VerdictLog, Calc as VerdictCalc}
 use Rattle.teg_run.specs.Calls.{Call}
 use Rattle.teg_run.specs.Endings.{Ending, Whole, Lost}
-use Rattle.teg_run.specs.Headline.{Ends, EndsLost, IsSaidOf, OwnOnly, HasFault, Follows, ComesOnly, ReadsAreCalm, WritesAreCalm, OverlongRose, WroteWhole, WrotePrefix, ReadsFirstOf, NamesLastRead, AllowsLimit, AllowsNet, AllowsFiles, Allows, EndsAsAllowed, Concerns, ConcernsBoth, SaysOfNet, SaysOfBoth, SaysLive, SaysLeastDates, SaysStandardForm, SaysCycleTimes, SaysPolicyRuns, SaysNoCircuit, SaysSlackOfPlaces, EndsTooLong, EndsReplay, SaysSettledDates, SaysOneDate, SaysTimes, SaysMigration, SaysFewestTokens, SaysLatestInputs, SaysReplayed, SaysMachines, SaysValues, KeepsPromises}
-use Rattle.teg_run.specs.Requests.{NetCommand, CheckNet, ListNet, FormNet, CycleNet, SlackNet, DatesNet, DateNet, TransferNet, MigrateNet, SizeNet, FileCommand, JitNet, ReplayNet, Request, OfNet, OfFiles, ValueOf, TrialOf, request_of, files_of, asked_files, second_of}
+use Rattle.teg_run.specs.Headline.{Ends, EndsLost, IsSaidOf, OwnOnly, HasFault, Follows, ComesOnly, ReadsAreCalm, WritesAreCalm, OverlongRose, WroteWhole, WrotePrefix, ReadsFirstOf, NamesLastRead, AllowsLimit, AllowsNet, AllowsFiles, Allows, EndsAsAllowed, Concerns, ConcernsBoth, SaysOfNet, SaysOfBoth, SaysLive, SaysLeastDates, SaysStandardForm, SaysCycleTimes, SaysPolicyRuns, SaysNoCircuit, SaysSlackOfPlaces, EndsTooLong, EndsReplay, SaysSettledDates, SaysOneDate, SaysTimes, SaysMigration, SaysFewestTokens, SaysSettlingBound, SaysLatestInputs, SaysReplayed, EndsUnreleased, SaysEndlessInputs, EndsUntabled, EndsUnspread, SaysSpreadDelays, SaysMachines, SaysValues, KeepsPromises}
+use Rattle.teg_run.specs.Requests.{NetCommand, CheckNet, ListNet, FormNet, CycleNet, SlackNet, DatesNet, DateNet, TransferNet, MigrateNet, SizeNet, BoundNet, FileCommand, JitNet, ReplayNet, ForeverNet, TimetableNet, Request, OfNet, OfFiles, ValueOf, TrialOf, request_of, files_of, asked_files, second_of}
 use Rattle.teg_run.specs.Runs.{Answered, CarriesOut, Finished, Runs}
 use Rattle.teg_run.specs.Openings.{OpensBytes}
 use Rattle.teg_run.specs.Says.{Asked, SaysFile, SaysFiles, SaysNet, SaysOutcome}
 use Rattle.settled_laws.specs.Forms.{NetSettlesPast}
 use Rattle.teg_outside.specs.declared.monitor.Firing.{Firing}
 use Rattle.teg_replay.specs.declared.replayed.Refused.{Refused}
+use Rattle.teg_commands.specs.Bounds.{bound_text, no_bound_text}
+use Rattle.teg_commands.specs.EndlessInputs.{EndsUnreleased as IsUnreleased, endless_text, forever_text, unreleased_text}
 use Rattle.teg_commands.specs.Recorded.{SaysEnd}
+use Rattle.teg_forever.specs.declared.releases.ForeverRefusal.{ForeverRefusal}
+use Rattle.teg_forever.specs.declared.releases.ForeverRefusal.TheVariants.{Late as ComesLate, TooLong as IsLong, TooWide as IsWide, OutOfMemory as NoReleases}
 use Rattle.teg_commands.specs.Settled.{SaysTooLong}
 use Rattle.teg_commands.specs.Sizings.{no_place_text, sizing_text}
 use Rattle.teg_commands.specs.Slacks.{SaysTrial, critical_count, trial_number}
+use Rattle.teg_commands.specs.Timetables.{EndsUnspread as IsUnspread, timetable_text}
 use Rattle.teg_commands.specs.Transfers.{TimesSettlePast}
+use Rattle.delay_laws.specs.declared.table.Timetable.{Timetable}
+use Rattle.teg_timetable.specs.declared.refusals.DelayRefusal.{DelayRefusal}
+use Rattle.teg_timetable.specs.declared.refusals.DelayRefusal.TheVariants.{TooLarge as IsLarge, Unworkable as DoesNotFit, TooLong as SettlesLate, OutOfMemory as NoSpread}
+use Rattle.teg_timetable.specs.Answers.{IsDelayRefusal}
+use Rattle.teg_timetable.specs.Texts.{Told, TooLargeTold, UnworkableTold, TooLongTold, IsTextOf, delay_told, spread_told, table_told}
 use Rattle.teg_commands.specs.Values.{SaysValue}
 use Rattle.teg_run.specs.Statuses.{IsOwn, status_of}
-use Rattle.teg_commands.specs.Texts.{usage, slack_text, settled_text, date_text, transfer_text, too_long_text, no_transition_text, due_text, jit_text, late_text, log_text, replayed_text, refused_text, trial_text, live_text, list_text, form_text, cycle_text, no_circuit_text, runs_text, series_text, parse_text, series_refused_text, too_large_text, fault_text}
+use Rattle.teg_commands.specs.Texts.{usage, slack_text, settled_text, date_text, transfer_text, too_long_text, no_transition_text, due_text, jit_text, late_text, log_text, replayed_text, refused_text, trial_text, live_text, list_text, form_text, cycle_text, no_circuit_text, runs_text, series_text, parse_text, series_refused_text, too_large_text}
 use Rattle.teg_commands.proofs.CycleTold.{no_circuit_said}
 use Rattle.teg_run.proofs.Causes.{said_of}
 use Rattle.teg_run.proofs.Faults.{IsFaultOf, text_is_fault, net_is_fault, comes_only, follows, way_is_said, overlong_way, fault_way}
 use Rattle.teg_run.proofs.LiveNets.{live_goes_on, held_goes_on}
 use Rattle.teg_run.proofs.ReadOrder.{none_read, reads_first}
-use Rattle.teg_run.proofs.Verdicts.{IsSaid}
+use Rattle.teg_run.proofs.SecondReads.{second_only_of_live}
 use Rattle.teg_run.proofs.Ways.{Way, way_of}
 
 -- ---- how a call ended that asks for this
@@ -242,6 +252,7 @@ allowed (TransferNet limit) net verdict text h =
     ⊎_elim (λ (done : _). limit_done (Some limit) verdict done.0) (λ (long : _). limit_long (TimesSettlePast net) (Some limit) verdict text long) h
 allowed MigrateNet net verdict text h = h.0
 allowed (SizeNet word time tokens) net verdict text h = ⊎_elim (λ (none : _). inl none.1.0) (λ (found : _). inr found.4.0) h
+allowed BoundNet net verdict text h = h.0
 
 slack_follows : (call : Call) → Runs call → SaysSlackOfPlaces call
 slack_follows call runs net asks =
@@ -304,6 +315,21 @@ size_follows call runs word time tokens net asks =
     )) said.2)
     (λ (lost : _). inr (inr lost)) (says_of_net call runs (SizeNet word time tokens) net asks)
 
+bound_follows : (call : Call) → Runs call → SaysSettlingBound call
+bound_follows call runs net asks =
+    ⊎_elim
+    (λ (said : _). ⊎_elim
+    (λ (bound : _). inl (
+      bound.0,
+      bound.1,
+      bound.2,
+      bound.3,
+      bound.4,
+      done_with call said.0 said.1 (bound_text bound.0 bound.1) (ap status_of said.2.0) bound.5 said.3,
+    ))
+    (λ (none : _). inr (inl (none.0, none.1, none.2, done_with call said.0 said.1 (no_bound_text none.0) (ap status_of said.2.0) none.3 said.3))) said.2.1)
+    (λ (lost : _). inr (inr lost)) (says_of_net call runs BoundNet net asks)
+
 -- ---- commands on a live net and a second file
 
 both_said : (call : Call) (command : FileCommand) (net : NetLists) (bytes : List ℕ) (asks : ConcernsBoth call command net bytes) (ending : Ending) →
@@ -361,6 +387,59 @@ replay_follows call runs net bytes asks =
     ))) said.2)
     (λ (lost : _). inr (inr lost)) (says_of_both call runs ReplayNet net bytes asks)
 
+unreleased_ends : (call : Call) (net : NetLists) (refusal : ForeverRefusal) (verdict : Verdict) (text : List ℕ) → IsUnreleased refusal verdict →
+    text ≡ unreleased_text net refusal → Ends call (status_of verdict) text → EndsUnreleased call net refusal
+unreleased_ends call net (ComesLate transition number due least) verdict text h t k = ends_with call verdict VerdictLate text (unreleased_text net (ComesLate transition number due least)) h t k
+unreleased_ends call net (IsLong input) verdict text h t k = ends_with call verdict VerdictTooLong text (unreleased_text net (IsLong input)) h t k
+unreleased_ends call net (IsWide input row) verdict text h t k = ends_with call verdict VerdictTooLong text (unreleased_text net (IsWide input row)) h t k
+unreleased_ends call net NoReleases verdict text h t k = absurd h
+
+forever_follows : (call : Call) → Runs call → SaysEndlessInputs call
+forever_follows call runs net bytes asks =
+    ⊎_elim
+    (λ (said : _). ⊎_elim
+    (λ (bad : _). inr (inr (inl (bad.0, bad.1, bad.2.1, ends_with call said.0 VerdictSchedule said.1 (endless_text net bad.0) bad.2.0 bad.2.2 said.3))))
+    (λ (rows : _). ⊎_elim
+    (λ (done : _). inl (rows.0, done.1.0, rows.1, done.1.1, done_with call said.0 said.1 (forever_text net done.1.0) (ap status_of done.0) done.1.2 said.3))
+    (λ (refused : _). inr (inl (rows.0, refused.0, rows.1, refused.2, unreleased_ends call net refused.0 said.0 said.1 refused.1 refused.3 said.3))) rows.3) said.2)
+    (λ (lost : _). inr (inr (inr lost))) (says_of_both call runs ForeverNet net bytes asks)
+
+untabled_ends : (call : Call) (net : NetLists) (told : Option Told) (verdict : Verdict) (text : List ℕ) → verdict ≡ VerdictSchedule →
+    IsTextOf net told text → Ends call (status_of verdict) text → EndsUntabled call net told
+untabled_ends call net None verdict text h t k = absurd t
+untabled_ends call net (Some told) verdict text h t k = ends_with call verdict VerdictSchedule text (timetable_text net told) h t k
+
+unspread_ends : (call : Call) (net : NetLists) (refusal : DelayRefusal) (verdict : Verdict) (text : List ℕ) → IsUnspread refusal verdict →
+    IsTextOf net (delay_told refusal) text → Ends call (status_of verdict) text → EndsUnspread call net refusal
+unspread_ends call net (IsLarge transitions places) verdict text h t k = ends_with call verdict VerdictSchedule text (timetable_text net (TooLargeTold transitions places)) h t k
+unspread_ends call net (DoesNotFit place) verdict text h t k = ends_with call verdict VerdictSchedule text (timetable_text net (UnworkableTold place)) h t k
+unspread_ends call net (SettlesLate limit) verdict text h t k = ends_with call verdict VerdictTooLong text (timetable_text net (TooLongTold limit)) h t k
+unspread_ends call net NoSpread verdict text h t k = absurd h
+
+timetable_follows : (call : Call) → Runs call → SaysSpreadDelays call
+timetable_follows call runs period limit net bytes asks =
+    ⊎_elim
+    (λ (said : _). ⊎_elim
+    (λ (bad : _). inr (inr (inl (bad.0, bad.1, untabled_ends call net (table_told bad.0) said.0 said.1 bad.2.0 bad.2.1 said.3))))
+    (λ (table : _). ⊎_elim
+    (λ (done : _). inl (
+      table.0,
+      done.1.0,
+      table.1,
+      table.2,
+      done.1.1,
+      done_with call said.0 said.1 (timetable_text net (spread_told done.1.0)) (ap status_of done.0) done.1.2 said.3,
+    ))
+    (λ (refused : _). inr (inl (
+      table.0,
+      refused.0,
+      table.1,
+      table.2,
+      refused.2,
+      unspread_ends call net refused.0 said.0 said.1 refused.1 refused.3 said.3,
+    ))) table.3) said.2)
+    (λ (lost : _). inr (inr (inr lost))) (says_of_both call runs (TimetableNet period limit) net bytes asks)
+
 -- ---- values
 
 value_said : (call : Call) (text : List ℕ) (ending : Ending) → Answered (Asked (Some (ValueOf text)) call.lines) [] call.shelf_before call.shelf_after ending →
@@ -401,12 +480,38 @@ end_allowed : (net : NetLists) (refused : Option Refused) (accepted : ℕ) (line
 end_allowed net None accepted lines verdict text h = inl h.0
 end_allowed net (Some refused) accepted lines verdict text h = inr h.0
 
+-- how a command may end whose releases are not told
+unreleased_allowed : (refusal : ForeverRefusal) (verdict : Verdict) → IsUnreleased refusal verdict → (verdict ≡ VerdictLate) ⊎ (verdict ≡ VerdictTooLong)
+unreleased_allowed (ComesLate transition number due least) verdict h = inl h
+unreleased_allowed (IsLong input) verdict h = inr h
+unreleased_allowed (IsWide input row) verdict h = inr h
+unreleased_allowed NoReleases verdict h = absurd h
+
+-- a limit that is exceeded is one that is given
+given_long : (given : Option ℕ) (limit : ℕ) (verdict : Verdict) → given ≡ Some limit → verdict ≡ VerdictTooLong → AllowsLimit given verdict
+given_long None limit verdict e h = absurd (let bad : ⊥ = cc (e) in bad)
+given_long (Some most) limit verdict e h = inr h
+
+-- how a command may end that does not say how delays spread
+unspread_allowed : (period : ℕ) (limit : Option ℕ) (net : NetLists) (table : Timetable) (refusal : DelayRefusal) (verdict : Verdict) →
+    IsDelayRefusal net period table limit refusal → IsUnspread refusal verdict → (verdict ≡ VerdictSchedule) ⊎ AllowsLimit limit verdict
+unspread_allowed period limit net table (IsLarge transitions places) verdict is h = inl h
+unspread_allowed period limit net table (DoesNotFit place) verdict is h = inl h
+unspread_allowed period limit net table (SettlesLate most) verdict is h = inr (given_long limit most verdict is.2 h)
+unspread_allowed period limit net table NoSpread verdict is h = absurd h
+
 files_allowed : (command : FileCommand) (lines : List Firing → List (List ℕ)) (net : NetLists) (bytes : List ℕ) (verdict : Verdict) (text : List ℕ) →
     SaysFiles command lines net bytes verdict text → AllowsFiles command verdict
 files_allowed JitNet lines net bytes verdict text h =
     ⊎_elim (λ (bad : _). inr (inl bad.2.0)) (λ (rows : _). ⊎_elim (λ (done : _). inl done.0) (λ (late : _). inr (inr late.0)) rows.3) h
 files_allowed ReplayNet lines net bytes verdict text h =
     ⊎_elim (λ (bad : _). inr bad.2.0) (λ (rows : _). end_allowed net rows.2.1.refused rows.2.1.accepted (lines rows.2.0) verdict text rows.2.3) h
+files_allowed ForeverNet lines net bytes verdict text h =
+    ⊎_elim (λ (bad : _). inr (inl bad.2.0))
+    (λ (rows : _). ⊎_elim (λ (done : _). inl done.0) (λ (refused : _). inr (inr (unreleased_allowed refused.0 verdict refused.1))) rows.3) h
+files_allowed (TimetableNet period limit) lines net bytes verdict text h =
+    ⊎_elim (λ (bad : _). inl bad.2.0)
+    (λ (table : _). ⊎_elim (λ (done : _). inr (limit_done limit verdict done.0)) (λ (refused : _). unspread_allowed period limit net table.0 refused.0 verdict refused.2 refused.1) table.3) h
 
 -- ---- the line of machines
 
@@ -531,14 +636,18 @@ keeps_promises call runs =
       transfer = times_follow call runs;
       migrate = migrate_follows call runs;
       size = size_follows call runs;
+      bound = bound_follows call runs;
       jit = latest_follow call runs;
       replay = replay_follows call runs;
+      forever = forever_follows call runs;
+      timetable = timetable_follows call runs;
       calc = value_follows call runs;
       trial = machines_follow call runs;
       written = λ other memory. wrote_whole call runs.0 other memory runs.1 runs.2;
       cut_off = λ e. (cut_off_with call runs.0 e runs.1 runs.2).1;
       unwritten = λ e. unwritten_with call runs.0 e runs.1 runs.2;
       reads = read_in_order call runs.0 runs.1;
+      second_read = second_only_of_live call runs;
       read_fault = fault_rose call runs;
       fault_named = fault_named call runs;
       write_fault = λ e. (cut_off_with call runs.0 e runs.1 runs.2).0;

@@ -5,7 +5,7 @@ use Rattle.teg_outside.specs.declared.shelf.ShelfFault.TheVariants.{Failed, TooL
 use Rattle.teg_outside.specs.Shelves.{ShelfState, Reads, ReadsGrow}
 use Rattle.teg_outside.proofs.Growth.{reads_grow_none, reads_grow_then}
 use Rattle.teg_report.specs.declared.answer.Which.{Which}
-use Rattle.teg_report.specs.declared.answer.Which.TheVariants.{Net as NetFile, Due as DueFile, Log as LogFile}
+use Rattle.teg_report.specs.declared.answer.Which.TheVariants.{Net as NetFile, Due as DueFile, Log as LogFile, Timetable as TimetableFile}
 use Rattle.teg_run.specs.Headline.{as_told, ReadsFirstOf}
 use Rattle.teg_run.specs.Limits.{most_bytes}
 use Rattle.teg_run.specs.Openings.{IsTaken}
@@ -33,6 +33,7 @@ not_taken : (which : Which) → IsTaken which (Err OutOfMemory) → ⊥
 not_taken NetFile h = h.1
 not_taken DueFile h = h
 not_taken LogFile h = h
+not_taken TimetableFile h = h
 
 -- after a read that found no memory nothing is read
 lost_last : (old mid new : ShelfState) (which : Which) (files : List (Which × List ℕ)) (reply : Result (List ℕ) ShelfFault)

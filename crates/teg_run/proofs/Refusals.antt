@@ -1,5 +1,5 @@
 -- One file that is refused: what the read of it tells, and which fault of the file it is.
-use Rattle.std.proofs.Common.{◌≡◌, ◌≢◌, ℕ, ◌≤◌, ◌<◌, ◌⊎◌, ⊎_elim, inl, inr, List, [], ◌∷◌, length, Option, Some, Result, Ok, Err, refl, sym, subst, ap, ◌∙◌, arith}
+use Rattle.std.proofs.Common.{◌≡◌, ◌≢◌, ℕ, ◌≤◌, ◌⊎◌, ⊎_elim, inl, inr, List, [], ◌∷◌, length, Option, Some, Result, Ok, Err, sym, subst, ap, ◌∙◌, arith}
 use Rattle.teg_net.specs.declared.entries.PlaceId.{PlaceId}
 use Rattle.teg_net.specs.Nets.{NetLists}
 use Rattle.teg_net.specs.Circuits.{IsLive, IsTokenFree}
@@ -10,13 +10,12 @@ use Rattle.teg_outside.specs.Causes.{Rose, Rested}
 use Rattle.teg_outside.specs.Shelves.{ShelfState, IsFile, IsLongFile, ReadsGrow, file_of}
 use Rattle.teg_outside.proofs.Counts.{rose_not_rested}
 use Rattle.teg_report.specs.declared.answer.Which.{Which}
-use Rattle.teg_report.specs.declared.answer.Which.TheVariants.{Net as NetFile, Due as DueFile, Log as LogFile}
+use Rattle.teg_report.specs.declared.answer.Which.TheVariants.{Net as NetFile, Due as DueFile, Log as LogFile, Timetable as TimetableFile}
 use Rattle.teg_run.specs.declared.status.Status.{Status}
 use Rattle.teg_run.specs.declared.status.Status.TheVariants.{Text, Net, ReadFault}
-use Rattle.teg_run.specs.Headline.{IsTooLong, NetIsNoText, NetIsRefused, Opens, IsAccepted, IsNoText, IsNoNet}
+use Rattle.teg_run.specs.Headline.{IsTooLong, NetIsNoText, NetIsRefused, IsAccepted, IsNoText, IsNoNet}
 use Rattle.teg_run.specs.Limits.{most_bytes}
 use Rattle.teg_commands.specs.Texts.{read_text, token_free_text, too_large_text, fault_text}
-use Rattle.teg_run.specs.Statuses.{IsOwn}
 use Rattle.teg_run.proofs.Verdicts.{IsSaid}
 
 -- how the file is refused, with this status and text
@@ -38,6 +37,7 @@ abbrev pub Accepts : Which → List ℕ → Type 0
 Accepts NetFile bytes = (net : NetLists) × (document bytes ≡ Ok net) × IsLive net
 Accepts DueFile bytes = Unit {0}
 Accepts LogFile bytes = Unit {0}
+Accepts TimetableFile bytes = Unit {0}
 
 -- ---- what the file holds, where it is told
 
@@ -65,6 +65,7 @@ pub accepted_told : (files : List (List ℕ × List ℕ)) (which : Which) (name 
 accepted_told files NetFile name bytes file short accepts = (accepts.0, (bytes, (file, short), accepts.1, accepts.2))
 accepted_told files DueFile name bytes file short accepts = (bytes, (file, short))
 accepted_told files LogFile name bytes file short accepts = (bytes, (file, short))
+accepted_told files TimetableFile name bytes file short accepts = (bytes, (file, short))
 
 -- a live net has no circuit without tokens
 pub live_not_free : (net found : NetLists) (circuit : List PlaceId) → IsLive net → found ≡ net → IsTokenFree found circuit → ⊥
@@ -81,6 +82,7 @@ no_text_not_accepted files NetFile name text accepted fault =
     (λ (other : _). let same = same_document files name opens.0 other.0 (Err NotToml) opens.1.0 other.1.0 other.2 in cc) fault
 no_text_not_accepted files DueFile name text accepted fault = not_long files name accepted.0 accepted.1.0 accepted.1.1 fault.0
 no_text_not_accepted files LogFile name text accepted fault = not_long files name accepted.0 accepted.1.0 accepted.1.1 fault.0
+no_text_not_accepted files TimetableFile name text accepted fault = not_long files name accepted.0 accepted.1.0 accepted.1.1 fault.0
 
 -- a file that says no live net is not accepted
 pub no_net_not_accepted : (files : List (List ℕ × List ℕ)) (which : Which) (name text : List ℕ) → IsAccepted files which name → IsNoNet files which name text → ⊥
@@ -91,6 +93,7 @@ no_net_not_accepted files NetFile name text accepted fault =
     let same_net : not_live.1 ≡ accepted.0 = cc in live_not_free accepted.0 not_live.1 not_live.2 opens.3 same_net not_live.5) fault
 no_net_not_accepted files DueFile name text accepted fault = fault
 no_net_not_accepted files LogFile name text accepted fault = fault
+no_net_not_accepted files TimetableFile name text accepted fault = fault
 
 -- a file that is no text is not one that says no live net
 faults_differ : (files : List (List ℕ × List ℕ)) (name text said : List ℕ) → NetIsNoText files name text → NetIsRefused files name said → ⊥
@@ -107,6 +110,7 @@ file_faults_differ : (files : List (List ℕ × List ℕ)) (which : Which) (name
 file_faults_differ files NetFile name text said no_text refused = faults_differ files name text said no_text refused
 file_faults_differ files DueFile name text said no_text refused = refused
 file_faults_differ files LogFile name text said no_text refused = refused
+file_faults_differ files TimetableFile name text said no_text refused = refused
 
 -- ---- which fault a refusal tells
 
@@ -129,6 +133,11 @@ no_text_told files old new LogFile name status text told calm e (Overlong is sai
 no_text_told files old new LogFile name status text told calm e (NoToml of_net is said bytes file short reads_as) = absurd (let bad : ⊥ = cc in bad)
 no_text_told files old new LogFile name status text told calm e (NoNet of_net is refusal said bytes file short reads_as other) = absurd (let bad : ⊥ = cc in bad)
 no_text_told files old new LogFile name status text told calm e (NotLive of_net is net circuit said bytes file short reads_as free) = absurd (let bad : ⊥ = cc in bad)
+no_text_told files old new TimetableFile name status text told calm e (Unread is said rose grew) = absurd (let bad : ⊥ = cc in bad)
+no_text_told files old new TimetableFile name status text told calm e (Overlong is said rose long) = (told_long files old.files name told (long (calm e)), said)
+no_text_told files old new TimetableFile name status text told calm e (NoToml of_net is said bytes file short reads_as) = absurd (let bad : ⊥ = cc in bad)
+no_text_told files old new TimetableFile name status text told calm e (NoNet of_net is refusal said bytes file short reads_as other) = absurd (let bad : ⊥ = cc in bad)
+no_text_told files old new TimetableFile name status text told calm e (NotLive of_net is net circuit said bytes file short reads_as free) = absurd (let bad : ⊥ = cc in bad)
 
 -- a refusal with the status Net is of a file that says no live net
 pub no_net_told : (files : List (List ℕ × List ℕ)) (old new : ShelfState) (which : Which) (name : List ℕ) (status : Status) (text : List ℕ) →
@@ -150,6 +159,11 @@ no_net_told files old new LogFile name status text told calm e (Overlong is said
 no_net_told files old new LogFile name status text told calm e (NoToml of_net is said bytes file short reads_as) = absurd (let bad : ⊥ = cc in bad)
 no_net_told files old new LogFile name status text told calm e (NoNet of_net is refusal said bytes file short reads_as other) = absurd (let bad : ⊥ = cc in bad)
 no_net_told files old new LogFile name status text told calm e (NotLive of_net is net circuit said bytes file short reads_as free) = absurd (let bad : ⊥ = cc in bad)
+no_net_told files old new TimetableFile name status text told calm e (Unread is said rose grew) = absurd (let bad : ⊥ = cc in bad)
+no_net_told files old new TimetableFile name status text told calm e (Overlong is said rose long) = absurd (let bad : ⊥ = cc in bad)
+no_net_told files old new TimetableFile name status text told calm e (NoToml of_net is said bytes file short reads_as) = absurd (let bad : ⊥ = cc in bad)
+no_net_told files old new TimetableFile name status text told calm e (NoNet of_net is refusal said bytes file short reads_as other) = absurd (let bad : ⊥ = cc in bad)
+no_net_told files old new TimetableFile name status text told calm e (NotLive of_net is net circuit said bytes file short reads_as free) = absurd (let bad : ⊥ = cc in bad)
 
 -- where no read failed, a refusal has the status Text or Net
 pub status_told : (files : List (List ℕ × List ℕ)) (old new : ShelfState) (which : Which) (name : List ℕ) (status : Status) (text : List ℕ) →
@@ -198,6 +212,7 @@ no_toml_differs : (which : Which) → read_text NotToml ≡ too_large_text which
 no_toml_differs NetFile e = omega (arith, ap length e)
 no_toml_differs DueFile e = omega (arith, ap length e)
 no_toml_differs LogFile e = omega (arith, ap length e)
+no_toml_differs TimetableFile e = omega (arith, ap length e)
 
 -- a text that says that a file is too long tells a count that rose
 pub overlong_told : (old new : ShelfState) (which other : Which) (name : List ℕ) (status : Status) (text : List ℕ) →

@@ -1,5 +1,5 @@
 -- Statuses of commands, and those that the call itself gives.
-use Rattle.std.proofs.Common.{◌≡◌, ◌≢◌, subst}
+use Rattle.std.proofs.Common.{◌≢◌, subst}
 use Rattle.teg_run.specs.declared.status.Status.{Status}
 use Rattle.teg_run.specs.declared.status.Status.TheVariants.{Words, WriteFault, NoMemory}
 use Rattle.teg_commands.specs.declared.outcome.Verdict.{Verdict}

@@ -1,5 +1,5 @@
 -- The ways in which an answer comes, by reads of the files of a request.
-use Rattle.std.proofs.Common.{◌≡◌, ℕ, ◌≤◌, ◌⊎◌, inl, inr, List, [], ◌∷◌, length, Option, Result, Ok, Err, refl, sym, subst, ◌∙◌}
+use Rattle.std.proofs.Common.{◌≡◌, ℕ, ◌≤◌, ◌⊎◌, inl, inr, List, [], ◌∷◌, length, Result, Ok, Err, refl, sym, subst, ◌∙◌}
 use Rattle.teg_net.specs.Nets.{NetLists}
 use Rattle.teg_reader.specs.declared.refusals.ReadRefusal.{ReadRefusal}
 use Rattle.teg_reader.specs.declared.refusals.ReadRefusal.TheVariants.{NotToml}
@@ -15,7 +15,7 @@ use Rattle.teg_commands.specs.declared.outcome.Verdict.{Verdict}
 use Rattle.teg_run.specs.Limits.{most_bytes}
 use Rattle.teg_run.specs.Openings.{Opening, Accepted, Refused, OpensNet, OpensDocument, OpensBytes, read_status}
 use Rattle.teg_run.specs.Reads.{ReadsAll}
-use Rattle.teg_run.specs.Requests.{FileCommand, JitNet, ReplayNet, Request, OfNet, OfFiles, ValueOf, TrialOf, files_of, second_of}
+use Rattle.teg_run.specs.Requests.{FileCommand, JitNet, ReplayNet, ForeverNet, TimetableNet, Request, OfNet, OfFiles, ValueOf, TrialOf, files_of, second_of}
 use Rattle.teg_run.specs.Says.{Says, SaysFile, SaysFiles, SaysNet, SaysOpening, SaysOutcome}
 use Rattle.teg_commands.specs.Slacks.{SaysTrial}
 use Rattle.teg_commands.specs.Values.{SaysValue}
@@ -138,6 +138,8 @@ bytes_way old new which name accepts goes_on (reply ∷ replies) status text rea
 second_accepts : (command : FileCommand) (bytes : List ℕ) → Accepts (second_of command) bytes
 second_accepts JitNet bytes = tt
 second_accepts ReplayNet bytes = tt
+second_accepts ForeverNet bytes = tt
+second_accepts (TimetableNet period limit) bytes = tt
 
 -- what a command comes to has its own status
 pub outcome_way : (old new : ShelfState) (says : Verdict → List ℕ → Type 0) (replies : List (Result (List ℕ) ShelfFault)) (status : Status) (text : List ℕ) →

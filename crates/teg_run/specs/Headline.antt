@@ -25,21 +25,43 @@ use Rattle.teg_outside.specs.Causes.{Rose, Rested}
 use Rattle.teg_outside.specs.Shelves.{ShelfState, ReadsGrow, file_of}
 use Rattle.teg_outside.specs.Sinks.{BytesGrow, PrefixGrows}
 use Rattle.teg_report.specs.declared.answer.Which.{Which}
-use Rattle.teg_report.specs.declared.answer.Which.TheVariants.{Net as NetFile, Due as DueFile, Log as LogFile}
+use Rattle.teg_report.specs.declared.answer.Which.TheVariants.{Net as NetFile, Due as DueFile, Log as LogFile, Timetable as TimetableFile}
 use Rattle.teg_run.specs.declared.status.Status.{Status}
 use Rattle.teg_run.specs.declared.status.Status.TheVariants.{Done, Words, Text, Net, Schedule, Late, TooLong, Log, Calc, Name, ReadFault, WriteFault, NoMemory}
 use Rattle.teg_commands.specs.declared.outcome.Verdict.{Verdict}
 use Rattle.teg_commands.specs.declared.outcome.Verdict.TheVariants.{Done as VerdictDone, TooLong as VerdictTooLong, Name as VerdictName, Schedule as VerdictSchedule, Late as VerdictLate, Log as VerdictLog}
 use Rattle.teg_run.specs.Calls.{Call}
+use Rattle.teg_commands.specs.Bounds.{bound_text, no_bound_text}
 use Rattle.teg_commands.specs.CycleTimes.{IsCycleAnswer, AreRuns}
+use Rattle.teg_commands.specs.EndlessInputs.{endless_text, forever_text, unreleased_text}
 use Rattle.teg_commands.specs.Migrations.{IsWrittenNet}
 use Rattle.teg_commands.specs.Sizings.{HasPlaceName, no_place_text, sizing_text}
+use Rattle.teg_bound.specs.declared.bound.BoundAnswer.{BoundAnswer}
+use Rattle.teg_bound.specs.Bounds.{IsBoundOf, IsRightBound}
+use Rattle.teg_bound.specs.Texts.{IsCause}
+use Rattle.forever_laws.specs.declared.rows.EndlessRow.{EndlessRow}
+use Rattle.teg_forever.specs.declared.releases.ForeverRefusal.{ForeverRefusal}
+use Rattle.teg_forever.specs.declared.releases.ForeverRefusal.TheVariants.{Late as ComesLate, TooLong as IsLong, TooWide as IsWide, OutOfMemory as NoReleases}
+use Rattle.teg_forever.specs.declared.releases.Release.{Release}
+use Rattle.teg_forever.specs.declared.rows.EndlessRefusal.{EndlessRefusal}
+use Rattle.teg_forever.specs.declared.rows.EndlessRefusal.TheVariants.{OutOfMemory as NoEndless}
+use Rattle.teg_forever.specs.Releases.{AreReleases, ForeverRefused}
+use Rattle.teg_forever.specs.Rows.{endless_of}
+use Rattle.delay_laws.specs.declared.table.Timetable.{Timetable}
+use Rattle.delay_laws.specs.Tables.{IsTableOf}
+use Rattle.teg_timetable.specs.declared.refusals.DelayRefusal.{DelayRefusal}
+use Rattle.teg_timetable.specs.declared.refusals.DelayRefusal.TheVariants.{TooLarge as IsLarge, Unworkable as DoesNotFit, TooLong as SettlesLate, OutOfMemory as NoSpread}
+use Rattle.teg_timetable.specs.declared.refusals.TableRefusal.{TableRefusal}
+use Rattle.teg_timetable.specs.Answers.{IsDelayRefusal, IsSpread}
+use Rattle.teg_timetable.specs.Spreads.{Spread}
+use Rattle.teg_timetable.specs.Tables.{lists_of_table, timetable_of}
+use Rattle.teg_timetable.specs.Texts.{Told, TooLargeTold, UnworkableTold, TooLongTold, spread_told, table_told}
 use Rattle.teg_sizing.specs.declared.sizing.Sizing.{Sizing}
 use Rattle.teg_sizing.specs.Sizings.{IsSizing}
 use Rattle.teg_run.specs.Endings.{Whole, Lost}
 use Rattle.teg_run.specs.Limits.{most_bytes}
 use Rattle.teg_run.specs.Reads.{ReadsAll}
-use Rattle.teg_run.specs.Requests.{NetCommand, CheckNet, ListNet, FormNet, CycleNet, SlackNet, DatesNet, DateNet, TransferNet, MigrateNet, SizeNet, FileCommand, JitNet, ReplayNet, Request, OfNet, OfFiles, ValueOf, TrialOf, request_of, files_of, asked_files}
+use Rattle.teg_run.specs.Requests.{NetCommand, CheckNet, ListNet, FormNet, CycleNet, SlackNet, DatesNet, DateNet, TransferNet, MigrateNet, SizeNet, BoundNet, FileCommand, JitNet, ReplayNet, ForeverNet, TimetableNet, Request, OfNet, OfFiles, ValueOf, TrialOf, request_of, files_of, asked_files}
 use Rattle.teg_run.specs.Runs.{Finished, Runs}
 use Rattle.teg_run.specs.Says.{Asked, SaysFiles, SaysNet}
 use Rattle.teg_run.specs.Statuses.{IsOwn, status_of}
@@ -71,6 +93,7 @@ use Rattle.teg_commands.specs.Inputs.{IsPlanOf, NoInputsMeet}
 use Rattle.teg_commands.specs.Recorded.{IsToldAs}
 use Rattle.teg_commands.specs.Settled.{IsWithinLimit, SettlesWithin, HasName}
 use Rattle.teg_commands.specs.Slacks.{SaysTrial, IsBestRatio, critical_count, trial_number}
+use Rattle.teg_commands.specs.Timetables.{timetable_text}
 use Rattle.teg_commands.specs.Transfers.{AreTimesFrom, TimesSettlePast}
 use Rattle.teg_commands.specs.Values.{IsSeriesOf, SaysValue}
 use Rattle.teg_commands.specs.Texts.{usage, slack_text, settled_text, date_text, transfer_text, too_long_text, no_transition_text, due_text, jit_text, late_text, log_text, replayed_text, refused_text, trial_text, read_text, live_text, list_text, form_text, cycle_text, no_circuit_text, runs_text, series_text, parse_text, series_refused_text, token_free_text, too_large_text, fault_text}
@@ -136,18 +159,21 @@ abbrev pub IsAccepted : List (List ℕ × List ℕ) → Which → List ℕ → T
 IsAccepted files NetFile name = (net : NetLists) × Opens files name net
 IsAccepted files DueFile name = IsThere files name
 IsAccepted files LogFile name = IsThere files name
+IsAccepted files TimetableFile name = IsThere files name
 
 -- the file is no text of such a file, and this text says so
 abbrev pub IsNoText : List (List ℕ × List ℕ) → Which → List ℕ → List ℕ → Type 0
 IsNoText files NetFile name text = NetIsNoText files name text
 IsNoText files DueFile name text = SecondIsNoText DueFile files name text
 IsNoText files LogFile name text = SecondIsNoText LogFile files name text
+IsNoText files TimetableFile name text = SecondIsNoText TimetableFile files name text
 
 -- the file is one that says no live net, and this text says so
 abbrev pub IsNoNet : List (List ℕ × List ℕ) → Which → List ℕ → List ℕ → Type 0
 IsNoNet files NetFile name text = NetIsRefused files name text
 IsNoNet files DueFile name text = ⊥
 IsNoNet files LogFile name text = ⊥
+IsNoNet files TimetableFile name text = ⊥
 
 -- one of these files has this fault, which this text says, and those before it are accepted
 abbrev pub HasFault : (List (List ℕ × List ℕ) → Which → List ℕ → List ℕ → Type 0) → List (List ℕ × List ℕ) → List (Which × List ℕ) → List ℕ → Type 0
@@ -202,6 +228,13 @@ as_told file = (file.1, most_bytes)
 abbrev pub ReadsFirstOf : ShelfState → ShelfState → List (Which × List ℕ) → Type 0
 ReadsFirstOf old new named = (n : ℕ) × (n ≤ length named) × ReadsGrow old.reads new.reads (take n (map as_told named))
 
+-- over told files and reads, where the second of two files was read, the first says a live net
+abbrev pub SecondOnlyOfLive : Call → Type 0
+SecondOnlyOfLive call =
+    (files : List (List ℕ × List ℕ)) (reads : List (List ℕ × ℕ)) (command : FileCommand) (name second : List ℕ) →
+    call.shelf_before.files ≡ Some files → call.shelf_before.reads ≡ Some reads → request_of call.words ≡ Some (OfFiles command name second) →
+    call.shelf_after.reads ≡ Some (reads ++ (name, most_bytes) ∷ (second, most_bytes) ∷ []) → (net : NetLists) × Opens files name net
+
 -- the file that the text names as unreadable is the last of these that was read
 abbrev pub NamesLastRead : Call → List (Which × List ℕ) → Type 0
 NamesLastRead call named =
@@ -252,6 +285,7 @@ AllowsNet (DateNet word number limit) verdict = (verdict ≡ VerdictName) ⊎ Al
 AllowsNet (TransferNet limit) verdict = AllowsLimit (Some limit) verdict
 AllowsNet MigrateNet verdict = verdict ≡ VerdictDone
 AllowsNet (SizeNet word time tokens) verdict = (verdict ≡ VerdictName) ⊎ (verdict ≡ VerdictDone)
+AllowsNet BoundNet verdict = verdict ≡ VerdictDone
 
 -- how an expression may end: with a refusal only where it has one
 abbrev pub AllowsValue : List ℕ → Verdict → Type 0
@@ -261,6 +295,8 @@ AllowsValue text verdict = (told : List ℕ) × SaysValue text verdict told
 abbrev pub AllowsFiles : FileCommand → Verdict → Type 0
 AllowsFiles JitNet verdict = (verdict ≡ VerdictDone) ⊎ ((verdict ≡ VerdictSchedule) ⊎ (verdict ≡ VerdictLate))
 AllowsFiles ReplayNet verdict = (verdict ≡ VerdictDone) ⊎ (verdict ≡ VerdictLog)
+AllowsFiles ForeverNet verdict = (verdict ≡ VerdictDone) ⊎ ((verdict ≡ VerdictSchedule) ⊎ ((verdict ≡ VerdictLate) ⊎ (verdict ≡ VerdictTooLong)))
+AllowsFiles (TimetableNet period limit) verdict = (verdict ≡ VerdictSchedule) ⊎ AllowsLimit limit verdict
 
 -- how a request may end, once its files are accepted
 abbrev pub Allows : Request → Verdict → Type 0
@@ -402,6 +438,14 @@ SaysFewestTokens call =
     IsSized call word time tokens net
     ⊎ ((All (λ p. p.name ≢ word) net.places × Ends call Name (no_place_text word)) ⊎ EndsLost call)
 
+-- a number past which the dates of a live net are periodic is told, with the number and the period of the shortest settled form of its
+-- least dating, and that number is no greater; or why there is no such bound; unless memory ran out
+abbrev pub SaysSettlingBound : Call → Type 0
+SaysSettlingBound call =
+    (net : NetLists) → Concerns call BoundNet net →
+    ((number : ℕ) × (f : SettledForm) × IsBoundOf net number × IsSettledFormOf net f × (f.after ≤ number) × Ends call Done (bound_text number f))
+    ⊎ (((answer : BoundAnswer) × IsCause answer × IsRightBound net answer × Ends call Done (no_bound_text answer)) ⊎ EndsLost call)
+
 -- of a live net and a due file the latest dates are told, which at the inputs are the latest inputs that meet every due date; or the
 -- first row that comes late whatever the inputs are; or the first fault of the file; unless memory ran out
 abbrev pub SaysLatestInputs : Call → Type 0
@@ -427,6 +471,48 @@ SaysReplayed call =
     ⊎ (((rows : List LogRow) × (firings : List Firing) × (replayed : Replayed) × (log_of net bytes ≡ Ok rows) × IsReplayOf net rows firings replayed
     × EndsReplay call net replayed.refused replayed.accepted (call.lines firings))
     ⊎ EndsLost call)
+
+-- the call ends so where the releases are not told: a firing comes late, or the series of an input are too long; want of memory is no such cause
+abbrev pub EndsUnreleased : Call → NetLists → ForeverRefusal → Type 0
+EndsUnreleased call net (ComesLate transition number due least) = Ends call Late (unreleased_text net (ComesLate transition number due least))
+EndsUnreleased call net (IsLong input) = Ends call TooLong (unreleased_text net (IsLong input))
+EndsUnreleased call net (IsWide input row) = Ends call TooLong (unreleased_text net (IsWide input row))
+EndsUnreleased call net NoReleases = ⊥
+
+-- of a live net and a file of due dates without end the latest inputs that meet them are told for ever; or the first row that comes late
+-- whatever the inputs are, with its least late number; or the first input whose series are too long; or the first fault of the file; unless
+-- memory ran out
+abbrev pub SaysEndlessInputs : Call → Type 0
+SaysEndlessInputs call =
+    (net : NetLists) (bytes : List ℕ) → ConcernsBoth call ForeverNet net bytes →
+    ((rows : List EndlessRow) × (releases : List Release) × (endless_of net bytes ≡ Ok rows) × AreReleases net rows releases × Ends call Done (forever_text net releases))
+    ⊎ (((rows : List EndlessRow) × (refusal : ForeverRefusal) × (endless_of net bytes ≡ Ok rows) × ForeverRefused net rows refusal × EndsUnreleased call net refusal)
+    ⊎ (((fault : EndlessRefusal) × (endless_of net bytes ≡ Err fault) × (fault ≢ NoEndless) × Ends call Schedule (endless_text net fault)) ⊎ EndsLost call))
+
+-- the call ends so where a file says no timetable; nothing is told of want of memory
+abbrev pub EndsUntabled : Call → NetLists → Option Told → Type 0
+EndsUntabled call net None = ⊥
+EndsUntabled call net (Some told) = Ends call Schedule (timetable_text net told)
+
+-- the call ends so where it is not told how delays spread: the net is too large, the timetable does not fit a place, or a limit is exceeded;
+-- want of memory is no such cause
+abbrev pub EndsUnspread : Call → NetLists → DelayRefusal → Type 0
+EndsUnspread call net (IsLarge transitions places) = Ends call Schedule (timetable_text net (TooLargeTold transitions places))
+EndsUnspread call net (DoesNotFit place) = Ends call Schedule (timetable_text net (UnworkableTold place))
+EndsUnspread call net (SettlesLate limit) = Ends call TooLong (timetable_text net (TooLongTold limit))
+EndsUnspread call net NoSpread = ⊥
+
+-- of a live net and a timetable of this period it is told how its delays spread, with the delays left of each transition; or that the net is
+-- too large, that the timetable does not fit a place, or that each settled form is longer than the limit; or the first fault of the file;
+-- unless memory ran out
+abbrev pub SaysSpreadDelays : Call → Type 0
+SaysSpreadDelays call =
+    (period : ℕ) (limit : Option ℕ) (net : NetLists) (bytes : List ℕ) → ConcernsBoth call (TimetableNet period limit) net bytes →
+    ((table : Timetable) × (spread : Spread) × (timetable_of net bytes ≡ Ok (lists_of_table table)) × IsTableOf net table
+    × IsSpread net period table limit spread × Ends call Done (timetable_text net (spread_told spread)))
+    ⊎ (((table : Timetable) × (refusal : DelayRefusal) × (timetable_of net bytes ≡ Ok (lists_of_table table)) × IsTableOf net table
+    × IsDelayRefusal net period table limit refusal × EndsUnspread call net refusal)
+    ⊎ (((fault : TableRefusal) × (timetable_of net bytes ≡ Err fault) × EndsUntabled call net (table_told fault)) ⊎ EndsLost call))
 
 -- the line of so many machines is told with its greatest ratio, how many places are critical, and a late date, unless memory ran out
 abbrev pub SaysMachines : Call → Type 0
@@ -487,9 +573,12 @@ pub record KeepsPromises (call : Call) : Type 0 where
   pub transfer : SaysTimes call
   pub migrate : SaysMigration call
   pub size : SaysFewestTokens call
+  pub bound : SaysSettlingBound call
   -- A command on a live net and a second file.
   pub jit : SaysLatestInputs call
   pub replay : SaysReplayed call
+  pub forever : SaysEndlessInputs call
+  pub timetable : SaysSpreadDelays call
   -- Commands without a file: the value of an expression, and the line of machines.
   pub calc : SaysValues call
   pub trial : SaysMachines call
@@ -499,6 +588,7 @@ pub record KeepsPromises (call : Call) : Type 0 where
   pub unwritten : call.status ≡ NoMemory → call.sink_after ≡ call.sink_before
   -- What was read, and the causes of faults.
   pub reads : ReadsFirstOf call.shelf_before call.shelf_after (asked_files (request_of call.words))
+  pub second_read : SecondOnlyOfLive call
   pub read_fault : call.status ≡ ReadFault → Rose call.shelf_before.faults call.shelf_after.faults
   pub fault_named : call.status ≡ ReadFault → NamesLastRead call (asked_files (request_of call.words))
   pub write_fault : call.status ≡ WriteFault → Rose call.sink_before.faults call.sink_after.faults

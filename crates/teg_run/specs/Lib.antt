@@ -2,6 +2,7 @@ pub mod Calls
 pub mod Endings
 pub mod Headline
 pub mod Limits
+pub mod Lists
 pub mod Meanings
 pub mod Openings
 pub mod Ranges

@@ -4,8 +4,9 @@ use Rattle.teg_dates.specs.Tables.{most_numbers}
 use Rattle.teg_commands.specs.Limits.{most_expression}
 use Rattle.teg_net.specs.Limits.{greatest_number}
 use Rattle.teg_settle.specs.Refusals.{greatest_limit}
+use Rattle.teg_timetable.specs.Spreads.{greatest_period}
 use Rattle.teg_run.specs.Limits.{greatest_time, most_machines, most_tokens}
-use Rattle.teg_run.specs.Requests.{NetCommand, CheckNet, ListNet, FormNet, CycleNet, SlackNet, DatesNet, DateNet, TransferNet, MigrateNet, SizeNet, Request, OfNet, OfFiles, ValueOf, TrialOf}
+use Rattle.teg_run.specs.Requests.{NetCommand, CheckNet, ListNet, FormNet, CycleNet, SlackNet, DatesNet, DateNet, TransferNet, MigrateNet, SizeNet, BoundNet, FileCommand, JitNet, ReplayNet, ForeverNet, TimetableNet, Request, OfNet, OfFiles, ValueOf, TrialOf}
 
 -- a firing number, counted from 1
 pub record IsFiringNumber (number : ℕ) : Type 0 where
@@ -39,10 +40,23 @@ IsInRange (DateNet word number limit) = IsFiringNumber number × IsLimit limit
 IsInRange (TransferNet limit) = limit ≤ greatest_limit
 IsInRange MigrateNet = Unit {0}
 IsInRange (SizeNet word time tokens) = IsTargetInRange time tokens
+IsInRange BoundNet = Unit {0}
+
+-- the period of a timetable
+pub record IsPeriod (period : ℕ) : Type 0 where
+  pub some : 1 ≤ period
+  pub few : period ≤ greatest_period
+
+-- the numbers that a command on a net and a second file takes keep their limits
+abbrev pub IsFilesInRange : FileCommand → Type 0
+IsFilesInRange JitNet = Unit {0}
+IsFilesInRange ReplayNet = Unit {0}
+IsFilesInRange ForeverNet = Unit {0}
+IsFilesInRange (TimetableNet period limit) = IsPeriod period × IsLimit limit
 
 -- the numbers of the request keep their limits
 abbrev pub IsRequestInRange : Request → Type 0
 IsRequestInRange (OfNet command net) = IsInRange command
-IsRequestInRange (OfFiles command net second) = Unit {0}
+IsRequestInRange (OfFiles command net second) = IsFilesInRange command
 IsRequestInRange (ValueOf text) = length text ≤ most_expression
 IsRequestInRange (TrialOf machines) = IsMachines machines

@@ -5,12 +5,13 @@ use Rattle.std.specs.List.{before_first, after_first}
 use Rattle.teg_dates.specs.Tables.{most_numbers}
 use Rattle.teg_net.specs.Limits.{greatest_number}
 use Rattle.teg_settle.specs.Refusals.{greatest_limit}
+use Rattle.teg_timetable.specs.Spreads.{greatest_period}
 use Rattle.teg_words.specs.Numbers.{number_of}
 use Rattle.teg_words.specs.Words.{Given, given_of}
 use Rattle.teg_commands.specs.Limits.{most_expression}
 use Rattle.teg_run.specs.Limits.{greatest_time, most_machines, most_tokens, usual_limit}
 use Rattle.teg_report.specs.declared.answer.Which.{Which}
-use Rattle.teg_report.specs.declared.answer.Which.TheVariants.{Net as NetFile, Due as DueFile, Log as LogFile}
+use Rattle.teg_report.specs.declared.answer.Which.TheVariants.{Net as NetFile, Due as DueFile, Log as LogFile, Timetable as TimetableFile}
 
 -- a command on a net, with what else it is given
 pub data NetCommand : Type 0 where
@@ -24,11 +25,14 @@ pub data NetCommand : Type 0 where
   TransferNet : (limit : ℕ) → NetCommand
   MigrateNet : NetCommand
   SizeNet : (word : List ℕ) (time tokens : ℕ) → NetCommand
+  BoundNet : NetCommand
 
 -- a command on a net and on a second file
 pub data FileCommand : Type 0 where
   JitNet : FileCommand
   ReplayNet : FileCommand
+  ForeverNet : FileCommand
+  TimetableNet : (period : ℕ) (limit : Option ℕ) → FileCommand
 
 -- what words can ask for: a command on the net in the file of this name, one on the net and on the second file of these names, the
 -- value of this expression, or a line of so many machines
@@ -99,6 +103,17 @@ abbrev pub replay_asked : List (List ℕ) → Option (List ℕ) → Bool → Opt
 replay_asked (net ∷ log ∷ []) None false = Some (OfFiles ReplayNet net log)
 replay_asked rest limit rounds = None
 
+-- `forever NET DUE`
+abbrev pub forever_asked : List (List ℕ) → Option (List ℕ) → Bool → Option Request
+forever_asked (net ∷ due ∷ []) None false = Some (OfFiles ForeverNet net due)
+forever_asked rest limit rounds = None
+
+-- `timetable NET A FILE`, with A from 1 to 10^6, and perhaps `--limit N` or `--limit none`
+abbrev pub timetable_asked : List (List ℕ) → Option (List ℕ) → Bool → Option Request
+timetable_asked (net ∷ word ∷ table ∷ []) limit false =
+    option_and_then (λ most. option_map (λ period. OfFiles (TimetableNet period most) net table) (number_of 1 greatest_period word)) (limit_asked limit)
+timetable_asked rest limit rounds = None
+
 -- `trial N`, with N from 1 to 400
 abbrev pub trial_asked : List (List ℕ) → Option (List ℕ) → Bool → Option Request
 trial_asked (count ∷ []) None false = option_map (λ machines. TrialOf machines) (number_of 1 most_machines count)
@@ -124,6 +139,11 @@ abbrev pub size_asked : List (List ℕ) → Option (List ℕ) → Bool → Optio
 size_asked (net ∷ word ∷ target ∷ []) None false = option_map (λ ratio. OfNet (SizeNet word ratio.0 ratio.1) net) (target_asked target)
 size_asked rest limit rounds = None
 
+-- `bound NET`
+abbrev pub bound_asked : List (List ℕ) → Option (List ℕ) → Bool → Option Request
+bound_asked (net ∷ []) None false = Some (OfNet BoundNet net)
+bound_asked rest limit rounds = None
+
 -- `calc EXPR`, with an expression of at most 4,096 bytes
 abbrev pub calc_asked : List (List ℕ) → Option (List ℕ) → Bool → Option Request
 calc_asked (text ∷ []) None false = if nat_le (length text) most_expression then Some (ValueOf text) else None
@@ -146,7 +166,10 @@ asked_for given =
     else (if bytes_eq given.command (codes "trial") then trial_asked given.rest given.limit given.rounds
     else (if bytes_eq given.command (codes "migrate") then migrate_asked given.rest given.limit given.rounds
     else (if bytes_eq given.command (codes "size") then size_asked given.rest given.limit given.rounds
-    else None)))))))))))))
+    else (if bytes_eq given.command (codes "bound") then bound_asked given.rest given.limit given.rounds
+    else (if bytes_eq given.command (codes "forever") then forever_asked given.rest given.limit given.rounds
+    else (if bytes_eq given.command (codes "timetable") then timetable_asked given.rest given.limit given.rounds
+    else None))))))))))))))))
 
 -- the request that the words give, if they give one
 abbrev pub request_of : List (List ℕ) → Option Request
@@ -156,6 +179,8 @@ request_of words = option_and_then asked_for (given_of words)
 abbrev pub second_of : FileCommand → Which
 second_of JitNet = DueFile
 second_of ReplayNet = LogFile
+second_of ForeverNet = DueFile
+second_of (TimetableNet period limit) = TimetableFile
 
 -- the files that a request names, in the order in which they are read: what each is for, and its name
 abbrev pub files_of : Request → List (Which × List ℕ)

@@ -8,7 +8,9 @@ use Rattle.teg_run.specs.declared.status.Status.{Status}
 use Rattle.teg_run.specs.declared.status.Status.TheVariants.{WriteFault, NoMemory}
 use Rattle.teg_report.specs.declared.answer.Which.{Which}
 use Rattle.teg_run.specs.Calls.{Call}
-use Rattle.teg_run.specs.Endings.{Ending, Whole, Lost}
+use Rattle.teg_commands.specs.declared.outcome.Verdict.{Verdict}
+use Rattle.teg_commands.specs.Outcomes.{Tells}
+use Rattle.teg_run.specs.Endings.{Ending, Whole, Lost, ending_of}
 use Rattle.teg_run.specs.Reads.{ReadsAll}
 use Rattle.teg_run.specs.Requests.{Request, request_of, asked_files}
 use Rattle.teg_run.specs.Says.{Asked}
@@ -26,12 +28,18 @@ Finished old new (Whole said text) status =
     ⊎ ((status ≡ WriteFault) × Rose old.faults new.faults × PrefixGrows old.bytes new.bytes text)
 Finished old new Lost status = (status ≡ NoMemory) × (new ≡ old)
 
+-- what a command comes to, if it found memory, and its writing
+abbrev pub WritesOutcome : (Verdict → List ℕ → Type 0) → SinkState → SinkState → Status → Type 0
+WritesOutcome says old new status = (outcome : Option (Verdict × List ℕ)) × Tells says outcome × Finished old new (ending_of outcome) status
+
+-- an answer by reads of these files, and its writing
+abbrev pub Serves : (List (Result (List ℕ) ShelfFault) → Status → List ℕ → Type 0) → List (Which × List ℕ) → ShelfState → ShelfState → SinkState → SinkState → Status → Type 0
+Serves says files shelf shelf' sink sink' status = (ending : Ending) × Answered says files shelf shelf' ending × Finished sink sink' ending status
+
 -- the call carries out what is asked: an answer by the files that it names, and its writing
 abbrev pub CarriesOut : Option Request → Call → Type 0
 CarriesOut asked call =
-    (ending : Ending)
-    × Answered (Asked asked call.lines) (asked_files asked) call.shelf_before call.shelf_after ending
-    × Finished call.sink_before call.sink_after ending call.status
+    Serves (Asked asked call.lines) (asked_files asked) call.shelf_before call.shelf_after call.sink_before call.sink_after call.status
 
 -- the call carries out what its words ask for
 abbrev pub Runs : Call → Type 0

@@ -1,22 +1,25 @@
 -- What each command says, by what its reads gave.
-use Rattle.std.specs.Prelude.{ℕ, ◌≡◌, Bool, true, false, List, [], ◌∷◌, Option, Some, None, Result}
+use Rattle.std.specs.Prelude.{ℕ, ◌≡◌, true, false, List, [], ◌∷◌, Option, Some, None, Result}
 use Rattle.teg_net.specs.Nets.{NetLists}
 use Rattle.teg_outside.specs.declared.shelf.ShelfFault.{ShelfFault}
 use Rattle.teg_outside.specs.declared.monitor.Firing.{Firing}
 use Rattle.teg_run.specs.declared.status.Status.{Status}
 use Rattle.teg_run.specs.declared.status.Status.TheVariants.{Words}
 use Rattle.teg_commands.specs.declared.outcome.Verdict.{Verdict}
+use Rattle.teg_commands.specs.Bounds.{SaysBound}
 use Rattle.teg_commands.specs.CycleTimes.{SaysCycle, SaysRounds}
 use Rattle.teg_commands.specs.Migrations.{SaysMigrated}
 use Rattle.teg_commands.specs.Sizes.{SaysCheck, SaysList, SaysForm}
+use Rattle.teg_commands.specs.EndlessInputs.{SaysForever}
 use Rattle.teg_commands.specs.Inputs.{SaysJit}
 use Rattle.teg_commands.specs.Recorded.{SaysReplay}
 use Rattle.teg_commands.specs.Settled.{SaysDate, SaysDates}
 use Rattle.teg_commands.specs.Sizings.{SaysSizing}
 use Rattle.teg_commands.specs.Slacks.{SaysSlack, SaysTrial}
+use Rattle.teg_commands.specs.Timetables.{SaysTimetable}
 use Rattle.teg_commands.specs.Transfers.{SaysTransfer}
 use Rattle.teg_commands.specs.Values.{SaysValue}
-use Rattle.teg_run.specs.Requests.{NetCommand, CheckNet, ListNet, FormNet, CycleNet, SlackNet, DatesNet, DateNet, TransferNet, MigrateNet, SizeNet, FileCommand, JitNet, ReplayNet, Request, OfNet, OfFiles, ValueOf, TrialOf, second_of}
+use Rattle.teg_run.specs.Requests.{NetCommand, CheckNet, ListNet, FormNet, CycleNet, SlackNet, DatesNet, DateNet, TransferNet, MigrateNet, SizeNet, BoundNet, FileCommand, JitNet, ReplayNet, ForeverNet, TimetableNet, Request, OfNet, OfFiles, ValueOf, TrialOf, second_of}
 use Rattle.teg_run.specs.Openings.{Opening, Accepted, Refused, OpensNet, OpensBytes}
 use Rattle.teg_run.specs.Statuses.{status_of}
 use Rattle.teg_commands.specs.Texts.{usage}
@@ -34,6 +37,7 @@ SaysNet (DateNet word number limit) = SaysDate word number limit
 SaysNet (TransferNet limit) = SaysTransfer limit
 SaysNet MigrateNet = SaysMigrated
 SaysNet (SizeNet word time tokens) = SaysSizing word time tokens
+SaysNet BoundNet = SaysBound
 
 -- this status and this text
 abbrev pub Said : Status → List ℕ → Status → List ℕ → Type 0
@@ -59,6 +63,8 @@ SaysOutcome says replies status text =
 abbrev pub SaysFiles : FileCommand → (List Firing → List (List ℕ)) → NetLists → List ℕ → Verdict → List ℕ → Type 0
 SaysFiles JitNet lines = SaysJit
 SaysFiles ReplayNet lines = SaysReplay lines
+SaysFiles ForeverNet lines = SaysForever
+SaysFiles (TimetableNet period limit) lines = SaysTimetable period limit
 
 -- what a request says, with the lines of the monitors after given firings
 abbrev pub Says : Request → (List Firing → List (List ℕ)) → List (Result (List ℕ) ShelfFault) → Status → List ℕ → Type 0

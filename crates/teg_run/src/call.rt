@@ -8,11 +8,11 @@ ghost use Rattle.teg_run.specs.Endings.{EndsWith};
 ghost use Rattle.teg_run.specs.Headline.{KeepsPromises};
 ghost use Rattle.teg_run.specs.Meanings.{ended};
 ghost use Rattle.teg_run.specs.Requests.{request_of, asked_files};
-ghost use Rattle.teg_run.specs.Runs.{Answered};
+ghost use Rattle.teg_run.specs.Runs.{Serves};
 ghost use Rattle.teg_run.specs.Says.{Said, Asked};
 ghost use Rattle.teg_commands.specs.Texts.{usage};
 
-use crate::carry_out::answer_request;
+use crate::carry_out::serve_request;
 use crate::ending::Ending;
 use crate::request::read_request;
 use crate::status::Status;
@@ -35,20 +35,21 @@ fn refuse_words(alloc: Global) -> Ending
 }
 
 // Carries out what the words ask for.
-fn answer_words<S: Shelf>(
+fn serve_words<S: Shelf, W: Sink>(
     alloc: Global,
     words: &[String],
     shelf: &mut S,
+    out: &mut W,
     monitors: Vec<Box<dyn Monitor>>,
-) -> Ending
+) -> Status
     ensures { let asked = request_of (map string_bytes words.now) in
-        Answered (Asked asked (λ firings. map (λ m. line_text m firings) monitors.items)) (asked_files asked)
-        (S.state shelf.old) (S.state shelf.new) (ended result) }
+        Serves (Asked asked (λ firings. map (λ m. line_text m firings) monitors.items)) (asked_files asked)
+        (S.state shelf.old) (S.state shelf.new) (W.state out.old) (W.state out.new) result }
 {
     match read_request(alloc, words) {
-        Ok(Some(request)) => answer_request(alloc, request, shelf, monitors),
-        Ok(None) => refuse_words(alloc),
-        Err(_) => Ending::Lost,
+        Ok(Some(request)) => serve_request(alloc, request, shelf, out, monitors),
+        Ok(None) => finish(out, refuse_words(alloc)),
+        Err(_) => finish(out, Ending::Lost),
     }
 }
 
@@ -57,8 +58,9 @@ fn answer_words<S: Shelf>(
 ///
 /// `words` are those after the name of the program. Each file is read at most once, with a limit of
 /// 4,194,304 bytes, and no name is read that the words do not give. The text of the answer is whole
-/// before its first byte is written, so nothing is written where no memory is found. `monitors` see
-/// the firings of a replay; they are dropped when the call returns.
+/// before its first byte is written, but for a list of dates: its rows are written as they are made,
+/// in room that is found before. So nothing is written where no memory is found. `monitors` see the
+/// firings of a replay; they are dropped when the call returns.
 ///
 /// What it promises stands field by field in the record `KeepsPromises`, at the end of
 /// `specs/Headline.antt`.
@@ -79,6 +81,5 @@ pub fn workbench<S: Shelf, W: Sink>(
       status = result;
     }) }
 {
-    let ending = answer_words(alloc, words, shelf, monitors);
-    finish(out, ending)
+    serve_words(alloc, words, shelf, out, monitors)
 }

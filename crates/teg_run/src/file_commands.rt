@@ -2,13 +2,14 @@
 ghost use Rattle.std.specs.Prelude.{◌≡◌, map};
 ghost use Rattle.teg_commands.specs.Outcomes.{Tells, outcome_of};
 ghost use Rattle.teg_run.specs.Meanings.{file_command_asked};
+ghost use Rattle.teg_run.specs.Ranges.{IsFilesInRange};
 ghost use Rattle.teg_run.specs.Requests.{second_of};
 ghost use Rattle.teg_run.specs.Says.{SaysFiles};
 
 use crate::request::FileCommand;
 use crate::second_file::FileBytes;
 use std::alloc::Global;
-use teg_commands::{LiveNet, Outcome, tell_jit, tell_replay};
+use teg_commands::{LiveNet, Outcome, tell_forever, tell_jit, tell_replay, tell_timetable};
 use teg_net::OutOfMemory;
 use teg_outside::Monitor;
 use teg_report::Which;
@@ -20,6 +21,8 @@ pub fn second_of(command: FileCommand) -> Which
     match command {
         FileCommand::Jit => Which::Due,
         FileCommand::Replay => Which::Log,
+        FileCommand::Forever => Which::Due,
+        FileCommand::Timetable { .. } => Which::Timetable,
     }
 }
 
@@ -32,10 +35,15 @@ pub fn of_files(
     file: &FileBytes,
     monitors: Vec<Box<dyn Monitor>>,
 ) -> Result<Outcome, OutOfMemory>
+    requires { IsFilesInRange (file_command_asked command) }
     ensures { Tells (SaysFiles (file_command_asked command) (λ firings. map (λ m. line_text m firings) monitors.items) net.now file.now) (outcome_of result) }
 {
     match command {
         FileCommand::Jit => tell_jit(alloc, net, file.as_slice()),
         FileCommand::Replay => tell_replay(alloc, net, file.as_slice(), monitors),
+        FileCommand::Forever => tell_forever(alloc, net, file.as_slice()),
+        FileCommand::Timetable { period, limit } => {
+            tell_timetable(alloc, net, period, file.as_slice(), limit)
+        }
     }
 }

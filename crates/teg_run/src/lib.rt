@@ -14,6 +14,7 @@ mod carry_out;
 mod ending;
 mod fetching;
 mod file_commands;
+mod listing;
 mod net_commands;
 mod net_file;
 mod opening;

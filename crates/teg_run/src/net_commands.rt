@@ -1,4 +1,4 @@
-//! The commands on a net.
+//! The commands on a net, but for the list of dates, which is written as it is made.
 ghost use Rattle.teg_commands.specs.Outcomes.{Tells, outcome_of};
 ghost use Rattle.teg_run.specs.Meanings.{command_asked};
 ghost use Rattle.teg_run.specs.Ranges.{IsInRange};
@@ -7,7 +7,7 @@ ghost use Rattle.teg_run.specs.Says.{SaysNet};
 use crate::request::NetCommand;
 use std::alloc::Global;
 use teg_commands::{
-    LiveNet, Outcome, tell_cycle, tell_date, tell_dates, tell_form, tell_migrated, tell_rounds,
+    LiveNet, Outcome, tell_bound, tell_cycle, tell_date, tell_form, tell_migrated, tell_rounds,
     tell_settled, tell_size, tell_sizing, tell_slack, tell_transfer,
 };
 use teg_net::OutOfMemory;
@@ -19,7 +19,6 @@ pub fn of_net(alloc: Global, command: NetCommand<'_>, net: &LiveNet) -> Result<O
 {
     match command {
         NetCommand::Check => tell_size(alloc, net),
-        NetCommand::List { count } => tell_dates(alloc, net, count),
         NetCommand::Form => tell_form(alloc, net),
         NetCommand::Cycle { rounds: false } => tell_cycle(alloc, net),
         NetCommand::Cycle { rounds: true } => tell_rounds(alloc, net),
@@ -33,5 +32,6 @@ pub fn of_net(alloc: Global, command: NetCommand<'_>, net: &LiveNet) -> Result<O
         NetCommand::Transfer { limit } => tell_transfer(alloc, net, limit),
         NetCommand::Migrate => tell_migrated(alloc, net),
         NetCommand::Size { word, time, tokens } => tell_sizing(alloc, net, word, time, tokens),
+        NetCommand::Bound => tell_bound(alloc, net),
     }
 }

@@ -6,10 +6,11 @@ ghost use Rattle.teg_words.specs.Numbers.{number_of};
 ghost use Rattle.teg_dates.specs.Tables.{most_numbers};
 ghost use Rattle.teg_net.specs.Limits.{greatest_number};
 ghost use Rattle.teg_settle.specs.Refusals.{greatest_limit};
+ghost use Rattle.teg_timetable.specs.Spreads.{greatest_period};
 ghost use Rattle.teg_run.specs.Limits.{most_machines};
-ghost use Rattle.teg_run.specs.Requests.{asked_for, calc_asked, check_asked, cycle_asked, date_asked, dates_asked, form_asked, jit_asked, limit_asked, list_asked, migrate_asked, number_limit, replay_asked, request_of, size_asked, slack_asked, target_asked, transfer_asked, trial_asked};
+ghost use Rattle.teg_run.specs.Requests.{asked_for, bound_asked, calc_asked, check_asked, cycle_asked, date_asked, dates_asked, forever_asked, form_asked, jit_asked, limit_asked, list_asked, migrate_asked, number_limit, replay_asked, request_of, size_asked, slack_asked, target_asked, timetable_asked, transfer_asked, trial_asked};
 ghost use Rattle.teg_run.specs.Meanings.{asked};
-ghost use Rattle.teg_run.specs.Ranges.{IsFiringNumber, IsLimit, IsMachines, IsRequestInRange, IsTargetInRange};
+ghost use Rattle.teg_run.specs.Ranges.{IsFiringNumber, IsLimit, IsMachines, IsPeriod, IsRequestInRange, IsTargetInRange};
 
 use std::alloc::Global;
 use teg_net::OutOfMemory;
@@ -32,6 +33,9 @@ const GREATEST_LIMIT: u64 = 200_000;
 
 const USUAL_LIMIT: u32 = 20_000;
 
+// The greatest period of a timetable.
+const GREATEST_PERIOD: u64 = 1_000_000;
+
 // The greatest time of a target ratio.
 const GREATEST_TIME: u64 = 1_000_000_000_000;
 
@@ -43,10 +47,6 @@ const MOST_TOKENS: u64 = 1_000_000;
 pub enum NetCommand<'a> {
     /// Whether the net is live, and its size.
     Check,
-    /// The dates of the firings of the numbers from 1 to this one, which is at most 10,000.
-    List {
-        count: u32,
-    },
     /// The standard form.
     Form,
     /// The cycle times, with the rounds of policy iteration or without.
@@ -79,6 +79,8 @@ pub enum NetCommand<'a> {
         time: u64,
         tokens: u64,
     },
+    /// How soon the dates become periodic.
+    Bound,
 }
 
 /// A command that reads a net and a second file.
@@ -88,6 +90,11 @@ pub enum FileCommand {
     Jit,
     /// How a log is replayed.
     Replay,
+    /// The latest inputs that meet the due dates without end of a due file.
+    Forever,
+    /// How the delays of a timetable spread that departs again after this period, from 1 to 10^6; by a
+    /// settled form of at most this length where there is a limit.
+    Timetable { period: u64, limit: Option<u32> },
 }
 
 /// What the words ask for.
@@ -103,6 +110,12 @@ pub enum Request<'a> {
         command: FileCommand,
         net: &'a str,
         second: &'a str,
+    },
+    /// The dates of the firings of the numbers from 1 to this one, which is at most 10,000, of the net
+    /// in the file of this name.
+    ListOf {
+        count: u32,
+        net: &'a str,
     },
     /// The value of this expression, which has at most 4,096 bytes.
     ValueOf {
@@ -145,10 +158,7 @@ fn list_asked<'a>(rest: &[&'a str], limit: Option<&'a str>, rounds: bool) -> Opt
     match (rest, limit, rounds) {
         ([net, word], None, false) => {
             let count = count(word)?;
-            Some(Request::OfNet {
-                command: NetCommand::List { count },
-                net,
-            })
+            Some(Request::ListOf { count, net })
         }
         _ => None,
     }
@@ -216,6 +226,14 @@ fn firing(word: &str) -> Option<u64>
     ensures in_range { IfSome result IsFiringNumber }
 {
     number(word, 1, GREATEST_NUMBER)
+}
+
+// The period of a timetable.
+fn period(word: &str) -> Option<u64>
+    ensures value { result ≡ number_of 1 greatest_period word.now }
+    ensures in_range { IfSome result IsPeriod }
+{
+    number(word, 1, GREATEST_PERIOD)
 }
 
 // How many machines a line has.
@@ -327,6 +345,44 @@ fn replay_asked<'a>(rest: &[&'a str], limit: Option<&'a str>, rounds: bool) -> O
     }
 }
 
+// `forever NET DUE`
+fn forever_asked<'a>(rest: &[&'a str], limit: Option<&'a str>, rounds: bool) -> Option<Request<'a>>
+    ensures value { option_map asked result ≡ forever_asked (texts rest.now) (option_copied limit.entry) rounds }
+    ensures in_range { IfSome (option_map asked result) IsRequestInRange }
+{
+    match (rest, limit, rounds) {
+        ([net, second], None, false) => Some(Request::OfFiles {
+            command: FileCommand::Forever,
+            net,
+            second,
+        }),
+        _ => None,
+    }
+}
+
+// `timetable NET A FILE`, and perhaps `--limit N` or `--limit none`
+fn timetable_asked<'a>(
+    rest: &[&'a str],
+    limit: Option<&'a str>,
+    rounds: bool,
+) -> Option<Request<'a>>
+    ensures value { option_map asked result ≡ timetable_asked (texts rest.now) (option_copied limit.entry) rounds }
+    ensures in_range { IfSome (option_map asked result) IsRequestInRange }
+{
+    match (rest, rounds) {
+        ([net, word, second], false) => {
+            let limit = limit_asked(limit)?;
+            let period = period(word)?;
+            Some(Request::OfFiles {
+                command: FileCommand::Timetable { period, limit },
+                net,
+                second,
+            })
+        }
+        _ => None,
+    }
+}
+
 // `trial N`
 fn trial_asked<'a>(rest: &[&'a str], limit: Option<&'a str>, rounds: bool) -> Option<Request<'a>>
     ensures value { option_map asked result ≡ trial_asked (texts rest.now) (option_copied limit.entry) rounds }
@@ -383,6 +439,20 @@ fn size_asked<'a>(rest: &[&'a str], limit: Option<&'a str>, rounds: bool) -> Opt
     }
 }
 
+// `bound NET`
+fn bound_asked<'a>(rest: &[&'a str], limit: Option<&'a str>, rounds: bool) -> Option<Request<'a>>
+    ensures value { option_map asked result ≡ bound_asked (texts rest.now) (option_copied limit.entry) rounds }
+    ensures in_range { IfSome (option_map asked result) IsRequestInRange }
+{
+    match (rest, limit, rounds) {
+        ([net], None, false) => Some(Request::OfNet {
+            command: NetCommand::Bound,
+            net,
+        }),
+        _ => None,
+    }
+}
+
 // `calc EXPR`
 fn calc_asked<'a>(rest: &[&'a str], limit: Option<&'a str>, rounds: bool) -> Option<Request<'a>>
     ensures value { option_map asked result ≡ calc_asked (texts rest.now) (option_copied limit.entry) rounds }
@@ -421,6 +491,9 @@ fn asked_for<'a>(given: &GivenWords<'a>) -> Option<Request<'a>>
         "trial" => trial_asked(rest, given.limit, given.rounds),
         "migrate" => migrate_asked(rest, given.limit, given.rounds),
         "size" => size_asked(rest, given.limit, given.rounds),
+        "bound" => bound_asked(rest, given.limit, given.rounds),
+        "forever" => forever_asked(rest, given.limit, given.rounds),
+        "timetable" => timetable_asked(rest, given.limit, given.rounds),
         _ => None,
     }
 }

@@ -15,11 +15,11 @@ pub enum Status {
     Text,
     /// The net file says no net, or a net that is not live.
     Net,
-    /// The due file has a faulty row.
+    /// The due file or the timetable has a faulty row, or the timetable does not fit the net.
     Schedule,
     /// A due date cannot be met.
     Late,
-    /// The dates settle later than the limit allows.
+    /// Dates settle later, or a series is longer, than is allowed.
     TooLong,
     /// The log has a faulty row, or one that the net does not allow.
     Log,

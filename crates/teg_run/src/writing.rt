@@ -9,8 +9,8 @@ use crate::ending::Ending;
 use crate::status::Status;
 use teg_outside::{Sink, SinkFault};
 
-// Writes a text in pieces, until the sink has taken all of it. Each turn takes at least one byte.
-fn write_all<W: Sink>(out: &mut W, text: &[u8]) -> Result<(), SinkFault>
+/// Writes a text in pieces, until the sink has taken all of it. Each turn takes at least one byte.
+pub fn write_all<W: Sink>(out: &mut W, text: &[u8]) -> Result<(), SinkFault>
     ensures { WritesText (W.state out.old) (W.state out.new) text.now result }
 {
     let mut written = 0;

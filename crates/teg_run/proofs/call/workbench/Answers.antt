@@ -2,4 +2,4 @@ use Rattle.teg_run.proofs.Promises.{keeps_promises}
 use Rattle.teg_run.proofs.call.workbench.Goals as goal
 
 pub returns : goal.returns
-returns g c = keeps_promises _ (_, c.answer_words-ending.ensures, c.finish.ensures)
+returns g c = keeps_promises _ c.serve_words.ensures

@@ -1,0 +1,36 @@
+-- A list of dates that is written as its rows are made.
+use Rattle.std.specs.Prelude.{ℕ, ◌≡◌, ◌+◌, ◌*◌, ◌≤◌, ◌<◌, ◌++◌, List, [], length, take, Result, Ok, Err}
+use Rattle.std.specs.List.{flat_map, range_with_len}
+use Rattle.dioid.specs.declared.dates.Date.{Date}
+use Rattle.teg_dates.specs.Streams.{HasLeast, IsStreamOf}
+use Rattle.teg_net.specs.Nets.{NetLists}
+use Rattle.teg_outside.specs.declared.sink.SinkFault.{SinkFault}
+use Rattle.teg_outside.specs.declared.sink.SinkFault.TheVariants.{Failed}
+use Rattle.teg_outside.specs.Sinks.{SinkState}
+use Rattle.teg_report.specs.Lists.{head_text, number_line}
+use Rattle.teg_text.specs.Lines.{line_then}
+use Rattle.teg_run.specs.declared.listing.Listing.{Listing}
+use Rattle.teg_run.specs.Writing.{WritesText}
+
+-- from so many bytes on the rows that were made are written
+abbrev pub piece : ℕ
+piece = 65536
+
+-- the lines of the numbers 1 to count
+abbrev pub lines_text : NetLists → (ℕ → ℕ → Date) → ℕ → List ℕ
+lines_text net x count = flat_map (λ k. line_then (number_line (length net.transitions) x k) []) (range_with_len 1 count)
+
+-- the head is that of the list, the stream is before its first row, and there is room for a row behind less than a piece
+pub record IsListingOf (net : NetLists) (count : ℕ) (listing : Listing) : Type 0 where
+  pub head : listing.head.items ≡ head_text net count
+  pub stands : IsStreamOf net listing.stream
+  pub begins : listing.stream.last.number ≡ 0
+  pub row : length listing.row.items ≡ length net.transitions
+  pub block : length listing.block.items ≡ piece + (length net.transitions + 1) * 41
+  pub exists : HasLeast net
+
+-- a first part of what is gathered was written, or none of it, and less than a piece is left; or a fault came first
+abbrev pub WritesFull : SinkState → SinkState → List ℕ → ℕ → Result ℕ SinkFault → Type 0
+WritesFull old new block filled (Ok left) =
+    (left < piece) × (left ≤ length block) × ((text : List ℕ) × WritesText old new text (Ok tt) × (text ++ take left block ≡ take filled block))
+WritesFull old new block filled (Err Failed) = WritesText old new (take filled block) (Err Failed)

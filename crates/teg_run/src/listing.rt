@@ -1,0 +1,132 @@
+//! A list of dates, written as its rows are made: neither its dates nor its text are ever whole.
+ghost use Rattle.std.specs.Prelude.{ℕ, ◌≡◌, ◌+◌, ◌*◌, ◌≤◌, length, IfOk};
+ghost use Rattle.dioid.specs.declared.dates.Date.{Date};
+ghost use Rattle.teg_model.specs.Datings.{IsLeastDating};
+ghost use Rattle.teg_outside.specs.Sinks.{SinkState};
+ghost use Rattle.teg_dates.specs.Streams.{IsStreamOf};
+ghost use Rattle.teg_dates.specs.Tables.{most_numbers};
+ghost use Rattle.teg_commands.specs.Sizes.{SaysList};
+ghost use Rattle.teg_commands.specs.Texts.{list_text};
+ghost use Rattle.teg_run.specs.Lists.{IsListingOf, WritesFull, lines_text};
+ghost use Rattle.teg_run.specs.Runs.{WritesOutcome};
+ghost use Rattle.teg_run.specs.Writing.{WritesText};
+
+use crate::status::Status;
+use crate::writing::write_all;
+use dioid::Date;
+use std::alloc::Global;
+use teg_commands::LiveNet;
+use teg_dates::Stream;
+use teg_net::{Net, OutOfMemory};
+use teg_outside::{Sink, SinkFault};
+use teg_report::{list_head, put_row, room_of_row};
+
+// From so many bytes on the rows that were made are written.
+const PIECE: usize = 65_536;
+
+// All that a list needs before its first byte is written: its head, and room for what comes next.
+#[derive(Drop)]
+struct Listing {
+    head: Vec<u8>,
+    stream: Stream,
+    row: Vec<Date>,
+    block: Vec<u8>,
+}
+
+impl Listing {
+    // The listing of so many numbers of the net.
+    fn new(alloc: Global, net: &LiveNet, count: u32) -> Result<Listing, OutOfMemory>
+        ensures { IfOk result (IsListingOf net.now count) }
+    {
+        let stream = net.stream(alloc)?;
+        let net = net.net();
+        let width = net.transitions().len();
+        let head = list_head(alloc, net, count)?;
+        let row = vec![in alloc; Date::Early; width]?;
+        let block = vec![in alloc; 0u8; PIECE + room_of_row(width)]?;
+        Ok(Listing {
+            head,
+            stream,
+            row,
+            block,
+        })
+    }
+}
+
+// Writes what is gathered where that is enough for a piece, and answers how much of the block is
+// still to be written.
+fn write_full<W: Sink>(out: &mut W, block: &[u8], filled: usize) -> Result<usize, SinkFault>
+    requires { filled ≤ length block.now }
+    ensures { WritesFull (W.state out.old) (W.state out.new) block.now filled result }
+{
+    if filled < PIECE {
+        return Ok(filled);
+    }
+    write_all(out, &block[..filled])?;
+    Ok(0)
+}
+
+// Writes the lines of the numbers 1 to `count`, gathered into pieces.
+fn write_rows<W: Sink>(
+    net: &Net,
+    stream: &mut Stream,
+    row: &mut [Date],
+    block: &mut [u8],
+    count: u32,
+    out: &mut W,
+) -> Result<(), SinkFault>
+    requires few { count ≤ most_numbers }
+    requires stands { IsStreamOf net.now stream.old }
+    requires begins { stream.old.last.number ≡ 0 }
+    requires row { length row.old ≡ length net.now.transitions }
+    requires room { length block.old ≡ PIECE + (length net.now.transitions + 1) * 41 }
+    ensures { (x : ℕ → ℕ → Date) → IsLeastDating net.now x →
+        WritesText (W.state out.old) (W.state out.new) (lines_text net.now x count) result }
+{
+    let mut filled = 0;
+    for number in 0..count {
+        stream.next_of_live(net, row);
+        let end = put_row(block, filled, number as u64 + 1, row);
+        filled = write_full(out, block, end)?;
+    }
+    write_all(out, &block[..filled])
+}
+
+// Writes the head and then the lines.
+fn write_listing<W: Sink>(
+    net: &Net,
+    listing: Listing,
+    count: u32,
+    out: &mut W,
+) -> Result<(), SinkFault>
+    requires few { count ≤ most_numbers }
+    requires listing { IsListingOf net.now count listing }
+    ensures { (x : ℕ → ℕ → Date) → IsLeastDating net.now x →
+        WritesText (W.state out.old) (W.state out.new) (list_text net.now x count) result }
+{
+    let Listing {
+        head,
+        mut stream,
+        mut row,
+        mut block,
+    } = listing;
+    write_all(out, &head)?;
+    write_rows(net, &mut stream, &mut row, &mut block, count, out)
+}
+
+/// Writes the first dates of a live net, and tells how the call ends. All memory is found before the
+/// first byte is written, as much for every number of dates, and rows are gathered into pieces of at
+/// least 64 KiB but for the last. It takes time of order `count (n + p)` for n transitions and p
+/// places.
+pub fn write_list<W: Sink>(alloc: Global, net: &LiveNet, count: u32, out: &mut W) -> Status
+    requires { count ≤ most_numbers }
+    ensures { WritesOutcome (SaysList count net.now) (W.state out.old) (W.state out.new) result }
+{
+    match Listing::new(alloc, net, count) {
+        Ok(listing) => match write_listing(net.net(), listing, count, out) {
+            Ok(()) => Status::Done,
+            Err(SinkFault::Failed) => Status::WriteFault,
+        },
+        Err(_) => Status::NoMemory,
+    }
+}
