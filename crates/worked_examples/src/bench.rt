@@ -7,9 +7,13 @@ use teg_run::{Status, workbench};
 /// A case: the words, what the file named `net` holds, how the call ends, and what it writes.
 pub type Row<'a> = (&'a [&'a str], &'a str, Status, &'a str);
 
+/// A case of two files: the words, what the files named `net` and `second` hold, how the call ends,
+/// and what it writes.
+pub type RowOfTwo<'a> = (&'a [&'a str], &'a str, &'a str, Status, &'a str);
+
 /// How the commands are used.
 pub const USAGE: &str =
-    "usage: teg check NET\n       teg list NET K\n       teg form NET\n       teg cycle NET [--rounds]\n       teg dates NET [--limit N|none]\n       teg date NET TRANSITION K [--limit N|none]\n       teg jit NET DUE\n       teg calc EXPR\n       teg replay NET LOG\n       teg slack NET\n       teg transfer NET [--limit N]\n       teg trial N\n       teg migrate NET\n       teg size NET PLACE A/B\n";
+    "usage: teg check NET\n       teg list NET K\n       teg form NET\n       teg cycle NET [--rounds]\n       teg dates NET [--limit N|none]\n       teg date NET TRANSITION K [--limit N|none]\n       teg jit NET DUE\n       teg calc EXPR\n       teg replay NET LOG\n       teg slack NET\n       teg transfer NET [--limit N]\n       teg trial N\n       teg migrate NET\n       teg forever NET DUE\n       teg size NET PLACE A/B\n       teg timetable NET A FILE [--limit N|none]\n       teg bound NET\n";
 
 /// A shelf with two files, named `net` and `second`, whose reads with these numbers fail.
 pub fn two_files(
@@ -64,6 +68,16 @@ pub fn answers(
     text: &str,
 ) -> Result<bool, Fail> {
     let mut shelf = shelf_of(alloc, net, Vec::new(alloc))?;
+    let mut out = sink_of(alloc, 65536)?;
+    let ended = call(alloc, words, &mut shelf, &mut out, Vec::new(alloc))?;
+    Ok(ended == status && out.contents() == text.as_bytes())
+}
+
+/// Whether a call with the words of the case on its two files ends as it says and writes just its
+/// text.
+pub fn both_answer(alloc: Global, row: &RowOfTwo<'_>) -> Result<bool, Fail> {
+    let (words, net, second, status, text) = *row;
+    let mut shelf = two_files(alloc, net, second, Vec::new(alloc))?;
     let mut out = sink_of(alloc, 65536)?;
     let ended = call(alloc, words, &mut shelf, &mut out, Vec::new(alloc))?;
     Ok(ended == status && out.contents() == text.as_bytes())

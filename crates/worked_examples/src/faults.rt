@@ -88,3 +88,20 @@ fn a_write_that_fails_leaves_a_first_part(rt: HostRuntime) -> Result<(), Fail> {
     assert!(rt; narrow.contents() == b"live\ntrans".as_slice());
     Ok(())
 }
+
+// A list is written as it is made: its head, then its rows.
+#[test]
+fn a_cut_list_is_a_first_part(rt: HostRuntime) -> Result<(), Fail> {
+    let alloc = rt.alloc();
+    let whole = "dates of 3 firings\ntransition a b\n1 0 3\n2 5 8\n3 10 13\n";
+    for failing in 1..15u64 {
+        let mut shelf = shelf_of(alloc, LOOP.as_bytes(), Vec::new(alloc))?;
+        let mut out = MemorySink::new(alloc, 4, 65536, vec![in alloc; failing]?)?;
+        let words = ["list", "net", "3"];
+        let ended = call(alloc, &words, &mut shelf, &mut out, Vec::new(alloc))?;
+        assert_eq!(rt; ended, Status::WriteFault);
+        assert!(rt; out.contents().len() as u64 <= 4 * (failing - 1));
+        assert!(rt; whole.as_bytes().starts_with(out.contents()));
+    }
+    Ok(())
+}

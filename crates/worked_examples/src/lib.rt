@@ -8,6 +8,14 @@
 #[cfg(test)]
 mod bench;
 #[cfg(test)]
+mod cut_files;
+#[cfg(test)]
+mod delayed_timetables;
+#[cfg(test)]
+mod endless_dues;
+#[cfg(test)]
+mod failing_calls;
+#[cfg(test)]
 mod faults;
 #[cfg(test)]
 mod further_tokens;
@@ -15,6 +23,8 @@ mod further_tokens;
 mod limits;
 #[cfg(test)]
 mod migrations;
+#[cfg(test)]
+mod monitor_mixes;
 #[cfg(test)]
 mod monitors;
 #[cfg(test)]
@@ -27,5 +37,7 @@ mod rows;
 mod second_files;
 #[cfg(test)]
 mod settled_rows;
+#[cfg(test)]
+mod settling_bounds;
 #[cfg(test)]
 mod slack_rows;

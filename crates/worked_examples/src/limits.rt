@@ -8,9 +8,9 @@ use teg_run::Status;
 
 const MOST_BYTES: usize = 4_194_304;
 
-// The file of so many transitions in a ring with ten places from each to the next, those from the
-// last to the first with a token.
-fn ring(alloc: Global, transitions: u16) -> Result<String, Fail> {
+/// The file of so many transitions in a ring with ten places from each to the next, those from the
+/// last to the first with a token.
+pub fn ring(alloc: Global, transitions: u16) -> Result<String, Fail> {
     let count = u32::from(transitions.max(1));
     let mut text = String::new(alloc);
     for i in 0..count {

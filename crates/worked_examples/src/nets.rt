@@ -55,6 +55,14 @@ pub const LATE_TAKEOVER: &str =
 pub const DRIVEN: &str =
     "[[transition]]\nname = \"u\"\nrole = \"input\"\n\n[[transition]]\nname = \"a\"\n\n[[transition]]\nname = \"y\"\nrole = \"output\"\n\n[[place]]\nname = \"ua\"\nfrom = \"u\"\nto = \"a\"\nhold = 2\n\n[[place]]\nname = \"aa\"\nfrom = \"a\"\nto = \"a\"\nhold = 3\ntokens = 1\n\n[[place]]\nname = \"ay\"\nfrom = \"a\"\nto = \"y\"\nhold = 1\n";
 
+/// The net in which d takes over at number 250,001, with an input u before a and d.
+pub const DRIVEN_TAKEOVER: &str =
+    "[[transition]]\nname = \"u\"\nrole = \"input\"\n\n[[transition]]\nname = \"a\"\n\n[[transition]]\nname = \"d\"\n\n[[transition]]\nname = \"c\"\n\n[[place]]\nname = \"ua\"\nfrom = \"u\"\nto = \"a\"\n\n[[place]]\nname = \"ud\"\nfrom = \"u\"\nto = \"d\"\n\n[[place]]\nname = \"aa\"\nfrom = \"a\"\nto = \"a\"\nhold = 10\ntokens = 1\n\n[[place]]\nname = \"dd\"\nfrom = \"d\"\nto = \"d\"\nhold = 11\ntokens = 1\n\n[[place]]\nname = \"ac\"\nfrom = \"a\"\nto = \"c\"\nhold = 250000\n\n[[place]]\nname = \"dc\"\nfrom = \"d\"\nto = \"c\"\n";
+
+/// An input u, and a transition a with a place of its own of 1,000 tokens.
+pub const MANY_TOKENS: &str =
+    "[[transition]]\nname = \"u\"\nrole = \"input\"\n\n[[transition]]\nname = \"a\"\n\n[[place]]\nname = \"ua\"\nfrom = \"u\"\nto = \"a\"\n\n[[place]]\nname = \"aa\"\nfrom = \"a\"\nto = \"a\"\nhold = 1\ntokens = 1000\n";
+
 /// The loop of two transitions with two tokens, an input to b and an output from b.
 pub const LOOP_BESIDE: &str =
     "[[transition]]\nname = \"a\"\n\n[[transition]]\nname = \"b\"\n\n[[transition]]\nname = \"u\"\nrole = \"input\"\n\n[[transition]]\nname = \"y\"\nrole = \"output\"\n\n[[place]]\nname = \"ab\"\nfrom = \"a\"\nto = \"b\"\nhold = 3\n\n[[place]]\nname = \"ba\"\nfrom = \"b\"\nto = \"a\"\nhold = 2\ntokens = 2\n\n[[place]]\nname = \"ub\"\nfrom = \"u\"\nto = \"b\"\n\n[[place]]\nname = \"by\"\nfrom = \"b\"\nto = \"y\"\n";
@@ -62,6 +70,14 @@ pub const LOOP_BESIDE: &str =
 /// The loop of two transitions, whose token is ready at 4.
 pub const READY_LOOP: &str =
     "[[transition]]\nname = \"a\"\n\n[[transition]]\nname = \"b\"\n\n[[place]]\nname = \"ab\"\nfrom = \"a\"\nto = \"b\"\nhold = 3\n\n[[place]]\nname = \"ba\"\nfrom = \"b\"\nto = \"a\"\nhold = 2\ntokens = 1\nready = [4]\n";
+
+/// The loop of two transitions, whose token is ready at 0, which is said.
+pub const SAID_READY_LOOP: &str =
+    "[[transition]]\nname = \"a\"\n\n[[transition]]\nname = \"b\"\n\n[[place]]\nname = \"ab\"\nfrom = \"a\"\nto = \"b\"\nhold = 3\n\n[[place]]\nname = \"ba\"\nfrom = \"b\"\nto = \"a\"\nhold = 2\ntokens = 1\nready = [0]\n";
+
+/// The loop of two transitions, in which nothing takes time.
+pub const STILL_LOOP: &str =
+    "[[transition]]\nname = \"a\"\n\n[[transition]]\nname = \"b\"\n\n[[place]]\nname = \"ab\"\nfrom = \"a\"\nto = \"b\"\nhold = 0\n\n[[place]]\nname = \"ba\"\nfrom = \"b\"\nto = \"a\"\nhold = 0\ntokens = 1\n";
 
 /// The loop of two transitions, and a place of hold 4 from a to itself.
 pub const LOOP_AND_OWN: &str =

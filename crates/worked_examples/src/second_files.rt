@@ -1,6 +1,6 @@
 //! Cases of due files and of logs, worked out by hand, as two tables, and logs whose monitors or
 //! whose sink fail.
-use crate::bench::{call, sink_of, two_files};
+use crate::bench::{RowOfTwo, call, sink_of, two_files};
 use crate::nets::{
     DEAD_LOOP, DRIVEN, DRIVEN_BESIDE, ENDED_LIST, LOOP, READY_DRIVEN, READY_LOOP, TWO_LOOPS,
 };
@@ -8,9 +8,6 @@ use std::alloc::Global;
 use std::test::Fail;
 use teg_outside::{FiringCount, HighWater, Lateness, MemorySink, Monitor, NoLine};
 use teg_run::Status;
-
-/// A case: the words, what the files `net` and `second` hold, how the call ends, and what it writes.
-type RowOfTwo<'a> = (&'a [&'a str], &'a str, &'a str, Status, &'a str);
 
 const DUE_FILES: [RowOfTwo<'static>; 16] = [
     (
