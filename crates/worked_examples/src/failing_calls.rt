@@ -42,15 +42,10 @@ const READS: [(&[&str], u64, Status, &str); 8] = [
     ),
 ];
 
-/// Texts of each kind: an answer, a list, a replay, a refusal, a fault.
-const WHOLE: [Whole<'static>; 5] = [
+/// Texts of each kind that is whole before its first byte is written: an answer, a replay, a refusal,
+/// a fault.
+const WHOLE: [Whole<'static>; 4] = [
     (&["check", "net"], LOOP, Status::Done, LIVE),
-    (
-        &["list", "net", "3"],
-        LOOP,
-        Status::Done,
-        "dates of 3 firings\ntransition a b\n1 0 3\n2 5 8\n3 10 13\n",
-    ),
     (
         &["replay", "net", "second"],
         LOOP,
