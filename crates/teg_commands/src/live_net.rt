@@ -2,7 +2,7 @@
 ghost use Rattle.std.specs.Prelude.{◌≡◌, ◌≤◌, ◌<◌, length, IfErr, IfOk, IfSome};
 ghost use Rattle.teg_due.specs.Rules.{IsDueOf};
 ghost use Rattle.teg_check.specs.Ranks.{IsRanking};
-ghost use Rattle.teg_dates.specs.Streams.{HasLeast, IsStreamOf};
+ghost use Rattle.teg_dates.specs.Streams.{AreFirstRowsOf, HasLeast};
 ghost use Rattle.teg_dates.specs.Tables.{most_numbers, HasLeastDates};
 ghost use Rattle.forever_laws.specs.Rows.{IsEndlessOf};
 ghost use Rattle.teg_forever.specs.Releases.{AreReleases, ForeverRefused};
@@ -40,7 +40,7 @@ use teg_bound::{BoundAnswer, settling_bound};
 use teg_check::{Live, ranked_nets_are_live};
 use teg_critical::{Slacks, critical};
 use teg_cycle::cycle;
-use teg_dates::{Stream, Table, first_dates};
+use teg_dates::{FirstRows, Table, first_dates};
 use teg_due::Due;
 use teg_forever::{EndlessRow, ForeverRefusal, Release, forever};
 use teg_form::{Form, standard_form};
@@ -96,13 +96,13 @@ impl LiveNet {
         first_dates(alloc, &self.net, &self.live, count)
     }
 
-    /// The rows of the least dates, one number after another.
-    pub fn stream(&self, alloc: Global) -> Result<Stream, OutOfMemory>
-        ensures stands { IfOk result (IsStreamOf self.now) }
-        ensures number { IfOk result (λ stream. stream.last.number ≡ 0) }
+    /// The rows of the least dates of the numbers 1 to 10,000, one number after another.
+    pub fn first_rows(&self, alloc: Global) -> Result<FirstRows, OutOfMemory>
+        ensures stands { IfOk result (AreFirstRowsOf self.now) }
+        ensures number { IfOk result (λ rows. rows.window.number ≡ 0) }
         ensures exists { IfOk result (λ _. HasLeast self.now) }
     {
-        Stream::of_live(alloc, &self.net, &self.live)
+        FirstRows::new(alloc, &self.net, &self.live)
     }
 
     /// The standard form.

@@ -13,8 +13,11 @@ use Rattle.teg_model.proofs.GreatestWalks.{least_is_walk}
 use Rattle.teg_model.proofs.Within.{within_more, least_in_within, net_is_bounded}
 use Rattle.teg_model.proofs.ListDates.{first_bound, listed_within}
 use Rattle.teg_check.specs.Ranks.{IsRanking}
-use Rattle.teg_dates.specs.Tables.{TableDates, HasDatesOf, HasDatesOfWalks}
-use Rattle.teg_dates.specs.Rows.{KeepsBounds}
+use Rattle.teg_dates.specs.Tables.{most_numbers, TableDates, HasDatesOf, HasDatesOfWalks}
+use Rattle.teg_dates.specs.declared.order.Turn.{Turn}
+use Rattle.teg_dates.specs.Order.{OrdersPlaces}
+use Rattle.teg_dates.specs.Rows.{KeepsBounds, StaysWithin}
+use Rattle.teg_dates.specs.Streams.{HasLeast}
 use Rattle.teg_dates.proofs.Ranking.{rank_of, ranks_of}
 
 unfoldable pub earliest : System → List ℕ → Dating
@@ -28,25 +31,36 @@ pub earliest_is_least : (net : NetLists) (init : InitialDates) (rel : Dating) (r
 unfolding earliest
 earliest_is_least net init rel ranks ok r = least_over_is_least (system_with net init rel) 400 (rank_of ranks) (extended net ranks ok r)
 
--- its dates fit
-pub earliest_within : (net : NetLists) (init : InitialDates) (rel : Dating) (ranks : List ℕ) → IsNet net → IsRanking net ranks → KeepsBounds (system_with net init rel)
-    → (t k : ℕ) → 1 ≤ k → k ≤ greatest_number → IsWithin (2 ^ 126) (earliest (system_with net init rel) ranks t k)
-earliest_within net init rel ranks ok r b t k o few =
+-- its dates up to a number are at most what the initial dates, the releases and all holds come to
+pub earliest_within : (net : NetLists) (init : InitialDates) (rel : Dating) (ranks : List ℕ) (most n : ℕ) → IsNet net → IsRanking net ranks → StaysWithin most n (system_with net init rel)
+    → (t k : ℕ) → 1 ≤ k → k ≤ n → IsWithin most (earliest (system_with net init rel) ranks t k)
+earliest_within net init rel ranks most n ok r b t k o few =
     let s : System = system_with net init rel in
     let re = extended net ranks ok r in
     let low = re.below t in
-    let first = b.1.grows k greatest_number few in
-    within_more (b.0 k + greatest_hold * (k * 400 + rank_of ranks t)) (2 ^ 126) (earliest s ranks t k) (omega (arith, low, first, b.2, few))
+    let first = b.1.grows k n few in
+    within_more (b.0 k + greatest_hold * (k * 400 + rank_of ranks t)) most (earliest s ranks t k) (omega (arith, low, first, b.2, few))
     (least_in_within s 400 greatest_hold (rank_of ranks) b.0 (earliest s ranks) re b.1 (earliest_is_least net init rel ranks ok r) t k o)
+
+-- dates of sixteen bytes hold what keeps the bounds, at each number
+pub bounds_stay : (s : System) (k : ℕ) → KeepsBounds s → k ≤ greatest_number → StaysWithin (2 ^ 126) k s
+bounds_stay s k b few = (b.0, b.1, omega (arith, b.1.grows k greatest_number few, b.2))
 
 -- the net's own ready dates and lists keep the bounds
 pub net_keeps_bounds : (net : NetLists) → IsNet net → KeepsBounds (system_of net (listed net))
 net_keeps_bounds net ok = (first_bound, net_is_bounded net (listed net) first_bound ok (listed_within net ok), omega arith)
 
+-- and its first numbers need eight bytes
+pub net_stays : (net : NetLists) (k : ℕ) → IsNet net → k ≤ most_numbers → StaysWithin (2 ^ 62) k (system_of net (listed net))
+net_stays net k ok few = (first_bound, net_is_bounded net (listed net) first_bound ok (listed_within net ok), omega (arith, few))
+
 pub earliest_of_net : (net : NetLists) (ranks : List ℕ) → IsNet net → IsRanking net ranks → IsLeastDating net (earliest (system_of net (listed net)) ranks)
 earliest_of_net net ranks ok r =
     let s : System = system_of net (listed net) in
     least_of_system net (listed net) (earliest s ranks) (earliest_is_least net s.initial s.release ranks ok r)
+
+pub ordered_has_least : (net : NetLists) (turns : List Turn) → IsNet net → OrdersPlaces net turns → HasLeast net
+ordered_has_least net turns ok o = (earliest (system_of net (listed net)) o.0, earliest_of_net net o.0 ok o.1)
 
 -- the dates of a table of least dates are those of walks
 pub walks_of_table : (net : NetLists) (ranks : List ℕ) (table : TableDates) → IsNet net → IsRanking net ranks → HasDatesOf net (earliest (system_of net (listed net)) ranks) table → HasDatesOfWalks net table

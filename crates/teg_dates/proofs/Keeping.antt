@@ -6,8 +6,8 @@ use Rattle.dioid.specs.declared.dates.Date.{Date}
 use Rattle.dioid.specs.declared.dates.Date.TheVariants.{Early}
 use Rattle.teg_net.specs.Nets.{NetLists}
 use Rattle.teg_model.specs.Systems.{Dating}
-use Rattle.teg_dates.specs.Passes.{AreRowsBack, IsRowOf}
-use Rattle.teg_dates.specs.Streams.{LastDates, AreLastDates, rows_kept, date_back, with_row}
+use Rattle.teg_dates.specs.Passes.{KeptRows, HaveNext, AreRowsBack, IsRowOf}
+use Rattle.teg_dates.specs.Streams.{LastDates, AreLastDates, rows_kept, date_back, last_rows, with_row}
 use Rattle.teg_dates.proofs.Cells.{rows_below, rows_more, rows_of_more}
 
 -- the dates are those of as many rows as are kept
@@ -53,22 +53,32 @@ back_more last row t b h full l o m =
     let within : length ds - b * w + t < length ds = omega (arith, length-append ds row, length-drop n all, full, kept, more, room, one) in
     get_or-drop n all i Early ∙ (ap (λ z. get_or all z Early) place ∙ get_or_append_left ds row Early (length ds - b * w + t) within)
 
--- the rows with the next one are those of the dating
-pub rows_with_row : (net : NetLists) (x : Dating) (last : LastDates) (row : List Date) → AreLastDates last → last.width ≡ length net.transitions → 1 ≤ last.reach
-    → AreRowsBack net x (last.number + 1) (rows_kept last) (date_back last) → IsRowOf net x (last.number + 1) row
-    → AreRowsBack net x (last.number + 1 + 1) (rows_kept (with_row last row)) (date_back (with_row last row))
-rows_with_row net x last row h w r past is = record {
+-- so the last rows have the new one behind them
+pub last_have_next : (last : LastDates) (row : List Date) → AreLastDates last → length row ≡ last.width → HaveNext (last_rows last) (last_rows (with_row last row)) row
+last_have_next last row h full = record {
+  width = refl;
+  reach = refl;
+  number = refl;
+  there = omega arith;
+  kept = omega arith;
+  last = λ t l o. back_one last row t h full l (omega arith);
+  before = λ t b l o m. back_more last row t b h full l o m;
+}
+
+-- and what has the row of the next number behind it are the rows of the dating up to there
+pub rows_with_row : (net : NetLists) (x : Dating) (old new : KeptRows) (row : List Date) (k : ℕ) → HaveNext old new row → old.width ≡ length net.transitions
+    → AreRowsBack net x k old → IsRowOf net x k row → AreRowsBack net x (k + 1) new
+rows_with_row net x old new row k h w past is = record {
   same = λ t b l o m.
-      let full : length row ≡ last.width = is.full ∙ sym w in
-      let in' : t < last.width = omega arith in
+      let in' : t < old.width = omega arith in
       ⊎_elim
       (λ (q : b < 2).
       let one : b ≡ 1 = omega arith in
-      let at : last.number + 1 + 1 - 1 ≡ last.number + 1 = omega arith in
-      rw (one, at) (back_one last row t h full in' r ∙ is.same t l))
+      let at : k + 1 - 1 ≡ k = omega arith in
+      rw (one, at) (h.last t in' (omega arith) ∙ is.same t l))
       (λ (q : 2 ≤ b).
       let one : (b - 1) + 1 ≡ b = omega arith in
-      let at : last.number + 1 - (b - 1) ≡ last.number + 1 + 1 - b = omega arith in
-      ap (date_back (with_row last row) t) (sym one) ∙ (back_more last row t (b - 1) h full in' (omega arith) (omega arith) ∙ (past.same t (b - 1) l (omega arith) (omega arith) ∙ ap (x t) at)))
+      let at : k - (b - 1) ≡ k + 1 - b = omega arith in
+      ap (new.back t) (sym one) ∙ (h.before t (b - 1) in' (omega arith) (omega arith) ∙ (past.same t (b - 1) l (omega arith) (omega (arith, h.kept)) ∙ ap (x t) at)))
       (cases_lt b 2);
 }

@@ -5,5 +5,7 @@ mod Seeing
 mod Filling
 mod Beginning
 mod Earliest
+mod Bounded
+mod Columns
 mod NextRow
 mod Keeping

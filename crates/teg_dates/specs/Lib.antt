@@ -1,4 +1,6 @@
 pub mod Tables
+pub mod DateCells
+pub mod Windows
 pub mod Order
 pub mod Rows
 pub mod Sources

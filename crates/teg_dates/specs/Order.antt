@@ -1,26 +1,41 @@
--- The places in the order of the ranks of their downstream transitions.
-use Rattle.std.specs.Prelude.{ℕ, ◌<◌, ◌≡◌, List, length, All, Contains, slice_index}
+-- The places in the order of their turns: first those with tokens, then the others by the ranks of their downstream transitions.
+use Rattle.std.specs.Prelude.{ℕ, ◌<◌, ◌≡◌, List, length, All, Contains, slice_index, nat_eq, if◌then◌else◌}
 use Rattle.std.specs.List.Sorted.{IsNonDecreasingBy}
+use Rattle.teg_net.specs.declared.entries.Place.{Place}
 use Rattle.teg_net.specs.Nets.{NetLists}
 use Rattle.teg_net.specs.Circuits.{place_at}
 use Rattle.teg_check.specs.Ranks.{IsRanking}
-use Rattle.teg_dates.specs.declared.order.Ranked.{Ranked}
+use Rattle.teg_dates.specs.declared.order.Turn.{Turn}
 
--- the place is one of the net's, with the rank of its downstream transition
-pub record IsRankedPlace (net : NetLists) (ranks : List ℕ) (o : Ranked) : Type 0 where
+-- the turn of a place: a rank above 0 where it has no tokens, and else 0
+abbrev pub turn_of : List ℕ → Place → ℕ
+turn_of ranks p = if nat_eq p.tokens 0 then slice_index ranks p.to.index else 0
+
+-- the place of this number with its turn
+abbrev pub turn_at : NetLists → List ℕ → ℕ → Turn
+turn_at net ranks q =
+    let p : Place = place_at net (record { index = q }) in
+    record { turn = turn_of ranks p; place = record { index = q }; from = p.from; to = p.to; tokens = p.tokens; hold = p.hold }
+
+-- it has what a pass reads of one of the net's places
+pub record IsTurnOf (net : NetLists) (o : Turn) : Type 0 where
   pub in_range : o.place.index < length net.places
-  pub ranked : o.rank ≡ slice_index ranks (place_at net o.place).to.index
+  pub from : o.from ≡ (place_at net o.place).from
+  pub to : o.to ≡ (place_at net o.place).to
+  pub tokens : o.tokens ≡ (place_at net o.place).tokens
+  pub hold : o.hold ≡ (place_at net o.place).hold
 
--- the place of this number with its rank
-abbrev pub ranked_at : NetLists → List ℕ → ℕ → Ranked
-ranked_at net ranks q = record { rank = slice_index ranks (place_at net (record { index = q })).to.index; place = record { index = q } }
+-- it is one of the net's places, with its turn
+pub record IsRankedPlace (net : NetLists) (ranks : List ℕ) (o : Turn) : Type 0 where
+  pub place : IsTurnOf net o
+  pub turn : o.turn ≡ turn_of ranks (place_at net o.place)
 
--- all places of the net, in the order of their ranks
-pub record IsOrder (net : NetLists) (ranks : List ℕ) (order : List Ranked) : Type 0 where
+-- all places of the net, in the order of their turns
+pub record IsOrder (net : NetLists) (ranks : List ℕ) (order : List Turn) : Type 0 where
   pub known : All (IsRankedPlace net ranks) order
-  pub all : (q : ℕ) → q < length net.places → Contains order (ranked_at net ranks q)
-  pub sorted : IsNonDecreasingBy (λ o. o.rank) order
+  pub all : (q : ℕ) → q < length net.places → Contains order (turn_at net ranks q)
+  pub sorted : IsNonDecreasingBy (λ o. o.turn) order
 
--- all places of the net, in the order of some ranking of it
-abbrev pub OrdersPlaces : NetLists → List Ranked → Type 0
+-- all places of the net, in the order of their turns by some ranking of it
+abbrev pub OrdersPlaces : NetLists → List Turn → Type 0
 OrdersPlaces net order = (ranks : List ℕ) × IsRanking net ranks × IsOrder net ranks order

@@ -1,5 +1,5 @@
 -- Rows of dates, all of them kept, and when they are those of the least dating of a system.
-use Rattle.std.specs.Prelude.{ℕ, ◌*◌, ◌<◌, ◌≤◌, ◌≡◌, ◌^◌, List, length}
+use Rattle.std.specs.Prelude.{ℕ, ◌+◌, ◌*◌, ◌<◌, ◌≤◌, ◌≡◌, ◌^◌, List, length}
 use Rattle.dioid.specs.declared.dates.Date.{Date}
 use Rattle.teg_net.specs.Limits.{most_transitions, greatest_hold, greatest_number}
 use Rattle.teg_net.specs.Nets.{NetLists}
@@ -24,6 +24,10 @@ pub record IsRows (rows : TableDates) : Type 0 where
 -- the initial dates and the releases up to the greatest number are from 0 to the bound, or none
 abbrev pub KeepsBounds : System → Type 0
 KeepsBounds s = (first : ℕ → ℕ) × IsBoundedBy s greatest_hold first × (first greatest_number ≤ greatest_first)
+
+-- with the initial dates and the releases of numbers up to k, all holds up to there come to at most so much
+abbrev pub StaysWithin : ℕ → ℕ → System → Type 0
+StaysWithin most k s = (first : ℕ → ℕ) × IsBoundedBy s greatest_hold first × (first k + greatest_hold * (k * most_transitions + most_transitions) ≤ most)
 
 -- the rows have the width of the net, and the dates of the system's least dating
 pub record AreLeastRows (net : NetLists) (s : System) (rows : TableDates) : Type 0 where

@@ -6,9 +6,10 @@ use Rattle.dioid.specs.declared.dates.Date.TheVariants.{Early}
 use Rattle.teg_net.specs.Nets.{NetLists, IsNet}
 use Rattle.teg_net.specs.Limits.{most_transitions, most_tokens, greatest_number}
 use Rattle.teg_model.specs.Datings.{IsLeastDating, listed, system_of}
-use Rattle.teg_dates.specs.declared.order.Ranked.{Ranked}
+use Rattle.teg_dates.specs.declared.order.Turn.{Turn}
 use Rattle.teg_dates.specs.Order.{OrdersPlaces}
-use Rattle.teg_dates.specs.Passes.{AreLeastRowsBack, IsRowOf}
+use Rattle.teg_dates.specs.Passes.{KeptRows, AreLeastRowsBack, IsRowOf}
+use Rattle.teg_dates.specs.Windows.{WindowCells, window_rows}
 
 -- how many transitions there are, how many rows are kept, how many were given, and the dates of the last of these
 pub record LastDates : Type 0 where
@@ -29,6 +30,10 @@ rows_kept last = min last.number last.reach
 abbrev pub date_back : LastDates → ℕ → ℕ → Date
 date_back last t b = slice_index_or last.dates (length last.dates - b * last.width + t) Early
 
+-- the same, in the words of all that keep rows
+abbrev pub last_rows : LastDates → KeptRows
+last_rows last = record { width = last.width; reach = last.reach; number = last.number; kept = rows_kept last; back = date_back last }
+
 -- there is a date for each transition and row, within the limits
 pub record AreLastDates (last : LastDates) : Type 0 where
   pub width_in : last.width ≤ most_transitions
@@ -36,19 +41,32 @@ pub record AreLastDates (last : LastDates) : Type 0 where
   pub number_in : last.number ≤ greatest_number
   pub full : length last.dates ≡ rows_kept last * last.width
 
--- the places in the order of their ranks, and the last rows
+-- the places in this order and the rows that are kept stand for the net, which keeps its rules: the next row of its least dating can be made of them
+pub record GoesOn (net : NetLists) (turns : List Turn) (rows : KeptRows) : Type 0 where
+  pub rules : IsNet net
+  pub order : OrdersPlaces net turns
+  pub width : rows.width ≡ length net.transitions
+  pub one : 1 ≤ rows.reach
+  pub reach : All (λ p. p.tokens ≤ rows.reach) net.places
+  pub there : min rows.number rows.reach ≤ rows.kept
+  pub least : AreLeastRowsBack net (system_of net (listed net)) (rows.number + 1) rows
+
+-- the places in the order of their turns, and the last rows
 pub record StreamLists : Type 0 where
-  pub order : List Ranked
+  pub order : List Turn
   pub last : LastDates
 
--- the stream stands for the net, which keeps its rules: it goes on with the next row of its least dating
-pub record IsStreamOf (net : NetLists) (stream : StreamLists) : Type 0 where
-  pub rules : IsNet net
-  pub order : OrdersPlaces net stream.order
-  pub width : stream.last.width ≡ length net.transitions
-  pub one : 1 ≤ stream.last.reach
-  pub reach : All (λ p. p.tokens ≤ stream.last.reach) net.places
-  pub least : AreLeastRowsBack net (system_of net (listed net)) (stream.last.number + 1) (rows_kept stream.last) (date_back stream.last)
+-- the stream stands for the net
+abbrev pub IsStreamOf : NetLists → StreamLists → Type 0
+IsStreamOf net stream = GoesOn net stream.order (last_rows stream.last)
+
+-- the same with the last rows in a window
+pub record FirstLists : Type 0 where
+  pub order : List Turn
+  pub window : WindowCells
+
+abbrev pub AreFirstRowsOf : NetLists → FirstLists → Type 0
+AreFirstRowsOf net rows = GoesOn net rows.order (window_rows rows.window)
 
 -- the net has a least dating
 abbrev pub HasLeast : NetLists → Type 0

@@ -1,8 +1,8 @@
 //! The last rows of dates, in a ring.
-ghost use Rattle.std.specs.Prelude.{◌≡◌, ◌<◌, ◌≤◌, [], length, IfOk};
-ghost use Rattle.teg_net.specs.Limits.{most_transitions, most_tokens, greatest_number};
+ghost use Rattle.std.specs.Prelude.{◌≡◌, ◌≤◌, [], IfOk};
+ghost use Rattle.teg_net.specs.Limits.{most_transitions, most_tokens};
 
-use crate::past::Past;
+use crate::past::{Keep, Past};
 use circular_buffer::HeapCircularBuffer;
 use dioid::Date;
 use std::alloc::{AllocError, Global};
@@ -30,8 +30,6 @@ impl Model for LastRows {
 }
 
 impl LastRows {
-    ghost use Rattle.teg_dates.specs.Streams.{AreLastDates, with_row};
-
     /// No rows, and room for as many as `reach`.
     pub(crate) fn new(alloc: Global, width: usize, reach: u64) -> Result<LastRows, AllocError>
         requires width { width ≤ most_transitions }
@@ -46,40 +44,29 @@ impl LastRows {
             cells,
         })
     }
-
-    /// How many rows were given. It takes no memory.
-    pub(crate) fn number(&self) -> u64
-        ensures value { result ≡ self.now.number }
-        ensures limits { AreLastDates self.now }
-    {
-        self.number
-    }
-
-    /// Adds a row behind the others. Where the room is full, the first row goes. It takes no memory.
-    pub(crate) fn push(&mut self, row: &[Date])
-        requires few { self.old.number < greatest_number }
-        requires full { length row.now ≡ self.old.width }
-        ensures { self.new ≡ with_row self.old row.now }
-    {
-        self.cells.extend_from_slice(row);
-        self.number += 1;
-    }
 }
 
-impl Past for LastRows {
-    ghost use Rattle.teg_dates.specs.Streams.{rows_kept, date_back};
+impl Past<Date> for LastRows {
+    ghost use Rattle.teg_dates.specs.Streams.{last_rows};
 
-    ghost width = { λ a. a.width };
+    ghost rows = { last_rows };
 
-    ghost kept = { rows_kept };
-
-    ghost back = { date_back };
-
-    fn back(&self, transition: TransitionId, rows: u64) -> Date {
-        let behind = rows as usize * self.width - 1 - transition.index as usize;
+    fn back(&self, transition: TransitionId, behind: u64) -> Date {
+        let behind = behind as usize * self.width - 1 - transition.index as usize;
         match self.cells.nth_back(behind) {
             Some(date) => *date,
             None => unreachable!(),
         }
+    }
+}
+
+impl Keep<Date> for LastRows {
+    fn number(&self) -> u64 {
+        self.number
+    }
+
+    fn push(&mut self, row: &[Date]) {
+        self.cells.extend_from_slice(row);
+        self.number += 1;
     }
 }

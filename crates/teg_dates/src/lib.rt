@@ -9,8 +9,11 @@
 //! `teg_model` for what a least dating is, on `circular_buffer`, and on `dioid` for dates.
 #![tactic(auto)]
 
+mod date_cell;
 mod first;
+mod first_rows;
 mod last_rows;
+mod next;
 mod order;
 mod passes;
 mod past;
@@ -20,8 +23,11 @@ mod stream;
 mod table;
 #[cfg(test)]
 mod tests;
+mod window;
 
+pub use date_cell::DateCell;
 pub use first::first_dates;
+pub use first_rows::FirstRows;
 pub use order::PlaceOrder;
 pub use rows::Rows;
 pub use sources::{NetInputs, Source};

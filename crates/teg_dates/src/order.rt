@@ -1,34 +1,39 @@
 //! The places in the order in which one pass over them settles a number.
-ghost use Rattle.std.specs.Prelude.{◌≡◌, IfOk};
+ghost use Rattle.std.specs.Prelude.{◌≡◌, ◌<◌, length, IfOk};
 ghost use Rattle.teg_check.specs.Ranks.{IsRanking};
-ghost use Rattle.teg_dates.specs.Order.{IsOrder, OrdersPlaces};
+ghost use Rattle.teg_dates.specs.Order.{IsOrder, OrdersPlaces, turn_of};
 
 use std::alloc::{AllocError, Global};
 use std::marker::Model;
 use teg_check::Live;
-use teg_net::{Net, OutOfMemory, PlaceId};
+use teg_net::{Net, OutOfMemory, Place, PlaceId, TransitionId};
 
-/// A place with the rank of its downstream transition.
+/// What a pass reads of a place, and when the place has its turn.
 #[derive(Clone, Copy, Debug, Drop)]
-pub(crate) struct Ranked {
-    pub(crate) rank: u32,
+pub(crate) struct Turn {
+    pub(crate) turn: u32,
     pub(crate) place: PlaceId,
+    pub(crate) from: TransitionId,
+    pub(crate) to: TransitionId,
+    pub(crate) tokens: u32,
+    pub(crate) hold: u64,
 }
 
-/// The places of a live net in the order of the ranks of their downstream transitions. Contracts see
-/// it as a list; it stands for each net of which it orders all places (`OrdersPlaces`).
+/// The places of a live net in the order of their turns: first those with tokens, which take dates of
+/// earlier numbers, then the others by the ranks of their downstream transitions. Contracts see it as
+/// a list; it stands for each net of which it orders all places (`OrdersPlaces`).
 #[derive(Debug, Drop)]
 pub struct PlaceOrder {
-    places: Vec<Ranked>,
+    turns: Vec<Turn>,
 }
 
 impl Model for PlaceOrder {
     ghost use Rattle.std.specs.Prelude.{List};
-    ghost use Rattle.teg_dates.specs.declared.order.Ranked.{Ranked};
+    ghost use Rattle.teg_dates.specs.declared.order.Turn.{Turn};
 
-    ghost Value = { List Ranked };
+    ghost Value = { List Turn };
 
-    ghost view = { λ a. a.places.items };
+    ghost view = { λ a. a.turns.items };
 }
 
 impl PlaceOrder {
@@ -38,32 +43,48 @@ impl PlaceOrder {
         requires stands { IsRanking net.now live.now }
         ensures order { IfOk result (OrdersPlaces net.now) }
     {
-        let places = by_rank(alloc, net, live)?;
-        Ok(PlaceOrder { places })
+        let turns = by_turn(alloc, net, live)?;
+        Ok(PlaceOrder { turns })
     }
 
-    /// The places with their ranks.
-    pub(crate) fn places(&self) -> &[Ranked]
+    /// The places with their turns.
+    pub(crate) fn turns(&self) -> &[Turn]
         ensures { result.now ≡ self.now }
     {
-        &self.places
+        &self.turns
     }
 }
 
-/// The places in the order of the ranks of their downstream transitions.
-fn by_rank(alloc: Global, net: &Net, live: &Live) -> Result<Vec<Ranked>, AllocError>
+/// When the turn of a place comes.
+fn turn_of(live: &Live, place: &Place) -> u32
+    requires { place.now.to.index < length live.now }
+    ensures { result ≡ turn_of live.now place.now }
+{
+    if place.tokens == 0 {
+        live.rank(place.to)
+    } else {
+        0
+    }
+}
+
+/// The places in the order of their turns.
+fn by_turn(alloc: Global, net: &Net, live: &Live) -> Result<Vec<Turn>, AllocError>
     requires { IsRanking net.now live.now }
     ensures { IfOk result (λ order. IsOrder net.now live.now order.items) }
 {
     let mut order = Vec::new(alloc);
     for (index, place) in net.places().iter().enumerate() {
-        order.push(Ranked {
-            rank: live.rank(place.to),
+        order.push(Turn {
+            turn: turn_of(live, place),
             place: PlaceId {
                 index: index as u32,
             },
+            from: place.from,
+            to: place.to,
+            tokens: place.tokens,
+            hold: place.hold,
         })?;
     }
-    order.sort_by_key(|o| o.rank)?;
+    order.sort_by_key(|o| o.turn)?;
     Ok(order)
 }

@@ -1,32 +1,41 @@
 //! What is kept of the rows before one.
-ghost use Rattle.std.specs.Prelude.{◌≡◌, ◌+◌, ◌*◌, ◌<◌, ◌≤◌, length};
-ghost use Rattle.teg_net.specs.Limits.{most_transitions};
+ghost use Rattle.std.specs.Prelude.{◌≡◌, ◌+◌, ◌*◌, ◌<◌, ◌≤◌, length, map};
+ghost use Rattle.teg_net.specs.Limits.{most_transitions, greatest_number};
 ghost use Rattle.teg_dates.specs.Tables.{cell_of};
 ghost use Rattle.teg_dates.specs.Rows.{most_rows};
+ghost use Rattle.teg_dates.specs.Passes.{HaveNext};
 
+use crate::date_cell::DateCell;
 use dioid::Date;
 use teg_net::TransitionId;
 
 /// The rows before one, as far as they are kept. A pass asks them for dates, so many rows back.
-pub(crate) trait Past {
-    ghost use Rattle.std.specs.Prelude.{ℕ};
-    ghost use Rattle.dioid.specs.declared.dates.Date.{Date};
+pub(crate) trait Past<C: DateCell> {
+    ghost use Rattle.teg_dates.specs.Passes.{KeptRows};
 
-    // how many dates a row has
-    ghost width: { Self → ℕ };
-
-    // how many rows are there
-    ghost kept: { Self → ℕ };
-
-    // the date of a transition so many rows back, 1 being the last
-    ghost back: { Self → ℕ → ℕ → Date };
+    // what is kept
+    ghost rows: { Self → KeptRows };
 
     /// The date of the transition so many rows back, 1 being the last. It takes no memory.
-    fn back(&self, transition: TransitionId, rows: u64) -> Date
-        requires transition { transition.index < width self.now }
-        requires first { 1 ≤ rows }
-        requires last { rows ≤ kept self.now }
-        ensures { result ≡ back self.now transition.index rows };
+    fn back(&self, transition: TransitionId, behind: u64) -> C
+        requires transition { transition.index < (rows self.now).width }
+        requires first { 1 ≤ behind }
+        requires last { behind ≤ (rows self.now).kept }
+        ensures { C.held result ≡ (rows self.now).back transition.index behind };
+}
+
+/// Keeps the last rows: each that is given stands behind the others. No call takes memory.
+pub(crate) trait Keep<C: DateCell>: Past<C> {
+    /// How many rows were given.
+    fn number(&self) -> u64
+        ensures value { result ≡ (Self.rows self.now).number }
+        ensures few { result ≤ greatest_number };
+
+    /// Adds a row behind the others. The first rows may go.
+    fn push(&mut self, row: &[C])
+        requires few { (Self.rows self.old).number < greatest_number }
+        requires full { length row.now ≡ (Self.rows self.old).width }
+        ensures { HaveNext (Self.rows self.old) (Self.rows self.new) (map C.held row.now) };
 }
 
 /// Where the date of a firing stands in rows of this width.
@@ -52,17 +61,13 @@ pub(crate) struct AllRows<'a> {
     ghost full: { length dates.now ≡ count * width },
 }
 
-impl Past for AllRows<'_> {
+impl Past<Date> for AllRows<'_> {
     ghost use Rattle.std.specs.Prelude.{◌+◌, ◌-◌};
     ghost use Rattle.teg_dates.specs.Tables.{date_in};
 
-    ghost width = { λ p. p.width };
+    ghost rows = { λ p. record { width = p.width; reach = p.count; number = p.count; kept = p.count; back = λ t b. date_in p.width p.dates.now t (p.count + 1 - b) } };
 
-    ghost kept = { λ p. p.count };
-
-    ghost back = { λ p t b. date_in p.width p.dates.now t (p.count + 1 - b) };
-
-    fn back(&self, transition: TransitionId, rows: u64) -> Date {
-        self.dates[cell_of(self.width, transition, self.count + 1 - rows)]
+    fn back(&self, transition: TransitionId, behind: u64) -> Date {
+        self.dates[cell_of(self.width, transition, self.count + 1 - behind)]
     }
 }

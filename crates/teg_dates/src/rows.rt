@@ -7,7 +7,7 @@ ghost use Rattle.teg_dates.specs.Order.{OrdersPlaces};
 ghost use Rattle.teg_dates.specs.Sources.{system_by};
 ghost use Rattle.teg_dates.specs.Rows.{most_rows, KeepsBounds, AreFirstLeast, AreLeastRows, HasLeastDating};
 
-use crate::order::{PlaceOrder, Ranked};
+use crate::order::{PlaceOrder, Turn};
 use crate::passes::fill_row;
 use crate::past::{AllRows, cell_of};
 use crate::sources::Source;
@@ -28,7 +28,7 @@ fn extend(dates: &mut Vec<Date>, width: usize) -> Result<(), AllocError>
 }
 
 /// Writes the last of the rows, that of the number.
-fn fill_last<S: Source>(net: &Net, order: &[Ranked], source: &S, dates: &mut [Date], number: u64)
+fn fill_last<S: Source>(net: &Net, order: &[Turn], source: &S, dates: &mut [Date], number: u64)
     requires order { OrdersPlaces net.now order.now }
     requires bounded { KeepsBounds (system_by S.Source source.now net.now) }
     requires number { 1 ≤ number }
@@ -108,7 +108,7 @@ impl Rows {
         let mut rows = self;
         let number = rows.count + 1;
         extend(&mut rows.dates, rows.width)?;
-        fill_last(net, order.places(), source, &mut rows.dates, number);
+        fill_last(net, order.turns(), source, &mut rows.dates, number);
         rows.count = number;
         Ok(rows)
     }

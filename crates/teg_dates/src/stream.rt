@@ -1,21 +1,19 @@
 //! Rows of dates, one after another, in memory that does not grow.
-ghost use Rattle.std.specs.Prelude.{◌≡◌, ◌+◌, ◌<◌, ◌≤◌, length, All, IfOk};
-ghost use Rattle.teg_net.specs.Limits.{most_tokens, greatest_number};
+ghost use Rattle.std.specs.Prelude.{◌≡◌, ◌+◌, ◌<◌, ◌≤◌, length, IfOk};
+ghost use Rattle.teg_net.specs.Limits.{greatest_number};
 ghost use Rattle.teg_net.specs.Circuits.{IsLive};
-ghost use Rattle.teg_check.specs.Ranks.{IsRanking};
 ghost use Rattle.teg_form.specs.Forms.{IsFormOf};
-ghost use Rattle.teg_dates.specs.Streams.{AreLastDates, HasLeast, IsLeastRow, IsStreamOf};
+ghost use Rattle.teg_dates.specs.Streams.{HasLeast, IsLeastRow, IsStreamOf};
 
 use crate::last_rows::LastRows;
+use crate::next::{most_tokens_of, next_row};
 use crate::order::PlaceOrder;
-use crate::passes::fill_row;
-use crate::sources::NetInputs;
+use crate::past::Keep;
 use dioid::Date;
 use std::alloc::Global;
 use std::marker::Model;
-use teg_check::{CheckRefusal, Live, check};
+use teg_check::{CheckRefusal, check};
 use teg_form::Form;
-use teg_model::least_datings_are_one;
 use teg_net::{Net, OutOfMemory};
 
 /// The rows of the least dating of a live net, with its ready dates and its input lists (chapter 2),
@@ -36,24 +34,11 @@ impl Model for Stream {
     ghost view = { λ a. record { order = a.order; last = a.last } };
 }
 
-/// The greatest number of tokens of a place, and at least 1.
-fn most_tokens_of(net: &Net) -> u32
-    ensures one { 1 ≤ result }
-    ensures most { result ≤ most_tokens }
-    ensures all { All (λ p. p.tokens ≤ result) net.now.places }
-{
-    let mut most = 1;
-    for place in net.places() {
-        most = most.max(place.tokens);
-    }
-    most
-}
-
 impl Stream {
     /// A stream before the first row of the net that this form stands for. The net is live, as each
     /// net is that a form was made of.
     ///
-    /// The rows follow the places in the order of their ranks, which is found here once. They do not
+    /// The rows follow the places in the order of their turns, which is found here once. They do not
     /// follow the entries of the form: these do not tell the ready dates of tokens, and where two
     /// places join the same transitions, the one that takes less time may have the later token.
     /// `OutOfMemory` comes only where no memory is found. It takes time of order `p log p + n p` for n
@@ -66,29 +51,21 @@ impl Stream {
         ensures exists { IfOk result (λ _. HasLeast net.now) }
     {
         match check(alloc, net) {
-            Ok(live) => Stream::of_live(alloc, net, &live),
+            Ok(live) => {
+                let order = PlaceOrder::new(alloc, net, &live)?;
+                let reach = most_tokens_of(net) as u64;
+                let last = LastRows::new(alloc, net.transitions().len(), reach)?;
+                Ok(Stream { order, last })
+            }
             Err(CheckRefusal::OutOfMemory) => Err(OutOfMemory),
             Err(CheckRefusal::TokenFree { .. }) => unreachable!(),
         }
     }
 
-    /// The same of a live net by its ranks, without its form.
-    pub fn of_live(alloc: Global, net: &Net, live: &Live) -> Result<Stream, OutOfMemory>
-        requires stands { IsRanking net.now live.now }
-        ensures stands { IfOk result (IsStreamOf net.now) }
-        ensures number { IfOk result (λ stream. stream.last.number ≡ 0) }
-        ensures exists { IfOk result (λ _. HasLeast net.now) }
-    {
-        let order = PlaceOrder::new(alloc, net, live)?;
-        let reach = most_tokens_of(net) as u64;
-        let last = LastRows::new(alloc, net.transitions().len(), reach)?;
-        Ok(Stream { order, last })
-    }
-
     /// How many rows were given so far. It takes no memory.
     pub fn number(&self) -> u64
         ensures value { result ≡ self.now.last.number }
-        ensures limits { AreLastDates self.now.last }
+        ensures few { result ≤ greatest_number }
     {
         self.last.number()
     }
@@ -106,28 +83,6 @@ impl Stream {
         ensures number { self.new.last.number ≡ self.old.last.number + 1 }
         ensures stands { IsStreamOf net.now self.new }
     {
-        self.next_of_live(net, row)
-    }
-
-    /// The same without the form of the net.
-    pub fn next_of_live(&mut self, net: &Net, row: &mut [Date])
-        requires stands { IsStreamOf net.now self.old }
-        requires few { self.old.last.number < greatest_number }
-        requires full { length row.old ≡ length net.now.transitions }
-        ensures row { IsLeastRow net.now (self.old.last.number + 1) row.new }
-        ensures number { self.new.last.number ≡ self.old.last.number + 1 }
-        ensures stands { IsStreamOf net.now self.new }
-    {
-        least_datings_are_one();
-        let number = self.last.number() + 1;
-        fill_row(
-            net,
-            self.order.places(),
-            &NetInputs,
-            &self.last,
-            row,
-            number,
-        );
-        self.last.push(row);
+        next_row(net, self.order.turns(), &mut self.last, row)
     }
 }

@@ -4,7 +4,7 @@ ghost use Rattle.teg_net.specs.Limits.{greatest_number};
 ghost use Rattle.teg_form.specs.Forms.{IsFormOf};
 ghost use Rattle.teg_dates.specs.Streams.{IsStreamOf};
 
-use crate::{Stream, Table, first_dates};
+use crate::{FirstRows, Stream, Table, first_dates};
 use dioid::Date;
 use sample_nets::{ended, ready_ring, ring, two_ways};
 use std::alloc::Global;
@@ -150,17 +150,17 @@ fn the_place_of_less_time_may_have_the_later_token(rt: HostRuntime) -> Result<()
 }
 
 #[test]
-fn a_stream_by_ranks_goes_past_the_end_of_a_list(rt: HostRuntime) -> Result<(), Fail> {
+fn first_rows_go_past_the_end_of_a_list(rt: HostRuntime) -> Result<(), Fail> {
     let alloc = rt.alloc();
     let net = ended(alloc)?;
     assert_eq!(rt; net.transitions().len(), 2);
     let live = check(alloc, &net)?;
-    let mut stream = Stream::of_live(alloc, &net, &live)?;
-    let mut row = [Date::Early; 2];
-    stream.next_of_live(&net, &mut row);
-    stream.next_of_live(&net, &mut row);
-    assert_eq!(rt; row.as_slice(), [Date::At(4), Date::At(6)].as_slice());
-    stream.next_of_live(&net, &mut row);
-    assert_eq!(rt; row.as_slice(), [Date::Never, Date::Never].as_slice());
+    let mut rows = FirstRows::new(alloc, &net, &live)?;
+    let mut row = [0; 2];
+    rows.next_row(&net, &mut row);
+    rows.next_row(&net, &mut row);
+    assert_eq!(rt; row.as_slice(), [4, 6].as_slice());
+    rows.next_row(&net, &mut row);
+    assert_eq!(rt; row.as_slice(), [u64::MAX, u64::MAX].as_slice());
     Ok(())
 }

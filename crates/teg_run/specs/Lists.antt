@@ -2,7 +2,7 @@
 use Rattle.std.specs.Prelude.{ℕ, ◌≡◌, ◌+◌, ◌*◌, ◌≤◌, ◌<◌, ◌++◌, List, [], length, take, Result, Ok, Err}
 use Rattle.std.specs.List.{flat_map, range_with_len}
 use Rattle.dioid.specs.declared.dates.Date.{Date}
-use Rattle.teg_dates.specs.Streams.{HasLeast, IsStreamOf}
+use Rattle.teg_dates.specs.Streams.{AreFirstRowsOf, HasLeast}
 use Rattle.teg_net.specs.Nets.{NetLists}
 use Rattle.teg_outside.specs.declared.sink.SinkFault.{SinkFault}
 use Rattle.teg_outside.specs.declared.sink.SinkFault.TheVariants.{Failed}
@@ -20,12 +20,13 @@ piece = 65536
 abbrev pub lines_text : NetLists → (ℕ → ℕ → Date) → ℕ → List ℕ
 lines_text net x count = flat_map (λ k. line_then (number_line (length net.transitions) x k) []) (range_with_len 1 count)
 
--- the head is that of the list, the stream is before its first row, and there is room for a row behind less than a piece
+-- the head is that of the list, no row was made, and there is room for a line, also behind less than a piece
 pub record IsListingOf (net : NetLists) (count : ℕ) (listing : Listing) : Type 0 where
   pub head : listing.head.items ≡ head_text net count
-  pub stands : IsStreamOf net listing.stream
-  pub begins : listing.stream.last.number ≡ 0
+  pub stands : AreFirstRowsOf net listing.rows
+  pub begins : listing.rows.window.number ≡ 0
   pub row : length listing.row.items ≡ length net.transitions
+  pub line : length listing.line.items ≡ (length net.transitions + 1) * 41
   pub block : length listing.block.items ≡ piece + (length net.transitions + 1) * 41
   pub exists : HasLeast net
 

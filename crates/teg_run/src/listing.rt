@@ -3,7 +3,7 @@ ghost use Rattle.std.specs.Prelude.{ℕ, ◌≡◌, ◌+◌, ◌*◌, ◌≤◌,
 ghost use Rattle.dioid.specs.declared.dates.Date.{Date};
 ghost use Rattle.teg_model.specs.Datings.{IsLeastDating};
 ghost use Rattle.teg_outside.specs.Sinks.{SinkState};
-ghost use Rattle.teg_dates.specs.Streams.{IsStreamOf};
+ghost use Rattle.teg_dates.specs.Streams.{AreFirstRowsOf};
 ghost use Rattle.teg_dates.specs.Tables.{most_numbers};
 ghost use Rattle.teg_commands.specs.Sizes.{SaysList};
 ghost use Rattle.teg_commands.specs.Texts.{list_text};
@@ -13,10 +13,9 @@ ghost use Rattle.teg_run.specs.Writing.{WritesText};
 
 use crate::status::Status;
 use crate::writing::write_all;
-use dioid::Date;
 use std::alloc::Global;
 use teg_commands::LiveNet;
-use teg_dates::Stream;
+use teg_dates::FirstRows;
 use teg_net::{Net, OutOfMemory};
 use teg_outside::{Sink, SinkFault};
 use teg_report::{list_head, put_row, room_of_row};
@@ -28,8 +27,9 @@ const PIECE: usize = 65_536;
 #[derive(Drop)]
 struct Listing {
     head: Vec<u8>,
-    stream: Stream,
-    row: Vec<Date>,
+    rows: FirstRows,
+    row: Vec<u64>,
+    line: Vec<u8>,
     block: Vec<u8>,
 }
 
@@ -38,16 +38,18 @@ impl Listing {
     fn new(alloc: Global, net: &LiveNet, count: u32) -> Result<Listing, OutOfMemory>
         ensures { IfOk result (IsListingOf net.now count) }
     {
-        let stream = net.stream(alloc)?;
+        let rows = net.first_rows(alloc)?;
         let net = net.net();
         let width = net.transitions().len();
         let head = list_head(alloc, net, count)?;
-        let row = vec![in alloc; Date::Early; width]?;
+        let row = vec![in alloc; 0u64; width]?;
+        let line = vec![in alloc; 0u8; room_of_row(width)]?;
         let block = vec![in alloc; 0u8; PIECE + room_of_row(width)]?;
         Ok(Listing {
             head,
-            stream,
+            rows,
             row,
+            line,
             block,
         })
     }
@@ -69,24 +71,26 @@ fn write_full<W: Sink>(out: &mut W, block: &[u8], filled: usize) -> Result<usize
 // Writes the lines of the numbers 1 to `count`, gathered into pieces.
 fn write_rows<W: Sink>(
     net: &Net,
-    stream: &mut Stream,
-    row: &mut [Date],
+    rows: &mut FirstRows,
+    row: &mut [u64],
+    line: &mut [u8],
     block: &mut [u8],
     count: u32,
     out: &mut W,
 ) -> Result<(), SinkFault>
     requires few { count ≤ most_numbers }
-    requires stands { IsStreamOf net.now stream.old }
-    requires begins { stream.old.last.number ≡ 0 }
+    requires stands { AreFirstRowsOf net.now rows.old }
+    requires begins { rows.old.window.number ≡ 0 }
     requires row { length row.old ≡ length net.now.transitions }
+    requires line { length line.old ≡ (length net.now.transitions + 1) * 41 }
     requires room { length block.old ≡ PIECE + (length net.now.transitions + 1) * 41 }
     ensures { (x : ℕ → ℕ → Date) → IsLeastDating net.now x →
         WritesText (W.state out.old) (W.state out.new) (lines_text net.now x count) result }
 {
     let mut filled = 0;
     for number in 0..count {
-        stream.next_of_live(net, row);
-        let end = put_row(block, filled, number as u64 + 1, row);
+        rows.next_row(net, row);
+        let end = put_row(block, filled, line, number as u64 + 1, row);
         filled = write_full(out, block, end)?;
     }
     write_all(out, &block[..filled])
@@ -106,12 +110,15 @@ fn write_listing<W: Sink>(
 {
     let Listing {
         head,
-        mut stream,
+        mut rows,
         mut row,
+        mut line,
         mut block,
     } = listing;
     write_all(out, &head)?;
-    write_rows(net, &mut stream, &mut row, &mut block, count, out)
+    write_rows(
+        net, &mut rows, &mut row, &mut line, &mut block, count, out,
+    )
 }
 
 /// Writes the first dates of a live net, and tells how the call ends. All memory is found before the

@@ -1,20 +1,25 @@
-use Rattle.std.proofs.Common.{◌≡◌, [], length, ap, ◌∙◌, arith}
-use Rattle.dioid.specs.Dates.{later_of}
-use Rattle.teg_model.specs.Systems.{available_in}
-use Rattle.teg_model.specs.Datings.{implicit_place}
-use Rattle.teg_dates.specs.Passes.{seen_at}
+use Rattle.std.proofs.Common.{◌≡◌, length, map, refl, arith}
+use Rattle.std.proofs.lemmas.List.{map-set}
 use Rattle.teg_dates.proofs.Beginning.{begun_more}
+use Rattle.teg_dates.proofs.Bounded.{release_within}
 use Rattle.teg_dates.proofs.passes.begin_row.Goals as goal
+
+pub later_date-requires : goal.later_date-requires
+later_date-requires g c =
+    let net = c.args.net.now in
+    rw c.release.ensures (release_within net (g.S.Source.initial c.args.source.now) (g.S.Source.release c.args.source.now net) g.C.DateCell.most c.args.number c.loop-index.index c.requires.bounded c.requires.number)
 
 pub loop-index-preserved : goal.loop-index-preserved
 loop-index-preserved g c =
     let net = c.args.net.now in
     let init = g.S.Source.initial c.args.source.now in
     let rel = g.S.Source.release c.args.source.now net in
+    let held = g.C.DateCell.held in
+    let back = (g.P.Past.rows c.args.past.now).back in
     let in' = rw c.transitions-width.ensures.value at c.loop-index-test.true in
-    begun_more init rel (length net.transitions) c.args.number (g.P.Past.back c.args.past.now) c.loop-index.row c.loop-index.index c.later.result
-    in' c.loop-index.invariant
-    (c.later.ensures.value ∙ (ap (λ z. later_of z c.release.result) c.date_before-before.ensures ∙ ap (later_of (available_in init (seen_at (g.P.Past.back c.args.past.now) [] c.args.number) (implicit_place c.loop-index.index) c.args.number)) c.release.ensures))
+    rw (map-set held c.loop-index.row c.loop-index.index c.later_date.result)
+    (begun_more init rel (length net.transitions) c.args.number back (map held c.loop-index.row) c.loop-index.index (held c.later_date.result)
+    in' c.loop-index.invariant (rw (c.later_date.ensures, c.date_before-before.ensures, c.release.ensures) refl))
 
 pub returns : goal.returns
 returns g c =

@@ -1,0 +1,66 @@
+//! The rows of the first numbers, one after another, in memory that does not grow.
+ghost use Rattle.std.specs.Prelude.{◌≡◌, ◌+◌, ◌<◌, length, map, IfOk};
+ghost use Rattle.teg_check.specs.Ranks.{IsRanking};
+ghost use Rattle.teg_dates.specs.DateCells.{date_of};
+ghost use Rattle.teg_dates.specs.Tables.{most_numbers};
+ghost use Rattle.teg_dates.specs.Streams.{AreFirstRowsOf, HasLeast, IsLeastRow};
+
+use crate::next::{most_tokens_of, next_row};
+use crate::order::PlaceOrder;
+use crate::past::Keep;
+use crate::window::Window;
+use std::alloc::Global;
+use std::marker::Model;
+use teg_check::Live;
+use teg_net::{Net, OutOfMemory};
+
+/// The rows of the least dating of a live net up to number 10,000, with its ready dates and its input
+/// lists (chapter 2), one number after another. Up to there each date is a number of eight bytes, or
+/// `Never`, and so this is faster than a [`Stream`](crate::Stream), which goes on further. All room is
+/// made at the start. Contracts see the order in which it goes over the places, and the rows that it
+/// keeps.
+#[derive(Drop)]
+pub struct FirstRows {
+    order: PlaceOrder,
+    window: Window,
+}
+
+impl Model for FirstRows {
+    ghost use Rattle.teg_dates.specs.Streams.{FirstLists};
+
+    ghost Value = { FirstLists };
+
+    ghost view = { λ a. record { order = a.order; window = a.window } };
+}
+
+impl FirstRows {
+    /// Before the first row of the net with these ranks. `OutOfMemory` comes only where no memory is
+    /// found. It takes time of order `p log p` for p places.
+    pub fn new(alloc: Global, net: &Net, live: &Live) -> Result<FirstRows, OutOfMemory>
+        requires stands { IsRanking net.now live.now }
+        ensures stands { IfOk result (AreFirstRowsOf net.now) }
+        ensures number { IfOk result (λ rows. rows.window.number ≡ 0) }
+        ensures exists { IfOk result (λ _. HasLeast net.now) }
+    {
+        let order = PlaceOrder::new(alloc, net, live)?;
+        let reach = most_tokens_of(net) as usize;
+        let window = Window::new(alloc, net.transitions().len(), reach)?;
+        Ok(FirstRows { order, window })
+    }
+
+    /// Writes the next row: the dates of the firings of number `number + 1` by the least dating of
+    /// the net, each as a cell of eight bytes, of which the greatest is `Never`: the date of a firing
+    /// that waits for one past the end of a list. The row has one cell for each transition, and fewer
+    /// than 10,000 rows were given. It takes no memory, and time of order `n + p` for n transitions
+    /// and p places.
+    pub fn next_row(&mut self, net: &Net, row: &mut [u64])
+        requires stands { AreFirstRowsOf net.now self.old }
+        requires few { self.old.window.number < most_numbers }
+        requires full { length row.old ≡ length net.now.transitions }
+        ensures row { IsLeastRow net.now (self.old.window.number + 1) (map date_of row.new) }
+        ensures number { self.new.window.number ≡ self.old.window.number + 1 }
+        ensures stands { AreFirstRowsOf net.now self.new }
+    {
+        next_row(net, self.order.turns(), &mut self.window, row)
+    }
+}

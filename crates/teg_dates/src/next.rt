@@ -1,0 +1,48 @@
+//! The next row of the least dating of a net, by the rows that are kept.
+ghost use Rattle.std.specs.Prelude.{◌≡◌, ◌+◌, ◌<◌, ◌≤◌, length, map, All};
+ghost use Rattle.teg_net.specs.Limits.{most_tokens, greatest_number};
+ghost use Rattle.teg_model.specs.Datings.{listed, system_of};
+ghost use Rattle.teg_dates.specs.Rows.{StaysWithin};
+ghost use Rattle.teg_dates.specs.Streams.{GoesOn, IsLeastRow};
+
+use crate::date_cell::DateCell;
+use crate::order::Turn;
+use crate::passes::fill_row;
+use crate::past::Keep;
+use crate::sources::NetInputs;
+use teg_model::least_datings_are_one;
+use teg_net::Net;
+
+/// The greatest number of tokens of a place, and at least 1.
+pub(crate) fn most_tokens_of(net: &Net) -> u32
+    ensures one { 1 ≤ result }
+    ensures most { result ≤ most_tokens }
+    ensures all { All (λ p. p.tokens ≤ result) net.now.places }
+{
+    let mut most = 1;
+    for place in net.places() {
+        most = most.max(place.tokens);
+    }
+    most
+}
+
+/// Writes the next row of the net's least dating, and keeps it. It takes no memory.
+pub(crate) fn next_row<C: DateCell, K: Keep<C>>(
+    net: &Net,
+    order: &[Turn],
+    rows: &mut K,
+    row: &mut [C],
+)
+    requires stands { GoesOn net.now order.now (K.rows rows.old) }
+    requires few { (K.rows rows.old).number < greatest_number }
+    requires bounded { StaysWithin C.most ((K.rows rows.old).number + 1) (system_of net.now (listed net.now)) }
+    requires full { length row.old ≡ length net.now.transitions }
+    ensures row { IsLeastRow net.now ((K.rows rows.old).number + 1) (map C.held row.new) }
+    ensures number { (K.rows rows.new).number ≡ (K.rows rows.old).number + 1 }
+    ensures stands { GoesOn net.now order.now (K.rows rows.new) }
+{
+    least_datings_are_one();
+    let number = rows.number() + 1;
+    fill_row(net, order, &NetInputs, rows, row, number);
+    rows.push(row);
+}

@@ -1,0 +1,133 @@
+//! The last dates of each transition in eight bytes each, one transition after another.
+ghost use Rattle.std.specs.Prelude.{◌≡◌, ◌+◌, ◌-◌, ◌*◌, ◌<◌, ◌≤◌, length, IfOk};
+ghost use Rattle.teg_net.specs.Limits.{most_transitions, most_tokens};
+ghost use Rattle.teg_dates.specs.Windows.{AreMoved, HasColumnSet, HaveRowAdded, most_room};
+
+use crate::past::{Keep, Past};
+use std::alloc::{AllocError, Global};
+use std::marker::Model;
+use teg_net::TransitionId;
+
+/// The last rows of dates, at least as many as `reach`: each transition has a column of `room` cells,
+/// and the next date stands at `at`. Where the columns are full, the last dates of each go to its
+/// front, so that a date so many rows back always stands so many cells before.
+#[derive(Drop)]
+pub(crate) struct Window {
+    width: usize,
+    reach: usize,
+    room: usize,
+    at: usize,
+    number: u64,
+    cells: Vec<u64>,
+}
+
+impl Model for Window {
+    ghost use Rattle.teg_dates.specs.Windows.{WindowCells, IsWindow};
+
+    ghost Value = { WindowCells };
+
+    ghost view = { λ a. record { width = a.width; reach = a.reach; room = a.room; at = a.at; number = a.number; cells = a.cells.items } };
+
+    ghost invariant = { λ a. IsWindow (record { width = a.width; reach = a.reach; room = a.room; at = a.at; number = a.number; cells = a.cells.items }) };
+}
+
+/// Where a date of a transition stands.
+fn cell(width: usize, room: usize, transition: usize, at: usize) -> usize
+    requires width { width ≤ most_transitions }
+    requires room { room ≤ most_room }
+    requires transition { transition < width }
+    requires at { at < room }
+    ensures value { result ≡ transition * room + at }
+    ensures within { result < width * room }
+{
+    transition * room + at
+}
+
+/// Writes the row's dates at `at` of the columns.
+fn write_row(room: usize, at: usize, cells: &mut [u64], row: &[u64])
+    requires few { length row.now ≤ most_transitions }
+    requires room { room ≤ most_room }
+    requires at { at < room }
+    requires full { length cells.old ≡ length row.now * room }
+    ensures { HasColumnSet room at cells.old cells.new row.now }
+{
+    for transition in 0..row.len() {
+        cells[cell(row.len(), room, transition, at)] = row[transition];
+    }
+}
+
+/// Moves the last dates of each column, so many, to its front.
+fn move_to_front(width: usize, reach: usize, room: usize, cells: &mut [u64])
+    requires few { width ≤ most_transitions }
+    requires room { room ≤ most_room }
+    requires reach { reach < room }
+    requires full { length cells.old ≡ width * room }
+    ensures { AreMoved width reach room cells.old cells.new }
+{
+    for transition in 0..width {
+        let end = (transition + 1) * room;
+        cells.copy_within(end - reach..end, end - room);
+    }
+}
+
+/// Adds the row's dates to the columns behind those that end before `at`, and answers before which
+/// index they then end.
+fn add_row(reach: usize, room: usize, at: usize, cells: &mut [u64], row: &[u64]) -> usize
+    requires few { length row.now ≤ most_transitions }
+    requires room { room ≤ most_room }
+    requires reach { reach < room }
+    requires at { at < room }
+    requires full { length cells.old ≡ length row.now * room }
+    ensures { HaveRowAdded reach room at cells.old cells.new row.now result }
+{
+    write_row(room, at, cells, row);
+    if at + 1 < room {
+        return at + 1;
+    }
+    move_to_front(row.len(), reach, room, cells);
+    reach
+}
+
+impl Window {
+    ghost use Rattle.teg_dates.specs.Windows.{opened};
+
+    /// No rows, and room for at least as many as `reach`.
+    pub(crate) fn new(alloc: Global, width: usize, reach: usize) -> Result<Window, AllocError>
+        requires width { width ≤ most_transitions }
+        requires reach { reach ≤ most_tokens }
+        ensures { IfOk result (λ window. window ≡ opened width reach) }
+    {
+        let room = reach + reach / 4 + 64;
+        let cells = vec![in alloc; 0u64; width * room]?;
+        Ok(Window {
+            width,
+            reach,
+            room,
+            at: 0,
+            number: 0,
+            cells,
+        })
+    }
+}
+
+impl Past<u64> for Window {
+    ghost use Rattle.teg_dates.specs.Windows.{window_rows};
+
+    ghost rows = { window_rows };
+
+    fn back(&self, transition: TransitionId, behind: u64) -> u64 {
+        let at = self.at - behind as usize;
+        self.cells[cell(self.width, self.room, transition.index as usize, at)]
+    }
+}
+
+impl Keep<u64> for Window {
+    fn number(&self) -> u64 {
+        self.number
+    }
+
+    fn push(&mut self, row: &[u64]) {
+        self.at = add_row(self.reach, self.room, self.at, &mut self.cells, row);
+        self.number += 1;
+    }
+}
