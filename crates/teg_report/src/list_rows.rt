@@ -39,7 +39,7 @@ fn number_before(line: &mut [u8], end: usize, number: u64) -> usize
     requires room { 20 ≤ end }
     requires within { end ≤ length line.old }
     ensures text { drop result line.new ≡ decimal number ++ drop end line.old }
-    ensures start { end ≤ result + 20 }
+    ensures start { (result ≤ end) × (end ≤ result + 20) }
     ensures same { length line.new ≡ length line.old }
 {
     write_digits(number, line, end)
@@ -50,7 +50,7 @@ fn date_before(line: &mut [u8], end: usize, date: Date) -> usize
     requires room { 40 ≤ end }
     requires within { end ≤ length line.old }
     ensures text { drop result line.new ≡ date_word date ++ drop end line.old }
-    ensures start { end ≤ result + 40 }
+    ensures start { (result ≤ end) × (end ≤ result + 40) }
     ensures same { length line.new ≡ length line.old }
 {
     match date {
