@@ -1,7 +1,6 @@
 //! The text of a list of dates in pieces: its head, and its rows one after another.
-ghost use Rattle.std.specs.Prelude.{◌≡◌, ◌+◌, ◌*◌, ◌++◌, ◌∷◌, ◌≤◌, IfOk, drop, length, map, take};
+ghost use Rattle.std.specs.Prelude.{◌≡◌, ◌+◌, ◌*◌, ◌++◌, ◌∷◌, ◌≤◌, ◌^◌, IfOk, drop, length, map, take};
 ghost use Rattle.std.specs.Fmt.{decimal};
-ghost use Rattle.teg_net.specs.Limits.{most_transitions};
 ghost use Rattle.teg_report.specs.Lists.{ListsAreJoined, head_text, row_text};
 ghost use Rattle.teg_text.specs.Words.{date_word};
 
@@ -15,7 +14,7 @@ use teg_net::{Net, OutOfMemory};
 /// The room that a row of so many dates needs in a block, in bytes: at most 41 for each date, 20 for
 /// its number, and 1 for the line feed.
 pub fn room_of_row(dates: usize) -> usize
-    requires { dates ≤ most_transitions }
+    requires { dates ≤ 2 ^ 58 }
     ensures { result ≡ (dates + 1) * 41 }
 {
     (dates + 1) * 41
@@ -128,7 +127,6 @@ pub fn list_head(alloc: Global, net: &Net, count: u32) -> Result<Vec<u8>, OutOfM
 /// The line of a number with the dates of its firings. `OutOfMemory` comes only where no memory is
 /// found.
 pub fn list_row(alloc: Global, number: u64, row: &[Date]) -> Result<Vec<u8>, OutOfMemory>
-    requires { length row.now ≤ most_transitions }
     ensures { IfOk result (λ text. text.items ≡ row_text number row.now) }
 {
     let mut line = vec![in alloc; 0u8; room_of_row(row.len())]?;
