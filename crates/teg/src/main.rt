@@ -4,10 +4,6 @@
 
 ghost use Rattle.std.specs.Prelude.{◌≡◌, map, string_bytes};
 ghost use Rattle.std.specs.Process.{exit_status};
-ghost use Rattle.teg_outside.specs.declared.monitor.Firing.{Firing};
-ghost use Rattle.teg_outside.specs.Shelves.{ShelfState};
-ghost use Rattle.teg_outside.specs.Sinks.{SinkState};
-ghost use Rattle.teg_run.specs.Calls.{Call};
 ghost use Rattle.teg_run.specs.Headline.{KeepsPromises};
 ghost use Rattle.teg_run.specs.Statuses.{code_of};
 ghost use Rattle.teg_run.specs.declared.status.Status.{Status};

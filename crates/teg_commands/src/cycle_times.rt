@@ -1,5 +1,5 @@
 //! The cycle times of a live net, and the rounds of policy iteration that led to them.
-ghost use Rattle.std.specs.Prelude.{◌≡◌, ◌++◌, ◌∷◌, [], IfOk, IfSome, OnOk, length, map};
+ghost use Rattle.std.specs.Prelude.{◌≡◌, ◌++◌, ◌∷◌, [], IfOk, OnOk, length};
 ghost use Rattle.std.specs.Option.{option_copied, option_map};
 ghost use Rattle.teg_cycle.specs.LastRounds.{AreLastOfRuns};
 ghost use Rattle.teg_net.specs.Certificates.{IsCertificate};

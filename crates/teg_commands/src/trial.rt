@@ -1,10 +1,9 @@
 //! The line of machines, and what is told of it.
 ghost use Rattle.std.specs.Prelude.{◌≡◌, ◌≤◌, IfOk, length};
 ghost use Rattle.teg_commands.specs.Outcomes.{Tells, outcome_of};
-ghost use Rattle.teg_commands.specs.Slacks.{SaysTrial, critical_count, trial_number};
+ghost use Rattle.teg_commands.specs.Slacks.{SaysTrial, critical_count};
 ghost use Rattle.teg_net.specs.Circuits.{IsLive};
 ghost use Rattle.teg_net.specs.Limits.{most_places};
-ghost use Rattle.trial_net.specs.Trials.{trial};
 
 use crate::live_net::LiveNet;
 use crate::outcome::{Outcome, Verdict};

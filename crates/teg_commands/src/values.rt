@@ -1,6 +1,5 @@
 //! The values of expressions.
 ghost use Rattle.std.specs.Prelude.{◌≤◌, length};
-ghost use Rattle.teg_calc.specs.Reading.{IsParsed};
 ghost use Rattle.teg_calc.specs.Trees.{HasShortNumbers, node_count, tree_of};
 ghost use Rattle.teg_commands.specs.Limits.{most_expression};
 ghost use Rattle.teg_commands.specs.Outcomes.{Tells, outcome_of};

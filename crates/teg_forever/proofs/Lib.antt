@@ -1,5 +1,4 @@
 pub mod Gathered
-pub mod Headers
 pub mod InputLists
 pub mod LateNumbers
 pub mod LateTurns

@@ -5,7 +5,7 @@ ghost use Rattle.csv_records.specs.Records.{most_file_bytes};
 ghost use Rattle.csv_records.specs.Rows.{one_more};
 ghost use Rattle.forever_laws.specs.Rows.{IsEndlessOf};
 ghost use Rattle.teg_due.specs.Names.{is_input, number_named};
-ghost use Rattle.teg_forever.specs.Rows.{dates_in, endless_numbered, endless_of, endless_placed, endless_row, every_in, gap_in, has_numbers, has_row, is_endless_header};
+ghost use Rattle.teg_forever.specs.Rows.{dates_in, endless_numbered, endless_of, endless_row, every_in, gap_in, has_numbers, has_row, is_endless_header};
 
 use crate::numbers::{field_at, goes_on, has_numbers, limited_numbers};
 use crate::rows::EndlessRefusal;

@@ -1,5 +1,5 @@
 //! The text of an answer.
-ghost use Rattle.std.specs.Prelude.{◌≡◌, IfOk, IfSome};
+ghost use Rattle.std.specs.Prelude.{◌≡◌, None, Some, IfOk, IfSome};
 ghost use Rattle.std.specs.Option.{option_copied};
 ghost use Rattle.teg_net.specs.Nets.{IsNet};
 ghost use Rattle.teg_report.specs.Answering.{AreOfOneNet, IsReadFrom};
@@ -12,81 +12,85 @@ use crate::{cycles, file_rows, forms, lists, plans, refusals, series, settled, s
 use std::alloc::Global;
 use teg_net::{Net, OutOfMemory};
 
+/// The text of an answer that names nothing of a net.
+fn alone(alloc: Global, answer: &Answer<'_>) -> Result<Vec<u8>, OutOfMemory>
+    requires { IsAbout None (meant answer.now) }
+    ensures text { IfOk result (λ text. text.items ≡ text_of None (meant answer.now)) }
+    ensures kept { IfOk result (λ _. IsPlain (meant answer.now) → IsKept (meant answer.now)) }
+{
+    match answer {
+        Answer::Usage => texts::usage(alloc),
+        Answer::Live {
+            transitions,
+            places,
+        } => texts::live(alloc, *transitions, *places),
+        Answer::NoCircuit => texts::no_circuit(alloc),
+        Answer::Replayed { accepted, lines } => file_rows::replayed(alloc, *accepted, lines),
+        Answer::Refused {
+            row,
+            failure,
+            lines,
+        } => file_rows::refused(alloc, None, *row, *failure, lines),
+        Answer::Calc { series } => series::calc(alloc, series),
+        Answer::Trial {
+            machines,
+            places,
+            ratio,
+            critical,
+            last,
+        } => slacks::trial(alloc, *machines, *places, **ratio, *critical, *last),
+        Answer::Read { refusal } => refusals::read(alloc, refusal),
+        Answer::TooLarge { file } => texts::too_large(alloc, *file),
+        Answer::NoTransition { word } => texts::no_transition(alloc, word),
+        Answer::Due { refusal } => file_rows::due(alloc, refusal),
+        Answer::Log { refusal } => file_rows::log(alloc, refusal),
+        Answer::TooLong { limit } => texts::too_long(alloc, *limit),
+        Answer::Parse { refusal } => series::parse(alloc, refusal),
+        Answer::Series { refusal } => series::refused(alloc, refusal),
+        Answer::Fault { file } => texts::fault(alloc, *file),
+        _ => unreachable!(),
+    }
+}
+
+/// The text of an answer about this net.
+fn about(alloc: Global, net: &Net, answer: &Answer<'_>) -> Result<Vec<u8>, OutOfMemory>
+    requires { IsAbout (Some net.now) (meant answer.now) }
+    ensures text { IfOk result (λ text. text.items ≡ text_of (Some net.now) (meant answer.now)) }
+    ensures kept { IfOk result (λ _. IsPlain (meant answer.now) → IsKept (meant answer.now)) }
+{
+    match answer {
+        Answer::List { table } => lists::list(alloc, net, table),
+        Answer::Form { form } => forms::form(alloc, net, form),
+        Answer::Cycle { answer, rounds } => cycles::cycle(alloc, net, answer, *rounds),
+        Answer::Dates { settled } => settled::dates(alloc, net, settled),
+        Answer::Date {
+            transition,
+            number,
+            date,
+        } => texts::date(alloc, net, *transition, *number, *date),
+        Answer::Jit { plan } => plans::jit(alloc, net, plan),
+        Answer::Late { refusal } => plans::late(alloc, net, refusal),
+        Answer::Slack { ratio, slacks } => slacks::slack(alloc, net, **ratio, slacks),
+        Answer::Transfer { inputs } => settled::transfer(alloc, net, inputs),
+        Answer::Refused {
+            row,
+            failure,
+            lines,
+        } => file_rows::refused(alloc, Some(net), *row, *failure, lines),
+        Answer::TokenFree { circuit } => texts::token_free(alloc, net, circuit),
+        _ => alone(alloc, answer),
+    }
+}
+
 /// The text of an answer, whose values keep what their types keep.
 fn text(alloc: Global, net: Option<&Net>, answer: &Answer<'_>) -> Result<Vec<u8>, OutOfMemory>
     requires { IsAbout (option_copied net) (meant answer.now) }
     ensures text { IfOk result (λ text. text.items ≡ text_of (option_copied net.entry) (meant answer.now)) }
     ensures kept { IfOk result (λ _. IsPlain (meant answer.now) → IsKept (meant answer.now)) }
 {
-    match (answer, net) {
-        (Answer::Usage, _) => texts::usage(alloc),
-        (
-            Answer::Live {
-                transitions,
-                places,
-            },
-            _,
-        ) => texts::live(alloc, *transitions, *places),
-        (Answer::List { table }, Some(net)) => lists::list(alloc, net, table),
-        (Answer::Form { form }, Some(net)) => forms::form(alloc, net, form),
-        (Answer::NoCircuit, _) => texts::no_circuit(alloc),
-        (Answer::Cycle { answer, rounds }, Some(net)) => cycles::cycle(alloc, net, answer, *rounds),
-        (Answer::Dates { settled }, Some(net)) => settled::dates(alloc, net, settled),
-        (
-            Answer::Date {
-                transition,
-                number,
-                date,
-            },
-            Some(net),
-        ) => texts::date(alloc, net, *transition, *number, *date),
-        (Answer::Jit { plan }, Some(net)) => plans::jit(alloc, net, plan),
-        (Answer::Late { refusal }, Some(net)) => plans::late(alloc, net, refusal),
-        (Answer::Slack { ratio, slacks }, Some(net)) => slacks::slack(alloc, net, **ratio, slacks),
-        (Answer::Transfer { inputs }, Some(net)) => settled::transfer(alloc, net, inputs),
-        (Answer::Replayed { accepted, lines }, _) => file_rows::replayed(alloc, *accepted, lines),
-        (
-            Answer::Refused {
-                row,
-                failure,
-                lines,
-            },
-            net,
-        ) => file_rows::refused(alloc, net, *row, *failure, lines),
-        (Answer::Calc { series }, _) => series::calc(alloc, series),
-        (
-            Answer::Trial {
-                machines,
-                places,
-                ratio,
-                critical,
-                last,
-            },
-            _,
-        ) => slacks::trial(alloc, *machines, *places, **ratio, *critical, *last),
-        (Answer::Read { refusal }, _) => refusals::read(alloc, refusal),
-        (Answer::TooLarge { file }, _) => texts::too_large(alloc, *file),
-        (Answer::TokenFree { circuit }, Some(net)) => texts::token_free(alloc, net, circuit),
-        (Answer::NoTransition { word }, _) => texts::no_transition(alloc, word),
-        (Answer::Due { refusal }, _) => file_rows::due(alloc, refusal),
-        (Answer::Log { refusal }, _) => file_rows::log(alloc, refusal),
-        (Answer::TooLong { limit }, _) => texts::too_long(alloc, *limit),
-        (Answer::Parse { refusal }, _) => series::parse(alloc, refusal),
-        (Answer::Series { refusal }, _) => series::refused(alloc, refusal),
-        (Answer::Fault { file }, _) => texts::fault(alloc, *file),
-        (
-            Answer::List { .. }
-            | Answer::Form { .. }
-            | Answer::Cycle { .. }
-            | Answer::Dates { .. }
-            | Answer::Date { .. }
-            | Answer::Jit { .. }
-            | Answer::Late { .. }
-            | Answer::Slack { .. }
-            | Answer::Transfer { .. }
-            | Answer::TokenFree { .. },
-            None,
-        ) => unreachable!(),
+    match net {
+        Some(net) => about(alloc, net, answer),
+        None => alone(alloc, answer),
     }
 }
 
