@@ -1,5 +1,5 @@
 -- One row more behind the last rows: how many dates there are, and what stands so many rows back.
-use Rattle.std.proofs.Common.{ℕ, ◌+◌, ◌-◌, ◌*◌, ◌<◌, ◌≤◌, ◌≡◌, ◌++◌, List, length, get_or, drop, refl, sym, ap, ◌∙◌, arith, ⊎_elim, get_or-drop, length-append, length-drop}
+use Rattle.std.proofs.Common.{ℕ, ◌+◌, ◌-◌, ◌*◌, ◌<◌, ◌≤◌, ◌≡◌, ◌++◌, List, length, get_or, drop, refl, sym, subst, ap, ◌∙◌, arith, ⊎_elim, get_or-drop, length-append, length-drop}
 use Rattle.std.proofs.lemmas.Bool.{cases_lt}
 use Rattle.std.proofs.lemmas.List.{get_or_append_left, get_or-append_right}
 use Rattle.dioid.specs.declared.dates.Date.{Date}
@@ -7,7 +7,10 @@ use Rattle.dioid.specs.declared.dates.Date.TheVariants.{Early}
 use Rattle.teg_net.specs.Nets.{NetLists}
 use Rattle.teg_model.specs.Systems.{Dating}
 use Rattle.teg_dates.specs.Passes.{KeptRows, HaveNext, AreRowsBack, IsRowOf}
-use Rattle.teg_dates.specs.Streams.{LastDates, AreLastDates, rows_kept, date_back, last_rows, with_row}
+use Rattle.teg_model.specs.Datings.{listed}
+use Rattle.teg_model.proofs.OfNet.{least_of_system}
+use Rattle.teg_dates.specs.declared.order.Turn.{Turn}
+use Rattle.teg_dates.specs.Streams.{GoesOn, IsLeastRow, LastDates, AreLastDates, rows_kept, date_back, last_rows, with_row}
 use Rattle.teg_dates.proofs.Cells.{rows_below, rows_more, rows_of_more}
 
 -- the dates are those of as many rows as are kept
@@ -81,4 +84,18 @@ rows_with_row net x old new row k h w past is = record {
       let at : k - (b - 1) ≡ k + 1 - b = omega arith in
       ap (new.back t) (sym one) ∙ (h.before t (b - 1) in' (omega arith) (omega arith) ∙ (past.same t (b - 1) l (omega arith) (omega (arith, h.kept)) ∙ ap (x t) at)))
       (cases_lt b 2);
+}
+
+-- so where a row of the least dating is made of what is kept, and kept, the next can be made
+pub next_goes_on : (net : NetLists) (turns : List Turn) (old new : KeptRows) (row : List Date) → GoesOn net turns old → HaveNext old new row → IsLeastRow net (old.number + 1) row → GoesOn net turns new
+next_goes_on net turns old new row h next is = record {
+  rules = h.rules;
+  order = h.order;
+  width = next.width ∙ h.width;
+  one = rw next.reach h.one;
+  reach = rw next.reach h.reach;
+  there = next.there;
+  least = λ x least.
+      subst (λ n. AreRowsBack net x (n + 1) new) (sym next.number)
+      (rows_with_row net x old new row (old.number + 1) next h.width (h.least x least) (is.same x (least_of_system net (listed net) x least)));
 }

@@ -7,7 +7,6 @@ ghost use Rattle.teg_dates.specs.Streams.{AreFirstRowsOf, HasLeast, IsLeastRow};
 
 use crate::next::{most_tokens_of, next_row};
 use crate::order::PlaceOrder;
-use crate::past::Keep;
 use crate::window::Window;
 use std::alloc::Global;
 use std::marker::Model;
@@ -61,6 +60,8 @@ impl FirstRows {
         ensures number { self.new.window.number ≡ self.old.window.number + 1 }
         ensures stands { AreFirstRowsOf net.now self.new }
     {
-        next_row(net, self.order.turns(), &mut self.window, row)
+        let number = self.window.number() + 1;
+        next_row(net, self.order.turns(), &self.window.columns(), row, number);
+        self.window.push(row);
     }
 }

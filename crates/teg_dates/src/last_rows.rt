@@ -1,8 +1,8 @@
 //! The last rows of dates, in a ring.
-ghost use Rattle.std.specs.Prelude.{◌≡◌, ◌≤◌, [], IfOk};
-ghost use Rattle.teg_net.specs.Limits.{most_transitions, most_tokens};
+ghost use Rattle.std.specs.Prelude.{◌≡◌, ◌<◌, ◌≤◌, [], length, IfOk};
+ghost use Rattle.teg_net.specs.Limits.{most_transitions, most_tokens, greatest_number};
 
-use crate::past::{Keep, Past};
+use crate::past::Past;
 use circular_buffer::HeapCircularBuffer;
 use dioid::Date;
 use std::alloc::{AllocError, Global};
@@ -30,6 +30,9 @@ impl Model for LastRows {
 }
 
 impl LastRows {
+    ghost use Rattle.teg_dates.specs.Passes.{HaveNext};
+    ghost use Rattle.teg_dates.specs.Streams.{last_rows};
+
     /// No rows, and room for as many as `reach`.
     pub(crate) fn new(alloc: Global, width: usize, reach: u64) -> Result<LastRows, AllocError>
         requires width { width ≤ most_transitions }
@@ -44,6 +47,24 @@ impl LastRows {
             cells,
         })
     }
+
+    /// How many rows were given. It takes no memory.
+    pub(crate) fn number(&self) -> u64
+        ensures value { result ≡ self.now.number }
+        ensures few { result ≤ greatest_number }
+    {
+        self.number
+    }
+
+    /// Adds a row behind the others. Where the room is full, the first row goes. It takes no memory.
+    pub(crate) fn push(&mut self, row: &[Date])
+        requires few { self.old.number < greatest_number }
+        requires full { length row.now ≡ self.old.width }
+        ensures { HaveNext (last_rows self.old) (last_rows self.new) row.now }
+    {
+        self.cells.extend_from_slice(row);
+        self.number += 1;
+    }
 }
 
 impl Past<Date> for LastRows {
@@ -57,16 +78,5 @@ impl Past<Date> for LastRows {
             Some(date) => *date,
             None => unreachable!(),
         }
-    }
-}
-
-impl Keep<Date> for LastRows {
-    fn number(&self) -> u64 {
-        self.number
-    }
-
-    fn push(&mut self, row: &[Date]) {
-        self.cells.extend_from_slice(row);
-        self.number += 1;
     }
 }

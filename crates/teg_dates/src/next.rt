@@ -1,5 +1,5 @@
 //! The next row of the least dating of a net, by the rows that are kept.
-ghost use Rattle.std.specs.Prelude.{◌≡◌, ◌+◌, ◌<◌, ◌≤◌, length, map, All};
+ghost use Rattle.std.specs.Prelude.{◌≡◌, ◌+◌, ◌≤◌, length, map, All};
 ghost use Rattle.teg_net.specs.Limits.{most_tokens, greatest_number};
 ghost use Rattle.teg_model.specs.Datings.{listed, system_of};
 ghost use Rattle.teg_dates.specs.Rows.{StaysWithin};
@@ -8,7 +8,7 @@ ghost use Rattle.teg_dates.specs.Streams.{GoesOn, IsLeastRow};
 use crate::date_cell::DateCell;
 use crate::order::Turn;
 use crate::passes::fill_row;
-use crate::past::Keep;
+use crate::past::Past;
 use crate::sources::NetInputs;
 use teg_model::least_datings_are_one;
 use teg_net::Net;
@@ -26,23 +26,22 @@ pub(crate) fn most_tokens_of(net: &Net) -> u32
     most
 }
 
-/// Writes the next row of the net's least dating, and keeps it. It takes no memory.
-pub(crate) fn next_row<C: DateCell, K: Keep<C>>(
+/// Writes the next row of the net's least dating, of number `number`. It takes no memory.
+pub(crate) fn next_row<C: DateCell, P: Past<C>>(
     net: &Net,
     order: &[Turn],
-    rows: &mut K,
+    past: &P,
     row: &mut [C],
+    number: u64,
 )
-    requires stands { GoesOn net.now order.now (K.rows rows.old) }
-    requires few { (K.rows rows.old).number < greatest_number }
-    requires bounded { StaysWithin C.most ((K.rows rows.old).number + 1) (system_of net.now (listed net.now)) }
+    requires stands { GoesOn net.now order.now (P.rows past.now) }
+    requires next { number ≡ (P.rows past.now).number + 1 }
+    requires few { number ≤ greatest_number }
+    requires bounded { StaysWithin C.most number (system_of net.now (listed net.now)) }
     requires full { length row.old ≡ length net.now.transitions }
-    ensures row { IsLeastRow net.now ((K.rows rows.old).number + 1) (map C.held row.new) }
-    ensures number { (K.rows rows.new).number ≡ (K.rows rows.old).number + 1 }
-    ensures stands { GoesOn net.now order.now (K.rows rows.new) }
+    ensures row { IsLeastRow net.now number (map C.held row.new) }
+    ensures full { length row.new ≡ length net.now.transitions }
 {
     least_datings_are_one();
-    let number = rows.number() + 1;
-    fill_row(net, order, &NetInputs, rows, row, number);
-    rows.push(row);
+    fill_row(net, order, &NetInputs, past, row, number);
 }

@@ -8,7 +8,8 @@ use std::marker::Model;
 use teg_check::Live;
 use teg_net::{Net, OutOfMemory, Place, PlaceId, TransitionId};
 
-/// What a pass reads of a place, and when the place has its turn.
+/// What a pass reads of a place, and when the place has its turn. A pass goes over thousands of these
+/// for each number, so they are small.
 #[derive(Clone, Copy, Debug, Drop)]
 pub(crate) struct Turn {
     pub(crate) turn: u32,
@@ -16,7 +17,7 @@ pub(crate) struct Turn {
     pub(crate) from: TransitionId,
     pub(crate) to: TransitionId,
     pub(crate) tokens: u32,
-    pub(crate) hold: u64,
+    pub(crate) hold: u32,
 }
 
 /// The places of a live net in the order of their turns: first those with tokens, which take dates of
@@ -82,9 +83,11 @@ fn by_turn(alloc: Global, net: &Net, live: &Live) -> Result<Vec<Turn>, AllocErro
             from: place.from,
             to: place.to,
             tokens: place.tokens,
-            hold: place.hold,
+            hold: place.hold as u32,
         })?;
     }
+    // Those of one turn by where they take their tokens: so a pass reads what is kept in its order.
+    order.sort_by_key(|o| o.from.index)?;
     order.sort_by_key(|o| o.turn)?;
     Ok(order)
 }

@@ -43,9 +43,9 @@ fn raised<C: DateCell, P: Past<C>, S: Source>(
     let date = row[place.to.index as usize];
     let tokens = place.tokens as u64;
     if tokens == 0 {
-        date.later(row[place.from.index as usize].delayed(place.hold))
+        date.later(row[place.from.index as usize].delayed(place.hold as u64))
     } else if tokens < number {
-        date.later(past.back(place.from, tokens).delayed(place.hold))
+        date.later(past.back(place.from, tokens).delayed(place.hold as u64))
     } else {
         later_date(date, source.initial(net, place.place, number as u32))
     }

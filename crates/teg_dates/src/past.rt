@@ -1,9 +1,8 @@
 //! What is kept of the rows before one.
-ghost use Rattle.std.specs.Prelude.{◌≡◌, ◌+◌, ◌*◌, ◌<◌, ◌≤◌, length, map};
-ghost use Rattle.teg_net.specs.Limits.{most_transitions, greatest_number};
+ghost use Rattle.std.specs.Prelude.{◌≡◌, ◌+◌, ◌*◌, ◌<◌, ◌≤◌, length};
+ghost use Rattle.teg_net.specs.Limits.{most_transitions};
 ghost use Rattle.teg_dates.specs.Tables.{cell_of};
 ghost use Rattle.teg_dates.specs.Rows.{most_rows};
-ghost use Rattle.teg_dates.specs.Passes.{HaveNext};
 
 use crate::date_cell::DateCell;
 use dioid::Date;
@@ -22,20 +21,6 @@ pub(crate) trait Past<C: DateCell> {
         requires first { 1 ≤ behind }
         requires last { behind ≤ (rows self.now).kept }
         ensures { C.held result ≡ (rows self.now).back transition.index behind };
-}
-
-/// Keeps the last rows: each that is given stands behind the others. No call takes memory.
-pub(crate) trait Keep<C: DateCell>: Past<C> {
-    /// How many rows were given.
-    fn number(&self) -> u64
-        ensures value { result ≡ (Self.rows self.now).number }
-        ensures few { result ≤ greatest_number };
-
-    /// Adds a row behind the others. The first rows may go.
-    fn push(&mut self, row: &[C])
-        requires few { (Self.rows self.old).number < greatest_number }
-        requires full { length row.now ≡ (Self.rows self.old).width }
-        ensures { HaveNext (Self.rows self.old) (Self.rows self.new) (map C.held row.now) };
 }
 
 /// Where the date of a firing stands in rows of this width.

@@ -8,7 +8,6 @@ ghost use Rattle.teg_dates.specs.Streams.{HasLeast, IsLeastRow, IsStreamOf};
 use crate::last_rows::LastRows;
 use crate::next::{most_tokens_of, next_row};
 use crate::order::PlaceOrder;
-use crate::past::Keep;
 use dioid::Date;
 use std::alloc::Global;
 use std::marker::Model;
@@ -83,6 +82,8 @@ impl Stream {
         ensures number { self.new.last.number ≡ self.old.last.number + 1 }
         ensures stands { IsStreamOf net.now self.new }
     {
-        next_row(net, self.order.turns(), &mut self.last, row)
+        let number = self.last.number() + 1;
+        next_row(net, self.order.turns(), &self.last, row, number);
+        self.last.push(row);
     }
 }

@@ -1,9 +1,9 @@
 //! The last dates of each transition in eight bytes each, one transition after another.
-ghost use Rattle.std.specs.Prelude.{◌≡◌, ◌+◌, ◌-◌, ◌*◌, ◌<◌, ◌≤◌, length, IfOk};
-ghost use Rattle.teg_net.specs.Limits.{most_transitions, most_tokens};
-ghost use Rattle.teg_dates.specs.Windows.{AreMoved, HasColumnSet, HaveRowAdded, most_room};
+ghost use Rattle.std.specs.Prelude.{◌≡◌, ◌+◌, ◌-◌, ◌*◌, ◌<◌, ◌≤◌, length, map, IfOk};
+ghost use Rattle.teg_net.specs.Limits.{most_transitions, most_tokens, greatest_number};
+ghost use Rattle.teg_dates.specs.Windows.{AreMoved, HasColumnSet, HaveRowAdded, IsWindow, most_room};
 
-use crate::past::{Keep, Past};
+use crate::past::Past;
 use std::alloc::{AllocError, Global};
 use std::marker::Model;
 use teg_net::TransitionId;
@@ -89,7 +89,9 @@ fn add_row(reach: usize, room: usize, at: usize, cells: &mut [u64], row: &[u64])
 }
 
 impl Window {
-    ghost use Rattle.teg_dates.specs.Windows.{opened};
+    ghost use Rattle.teg_dates.specs.DateCells.{date_of};
+    ghost use Rattle.teg_dates.specs.Passes.{HaveNext};
+    ghost use Rattle.teg_dates.specs.Windows.{WindowCells, opened, window_rows};
 
     /// No rows, and room for at least as many as `reach`.
     pub(crate) fn new(alloc: Global, width: usize, reach: usize) -> Result<Window, AllocError>
@@ -108,26 +110,59 @@ impl Window {
             cells,
         })
     }
+
+    /// How many rows were given. It takes no memory.
+    pub(crate) fn number(&self) -> u64
+        ensures value { result ≡ self.now.number }
+        ensures few { result ≤ greatest_number }
+    {
+        self.number
+    }
+
+    /// The rows, for a pass to read. It takes no memory.
+    pub(crate) fn columns(&self) -> Columns<'_>
+        ensures { record { width = result.width; reach = result.reach; room = result.room; at = result.at; number = result.number; cells = result.cells.now } ≡ self.now }
+    {
+        Columns {
+            width: self.width,
+            reach: self.reach,
+            room: self.room,
+            at: self.at,
+            number: self.number,
+            cells: &self.cells,
+        }
+    }
+
+    /// Adds a row behind the others. It takes no memory.
+    pub(crate) fn push(&mut self, row: &[u64])
+        requires few { self.old.number < greatest_number }
+        requires full { length row.now ≡ self.old.width }
+        ensures { HaveNext (window_rows self.old) (window_rows self.new) (map date_of row.now) }
+    {
+        self.at = add_row(self.reach, self.room, self.at, &mut self.cells, row);
+        self.number += 1;
+    }
 }
 
-impl Past<u64> for Window {
+/// The same rows, lent to a pass: so what says where dates stand is not read again for each place.
+#[derive(Drop)]
+pub(crate) struct Columns<'a> {
+    width: usize,
+    reach: usize,
+    room: usize,
+    at: usize,
+    number: u64,
+    cells: &'a [u64],
+    ghost within: { IsWindow (record { width = width; reach = reach; room = room; at = at; number = number; cells = cells.now }) },
+}
+
+impl Past<u64> for Columns<'_> {
     ghost use Rattle.teg_dates.specs.Windows.{window_rows};
 
-    ghost rows = { window_rows };
+    ghost rows = { λ c. window_rows (record { width = c.width; reach = c.reach; room = c.room; at = c.at; number = c.number; cells = c.cells.now }) };
 
     fn back(&self, transition: TransitionId, behind: u64) -> u64 {
         let at = self.at - behind as usize;
         self.cells[cell(self.width, self.room, transition.index as usize, at)]
-    }
-}
-
-impl Keep<u64> for Window {
-    fn number(&self) -> u64 {
-        self.number
-    }
-
-    fn push(&mut self, row: &[u64]) {
-        self.at = add_row(self.reach, self.room, self.at, &mut self.cells, row);
-        self.number += 1;
     }
 }

@@ -18,8 +18,11 @@ pub returns : goal.returns
 returns c =
     let end = rw c.places-place-items.ensures.value at c.loop-index-test.false in
     let p = c.in_ok-sort_by_key.ensures.permutation in
+    let q = c.in_ok-sort_by_key-2.ensures.permutation in
     record {
-      known = All-permutation (IsRankedPlace c.args.net.now c.args.live.now) _ _ p c.loop-index.invariant.known;
-      all = λ k l. Contains-permutation _ _ (turn_at c.args.net.now c.args.live.now k) p (c.loop-index.invariant.all k (omega arith));
-      sorted = IsNonDecreasingBy-from_sort_by_key (λ o. o.turn) _ c.in_ok-sort_by_key.ensures.sorted (λ a r q k. search rules);
+      known = All-permutation (IsRankedPlace c.args.net.now c.args.live.now) _ _ q (All-permutation (IsRankedPlace c.args.net.now c.args.live.now) _ _ p c.loop-index.invariant.known);
+      all = λ k l.
+          let o = turn_at c.args.net.now c.args.live.now k in
+          Contains-permutation _ _ o q (Contains-permutation _ _ o p (c.loop-index.invariant.all k (omega arith)));
+      sorted = IsNonDecreasingBy-from_sort_by_key (λ o. o.turn) _ c.in_ok-sort_by_key-2.ensures.sorted (λ a r q k. search rules);
     }

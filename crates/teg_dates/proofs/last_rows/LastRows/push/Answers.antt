@@ -1,8 +1,7 @@
 use Rattle.std.proofs.Common.{◌≡◌, length, refl, ap, ◌∙◌, sym, arith}
-use Rattle.std.proofs.lemmas.List.{map-id}
 use Rattle.teg_dates.specs.Streams.{LastDates, AreLastDates}
 use Rattle.teg_dates.proofs.Keeping.{full_with_row, last_have_next}
-use Rattle.teg_dates.proofs.last_rows.LastRowsKeepDate.push.Goals as goal
+use Rattle.teg_dates.proofs.last_rows.LastRows.push.Goals as goal
 
 pub invariant_of-self : goal.invariant_of-self
 invariant_of-self c =
@@ -20,4 +19,4 @@ returns c =
     let fields = c.self.inside in
     let last : LastDates = record { width = fields.width; reach = fields.reach; number = fields.number; dates = fields.cells.items } in
     let full : length row ≡ last.width = c.requires.full ∙ sym (ap (λ a. a.width) c.self.view_is) in
-    rw (map-id row, ← c.self.view_is, c.extend_from_slice.ensures, c.self.invariant.1) (last_have_next last row c.self.invariant.0 full)
+    rw (← c.self.view_is, c.extend_from_slice.ensures, c.self.invariant.1) (last_have_next last row c.self.invariant.0 full)
