@@ -4,9 +4,10 @@
 //! ready dates and its input lists, and with that the greatest start plus time of the walks that end
 //! at each firing. It stands on [`Rows`], which makes one row after another of the least dating of any
 //! system of a net: a [`Source`] gives the dates of its initial tokens and its releases. A [`Stream`]
-//! gives the rows of the net one after another and keeps only the last of them. The crate stands on
-//! `teg_net`, on `teg_check` for the ranks, on `teg_form` for the form that a stream is asked with, on
-//! `teg_model` for what a least dating is, on `circular_buffer`, and on `dioid` for dates.
+//! gives the rows of the net one after another and keeps only the last of them, and so do
+//! [`FirstRows`], up to number 10,000, in cells of eight bytes. The crate stands on `teg_net`, on
+//! `teg_check` for the ranks, on `teg_form` for the form that a stream is asked with, on `teg_model`
+//! for what a least dating is, on `circular_buffer`, and on `dioid` for dates.
 #![tactic(auto)]
 
 mod date_cell;
