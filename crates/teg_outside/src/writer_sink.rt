@@ -1,5 +1,5 @@
 //! The real output.
-ghost use Rattle.std.specs.Prelude.{◌≡◌, ◌≤◌, ◌<◌, None, length, take, IfSome};
+ghost use Rattle.std.specs.Prelude.{◌≡◌, ◌≤◌, ◌<◌, None, length, take, IfOk, IfSome};
 ghost use Rattle.std.specs.Io.KnownBytes.{Appends};
 
 use crate::{Sink, SinkFault};
@@ -42,9 +42,11 @@ fn write_and_flush<W: Write>(inner: &mut W, piece: &[u8]) -> Option<usize>
 impl<W: Write> Sink for WriterSink<W> {
     ghost state = { λ s. record { bytes = None; faults = s.faults } };
 
-    /// What the writer took. An error of the write or of the flush, and a write that takes no byte
-    /// of a piece that is not empty, answer Failed.
-    fn write(&mut self, piece: &[u8]) -> Result<usize, SinkFault> {
+    /// What the writer took: where its bytes are known, these were appended. An error of the write or
+    /// of the flush, and a write that takes no byte of a piece that is not empty, answer Failed.
+    fn write(&mut self, piece: &[u8]) -> Result<usize, SinkFault>
+        ensures taken { IfOk result (λ n. Appends (W.contents self.old.inner) (W.contents self.new.inner) (take n piece.now)) }
+    {
         if piece.is_empty() {
             return Ok(0);
         }
