@@ -1,6 +1,7 @@
 //! The real output.
 ghost use Rattle.std.specs.Prelude.{◌≡◌, ◌≤◌, ◌<◌, None, length, take, IfOk, IfSome};
 ghost use Rattle.std.specs.Io.KnownBytes.{Appends};
+ghost use Rattle.teg_outside.specs.Sinks.{WriteAnswers};
 
 use crate::{Sink, SinkFault};
 use std::io::Write;
@@ -45,6 +46,8 @@ impl<W: Write> Sink for WriterSink<W> {
     /// What the writer took: where its bytes are known, these were appended. An error of the write or
     /// of the flush, and a write that takes no byte of a piece that is not empty, answer Failed.
     fn write(&mut self, piece: &[u8]) -> Result<usize, SinkFault>
+        ensures faults { self.old.faults ≤ self.new.faults }
+        ensures answer { WriteAnswers (record { bytes = None; faults = self.old.faults }) (record { bytes = None; faults = self.new.faults }) piece.now result }
         ensures taken { IfOk result (λ n. Appends (W.contents self.old.inner) (W.contents self.new.inner) (take n piece.now)) }
     {
         if piece.is_empty() {
