@@ -1,5 +1,5 @@
 -- The last dates of each transition, one transition after another.
-use Rattle.std.specs.Prelude.{ℕ, ◌+◌, ◌-◌, ◌*◌, ◌/◌, ◌<◌, ◌≤◌, ◌≡◌, ◌≢◌, List, length, min, replicate, slice_index}
+use Rattle.std.specs.Prelude.{ℕ, ◌+◌, ◌-◌, ◌*◌, ◌<◌, ◌≤◌, ◌≡◌, ◌≢◌, List, length, min, replicate, slice_index}
 use Rattle.dioid.specs.declared.dates.Date.{Date}
 use Rattle.teg_net.specs.Limits.{most_transitions, greatest_number}
 use Rattle.teg_dates.specs.Passes.{KeptRows}
@@ -33,7 +33,7 @@ window_rows w = record { width = w.width; reach = w.reach; number = w.number; ke
 -- no rows
 abbrev pub opened : ℕ → ℕ → WindowCells
 opened width reach =
-    let room : ℕ = reach + reach / 4 + 64 in
+    let room : ℕ = reach + 64 in
     record { width = width; reach = reach; room = room; at = 0; number = 0; cells = replicate (width * room) 0 }
 
 -- there is a cell for each transition and index, and the last `reach` rows are kept, or all
