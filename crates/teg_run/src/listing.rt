@@ -116,9 +116,7 @@ fn write_listing<W: Sink>(
         mut block,
     } = listing;
     write_all(out, &head)?;
-    write_rows(
-        net, &mut rows, &mut row, &mut line, &mut block, count, out,
-    )
+    write_rows(net, &mut rows, &mut row, &mut line, &mut block, count, out)
 }
 
 /// Writes the first dates of a live net, and tells how the call ends. All memory is found before the
