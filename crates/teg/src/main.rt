@@ -2,8 +2,9 @@
 //! ends with the status of that call. It stands on `teg_run` and `teg_outside`.
 #![tactic(auto)]
 
-ghost use Rattle.std.specs.Prelude.{◌≡◌, map, string_bytes};
+ghost use Rattle.std.specs.Prelude.{ℕ, List, ◌≡◌, ◌∷◌, ◌++◌, [], IfOk, map, string_bytes};
 ghost use Rattle.std.specs.Process.{exit_status};
+ghost use Rattle.teg_outside.specs.declared.monitor.Firing.{Firing};
 ghost use Rattle.teg_run.specs.Headline.{KeepsPromises};
 ghost use Rattle.teg_run.specs.Statuses.{code_of};
 ghost use Rattle.teg_run.specs.declared.status.Status.{Status};
@@ -59,7 +60,9 @@ fn run<S: Shelf, W: Sink>(
 }
 
 // Appends a monitor.
-fn keep(monitors: &mut Vec<Box<dyn Monitor>>, monitor: Box<dyn Monitor>) -> Result<(), AllocError> {
+fn keep(monitors: &mut Vec<Box<dyn Monitor>>, monitor: Box<dyn Monitor>) -> Result<(), AllocError>
+    ensures { IfOk result (λ _. monitors.new.items ≡ monitors.old.items ++ monitor ∷ []) }
+{
     monitors.push(monitor)?;
     Ok(())
 }
@@ -71,7 +74,19 @@ fn run_watched<S: Shelf, W: Sink>(
     words: &[String],
     shelf: &mut S,
     out: &mut W,
-) -> Result<ExitCode, AllocError> {
+) -> Result<ExitCode, AllocError>
+    ensures { IfOk result (λ code. (lines : List Firing → List (List ℕ)) × (status : Status)
+        × KeepsPromises (record {
+          words = map string_bytes words.now;
+          lines = lines;
+          shelf_before = S.state shelf.old;
+          shelf_after = S.state shelf.new;
+          sink_before = W.state out.old;
+          sink_after = W.state out.new;
+          status = status;
+        })
+        × (exit_status code ≡ code_of status)) }
+{
     let mut monitors: Vec<Box<dyn Monitor>> = Vec::new(alloc);
     keep(&mut monitors, Box::new(alloc, FiringCount::new())?)?;
     keep(&mut monitors, Box::new(alloc, HighWater::new())?)?;
