@@ -1,9 +1,10 @@
 //! A list of dates, written as its rows are made: neither its dates nor its text are ever whole.
-ghost use Rattle.std.specs.Prelude.{ℕ, ◌≡◌, ◌+◌, ◌*◌, ◌≤◌, length, IfOk};
+ghost use Rattle.std.specs.Prelude.{ℕ, ◌≡◌, ◌+◌, ◌*◌, ◌<◌, ◌≤◌, length, map, IfOk};
 ghost use Rattle.dioid.specs.declared.dates.Date.{Date};
 ghost use Rattle.teg_model.specs.Datings.{IsLeastDating};
 ghost use Rattle.teg_outside.specs.Sinks.{SinkState};
-ghost use Rattle.teg_dates.specs.Streams.{AreFirstRowsOf};
+ghost use Rattle.teg_dates.specs.DateCells.{date_of};
+ghost use Rattle.teg_dates.specs.Streams.{AreFirstRowsOf, IsLeastRow};
 ghost use Rattle.teg_dates.specs.Tables.{most_numbers};
 ghost use Rattle.teg_commands.specs.Sizes.{SaysList};
 ghost use Rattle.teg_commands.specs.Texts.{list_text};
@@ -68,6 +69,20 @@ fn write_full<W: Sink>(out: &mut W, block: &[u8], filled: usize) -> Result<usize
     Ok(0)
 }
 
+// Writes the next row. It is kept apart from what is around it, so that the pass over the places has
+// the registers to itself.
+#[inline(never)]
+fn next_row(net: &Net, rows: &mut FirstRows, row: &mut [u64])
+    requires stands { AreFirstRowsOf net.now rows.old }
+    requires few { rows.old.window.number < most_numbers }
+    requires full { length row.old ≡ length net.now.transitions }
+    ensures row { IsLeastRow net.now (rows.old.window.number + 1) (map date_of row.new) }
+    ensures number { rows.new.window.number ≡ rows.old.window.number + 1 }
+    ensures stands { AreFirstRowsOf net.now rows.new }
+{
+    rows.next_row(net, row)
+}
+
 // Writes the lines of the numbers 1 to `count`, gathered into pieces.
 fn write_rows<W: Sink>(
     net: &Net,
@@ -89,7 +104,7 @@ fn write_rows<W: Sink>(
 {
     let mut filled = 0;
     for number in 0..count {
-        rows.next_row(net, row);
+        next_row(net, rows, row);
         let end = put_row(block, filled, line, number as u64 + 1, row);
         filled = write_full(out, block, end)?;
     }
