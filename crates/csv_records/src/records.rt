@@ -1,5 +1,5 @@
 //! The records of a text that are left to read.
-ghost use Rattle.std.specs.Prelude.{◌≡◌, ◌≤◌, ◌∷◌, [], true, false, length, IfOk, OnErr};
+ghost use Rattle.std.specs.Prelude.{◌≡◌, ◌≢◌, ◌≤◌, ◌∷◌, [], true, false, length, Ok, IfOk, OnErr};
 ghost use Rattle.csv.specs.Records.{fields_of};
 ghost use Rattle.csv_records.specs.Records.{records_of};
 
@@ -47,23 +47,30 @@ impl<'a> Records<'a> {
         }
     }
 
-    /// Reads the next record into `row`, and answers whether there was one. Where no memory is
-    /// found, nothing is left to read afterwards.
+    /// Reads the next record into `row`, and answers whether there was one. Where there was none,
+    /// `row` has no field. Where no memory is found it has none either, and nothing is left to read
+    /// afterwards.
     pub fn read(&mut self, row: &mut ByteRecord) -> Result<bool, OutOfMemory>
         ensures found { IfOk result (λ found. found ≡ true → self.old ≡ fields_of row.new ∷ self.new) }
         ensures ended { IfOk result (λ found. found ≡ false → (self.old ≡ []) × (self.new ≡ [])) }
         ensures failed { OnErr result (self.new ≡ []) }
+        ensures no_row { (result ≢ Ok true) → fields_of row.new ≡ [] }
     {
         if self.ended {
+            row.clear();
             return Ok(false);
         }
         let found = match self.reader.read_byte_record(row) {
             Ok(found) => found,
             Err(_) => {
+                row.clear();
                 self.ended = true;
                 return Err(OutOfMemory);
             }
         };
+        if !found {
+            row.clear();
+        }
         self.ended = !found;
         Ok(found)
     }

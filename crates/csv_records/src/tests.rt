@@ -15,6 +15,7 @@ fn records_come_one_at_a_time(rt: HostRuntime) -> Result<(), Fail> {
     assert!(rt; records.read(&mut record) == Ok(true));
     assert!(rt; record.len() == 3);
     assert!(rt; records.read(&mut record) == Ok(false));
+    assert!(rt; record.len() == 0);
     assert!(rt; records.read(&mut record) == Ok(false));
     Ok(())
 }

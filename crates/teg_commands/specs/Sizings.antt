@@ -1,19 +1,18 @@
 -- What is said of the fewest further tokens of a place for a target ratio.
-use Rattle.std.specs.Prelude.{ℕ, ◌≡◌, ◌≢◌, ◌⊎◌, ◌++◌, List, [], ◌∷◌, All, IsSomeAnd, slice_get, codes}
+use Rattle.std.specs.Prelude.{ℕ, ◌≡◌, ◌≢◌, ◌⊎◌, List, All, IsSomeAnd, slice_get}
 use Rattle.teg_net.specs.declared.entries.PlaceId.{PlaceId}
 use Rattle.teg_net.specs.Nets.{NetLists}
 use Rattle.teg_net.specs.Ratios.{Fraction, IsRatioOf}
 use Rattle.teg_sizing.specs.declared.sizing.Sizing.{Sizing}
 use Rattle.teg_sizing.specs.Sizings.{IsSizing}
-use Rattle.teg_sizing.specs.Texts.{sizing_lines, told}
-use Rattle.teg_text.specs.Lines.{phrase, written}
-use Rattle.teg_text.specs.Words.{label_word}
+use Rattle.teg_sizing.specs.Texts.{no_place_lines, sizing_lines, told}
+use Rattle.teg_text.specs.Lines.{written}
 use Rattle.teg_commands.specs.declared.outcome.Verdict.{Verdict}
 use Rattle.teg_commands.specs.declared.outcome.Verdict.TheVariants.{Done as VerdictDone, Name as VerdictName}
 
--- that no place has this name
+-- the text that no place has this name
 abbrev pub no_place_text : List ℕ → List ℕ
-no_place_text word = written ((phrase (codes "refused: no place") ++ label_word word ∷ []) ∷ [])
+no_place_text word = written (no_place_lines word)
 
 -- the text of an answer about a place and a target
 abbrev pub sizing_text : NetLists → PlaceId → Fraction → Sizing → List ℕ

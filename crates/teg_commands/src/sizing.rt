@@ -1,15 +1,14 @@
 //! The fewest further tokens of a place of a live net for a target ratio.
-ghost use Rattle.std.specs.Prelude.{◌≡◌, ◌<◌, ◌≤◌, IfOk, length};
+ghost use Rattle.std.specs.Prelude.{◌<◌, ◌≤◌, length};
 ghost use Rattle.teg_commands.specs.Outcomes.{Tells, outcome_of};
-ghost use Rattle.teg_commands.specs.Sizings.{SaysSizing, SaysSizingOf, TellsNoPlace, no_place_text};
+ghost use Rattle.teg_commands.specs.Sizings.{SaysSizing, SaysSizingOf, TellsNoPlace};
 ghost use Rattle.teg_sizing.specs.Rounds.{IsTarget};
 
 use crate::live_net::LiveNet;
 use crate::outcome::{Outcome, Verdict};
 use std::alloc::Global;
 use teg_net::{OutOfMemory, PlaceId, Ratio};
-use teg_sizing::sizing_text;
-use teg_text::push_label;
+use teg_sizing::{no_place_text, sizing_text};
 
 // The answer about this place, and its text.
 fn tell_sizing_of(
@@ -29,22 +28,13 @@ fn tell_sizing_of(
     Ok(Outcome { verdict, text })
 }
 
-// The text that no place has the name that was asked for.
-fn no_place(alloc: Global, word: &str) -> Result<Vec<u8>, OutOfMemory>
-    ensures { IfOk result (λ text. text.items ≡ no_place_text word.now) }
-{
-    let mut text = String::from_str(alloc, "refused: no place ")?;
-    push_label(&mut text, word)?;
-    text.push('\n')?;
-    Ok(text.into_bytes())
-}
-
 // That no place has the name that was asked for.
 fn tell_no_place(alloc: Global, word: &str) -> Result<Outcome, OutOfMemory>
     ensures { Tells (TellsNoPlace word.now) (outcome_of result) }
 {
-    let text = no_place(alloc, word)?;
+    let text = no_place_text(alloc, word)?;
     let verdict = Verdict::Name;
+    let text = text.into_bytes();
     Ok(Outcome { verdict, text })
 }
 

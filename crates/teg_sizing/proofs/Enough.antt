@@ -13,7 +13,7 @@ use Rattle.teg_net.specs.Ratios.{Fraction}
 use Rattle.teg_net.specs.Circuits.{IsCircuit, time_of, tokens_of}
 use Rattle.teg_sizing.specs.Rounds.{value_of, Avoids}
 use Rattle.teg_sizing.specs.Surpluses.{NoneIsAbove, IsAboveApart, NonePasses, IsBestThrough}
-use Rattle.teg_sizing.specs.Sizings.{IsEnough, IsFewest, IsNeverEnough, IsTurnedLowest}
+use Rattle.teg_sizing.specs.Sizings.{OthersKeepTarget, IsEnough, IsFewest, IsNeverEnough, IsTurnedLowest}
 use Rattle.teg_sizing.proofs.Values.{contains_or_avoids, not_both, all_first, all_second}
 
 -- a value of at most so much, in products
@@ -36,7 +36,7 @@ value_from net r ps n h =
 
 module _ (net : NetLists) (r : Fraction) (p : PlaceId) where
   -- those that do not pass the place
-  others_low : NoneIsAbove net r p → (ps : List PlaceId) → IsCircuit net ps → (Contains ps p → ⊥) → time_of net ps * r.tokens ≤ r.time * tokens_of net ps
+  others_low : NoneIsAbove net r p → OthersKeepTarget net r p
   others_low none ps c off = ⊎_elim
       (λ (has : Contains ps p). absurd (off has))
       (λ (avoids : Avoids p ps). low_alone net r ps (none ps c avoids))
@@ -45,14 +45,14 @@ module _ (net : NetLists) (r : Fraction) (p : PlaceId) where
   pub enough_by : (v : ℤ) (ps : List PlaceId) (d : ℕ) → NoneIsAbove net r p → IsBestThrough net r p v ps → v ≤ℤ pos (r.time * d) → IsEnough net r p d
   enough_by v ps d none best l = record {
     passing = λ qs c has. (let up = best.greatest qs c has in low_value net r qs d (omega (arith, ints)));
-    others = λ qs c off. others_low none qs c off;
+    others = others_low none;
   }
 
   -- nothing is wanted where no circuit passes the place, or none of them is above the target
   pub enough_alone : NoneIsAbove net r p → NonePasses net p → IsEnough net r p 0
   enough_alone none no_way = record {
     passing = λ qs c has. absurd (no_way qs c has);
-    others = λ qs c off. others_low none qs c off;
+    others = others_low none;
   }
 
   pub enough_none : (v : ℤ) (ps : List PlaceId) → NoneIsAbove net r p → IsBestThrough net r p v ps → v ≤ℤ pos 0 → IsEnough net r p 0
@@ -104,8 +104,8 @@ module _ (net : NetLists) (r : Fraction) (p : PlaceId) where
         above x y n = by_lt_z y x (λ l. let up : (y +ℤ pos 1) ≤ℤ x = omega (arith, ints) in up) (λ l. absurd (n l))
 
   -- where the target is 0 and some circuit that passes the place takes time
-  pub never_by : (v : ℤ) (ps own : List PlaceId) → IsBestThrough net r p v ps → IsTurnedLowest net ps own → (v ≤ℤ pos 0 → ⊥) → r.time ≡ 0 → IsNeverEnough net r p own
-  never_by v ps own best t low still =
+  pub never_by : (v : ℤ) (ps own : List PlaceId) → NoneIsAbove net r p → IsBestThrough net r p v ps → IsTurnedLowest net ps own → (v ≤ℤ pos 0 → ⊥) → r.time ≡ 0 → IsNeverEnough net r p own
+  never_by v ps own apart best t low still =
       let is = best.is in
       let tokens = t.tokens in
       let time = t.time in
@@ -121,7 +121,7 @@ module _ (net : NetLists) (r : Fraction) (p : PlaceId) where
         circuit = t.circuit;
         lowest = t.lowest;
         above = omega (arith, ints);
-        by = inr still;
+        by = inr (still, others_low apart);
       }
 
   -- where a circuit that avoids the place is above the target

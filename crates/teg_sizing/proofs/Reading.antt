@@ -1,5 +1,5 @@
 -- An answer is read back from its text.
-use Rattle.std.proofs.Common.{ℕ, ◌<◌, ◌≡◌, true, not, ◌==◌, ◌&&◌, nat_le, List, [], ◌∷◌, length, map, codes, drop, Option, Some, None, refl, sym, ap, ◌∙◌, leb-true}
+use Rattle.std.proofs.Common.{ℕ, ◌<◌, ◌≡◌, ◌^◌, true, not, ◌==◌, ◌&&◌, nat_le, List, [], ◌∷◌, length, map, codes, drop, Option, Some, None, refl, sym, ap, ◌∙◌, leb-true}
 use Rattle.std.specs.Prelude.{IsTrue, if◌then◌else◌}
 use Rattle.std.specs.List.{list_all}
 use Rattle.std.proofs.lemmas.Bool.{and_parts}
@@ -11,16 +11,16 @@ use Rattle.teg_net.specs.Ratios.{Fraction}
 use Rattle.teg_net.specs.Circuits.{no_place, AreInRange}
 use Rattle.teg_text.specs.Lines.{is_word_byte, is_word, are_lines}
 use Rattle.teg_text.specs.Words.{ratio_word}
-use Rattle.teg_text.specs.Reading.{lines_in, line_at, word, stands_at, number_in, before_slash, behind_slash, index_in}
-use Rattle.teg_text.proofs.Back.{word64_back, time_back, tokens_back, ratio_is_word, index_back}
+use Rattle.teg_text.specs.Reading.{lines_in, line_at, word, stands_at, number_in, before_slash, behind_slash, label_in, index_in}
+use Rattle.teg_text.proofs.Back.{word64_back, time_back, tokens_back, ratio_is_word, label_back, index_back}
 use Rattle.teg_text.proofs.Reading.{written_read}
 use Rattle.teg_text.proofs.Rows.{rows, IsReadBack}
-use Rattle.teg_text.proofs.Words.{all_weaker, past_blank, decimal_is_word}
+use Rattle.teg_text.proofs.Words.{all_weaker, past_blank, decimal_is_word, label_is_word}
 use Rattle.teg_net.proofs.PathLaws.{IsPathBetween-in_range}
 use Rattle.teg_sizing.specs.declared.sizing.Sizing.{Sizing}
 use Rattle.teg_sizing.specs.declared.sizing.Sizing.TheVariants.{Enough, Impossible}
 use Rattle.teg_sizing.specs.Sizings.{IsSizing}
-use Rattle.teg_sizing.specs.Texts.{Told, EnoughTold, ImpossibleTold, told, name_of, sizing_lines, HasCircuitIn, IsToldOf, TextsOfSizingsDiffer}
+use Rattle.teg_sizing.specs.Texts.{Told, EnoughTold, ImpossibleTold, told, name_of, sizing_lines, HasCircuitIn, IsToldOf, Said, SizingSaid, NoPlaceSaid, said_lines, IsSaidOf, TextsOfSizingsDiffer}
 
 -- ---- what is read
 
@@ -38,6 +38,11 @@ abbrev told_in : NetLists → List (List (List ℕ)) → Told
 told_in net lines =
     if stands_at 3 (line_at 0 lines) (codes "extra") then EnoughTold (number_in (word 4 (line_at 0 lines))) (circuit_in net (drop 1 lines))
     else ImpossibleTold (map (place_in net) (drop 1 (line_at 1 lines)))
+
+abbrev said_in : NetLists → List (List (List ℕ)) → Said
+said_in net lines =
+    if stands_at 0 (line_at 0 lines) (codes "size") then SizingSaid (place_in net (word 1 (line_at 0 lines))) (ratio_in (word 2 (line_at 0 lines))) (told_in net lines)
+    else NoPlaceSaid (label_in (word 3 (line_at 0 lines)))
 
 -- ---- places
 
@@ -74,43 +79,54 @@ circuit_in_net net r p (Enough extra None) h = tt
 circuit_in_net net r p (Enough extra (Some circuit)) h = IsPathBetween-in_range net circuit.places.items h.circuit.closed.0 h.circuit.closed.0 h.circuit.closed.1
 circuit_in_net net r p (Impossible circuit) h = IsPathBetween-in_range net circuit.places.items h.circuit.closed.0 h.circuit.closed.0 h.circuit.closed.1
 
--- the lines are read back from their text, and the place, the target and the answer from the lines
+-- the lines are read back from their text, and the answer from the lines
 record IsRead (net : NetLists) (p : PlaceId) (r : Fraction) (s : Told) : Type 0 where
   words : are_lines (sizing_lines net p r s) ≡ true
-  place : word 1 (line_at 0 (sizing_lines net p r s)) ≡ name_of net p
-  ratio : word 2 (line_at 0 (sizing_lines net p r s)) ≡ ratio_word r.time r.tokens
   told : told_in net (sizing_lines net p r s) ≡ s
 
 is_read : (net : NetLists) → IsNet net → (p : PlaceId) (r : Fraction) (s : Told) → IsToldOf net p r s → IsRead net p r s
 is_read net rules p r (EnoughTold extra None) h = record {
   words = rw (place_is_word net p rules h.place, ratio_is_word r.time r.tokens, decimal_is_word extra) refl;
-  place = refl;
-  ratio = refl;
   told = let number = h.number in ap (λ (n : ℕ). EnoughTold n None) (word64_back extra number);
 }
 is_read net rules p r (EnoughTold extra (Some circuit)) h = record {
   words = rw (place_is_word net p rules h.place, ratio_is_word r.time r.tokens, decimal_is_word extra, (circuits net rules).passes circuit h.circuit) refl;
-  place = refl;
-  ratio = refl;
   told = rw (word64_back extra h.number, (circuits net rules).back circuit h.circuit) refl;
 }
 is_read net rules p r (ImpossibleTold circuit) h = record {
   words = rw (place_is_word net p rules h.place, ratio_is_word r.time r.tokens, (circuits net rules).passes circuit h.circuit) refl;
-  place = refl;
-  ratio = refl;
   told = ap ImpossibleTold ((circuits net rules).back circuit h.circuit);
 }
 
+-- the place and the target stand in the first line
+sizing_said : (net : NetLists) (p : PlaceId) (r : Fraction) (s : Told)
+    → said_in net (sizing_lines net p r s) ≡ SizingSaid (place_in net (name_of net p)) (ratio_in (ratio_word r.time r.tokens)) (told_in net (sizing_lines net p r s))
+sizing_said net p r (EnoughTold extra None) = refl
+sizing_said net p r (EnoughTold extra (Some circuit)) = refl
+sizing_said net p r (ImpossibleTold circuit) = refl
+
+ratio_back : (r : Fraction) → r.time < 2 ^ 64 → r.tokens < 2 ^ 64 → ratio_in (ratio_word r.time r.tokens) ≡ r
+ratio_back r time tokens = λ i. record { time = time_back r.time r.tokens time i; tokens = tokens_back r.time r.tokens tokens i }
+
+-- the lines of what is said are read back from their text, and what is said from the lines
+record IsSaidBack (net : NetLists) (a : Said) : Type 0 where
+  words : are_lines (said_lines net a) ≡ true
+  said : said_in net (said_lines net a) ≡ a
+
+is_said_back : (net : NetLists) → IsNet net → (a : Said) → IsSaidOf net a → IsSaidBack net a
+is_said_back net rules (SizingSaid p r s) h =
+    let read = is_read net rules p r s h in
+    record {
+      words = read.words;
+      said = sizing_said net p r s ∙ rw (place_back net p rules h.place, ratio_back r h.time h.tokens, read.told) refl;
+    }
+is_said_back net rules (NoPlaceSaid name) h = record {
+  words = rw (label_is_word name h) refl;
+  said = ap NoPlaceSaid (label_back name h);
+}
+
 pub texts_of_sizings_differ : TextsOfSizingsDiffer
-texts_of_sizings_differ net rules p q r t s u h k e =
-    let one = is_read net rules p r s h in
-    let two = is_read net rules q t u k in
-    let lines : sizing_lines net p r s ≡ sizing_lines net q t u = sym (written_read (sizing_lines net p r s) one.words) ∙ ap lines_in e ∙ written_read (sizing_lines net q t u) two.words in
-    let names : name_of net p ≡ name_of net q = sym one.place ∙ ap (λ (z : List (List (List ℕ))). word 1 (line_at 0 z)) lines ∙ two.place in
-    let ratios : ratio_word r.time r.tokens ≡ ratio_word t.time t.tokens = sym one.ratio ∙ ap (λ (z : List (List (List ℕ))). word 2 (line_at 0 z)) lines ∙ two.ratio in
-    let time : r.time ≡ t.time = sym (time_back r.time r.tokens h.time) ∙ ap (λ (z : List ℕ). number_in (before_slash z)) ratios ∙ time_back t.time t.tokens k.time in
-    let tokens : r.tokens ≡ t.tokens = sym (tokens_back r.time r.tokens h.tokens) ∙ ap (λ (z : List ℕ). number_in (behind_slash z)) ratios ∙ tokens_back t.time t.tokens k.tokens in (
-      sym (place_back net p rules h.place) ∙ ap (place_in net) names ∙ place_back net q rules k.place,
-      λ i. record { time = time i; tokens = tokens i },
-      sym one.told ∙ ap (told_in net) lines ∙ two.told,
-    )
+texts_of_sizings_differ net rules a b h k e =
+    let one = is_said_back net rules a h in
+    let two = is_said_back net rules b k in
+    sym one.said ∙ ap (said_in net) (sym (written_read (said_lines net a) one.words) ∙ ap lines_in e ∙ written_read (said_lines net b) two.words) ∙ two.said

@@ -1,12 +1,12 @@
 -- The text of an answer, and that it tells the answer.
-use Rattle.std.specs.Prelude.{ℕ, ◌<◌, ◌≡◌, ◌^◌, List, [], ◌∷◌, length, map, codes, Option, Some, None, ⊤}
+use Rattle.std.specs.Prelude.{ℕ, ◌<◌, ◌≡◌, ◌^◌, List, [], ◌∷◌, ◌++◌, length, map, codes, Option, Some, None, ⊤}
 use Rattle.std.specs.Fmt.{decimal}
 use Rattle.teg_net.specs.declared.entries.PlaceId.{PlaceId}
 use Rattle.teg_net.specs.Nets.{NetLists, IsNet}
 use Rattle.teg_net.specs.Ratios.{Fraction}
 use Rattle.teg_net.specs.Circuits.{place_at, AreInRange}
-use Rattle.teg_text.specs.Lines.{written}
-use Rattle.teg_text.specs.Words.{ratio_word}
+use Rattle.teg_text.specs.Lines.{phrase, written}
+use Rattle.teg_text.specs.Words.{AreBytes, label_word, ratio_word}
 use Rattle.teg_sizing.specs.declared.sizing.Sizing.{Sizing}
 use Rattle.teg_sizing.specs.declared.sizing.Sizing.TheVariants.{Enough, Impossible}
 
@@ -39,6 +39,10 @@ sizing_lines net p r (EnoughTold extra None) = enough_line net p r extra ∷ []
 sizing_lines net p r (EnoughTold extra (Some circuit)) = enough_line net p r extra ∷ circuit_line net circuit ∷ []
 sizing_lines net p r (ImpossibleTold circuit) = impossible_line net p r ∷ circuit_line net circuit ∷ []
 
+-- that no place has this name
+abbrev pub no_place_lines : List ℕ → List (List (List ℕ))
+no_place_lines name = (phrase (codes "refused: no place") ++ label_word name ∷ []) ∷ []
+
 -- the circuit that is told, where one is, is in the net
 abbrev pub HasCircuitIn : NetLists → Told → Type 0
 HasCircuitIn net (EnoughTold extra None) = ⊤
@@ -58,7 +62,21 @@ pub record IsToldOf (net : NetLists) (p : PlaceId) (r : Fraction) (s : Told) : T
   pub circuit : HasCircuitIn net s
   pub number : HasNumberIn s
 
--- two answers about one net that have the same text are the same, about the same place and the same target
+-- what is said of a net: an answer about a place and a target; or that no place has this name
+pub data Said : Type 0 where
+  SizingSaid : (p : PlaceId) (r : Fraction) (s : Told) → Said
+  NoPlaceSaid : (name : List ℕ) → Said
+
+abbrev pub said_lines : NetLists → Said → List (List (List ℕ))
+said_lines net (SizingSaid p r s) = sizing_lines net p r s
+said_lines net (NoPlaceSaid name) = no_place_lines name
+
+-- what is said is about the net, or of a name of bytes
+abbrev pub IsSaidOf : NetLists → Said → Type 0
+IsSaidOf net (SizingSaid p r s) = IsToldOf net p r s
+IsSaidOf net (NoPlaceSaid name) = AreBytes name
+
+-- whatever is said of one net: what has the same text is the same
 abbrev pub TextsOfSizingsDiffer : Type 0
-TextsOfSizingsDiffer = (net : NetLists) → IsNet net → (p q : PlaceId) (r t : Fraction) (s u : Told) → IsToldOf net p r s → IsToldOf net q t u
-    → written (sizing_lines net p r s) ≡ written (sizing_lines net q t u) → (p ≡ q) × (r ≡ t) × (s ≡ u)
+TextsOfSizingsDiffer = (net : NetLists) → IsNet net → (a b : Said) → IsSaidOf net a → IsSaidOf net b
+    → written (said_lines net a) ≡ written (said_lines net b) → a ≡ b

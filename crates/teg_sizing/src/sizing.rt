@@ -21,9 +21,9 @@ pub enum Sizing {
         extra: u64,
         circuit: Option<Circuit>,
     },
-    /// No number is enough, for the sake of this circuit above the target: it does not pass the
-    /// place, or the target is 0. It begins with the place that leaves its lowest numbered
-    /// transition.
+    /// No number is enough, for the sake of this circuit above the target: it avoids the place or,
+    /// where no such circuit is above the target, stands against a target of 0. It begins with the
+    /// place that leaves its lowest numbered transition.
     Impossible {
         circuit: Circuit,
     },
@@ -68,8 +68,8 @@ fn sizing_by(net: &Net, target: Ratio, place: PlaceId, best: Through) -> Sizing
 ///
 /// `Enough` carries the least number that is enough. Where it is above 0, a circuit through the
 /// place is given for which one token less is not. `Impossible` comes exactly where no number is
-/// enough, with a circuit above the target that does not pass the place, or stands against a target
-/// of 0. `OutOfMemory` comes only where no memory is found. It takes time of order n p for n
+/// enough, with a circuit above the target that avoids the place or, where there is none, stands
+/// against a target of 0. `OutOfMemory` comes only where no memory is found. It takes time of order n p for n
 /// transitions and p places.
 pub fn size(
     alloc: Global,

@@ -1,15 +1,17 @@
 //! The text of an answer: how many further tokens are enough, or that none are, and the circuit
-//! that shows it.
+//! that shows it; or that no place has a name.
 ghost use Rattle.std.specs.Prelude.{◌≡◌, ◌++◌, ◌∷◌, ◌<◌, [], flat_map, length, IfOk, string_bytes};
 ghost use Rattle.teg_net.specs.Circuits.{AreInRange};
 ghost use Rattle.teg_text.specs.Lines.{line_then, written};
+ghost use Rattle.teg_text.specs.Words.{AreBytes};
 ghost use Rattle.teg_sizing.specs.Rounds.{IsTarget};
 ghost use Rattle.teg_sizing.specs.Sizings.{IsSizing};
-ghost use Rattle.teg_sizing.specs.Texts.{TextsOfSizingsDiffer, circuit_line, enough_line, impossible_line, name_of, sizing_lines, told, HasCircuitIn, HasNumberIn, IsToldOf};
+ghost use Rattle.teg_sizing.specs.Texts.{TextsOfSizingsDiffer, circuit_line, enough_line, impossible_line, name_of, no_place_lines, sizing_lines, told, HasCircuitIn, HasNumberIn, IsToldOf};
 
 use crate::sizing::Sizing;
 use std::alloc::{AllocError, Global};
 use teg_net::{Circuit, Net, OutOfMemory, PlaceId, Ratio};
+use teg_text::push_label;
 
 /// Appends the names of the places of a circuit in their order, each behind a blank.
 fn push_names(text: &mut String, net: &Net, circuit: &Circuit) -> Result<(), AllocError>
@@ -121,7 +123,20 @@ pub fn sizing_text(
     Ok(told_text(alloc, net, place, target, sizing)?)
 }
 
-/// The law that different answers about one net have different texts. It does nothing when it runs.
+/// The text that no place has a name, which it tells as a label. `OutOfMemory` comes only where no
+/// memory is found.
+pub fn no_place_text(alloc: Global, name: &str) -> Result<String, OutOfMemory>
+    ensures text { IfOk result (λ text. string_bytes text ≡ written (no_place_lines name.now)) }
+    ensures told { AreBytes name.now }
+{
+    let mut text = String::from_str(alloc, "refused: no place ")?;
+    push_label(&mut text, name)?;
+    text.push('\n')?;
+    Ok(text)
+}
+
+/// The law that different answers about one net have different texts, the one that no place has a
+/// name among them. It does nothing when it runs.
 pub fn texts_of_sizings_differ()
     ensures { TextsOfSizingsDiffer }
 {}

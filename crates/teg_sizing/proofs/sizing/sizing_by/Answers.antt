@@ -24,7 +24,7 @@ pub returns-then-time-eq0 : goal.returns-then-time-eq0
 returns-then-time-eq0 c =
     let v = c.args.best.value in
     let fits : FitsSigned w128 v = search rules in
-    never_by c.args.net.now c.args.target c.args.place v c.args.best.places.items c.lowest_first-circuit.result.places.items c.requires.best c.lowest_first-circuit.ensures (high_if v _ (to_z-of_z w128 v fits) c.if-best-le0.false) (sym c.time.ensures.value ∙ c.if-time-eq0.true)
+    never_by c.args.net.now c.args.target c.args.place v c.args.best.places.items c.lowest_first-circuit.result.places.items c.requires.apart c.requires.best c.lowest_first-circuit.ensures (high_if v _ (to_z-of_z w128 v fits) c.if-best-le0.false) (sym c.time.ensures.value ∙ c.if-time-eq0.true)
 
 pub returns : goal.returns
 returns c =
