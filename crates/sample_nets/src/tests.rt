@@ -43,6 +43,7 @@ fn a_net_without_inputs(rt: HostRuntime) -> Result<(), Fail> {
     let copy = net.without_inputs(rt.alloc())?;
     let u = TransitionId { index: 0 };
     assert!(rt; net.input_date(u, 2) == Some(4) && net.input_date(u, 3).is_none());
+    assert!(rt; copy.input_date(u, 1) == Some(0) && copy.input_date(u, 2) == Some(0));
     assert!(rt; copy.input_date(u, 3) == Some(0));
     assert!(rt; copy.find("u") == Some(u) && copy.find("ua").is_none());
     assert!(rt; copy.find_place("ua") == Some(PlaceId { index: 0 }));
