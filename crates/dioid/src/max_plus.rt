@@ -1,6 +1,4 @@
-//! Dates as the complete max-plus dioid.
-// Dates as an instance of the traits: the complete max-plus dioid.
-
+//! Dates as an instance of the traits: the complete max-plus dioid.
 use crate::algebra::{Dioid, Kleene, Refused, Residuated};
 use crate::dates::Date;
 use std::alloc::Global;

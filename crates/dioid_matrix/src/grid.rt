@@ -87,7 +87,8 @@ impl<D: Dioid> Matrix<D> {
 
     /// The sum, entry by entry, of two matrices of equal sizes.
     ///
-    /// `Range`, with step 0, exactly at the first entry by rows whose sum does not fit.
+    /// `Range`, with step 0, exactly at the first entry by rows whose sum does not fit. `OutOfMemory`
+    /// comes only where no memory is found.
     pub fn plus(&self, alloc: Global, other: &Matrix<D>) -> Result<Matrix<D>, MatrixRefused>
         requires rows { self.now.rows ≡ other.now.rows }
         requires columns { self.now.columns ≡ other.now.columns }
@@ -114,7 +115,8 @@ impl<D: Dioid> Matrix<D> {
     ///
     /// `Shape` exactly where the left's columns are not as many as the right's rows. `Range` names the
     /// first entry by rows that does not fit, and as step the first middle index at which the product,
-    /// or its sum with the sum of the products before it, does not fit.
+    /// or its sum with the sum of the products before it, does not fit. `OutOfMemory` comes only where
+    /// no memory is found.
     pub fn times(&self, alloc: Global, other: &Matrix<D>) -> Result<Matrix<D>, MatrixRefused>
         ensures answer { AnswersProduct D.Dioid self.now other.now result }
         ensures table { IfOk result (IsTable D.Dioid) }
@@ -154,7 +156,8 @@ impl<D: Kleene> Matrix<D> {
     ///
     /// `Shape`, with the columns and then the rows, exactly where the matrix is not square. `Range`
     /// exactly where an operation of the recursion does not fit; it names the first such step, counted
-    /// from 1, in it the first row and in that the first column.
+    /// from 1, in it the first row and in that the first column. `OutOfMemory` comes only where no
+    /// memory is found.
     pub fn star(&self, alloc: Global) -> Result<Matrix<D>, MatrixRefused>
         ensures answer { AnswersStar D.Dioid D.Kleene.own self.now result }
         ensures table { IfOk result (IsTable D.Dioid) }
@@ -176,13 +179,15 @@ impl<D: Kleene> Matrix<D> {
 
     /// The least solution of `x = self x + right`: the star by `right`.
     ///
-    /// Its refusals are those of `star`, then those of `times` of the star by `right`.
+    /// Its refusals are those of `star`, then those of `times` of the star by `right`; so `OutOfMemory`
+    /// comes only where no memory is found.
     pub fn solve_least(&self, alloc: Global, right: &Matrix<D>) -> Result<Matrix<D>, MatrixRefused>
         ensures answer { AnswersSolve D.Dioid D.Kleene.own self.now right.now result }
         ensures table { IfOk result (IsTable D.Dioid) }
         ensures operand { IsTable D.Dioid self.now }
         ensures right { IsTable D.Dioid right.now }
     {
+        // The use of a field tells that `right` is a table, also where the star is refused.
         let _ = &right.rows;
         let star = self.star(alloc)?;
         star.times(alloc, right)
@@ -199,7 +204,8 @@ impl<D: Residuated> Matrix<D> {
     ///
     /// `Shape`, with the left's rows and then the right's, exactly where these are not as many. `Range`
     /// names the first entry of `x` by rows that does not fit, and as step the first row of the operands
-    /// whose residual, or its meet with the meet of those before it, does not fit.
+    /// whose residual, or its meet with the meet of those before it, does not fit. `OutOfMemory` comes
+    /// only where no memory is found.
     pub fn left_residual(
         &self,
         alloc: Global,

@@ -26,6 +26,7 @@ pub enum SeriesRefused {
     /// The first number of the canonical form with a magnitude above 10^18.
     #[error("number {value}")]
     TooGreat { value: i128 },
+    /// No memory was found.
     #[error("out of memory")]
     OutOfMemory,
 }
@@ -49,8 +50,10 @@ impl Series {
     ghost use Rattle.series_form.specs.Bounds.{IsSmallDate, IsSeries};
     ghost use Rattle.series_form.specs.Answer.{AnswersOf, IsConstant};
 
-    /// The series that is Early below `shift` and `date` from there on. Its need is `shift + 1`:
-    /// TooLong above 20,000, and where not, TooGreat for a date above 10^18. (Chapter 5.)
+    /// The series that is Early below `shift` and `date` from there on; the shift and the magnitude of
+    /// the date are below 10^19. Its need is `shift + 1`: TooLong above 20,000, and where not, TooGreat
+    /// for a date of a magnitude above 10^18. `OutOfMemory` comes only where no memory is found.
+    /// (Chapter 5.)
     pub fn monomial(alloc: Global, shift: u64, date: i128) -> Result<Series, SeriesRefused>
         requires shift { shift < 10000000000000000000 }
         requires date { unsigned_abs date < 10000000000000000000 }
@@ -66,11 +69,11 @@ impl Series {
         }
     }
 
-    /// The series of the function that a list gives: its values, of which the last `period` go on by
-    /// `step`, with numbers of any size. It may not fall. Where the last period is Never or Early
-    /// throughout, the step is of no account. Its need is the length: TooLong above 20,000, also for
-    /// a longer list than the canonical one; where not, TooGreat for a number of the canonical form
-    /// above 10^18. (Chapter 5.)
+    /// The series of the function that a list gives: its values, of which the last `period`, one or
+    /// more, go on by `step`, with numbers of any size. It may not fall. Where the last period is Never
+    /// or Early throughout, the step is of no account. Its need is the length: TooLong above 20,000,
+    /// also for a longer list than the canonical one; where not, TooGreat for a number of the canonical
+    /// form of a magnitude above 10^18. `OutOfMemory` comes only where no memory is found. (Chapter 5.)
     pub fn from_list(
         alloc: Global,
         values: &[Date],
@@ -93,7 +96,8 @@ impl Series {
         }
     }
 
-    /// The series with the one value everywhere. Refuses for want of memory alone.
+    /// The series with the one value everywhere; a number has a magnitude of at most 10^18. Refuses for
+    /// want of memory alone.
     pub fn constant(alloc: Global, date: Date) -> Result<Series, SeriesRefused>
         requires { IsSmallDate date }
         ensures { IsConstant date result }
@@ -108,7 +112,8 @@ impl Series {
         }
     }
 
-    /// The values at the shifts 0, 1, .., of which the last `period` values go on by `step`.
+    /// The values at the shifts 0, 1, .., of which the last `period` values go on by `step`. It takes
+    /// no memory.
     pub fn values(&self) -> &[Date]
         ensures value { result.now ≡ self.now.values }
         ensures series { IsSeries self.now }
@@ -116,7 +121,7 @@ impl Series {
         self.values.as_slice()
     }
 
-    /// The least period, in shifts.
+    /// The least period, in shifts. It takes no memory.
     pub fn period(&self) -> usize
         ensures value { result ≡ self.now.period }
         ensures series { IsSeries self.now }
@@ -124,7 +129,7 @@ impl Series {
         self.period
     }
 
-    /// What a period adds to a value past the list.
+    /// What a period adds to a value past the list. It takes no memory.
     pub fn step(&self) -> i128
         ensures value { result ≡ self.now.step }
         ensures series { IsSeries self.now }
@@ -132,7 +137,7 @@ impl Series {
         self.step
     }
 
-    /// The value at a shift.
+    /// The value at a shift of at most 10^18. It takes no memory.
     pub fn at(&self, shift: u64) -> Date
         requires { shift ≤ 1000000000000000000 }
         ensures value { result ≡ value_at self.now shift }
@@ -154,7 +159,8 @@ impl Series {
         })
     }
 
-    /// Whether the two are equal as functions, which is where their forms are equal.
+    /// Whether the two are equal as functions, which is where their forms are equal. It takes no
+    /// memory.
     pub fn equals(&self, other: &Series) -> bool
         ensures functions { IsTrue result ↔ ((k : ℕ) → value_at self.now k ≡ value_at other.now k) }
         ensures forms { IsTrue result ↔ (self.now ≡ other.now) }

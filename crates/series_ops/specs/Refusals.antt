@@ -5,7 +5,7 @@ use Rattle.dioid.specs.declared.algebra.Refused.TheVariants.{Range}
 use Rattle.series_form.specs.declared.forms.SeriesRefused.{SeriesRefused}
 use Rattle.series_form.specs.declared.forms.SeriesRefused.TheVariants.{TooLong, TooGreat, OutOfMemory}
 
--- TooLong and TooGreat become Range, want of memory move_zero itself
+-- TooLong and TooGreat become Range, want of memory stays itself
 abbrev pub IsRefusal : SeriesRefused → Refused → Type 0
 IsRefusal (TooLong n) r = r ≡ Range
 IsRefusal (TooGreat v) r = r ≡ Range

@@ -207,7 +207,8 @@ pub(crate) fn product_values(
 
 /// The product of two series (chapter 5): at each shift k the greatest sum of a value of the first
 /// at i and one of the second at k - i. TooLong exactly where its need exceeds 20,000; where not,
-/// TooGreat exactly where a number of the result exceeds 10^18.
+/// TooGreat exactly where a number of the result has a magnitude above 10^18. `OutOfMemory` comes
+/// only where no memory is found.
 pub fn product(alloc: Global, first: &Series, second: &Series) -> Result<Series, SeriesRefused>
     ensures answer { AnswersOf (λ r. HasValues r (product_at (value_at first.now) (value_at second.now))) (need_of (product_plan first.now second.now)) (need_of (product_plan first.now second.now)) result }
     ensures model { Answers (need_of (product_plan first.now second.now)) (form_product first.now second.now) result }

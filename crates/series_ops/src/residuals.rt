@@ -292,7 +292,8 @@ fn left_values(
 /// The residual of the second series by the first (chapter 5): at each shift k the greatest date
 /// that is at most each residual of the second at k + i by the first at i, which is Early where
 /// these fall without bound. TooLong exactly where its need exceeds 20,000; where not, TooGreat
-/// exactly where a number of the result exceeds 10^18.
+/// exactly where a number of the result has a magnitude above 10^18. `OutOfMemory` comes only where
+/// no memory is found.
 pub fn left(alloc: Global, first: &Series, second: &Series) -> Result<Series, SeriesRefused>
     ensures answer { AnswersOf (λ r. (k : ℕ) → IsLeftAt (value_at first.now) (value_at second.now) k (value_at r k)) (need_of (left_plan first.now second.now)) (need_of (left_plan first.now second.now)) result }
     ensures model { Answers (need_of (left_plan first.now second.now)) (form_left first.now second.now) result }

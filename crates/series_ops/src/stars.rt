@@ -170,7 +170,8 @@ fn is_above_zero(date: Date) -> bool
 /// positive parts that add up to k, at least 0; Never everywhere where the first value is above 0.
 /// TooLong exactly where its need exceeds 20,000; it carries the need of the sum with the monomial
 /// of shift 1 and date 0 where that exceeds 20,000 itself. Where it does not come, TooGreat comes
-/// exactly where a number of the result exceeds 10^18.
+/// exactly where a number of the result has a magnitude above 10^18. `OutOfMemory` comes only where
+/// no memory is found.
 pub fn star(alloc: Global, first: &Series) -> Result<Series, SeriesRefused>
     ensures answer { AnswersOf (λ r. (k : ℕ) → IsStarOf (value_at first.now) k (value_at r k)) (star_need first.now) (star_carried first.now) result }
     ensures model { Answers (star_need first.now) (form_star first.now) result }

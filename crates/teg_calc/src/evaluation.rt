@@ -13,7 +13,8 @@ use series_ops::{left, product, star};
 use std::alloc::Global;
 
 /// The series that an expression means (chapter 5), by its operands from left to right and then its
-/// operator; or the first refusal in this order.
+/// operator; or the first refusal in this order. The expression has at most 4,096 nodes, and each
+/// shift and date in it is below 10^19. `OutOfMemory` comes only where no memory is found.
 pub fn evaluate(alloc: Global, expr: &Expr) -> Result<Series, SeriesRefused>
     requires nodes { node_count (tree_of expr.now) ≤ 4096 }
     requires numbers { HasShortNumbers (tree_of expr.now) }

@@ -9,13 +9,13 @@ use crate::readers::Reader;
 use crate::refusals::{ParseRefused, Stop};
 use std::alloc::Global;
 
-/// The tree of a text.
+/// The tree of a text of at most 4,096 bytes.
 ///
 /// Syntax comes exactly where the text is no expression, with the length of the longest prefix of
 /// the text that is a prefix of some expression. TooDeep comes instead, exactly where in this
 /// prefix a bracket is opened while 64 are open, with the offset of the first such bracket. `+` and
 /// `.` group to the left, so a text has one tree. It has at most 4,096 nodes, and each shift and
-/// date in it is below 10^19.
+/// date in it is below 10^19. `OutOfMemory` comes only where no memory is found.
 pub fn parse(alloc: Global, text: &[u8]) -> Result<Expr, ParseRefused>
     requires { length text.now ≤ 4096 }
     ensures answer { IsParseOf text.now result }

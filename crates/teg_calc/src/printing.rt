@@ -9,7 +9,7 @@ use teg_net::OutOfMemory;
 use teg_text::push_dates;
 
 /// The line of a series: the word `series`, the values of its list, and its period and step. It
-/// ends with a line feed.
+/// ends with a line feed. `OutOfMemory` comes only where no memory is found.
 pub fn print(alloc: Global, series: &Series) -> Result<Vec<u8>, OutOfMemory>
     ensures { IfOk result (λ text. text.items ≡ written (series_line series.now ∷ [])) }
 {

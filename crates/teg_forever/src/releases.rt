@@ -28,7 +28,8 @@ pub enum ForeverRefusal {
         input: TransitionId,
     },
     /// A residual of the due series by the walk series, or its meet with the meet of those before it,
-    /// is no series of at most 20,000 values and of numbers up to 10^18; `row` is the first such row.
+    /// is no series of at most 20,000 values and of numbers of a magnitude up to 10^18; `row` is the
+    /// first such row.
     TooWide {
         input: TransitionId,
         row: u32,

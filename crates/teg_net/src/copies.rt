@@ -62,7 +62,7 @@ fn places_copy(alloc: Global, places: &[Place]) -> Result<Vec<Place>, AllocError
 
 impl Net {
     /// The net with the same transitions and the same places, in order, ready dates with them, and
-    /// no input list.
+    /// no input list. `OutOfMemory` comes only where no memory is found.
     pub fn without_inputs(&self, alloc: Global) -> Result<Net, OutOfMemory>
         ensures { IfOk result (λ net. net ≡ without_inputs self.now) }
     {

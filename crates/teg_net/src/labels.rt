@@ -20,7 +20,7 @@ impl Model for Label {
 }
 
 impl Label {
-    /// A copy of the text.
+    /// A copy of the text. `OutOfMemory` comes only where no memory is found.
     pub fn new(alloc: Global, text: &str) -> Result<Label, OutOfMemory>
         ensures { IfOk result (λ label. label ≡ text.now) }
     {

@@ -83,7 +83,7 @@ pub fn is_circuit(net: &Net, places: &[PlaceId]) -> bool
     }
 }
 
-/// The sum of the holding times, in the user's unit. It takes no memory.
+/// The sum of the holding times of places of the net, in the user's unit. It takes no memory.
 pub fn time_of(net: &Net, places: &[PlaceId]) -> u128
     requires { AreInRange net.now places.now }
     ensures { result ≡ time_of net.now places.now }
@@ -96,7 +96,7 @@ pub fn time_of(net: &Net, places: &[PlaceId]) -> u128
     time
 }
 
-/// The sum of the initial tokens. It takes no memory.
+/// The sum of the initial tokens of places of the net. It takes no memory.
 pub fn tokens_of(net: &Net, places: &[PlaceId]) -> u128
     requires { AreInRange net.now places.now }
     ensures { result ≡ tokens_of net.now places.now }

@@ -1,4 +1,4 @@
--- The last pass: faulty input lists.
+-- The pass on faulty input lists.
 use Rattle.std.specs.Prelude.{ℕ, ◌+◌, ◌-◌, Bool, false, ◌||◌, nat_lt, if◌then◌else◌, List, [], ◌∷◌, map, length, Option, Some, None, option_map, slice_index}
 use Rattle.toml.specs.Data.{Data}
 use Rattle.teg_net.specs.Names.{is_name}
