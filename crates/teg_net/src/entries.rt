@@ -96,13 +96,6 @@ impl DateList {
     {
         &self.dates
     }
-
-    /// The dates, given back. It takes no memory.
-    pub fn into_vec(self) -> Vec<u64>
-        ensures { result.items ≡ self }
-    {
-        self.dates
-    }
 }
 
 /// The dates before which an input transition cannot fire: the k-th is that of firing k.
