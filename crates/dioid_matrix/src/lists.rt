@@ -1,6 +1,4 @@
-//! Sums and products of lists of entries.
-// Lists of entries: which are elements, and the sums and products of two.
-
+//! Lists of entries: which are elements, and the sums and products of two.
 ghost use Rattle.std.specs.Prelude.{◌≡◌, ◌≤◌, ◌<◌, ◌+◌, ◌*◌, ◌^◌, ℕ, length, get_or};
 ghost use Rattle.dioid_matrix.specs.Lists.{AnswersCell, AnswersList};
 ghost use Rattle.dioid_matrix.specs.Products.{StepFits, IsProduct, ProductRefused};

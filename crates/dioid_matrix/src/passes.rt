@@ -1,7 +1,5 @@
-//! Kleene's recursion on the entries of a square matrix, one pivot after another.
-// The steps of Kleene's recursion on the entries of a square matrix. Each step makes the star of its
-// pivot and the pivot's row of loops once, so that the whole takes n^3 sums and products.
-
+//! Kleene's recursion on the entries of a square matrix, one pivot after another. Each step makes the
+//! star of its pivot and the pivot's row of loops once, so that the whole takes n^3 sums and products.
 ghost use Rattle.std.specs.Prelude.{◌≡◌, cond, IsTrue, IfOk, ◌≤◌, ◌<◌, ◌+◌, ◌*◌, ◌^◌, length};
 ghost use Rattle.dioid.specs.Answer.{Answers};
 ghost use Rattle.dioid_matrix.specs.Lists.{AnswersList, AreLoops, IsPassed, PassRefused, IsLast, LastRefused};

@@ -1,6 +1,4 @@
-//! Residuals of lists of entries.
-// The entries of a residual: meets over the rows.
-
+//! Residuals of lists of entries: meets over the rows.
 ghost use Rattle.std.specs.Prelude.{◌≡◌, ◌≤◌, ◌<◌, ◌+◌, ◌*◌, ◌^◌, ℕ, length, get_or};
 ghost use Rattle.dioid_matrix.specs.Lists.{AnswersCell, AnswersList};
 ghost use Rattle.dioid_matrix.specs.Residuals.{meet_below, lefts, RowFits, IsResidual, ResidualRefused};

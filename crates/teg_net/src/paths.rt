@@ -23,7 +23,8 @@ fn path_end(net: &Net, places: &[PlaceId], start: TransitionId) -> Option<Transi
     Some(at)
 }
 
-/// The transition that the first place leaves; none where there is no first place, or it is no place of the net.
+/// The transition that the first place leaves; none where there is no first place, or it is no place
+/// of the net.
 fn path_start(net: &Net, places: &[PlaceId]) -> Option<TransitionId>
     ensures none { IfNone result (AreInRange net.now places.now → places.now ≡ []) }
     ensures start { IfSome result (λ start. IsStartOf net.now places.now start.index) }

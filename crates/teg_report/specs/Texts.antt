@@ -10,7 +10,7 @@ use Rattle.teg_report.specs.declared.answer.Which.TheVariants.{Net as NetFile, D
 use Rattle.teg_text.specs.Lines.{phrase}
 use Rattle.teg_text.specs.Words.{date_word, label_word}
 
--- the commands that are built, each with what follows it
+-- the commands, each with what follows it
 abbrev pub command_forms : List (List ℕ)
 command_forms =
     codes "check NET"

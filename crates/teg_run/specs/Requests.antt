@@ -149,7 +149,7 @@ abbrev pub calc_asked : List (List ℕ) → Option (List ℕ) → Bool → Optio
 calc_asked (text ∷ []) None false = if nat_le (length text) most_expression then Some (ValueOf text) else None
 calc_asked rest limit rounds = None
 
--- the request of a command with what is given to it: nothing for a command that is not built
+-- the request of a command with what is given to it: nothing for a word that is no command
 abbrev pub asked_for : Given → Option Request
 asked_for given =
     if bytes_eq given.command (codes "check") then check_asked given.rest given.limit given.rounds

@@ -470,7 +470,7 @@ fn calc_asked<'a>(rest: &[&'a str], limit: Option<&'a str>, rounds: bool) -> Opt
     }
 }
 
-// The request of a command with what is given to it. A command that is not built is none.
+// The request of a command with what is given to it. A word that is no command asks for nothing.
 fn asked_for<'a>(given: &GivenWords<'a>) -> Option<Request<'a>>
     ensures value { option_map asked result ≡ asked_for (told given.now) }
     ensures in_range { IfSome (option_map asked result) IsRequestInRange }
