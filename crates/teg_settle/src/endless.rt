@@ -54,8 +54,8 @@ fn endless(
 /// The shortest settled form of the least dates of a live net, with its ready dates and its input
 /// lists (chapter 3, cyclicity): the one of `settle_within`, whatever its length. Each live net has
 /// one, so the search for it ends: `OutOfMemory` comes where no memory is found, and past
-/// 20,000,000,000,000 rows, which no memory holds. For a settling length l it makes rows of order l for all transitions, each in time of order `n + p` for n
-/// transitions and p places.
+/// 20,000,000,000,000 rows, which no memory holds. For a settling length l it makes rows of order l
+/// for all transitions, each in time of order `n + p` for n transitions and p places.
 pub fn settle(alloc: Global, net: &Net, live: &Live) -> Result<Settled, OutOfMemory>
     requires stands { IsRanking net.now live.now }
     ensures form { IfOk result (IsSettledFormOf net.now) }
