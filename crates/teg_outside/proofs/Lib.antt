@@ -1,4 +1,3 @@
 pub mod Counts
 pub mod Growth
 pub mod OneLine
-pub mod TooLong

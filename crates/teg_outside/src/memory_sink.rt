@@ -36,8 +36,9 @@ impl Model for MemorySink {
 }
 
 impl MemorySink {
-    /// An empty sink with memory for `room` bytes, of which a call takes at most `most`. Its calls
-    /// with the numbers in `failing` fail; calls with a piece that is not empty are numbered from 1.
+    /// An empty sink with memory for `room` bytes, of which a call takes at most `most`, at least 1.
+    /// Its calls with the numbers in `failing` fail; calls with a piece that is not empty are numbered
+    /// from 1. OutOfMemory comes only where no memory is found.
     pub fn new(
         alloc: Global,
         most: usize,
@@ -64,7 +65,7 @@ impl MemorySink {
         })
     }
 
-    /// The bytes that were written, at most as many as there is room for.
+    /// The bytes that were written, at most as many as there is room for. No memory is taken.
     pub fn contents(&self) -> &[u8]
         ensures bytes { result.now ≡ self.now.bytes }
         ensures within { length self.now.bytes ≤ self.now.room }

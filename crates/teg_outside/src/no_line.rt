@@ -8,14 +8,16 @@ use std::alloc::Global;
 
 /// A monitor that never finds memory for its line: what a replay does then can be seen by it.
 #[derive(Drop)]
-pub struct NoLine;
+pub struct NoLine {
+    seal: (),
+}
 
 impl NoLine {
     /// The monitor. No memory is taken.
     pub fn new() -> Self
         ensures { (firings : List Firing) → ⟦<NoLine as Monitor>⟧.line_text result firings ≡ [] }
     {
-        NoLine
+        NoLine { seal: () }
     }
 }
 

@@ -1,6 +1,6 @@
 //! Monitors, one of them the tests' own, any shelf at a file beyond the limit, files and output.
 ghost use Rattle.std.specs.Prelude.{◌||◌, nat_lt, length, codes, if◌then◌else◌};
-ghost use Rattle.teg_outside.specs.Shelves.{LongIsTooLarge, replied};
+ghost use Rattle.teg_outside.specs.Shelves.{LongIsTooLarge, Reads, replied};
 
 use crate::{
     Firing, FiringCount, HighWater, Lateness, Monitor, NoLine, OutOfMemory, Shelf, ShelfFault,
@@ -69,14 +69,15 @@ fn each_monitor_prints_its_number(rt: HostRuntime) -> Result<(), Fail> {
     Ok(())
 }
 
-// A read through the bound alone: what the trait says tells that a long file is too large.
+// A read through the bound alone: all that the trait says, and that a long file is too large by it.
 pub fn read_from<S: Shelf>(
     shelf: &mut S,
     alloc: Global,
     name: &str,
     limit: usize,
 ) -> Result<Vec<u8>, ShelfFault>
-    ensures { LongIsTooLarge (S.state shelf.old) (S.state shelf.new) name.now limit (replied result) }
+    ensures reads { Reads (S.state shelf.old) (S.state shelf.new) name.now limit (replied result) }
+    ensures long { LongIsTooLarge (S.state shelf.old) (S.state shelf.new) name.now limit (replied result) }
 {
     shelf.read(alloc, name, limit)
 }
