@@ -94,6 +94,7 @@ next_goes_on net turns old new row h next is = record {
   width = next.width ∙ h.width;
   one = rw next.reach h.one;
   reach = rw next.reach h.reach;
+  few = rw next.reach h.few;
   there = next.there;
   least = λ x least.
       subst (λ n. AreRowsBack net x (n + 1) new) (sym next.number)

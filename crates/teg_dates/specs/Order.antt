@@ -30,8 +30,9 @@ pub record IsRankedPlace (net : NetLists) (ranks : List ℕ) (o : Turn) : Type 0
   pub place : IsTurnOf net o
   pub turn : o.turn ≡ turn_of ranks (place_at net o.place)
 
--- all places of the net, in the order of their turns
+-- all places of the net, each once, in the order of their turns
 pub record IsOrder (net : NetLists) (ranks : List ℕ) (order : List Turn) : Type 0 where
+  pub once : length order ≡ length net.places
   pub known : All (IsRankedPlace net ranks) order
   pub all : (q : ℕ) → q < length net.places → Contains order (turn_at net ranks q)
   pub sorted : IsNonDecreasingBy (λ o. o.turn) order

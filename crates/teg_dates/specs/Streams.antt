@@ -41,13 +41,14 @@ pub record AreLastDates (last : LastDates) : Type 0 where
   pub number_in : last.number ≤ greatest_number
   pub full : length last.dates ≡ rows_kept last * last.width
 
--- the places in this order and the rows that are kept stand for the net, which keeps its rules: the next row of its least dating can be made of them
+-- the places in this order and the rows that are kept stand for the net, which keeps its rules: the next row of its least dating can be made of them; the reach is the greatest number of tokens of a place, and at least 1
 pub record GoesOn (net : NetLists) (turns : List Turn) (rows : KeptRows) : Type 0 where
   pub rules : IsNet net
   pub order : OrdersPlaces net turns
   pub width : rows.width ≡ length net.transitions
   pub one : 1 ≤ rows.reach
   pub reach : All (λ p. p.tokens ≤ rows.reach) net.places
+  pub few : (n : ℕ) → 1 ≤ n → All (λ p. p.tokens ≤ n) net.places → rows.reach ≤ n
   pub there : min rows.number rows.reach ≤ rows.kept
   pub least : AreLeastRowsBack net (system_of net (listed net)) (rows.number + 1) rows
 

@@ -1,5 +1,5 @@
 //! The next row of the least dating of a net, by the rows that are kept.
-ghost use Rattle.std.specs.Prelude.{◌≡◌, ◌+◌, ◌≤◌, length, map, All};
+ghost use Rattle.std.specs.Prelude.{ℕ, ◌≡◌, ◌+◌, ◌≤◌, length, map, All};
 ghost use Rattle.teg_net.specs.Limits.{most_tokens, greatest_number};
 ghost use Rattle.teg_model.specs.Datings.{listed, system_of};
 ghost use Rattle.teg_dates.specs.Rows.{StaysWithin};
@@ -18,6 +18,7 @@ pub(crate) fn most_tokens_of(net: &Net) -> u32
     ensures one { 1 ≤ result }
     ensures most { result ≤ most_tokens }
     ensures all { All (λ p. p.tokens ≤ result) net.now.places }
+    ensures few { (n : ℕ) → 1 ≤ n → All (λ p. p.tokens ≤ n) net.now.places → result ≤ n }
 {
     let mut most = 1;
     for place in net.places() {

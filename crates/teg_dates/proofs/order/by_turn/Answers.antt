@@ -1,4 +1,4 @@
-use Rattle.std.proofs.Common.{◌≡◌, get_or, arith, rules}
+use Rattle.std.proofs.Common.{◌≡◌, ◌∙◌, length, get_or, arith, rules}
 use Rattle.std.proofs.lemmas.List.{get_or_read}
 use Rattle.std.proofs.lemmas.List.Sorted.{All-permutation, Contains-permutation, IsNonDecreasingBy-from_sort_by_key}
 use Rattle.teg_net.specs.Circuits.{no_place}
@@ -20,6 +20,10 @@ returns c =
     let p = c.in_ok-sort_by_key.ensures.permutation in
     let q = c.in_ok-sort_by_key-2.ensures.permutation in
     record {
+      once =
+          let e : length c.sort_by_key-2.new.self.items ≡ length c.loop-index.order.items = search rules in
+          let end_is : c.loop-index.index ≡ length c.args.net.now.places = omega (arith, end, rw c.places-place-items.ensures.value at c.loop-index.auto.index-end) in
+          e ∙ c.loop-index.invariant.once ∙ end_is;
       known = All-permutation (IsRankedPlace c.args.net.now c.args.live.now) _ _ q (All-permutation (IsRankedPlace c.args.net.now c.args.live.now) _ _ p c.loop-index.invariant.known);
       all = λ k l.
           let o = turn_at c.args.net.now c.args.live.now k in
