@@ -95,6 +95,7 @@ fn end_row<C: DateCell>(line: &mut [u8], number: u64, row: &[C]) -> usize
 /// Writes the line of a number into the block from there on: the number, the dates of its firings, a
 /// line feed. It answers where the line ends; `line` is room to make it in. It takes no memory, and
 /// time of the order of the line.
+#[tactic(auto, using(std::proofs::lemmas::Slice::overwrites))]
 pub fn put_row<C: DateCell>(
     block: &mut [u8],
     at: usize,
@@ -106,6 +107,8 @@ pub fn put_row<C: DateCell>(
     requires line { (length row.now + 1) * 41 ≤ length line.old }
     // The line stands behind what stood before it.
     ensures text { take result block.new ≡ take at block.old ++ row_text number (map C.held row.now) }
+    // What stands behind it is as it was.
+    ensures rest { drop result block.new ≡ drop result block.old }
     ensures end { result ≤ at + (length row.now + 1) * 41 }
     ensures same { length block.new ≡ length block.old }
     ensures room { length line.new ≡ length line.old }

@@ -107,9 +107,9 @@ fn know_rules(net: Option<&Net>)
 ///
 /// The net is given wherever the text has a name that the answer does not hold itself: for `List`,
 /// `Form`, `Cycle`, `Dates`, `Date`, `Jit`, `Late`, `Slack`, `Transfer` (whose outputs are also
-/// counted by it) and `TokenFree`, and for `Refused` where a place is named. What the answer names is in the net: a
-/// table and a settled form have dates for each of its transitions, slacks are one for each of its
-/// places, and transitions, the ends of entries, the places of a circuit, and the
+/// counted by it) and `TokenFree`, and for `Refused` where a place is named. What the answer names is
+/// in the net: a table and a settled form have dates for each of its transitions, slacks are one for
+/// each of its places, and transitions, the ends of entries, the places of a circuit, and the
 /// transitions and places of a round are among its own. Rounds are a list for each part with a
 /// circuit, and none of these lists is empty. A line of a monitor has no line feed. A refusal is not
 /// want of memory.
