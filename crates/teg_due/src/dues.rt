@@ -6,15 +6,14 @@ ghost use Rattle.csv_records.specs.Numbers.{is_number};
 ghost use Rattle.csv_records.specs.Records.{most_file_bytes};
 ghost use Rattle.csv_records.specs.Rows.{one_more};
 ghost use Rattle.teg_due.specs.Dues.{due_numbered, due_of, due_row, greatest_due_number, is_due_header};
-ghost use Rattle.teg_due.specs.Names.{is_input};
 ghost use Rattle.teg_due.specs.Rules.{IsDueOf};
 
 use crate::gathered::{GREATEST_DUE_NUMBER, Gathered};
-use crate::names::find;
+use crate::names::{is_input, transition_named};
 use crate::rows::{Due, DueRefusal, DueRow};
 use csv_records::{ByteRecord, Records, is_number, number_up_to, three_fields};
 use std::alloc::Global;
-use teg_net::{NameOrder, Net, Role, TransitionId};
+use teg_net::{NameOrder, Net, TransitionId};
 
 /// The greatest due date.
 const GREATEST_DUE_DATE: u64 = 1_000_000_000_000;
@@ -31,14 +30,6 @@ fn is_header(record: &ByteRecord) -> bool
         }
         None => false,
     }
-}
-
-// Whether the transition is an input.
-fn is_input(net: &Net, transition: TransitionId) -> bool
-    requires { transition.index < length net.now.transitions }
-    ensures { result ≡ is_input net.now transition.index }
-{
-    net.transitions()[transition.index as usize].role == Role::Input
 }
 
 // The row of a firing by the digits of its number and its date, or the first of its faults.
@@ -92,7 +83,7 @@ fn read_row(
     if !is_number(fields.second) || !is_number(fields.third) {
         return Err(DueRefusal::BadRow { row });
     }
-    let Some(transition) = find(net, names, fields.first) else {
+    let Some(transition) = transition_named(net, names, fields.first) else {
         return Err(DueRefusal::UnknownTransition { row });
     };
     if is_input(net, transition) {

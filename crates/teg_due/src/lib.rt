@@ -2,7 +2,8 @@
 //!
 //! [`read_due`] and [`read_log`] answer the rows of a file in order, or its first faulty row with
 //! the first of its faults. Rows are counted from 1, a header included. The rows that are answered
-//! keep the rules that the crates above ask for (`IsDueOf`, `IsLogOf`). The crate stands on
+//! keep the rules that the crates above ask for (`IsDueOf`, `IsLogOf`). [`transition_named`] and
+//! [`is_input`] are what other readers of rows ask of a net too. The crate stands on
 //! `teg_net` for the names of transitions and on `csv_records` for the records of a text.
 #![tactic(auto)]
 
@@ -16,4 +17,5 @@ mod tests;
 
 pub use dues::read_due;
 pub use logs::read_log;
+pub use names::{is_input, transition_named};
 pub use rows::{Due, DueRefusal, DueRow, LogRefusal, LogRow};

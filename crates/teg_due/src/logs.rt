@@ -6,7 +6,7 @@ ghost use Rattle.csv_records.specs.Rows.{one_more};
 ghost use Rattle.teg_due.specs.Logs.{is_log_header, log_of, log_row};
 ghost use Rattle.teg_due.specs.Rules.{IsLogOf};
 
-use crate::names::find;
+use crate::names::transition_named;
 use crate::rows::{LogRefusal, LogRow};
 use csv_records::{ByteRecord, Records, is_number, number_up_to, two_fields};
 use std::alloc::Global;
@@ -43,7 +43,7 @@ fn read_row(
     if !is_number(fields.second) {
         return Err(LogRefusal::BadRow { row });
     }
-    let Some(transition) = find(net, names, fields.first) else {
+    let Some(transition) = transition_named(net, names, fields.first) else {
         return Err(LogRefusal::UnknownTransition { row });
     };
     match number_up_to(fields.second, GREATEST_LOG_DATE) {

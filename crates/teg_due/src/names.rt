@@ -1,11 +1,13 @@
-//! The transition that a row names.
+//! The transition that a row names, and whether it is an input.
 ghost use Rattle.std.specs.Prelude.{◌≡◌, ◌<◌, length, IfSome, option_map};
-ghost use Rattle.teg_due.specs.Names.{number_named};
+ghost use Rattle.std.specs.Bool.{OnFalse, OnTrue};
+ghost use Rattle.teg_due.specs.Names.{is_input, number_named};
+ghost use Rattle.teg_net.specs.Nets.{IsInput};
 
-use teg_net::{NameOrder, Net, TransitionId};
+use teg_net::{NameOrder, Net, Role, TransitionId};
 
 /// The transition of this name, if there is one. It takes no memory.
-pub fn find(net: &Net, names: &NameOrder<'_>, name: &[u8]) -> Option<TransitionId>
+pub fn transition_named(net: &Net, names: &NameOrder<'_>, name: &[u8]) -> Option<TransitionId>
     requires { names.now ≡ net.now }
     ensures named { option_map (λ id. id.index) result ≡ number_named net.now name.now }
     ensures in_range { IfSome result (λ id. id.index < length net.now.transitions) }
@@ -13,4 +15,14 @@ pub fn find(net: &Net, names: &NameOrder<'_>, name: &[u8]) -> Option<TransitionI
     // (the rules of the net: its names are distinct)
     net.transitions();
     names.find(name)
+}
+
+/// Whether the transition is an input. It takes no memory.
+pub fn is_input(net: &Net, transition: TransitionId) -> bool
+    requires { transition.index < length net.now.transitions }
+    ensures is { result ≡ is_input net.now transition.index }
+    ensures input { OnTrue result (IsInput net.now transition.index) }
+    ensures other { OnFalse result (IsInput net.now transition.index → ⊥) }
+{
+    net.transitions()[transition.index as usize].role == Role::Input
 }

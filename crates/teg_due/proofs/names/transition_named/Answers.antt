@@ -2,7 +2,7 @@ use Rattle.std.proofs.Common.{ℕ, ◌≡◌, ◌<◌, length, Option, Some, Non
 use Rattle.std.specs.Prelude.{IfSome}
 use Rattle.teg_net.specs.declared.entries.TransitionId.{TransitionId}
 use Rattle.teg_due.proofs.NamedOnce.{IsThere, found_there, named_number}
-use Rattle.teg_due.proofs.names.find.Goals as goal
+use Rattle.teg_due.proofs.names.transition_named.Goals as goal
 
 some_as : {X : Type 0} (P Q : X → Type 0) (o : Option X) → ((x : X) → P x → Q x) → IfSome o P → IfSome o Q
 some_as P Q None f h = h
