@@ -1,6 +1,7 @@
 -- What is said of the circuits of a net: its parts, the greatest ratio of each and of the net, and the rounds that led to them.
 use Rattle.std.specs.Prelude.{ℕ, ◌+◌, ◌≡◌, Bool, List, [], ◌∷◌, Option, Some, None, length, map}
 use Rattle.std.specs.Global.{Vec}
+use Rattle.teg_cycle.specs.LastRounds.{AreLastOfRuns}
 use Rattle.teg_howard.specs.Rounds.{IsPolicyRun}
 use Rattle.teg_howard.specs.Runs.{IsAnswerOfLast}
 use Rattle.teg_net.specs.declared.answers.CycleAnswer.{CycleAnswer}
@@ -50,10 +51,15 @@ AreRuns net answer runs = AreRunsFrom net answer.part_of.items 0 answer.parts.it
 abbrev pub rounds_in : List (Vec Round) → List (List Round)
 rounds_in runs = map (λ run. run.items) runs
 
--- of a live net the cycle times are said
+-- of each part with a circuit the answer is that of the last round of its policy run
+abbrev pub IsOfLastRounds : NetLists → CycleAnswer → Type 0
+IsOfLastRounds net answer = AreLastOfRuns net answer.part_of.items answer.parts.items
+
+-- of a live net the cycle times are said, each with what the last round of its part has
 abbrev pub SaysCycle : NetLists → Verdict → List ℕ → Type 0
 SaysCycle net verdict text =
-    (verdict ≡ VerdictDone) × ((answer : CycleAnswer) × IsCycleAnswer net answer × (text ≡ cycle_text net answer None))
+    (verdict ≡ VerdictDone)
+    × ((answer : CycleAnswer) × IsCycleAnswer net answer × IsOfLastRounds net answer × (text ≡ cycle_text net answer None))
 
 -- of a live net the cycle times are said, and the rounds that led to them
 abbrev pub SaysRounds : NetLists → Verdict → List ℕ → Type 0

@@ -1,5 +1,5 @@
 //! Nets that were found live.
-ghost use Rattle.std.specs.Prelude.{◌≡◌, ◌≤◌, ◌<◌, length, IfErr, IfOk, IfSome};
+ghost use Rattle.std.specs.Prelude.{◌≡◌, ◌≤◌, ◌<◌, length, All, IfErr, IfOk, IfSome};
 ghost use Rattle.teg_due.specs.Rules.{IsDueOf};
 ghost use Rattle.teg_check.specs.Ranks.{IsRanking};
 ghost use Rattle.teg_dates.specs.Streams.{AreFirstRowsOf, HasLeast};
@@ -9,9 +9,10 @@ ghost use Rattle.teg_forever.specs.Releases.{AreReleases, ForeverRefused};
 ghost use Rattle.teg_form.specs.Forms.{IsFormOf};
 ghost use Rattle.std.specs.Option.{option_map};
 ghost use Rattle.teg_cycle.specs.LastRounds.{AreLastOfRuns, IsLastOfRun};
+ghost use Rattle.teg_critical.specs.declared.slacks.Slack.TheVariants.{NoCircuit};
 ghost use Rattle.teg_critical.specs.Slacks.{AreSlacks};
 ghost use Rattle.teg_net.specs.Certificates.{IsCertificate};
-ghost use Rattle.teg_net.specs.GreatestRatios.{IsAnyPlace, IsGreatestRatio};
+ghost use Rattle.teg_net.specs.GreatestRatios.{HasNoCircuit, IsAnyPlace, IsGreatestRatio};
 ghost use Rattle.teg_net.specs.Nets.{IsInput};
 ghost use Rattle.teg_net.specs.Ratios.{Fraction};
 ghost use Rattle.teg_net.specs.PartAnswers.{IsPartAnswer};
@@ -249,6 +250,7 @@ impl LiveNet {
         requires { IsCertificate self.now answer.now }
         ensures each { IfOk result (λ slacks. length slacks ≡ length self.now.places) }
         ensures slacks { IfOk result (λ slacks. (r : Fraction) → IsGreatestRatio self.now IsAnyPlace r → AreSlacks self.now r slacks) }
+        ensures none { IfOk result (λ slacks. HasNoCircuit self.now IsAnyPlace → All (λ s. s ≡ NoCircuit) slacks) }
     {
         critical(alloc, &self.net, answer)
     }

@@ -6,11 +6,13 @@
 pub enum Verdict {
     /// The command was carried out.
     Done,
-    /// A settled form, or a series, is longer than it may be.
+    /// A settled form is longer than its limit; or a series of `forever` is longer than it may be,
+    /// or has a number above 10^18.
     TooLong,
-    /// No transition has the name that was asked for.
+    /// No transition, or place, has the name that was asked for.
     Name,
-    /// The due file or the timetable has a faulty row, or the timetable does not fit the net.
+    /// A due file or a timetable has a faulty row; or a transition has no first departure, the net
+    /// is too large for a timetable, or the plan leaves a place too little time.
     Schedule,
     /// A firing is later than due whatever the inputs are.
     Late,

@@ -205,7 +205,7 @@ form_follows call runs net asks =
 
 cycle_follows : (call : Call) → Runs call → SaysCycleTimes call
 cycle_follows call runs net asks =
-    ⊎_elim (λ (said : _). inl (said.2.1.0, said.2.1.1, done_with call said.0 said.1 (cycle_text net said.2.1.0 None) (ap status_of said.2.0) said.2.1.2 said.3))
+    ⊎_elim (λ (said : _). inl (said.2.1.0, said.2.1.1, said.2.1.2, done_with call said.0 said.1 (cycle_text net said.2.1.0 None) (ap status_of said.2.0) said.2.1.3 said.3))
     (λ (lost : _). inr lost) (says_of_net call runs (CycleNet false) net asks)
 
 rounds_follow : (call : Call) → Runs call → SaysPolicyRuns call
@@ -222,7 +222,7 @@ rounds_follow call runs net asks =
 
 no_circuit_follows : (call : Call) → Runs call → SaysNoCircuit call
 no_circuit_follows call runs false net asks none =
-    ⊎_elim (λ (said : _). subst (λ (text : List ℕ). Ends call Done text) (no_circuit_said net said.0 None said.1 none) said.2) (λ (lost : _). inr lost) (cycle_follows call runs net asks)
+    ⊎_elim (λ (said : _). subst (λ (text : List ℕ). Ends call Done text) (no_circuit_said net said.0 None said.1 none) said.3) (λ (lost : _). inr lost) (cycle_follows call runs net asks)
 no_circuit_follows call runs true net asks none =
     ⊎_elim (λ (said : _). subst (λ (text : List ℕ). Ends call Done text) (no_circuit_said net said.0 (Some (map (map round_lists) said.1)) said.2 none) said.4) (λ (lost : _). inr lost) (rounds_follow call runs net asks)
 

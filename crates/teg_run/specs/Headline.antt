@@ -32,7 +32,7 @@ use Rattle.teg_commands.specs.declared.outcome.Verdict.{Verdict}
 use Rattle.teg_commands.specs.declared.outcome.Verdict.TheVariants.{Done as VerdictDone, TooLong as VerdictTooLong, Name as VerdictName, Schedule as VerdictSchedule, Late as VerdictLate, Log as VerdictLog}
 use Rattle.teg_run.specs.Calls.{Call}
 use Rattle.teg_commands.specs.Bounds.{bound_text, no_bound_text}
-use Rattle.teg_commands.specs.CycleTimes.{IsCycleAnswer, AreRuns}
+use Rattle.teg_commands.specs.CycleTimes.{IsCycleAnswer, IsOfLastRounds, AreRuns}
 use Rattle.teg_commands.specs.EndlessInputs.{endless_text, forever_text, unreleased_text}
 use Rattle.teg_commands.specs.Migrations.{IsWrittenNet}
 use Rattle.teg_commands.specs.Sizings.{HasPlaceName, no_place_text, sizing_text}
@@ -360,11 +360,11 @@ SaysStandardForm call =
     (net : NetLists) → Concerns call FormNet net →
     ((form : FormLists) × IsFormOf net form × Ends call Done (form_text net form)) ⊎ EndsLost call
 
--- a live net is told with its cycle times, each attained by a circuit, unless memory ran out
+-- a live net is told with its cycle times, each attained by the circuit of the last round of its part, unless memory ran out
 abbrev pub SaysCycleTimes : Call → Type 0
 SaysCycleTimes call =
     (net : NetLists) → Concerns call (CycleNet false) net →
-    ((answer : CycleAnswer) × IsCycleAnswer net answer × Ends call Done (cycle_text net answer None)) ⊎ EndsLost call
+    ((answer : CycleAnswer) × IsCycleAnswer net answer × IsOfLastRounds net answer × Ends call Done (cycle_text net answer None)) ⊎ EndsLost call
 
 -- a live net is told with its cycle times and the policy runs that end in them, unless memory ran out
 abbrev pub SaysPolicyRuns : Call → Type 0

@@ -15,17 +15,19 @@ pub enum Status {
     Text,
     /// The net file says no net, or a net that is not live.
     Net,
-    /// The due file or the timetable has a faulty row, or the timetable does not fit the net.
+    /// A due file or a timetable has a faulty row; or a transition has no first departure, the net
+    /// is too large for a timetable, or the plan leaves a place too little time.
     Schedule,
     /// A due date cannot be met.
     Late,
-    /// Dates settle later, or a series is longer, than is allowed.
+    /// Dates settle past the limit; or a series of `forever` is longer than it may be, or has a
+    /// number above 10^18.
     TooLong,
     /// The log has a faulty row, or one that the net does not allow.
     Log,
     /// The expression has no value within the limits.
     Calc,
-    /// The net has no transition of the name that was given.
+    /// The net has no transition, or no place, of the name that was given.
     Name,
     /// A file could not be read.
     ReadFault,
