@@ -19,4 +19,5 @@ pub mod Sound
 pub mod Documents
 pub mod Migrated
 pub mod Written
+pub mod Layouts
 pub mod Spots

@@ -7,6 +7,7 @@ ghost use Rattle.teg_net.specs.Nets.{IsNet, IsPlaceOf, IsInputOf};
 ghost use Rattle.teg_reader.specs.Keys.{key_text};
 ghost use Rattle.teg_reader.specs.Documents.{tree_of, document};
 ghost use Rattle.teg_reader.specs.Migrated.{number_data, role_text, name_of, transition_entry, place_entry, input_entry, migrated};
+ghost use Rattle.teg_reader.specs.Layouts.{IsLaidOut};
 ghost use Rattle.teg_reader.specs.Written.{with_member, with_list};
 
 use crate::keys::Key;
@@ -208,8 +209,9 @@ fn net_table(alloc: Global, net: &Net) -> Result<Table, AllocError>
 
 /// The net as a file of the second version, without durations: each hold is that of the net.
 /// [`read_net`](crate::read_net) gives the net again. The bytes may be more than a net file may
-/// have, and their layout is that of `toml`.
+/// have, and their layout is that of `toml`. `OutOfMemory` comes only where no memory is found.
 pub fn write_net(alloc: Global, net: &Net) -> Result<Vec<u8>, OutOfMemory>
+    ensures layout { IfOk result (λ bytes. IsLaidOut net.now bytes.items) }
     ensures read_back { IfOk result (λ bytes. tree_of bytes.items ≡ Some (migrated net.now)) }
     ensures document { IfOk result (λ bytes. document bytes.items ≡ Ok net.now) }
 {

@@ -420,7 +420,7 @@ SaysTimes call =
     ((times : List TimesFrom) × AreTimesFrom net limit times × Ends call Done (transfer_text net times))
     ⊎ ((TimesSettlePast net limit × Ends call TooLong (too_long_text limit)) ⊎ EndsLost call)
 
--- a live net is told as a file of the second version, which says that net, unless memory ran out
+-- a live net is told as a file of the second version, in the layout of `toml`, which says that net, unless memory ran out
 abbrev pub SaysMigration : Call → Type 0
 SaysMigration call =
     (net : NetLists) → Concerns call MigrateNet net → ((text : List ℕ) × IsWrittenNet net text × Ends call Done text) ⊎ EndsLost call
