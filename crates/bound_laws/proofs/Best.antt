@@ -1,20 +1,16 @@
 -- Best walks: they meet a circuit of greatest ratio, and so their times go on by steps.
-use Rattle.std.proofs.Common.{ℕ, zero, suc, ◌+◌, ◌-◌, ◌*◌, ◌/◌, ◌%◌, ◌<◌, ◌≤◌, ◌≡◌, ◌≢◌, List, [], ◌∷◌, ◌++◌, length, get_or, take, drop, refl, sym, ap, subst, ◌∙◌, arith, ⊎_elim, ◌⊎◌, inl, inr}
-use Rattle.std.specs.Prelude.{All, sum_by}
+use Rattle.std.proofs.Common.{ℕ, ◌+◌, ◌-◌, ◌*◌, ◌/◌, ◌%◌, ◌<◌, ◌≤◌, ◌≡◌, List, [], ◌∷◌, ◌++◌, length, sym, ap, subst, ◌∙◌, arith, ⊎_elim, ◌⊎◌, inl, inr}
 use Rattle.std.proofs.lemmas.Bool.{cases_lt}
-use Rattle.std.proofs.lemmas.List.{length-append}
 use Rattle.std.proofs.lemmas.List.Sums.{sum_by-append}
 use Rattle.std.proofs.lemmas.Nat.{mod_below, div-add-mod'}
-use Rattle.std.proofs.Math.Nat.{mul-le-mul_right, mul-le-mul_left}
+use Rattle.std.proofs.Math.Nat.{mul-le-mul_left}
 use Rattle.teg_net.specs.declared.entries.PlaceId.{PlaceId}
 use Rattle.teg_net.specs.Nets.{NetLists}
-use Rattle.teg_net.specs.Circuits.{place_at, from_of, IsPathBetween, IsCircuit, time_of, tokens_of}
+use Rattle.teg_net.specs.Circuits.{place_at, IsPathBetween, IsCircuit, time_of, tokens_of}
 use Rattle.teg_net.proofs.PathLaws.{IsPathBetween-append}
-use Rattle.teg_loops.specs.Loops.{EndsBelow, HasLoop}
-use Rattle.teg_loops.proofs.Taking.{rest_leads, loop_sum, by_loops, shortened, Keeps, closed_keeps}
-use Rattle.teg_loops.specs.Rounds.{HasRound}
-use Rattle.teg_loops.proofs.Again.{round_in, round_off}
-use Rattle.teg_loops.proofs.Visits.{Meets, FirstVisit, first_visit, joined_meets, still_meets, rounds, rounds_lead, rounds_sum}
+use Rattle.teg_loops.specs.Loops.{EndsBelow}
+use Rattle.teg_loops.proofs.Taking.{loop_sum, by_loops, shortened, Keeps}
+use Rattle.teg_loops.proofs.Visits.{Meets, joined_meets, still_meets, rounds, rounds_lead, rounds_sum}
 
 -- a circuit of ratio a/b, told from transition c on
 pub record IsCriticalIn (e : NetLists) (a b c : ℕ) (ps : List PlaceId) : Type 0 where

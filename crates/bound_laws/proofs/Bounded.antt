@@ -1,6 +1,6 @@
 -- Past the bound the least dates go on by steps.
-use Rattle.std.proofs.Common.{ℕ, zero, suc, ◌+◌, ◌-◌, ◌*◌, ◌<◌, ◌≤◌, ◌≡◌, ◌+ℤ◌, pos, map, List, [], ◌∷◌, ◌++◌, length, get_or, refl, sym, ap, subst, ◌∙◌, arith, ⊎_elim, ◌⊎◌, inl, inr}
-use Rattle.std.specs.Prelude.{All, sum_by}
+use Rattle.std.proofs.Common.{ℕ, zero, suc, ◌+◌, ◌-◌, ◌*◌, ◌<◌, ◌≤◌, ◌≡◌, pos, map, List, [], ◌∷◌, length, refl, sym, ap, subst, ◌∙◌, arith, ⊎_elim, ◌⊎◌}
+use Rattle.std.specs.Prelude.{sum_by}
 use Rattle.std.specs.List.{range_with_len}
 use Rattle.std.proofs.lemmas.Int.{ints}
 use Rattle.std.proofs.lemmas.Bool.{cases_lt}
@@ -8,7 +8,7 @@ use Rattle.std.proofs.lemmas.List.{get_or-append_right, length-append}
 use Rattle.std.proofs.lemmas.List.FromFn.{get_or-map-range_with_len, length-map-range_with_len}
 use Rattle.std.proofs.Math.Nat.{mul-le-mul_right, mul-le-mul_left}
 use Rattle.dioid.specs.declared.dates.Date.{Date}
-use Rattle.dioid.specs.declared.dates.Date.TheVariants.{Early, At, Never}
+use Rattle.dioid.specs.declared.dates.Date.TheVariants.{At}
 use Rattle.dioid.specs.Dates.{delayed}
 use Rattle.teg_net.specs.declared.entries.PlaceId.{PlaceId}
 use Rattle.teg_net.specs.declared.entries.Place.{Place}
@@ -16,14 +16,12 @@ use Rattle.teg_net.specs.Nets.{NetLists, IsNet, IsPlaceOf}
 use Rattle.teg_net.specs.Circuits.{no_place, place_at, from_of, IsPathBetween, IsCircuit, IsLive, time_of, tokens_of}
 use Rattle.teg_net.proofs.PathLaws.{IsPathBetween-in_range}
 use Rattle.teg_model.specs.Datings.{IsLeastDating, extended_places, implicit_place}
-use Rattle.teg_model.proofs.OfNet.{which_place}
 use Rattle.teg_loops.specs.Loops.{EndsBelow}
 use Rattle.teg_loops.proofs.Taking.{Keeps, sum_most}
 use Rattle.teg_loops.proofs.Straight.{loop_short}
 use Rattle.bound_laws.proofs.Best.{Setting, IsCriticalIn, bound}
 use Rattle.bound_laws.proofs.Onward.{IsCommonIn, goes_on}
-use Rattle.bound_laws.specs.Critical.{IsCriticalAt, IsCommon, IsStrong, bound_of}
-use Rattle.teg_net.specs.Nets.{IsInput}
+use Rattle.bound_laws.specs.Critical.{IsCriticalAt, IsCommon, IsStrong}
 use Rattle.std.proofs.lemmas.List.Sums.{sum_by-cons}
 use Rattle.teg_loops.proofs.Taking.{closed_keeps}
 use Rattle.bound_laws.specs.Laws.{DatesGoOnPastTheBound, factorial, FactorialsAreCommon, StepsAreWhole, StillNetsStayAtZero}

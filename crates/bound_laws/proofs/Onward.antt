@@ -1,19 +1,19 @@
 -- The times of best walks go on by steps.
-use Rattle.std.proofs.Common.{ℕ, zero, suc, ◌+◌, ◌-◌, ◌*◌, ◌<◌, ◌≤◌, ◌≡◌, ◌≢◌, List, [], ◌∷◌, ◌++◌, length, refl, sym, ap, subst, ◌∙◌, arith, ⊎_elim, ◌⊎◌, inl, inr}
-use Rattle.std.specs.Prelude.{All, sum_by}
+use Rattle.std.proofs.Common.{ℕ, zero, suc, ◌+◌, ◌-◌, ◌*◌, ◌<◌, ◌≤◌, ◌≡◌, List, [], ◌∷◌, ◌++◌, length, sym, ap, subst, ◌∙◌, arith, ⊎_elim, ◌⊎◌, inl, inr}
+use Rattle.std.specs.Prelude.{sum_by}
 use Rattle.std.proofs.lemmas.Bool.{cases_lt}
 use Rattle.std.proofs.lemmas.List.{length-append}
 use Rattle.std.proofs.lemmas.List.Sums.{sum_by-append}
 use Rattle.std.proofs.Math.Nat.{mul-le-mul_right, mul-le-mul_left}
 use Rattle.teg_net.specs.declared.entries.PlaceId.{PlaceId}
 use Rattle.teg_net.specs.Nets.{NetLists}
-use Rattle.teg_net.specs.Circuits.{place_at, from_of, IsPathBetween, IsCircuit, time_of, tokens_of}
+use Rattle.teg_net.specs.Circuits.{place_at, IsPathBetween, time_of, tokens_of}
 use Rattle.teg_net.proofs.PathLaws.{IsPathBetween-append}
 use Rattle.teg_loops.specs.Loops.{EndsBelow}
 use Rattle.teg_loops.proofs.Taking.{Keeps, closed_keeps}
 use Rattle.teg_loops.specs.Rounds.{HasRound}
 use Rattle.teg_loops.proofs.Again.{round_in, round_off}
-use Rattle.teg_loops.proofs.Visits.{Meets, FirstVisit, first_visit, joined_meets, still_meets, rounds, rounds_lead, rounds_sum}
+use Rattle.teg_loops.proofs.Visits.{Meets, FirstVisit, first_visit, joined_meets, rounds, rounds_lead, rounds_sum}
 use Rattle.bound_laws.proofs.Best.{Setting, IsCriticalIn, MeetsCritical, bound, best_meets}
 
 round_sum : (f : PlaceId → ℕ) (net : NetLists) (a b m most : ℕ) (ps : List PlaceId) → (h : HasRound net a b m most ps) → sum_by f ps ≡ sum_by f (h.before ++ h.after) + sum_by f h.round

@@ -10,11 +10,13 @@ use Rattle.teg_net.specs.Nets.{NetLists}
 use Rattle.teg_model.specs.Datings.{IsLeastDating}
 use Rattle.bound_laws.specs.Critical.{AllReadyAtZero, IsStrong, IsCommon, bound_of}
 
+-- past the bound each date comes S after that of L firings before, for each common multiple L and its step S
 abbrev pub DatesGoOnPastTheBound : Type 0
 DatesGoOnPastTheBound = (net : NetLists) (hold tokens a b : ℕ) → IsStrong net hold tokens a b → (x : ℕ → ℕ → Date) → IsLeastDating net x
     → (L S : ℕ) → IsCommon net a b L → b * S ≡ a * L
     → (t k : ℕ) → t < length net.transitions → bound_of (length net.transitions) hold tokens a b < k → x t (k + L) ≡ delayed S (x t k)
 
+-- the product of the numbers from 1 to n
 abbrev pub factorial : ℕ → ℕ
 factorial zero = 1
 factorial (suc n) = suc n * factorial n

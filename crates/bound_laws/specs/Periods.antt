@@ -1,5 +1,5 @@
 -- How soon a net becomes periodic, and with which period (chapter 3, cyclicity).
-use Rattle.std.specs.Prelude.{ℕ, ◌<◌, ◌≤◌, length}
+use Rattle.std.specs.Prelude.{ℕ, ◌≤◌, length}
 use Rattle.std.specs.Int.{◌∣◌}
 use Rattle.dioid.specs.declared.dates.Date.{Date}
 use Rattle.teg_net.specs.Nets.{NetLists}

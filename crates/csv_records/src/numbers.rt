@@ -1,5 +1,5 @@
 //! Fields that write a number in decimal digits.
-ghost use Rattle.std.specs.Prelude.{◌≡◌, ◌≤◌, true, min, Some, None, if◌then◌else◌, nat_le};
+ghost use Rattle.std.specs.Prelude.{◌≡◌, ◌≤◌, true, min, Some, None};
 ghost use Rattle.std.specs.Char.{is_ascii_digit};
 ghost use Rattle.std.specs.List.{list_all};
 ghost use Rattle.std.specs.Str.Parse.{digits_value};

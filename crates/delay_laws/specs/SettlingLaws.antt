@@ -24,6 +24,7 @@ pub record TellsDelays (net : NetLists) (period : ℕ) (t : Timetable) (derived 
   pub forms : (f : SettledForm) → IsSettledFormOf derived f → IsFormOfDelays net period t f
   pub past : (limit : ℕ) → NetSettlesPast derived limit → DelaysSettlePast net period t limit
 
+-- the least dating of each net with the releases as inputs tells the delays
 abbrev pub ReleaseNetsTellDelays : Type 0
 ReleaseNetsTellDelays = (net : NetLists) → HasEndsInRange net → IsLive net → (period : ℕ) (t : Timetable) (derived : NetLists) → IsNet derived
     → IsReleaseNet net period t derived → TellsDelays net period t derived

@@ -1,4 +1,4 @@
--- What the functions below the calls of a matrix answer: lists of entries by rows.
+-- Working definitions of what the functions below the calls of a matrix answer: lists of entries by rows.
 use Rattle.std.specs.Prelude.{◌≡◌, ◌<◌, ◌≤◌, ◌+◌, ◌*◌, ℕ, cond, eqb, List, Vec, length, get_or, Result, Ok, Err, ⊤}
 use Rattle.dioid.specs.declared.algebra.Dioid.{Ghosts as DioidOf}
 use Rattle.dioid.specs.declared.algebra.Kleene.{Ghosts as KleeneOf}

@@ -70,6 +70,7 @@ abbrev pub turn_of : Option InputList → ℕ
 turn_of None = 1
 turn_of (Some l) = turn_of_list l.again
 
+-- the shift from which its releases repeat, 0 where it has no list
 abbrev pub begin_of : Option InputList → ℕ
 begin_of None = 0
 begin_of (Some l) = begin_of_list (length l.dates) l.again

@@ -13,6 +13,7 @@ use Rattle.series_ops.specs.Gains.{IsCanonicalGain, gain_zero, gain_one, gain_su
 
 -- ---- the model of gains, in the words of their implementation
 
+-- gains as a dioid
 abbrev pub gains : DioidOf Gain
 gains = record {
   TAKES_MEMORY = true;
@@ -25,6 +26,7 @@ gains = record {
   product_fits = ProductFits;
 }
 
+-- the star of gains
 abbrev pub gain_stars : KleeneOf Gain
 gain_stars = record { star = gain_star; star_fits = StarFits }
 

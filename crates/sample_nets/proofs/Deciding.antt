@@ -1,5 +1,5 @@
 -- Whether a net without input lists keeps the rules of nets, by computing.
-use Rattle.std.proofs.Common.{◌≡◌, ◌≢◌, ℕ, ◌+◌, ◌<◌, ◌≤◌, Bool, true, false, not, ◌&&◌, ◌||◌, eqb, nat_le, nat_lt, List, [], ◌∷◌, length, bytes_eq, Option, Some, None, sym, ap, ◌∙◌, arith, inl, inr, ◌⊎◌}
+use Rattle.std.proofs.Common.{◌≡◌, ◌≢◌, ℕ, ◌<◌, ◌≤◌, Bool, true, false, not, ◌&&◌, ◌||◌, nat_le, nat_lt, List, [], ◌∷◌, length, bytes_eq, Option, Some, None, sym, ap, ◌∙◌, arith, inl, inr, ◌⊎◌}
 use Rattle.std.specs.Prelude.{All, AllPairs, IsTrue, IsSomeAnd, slice_get, ◌==◌}
 use Rattle.std.specs.List.{list_all}
 use Rattle.std.proofs.lemmas.Bool.{and_parts, false≢true}
@@ -8,13 +8,12 @@ use Rattle.std.proofs.lemmas.List.Elements.{All-nil, All-cons}
 use Rattle.std.proofs.lemmas.List.Kept.{AllPairs-cons}
 use Rattle.std.proofs.lemmas.Slice.Eq.{bytes_eq-Decides}
 use Rattle.teg_net.specs.declared.entries.Role.{Role}
-use Rattle.teg_net.specs.declared.entries.Role.TheVariants.{Internal, Input, Output}
+use Rattle.teg_net.specs.declared.entries.Role.TheVariants.{Input}
 use Rattle.teg_net.specs.declared.entries.Transition.{Transition}
 use Rattle.teg_net.specs.declared.entries.Place.{Place}
-use Rattle.teg_net.specs.declared.entries.InputList.{InputList}
 use Rattle.teg_net.specs.Limits.{most_transitions, most_places, greatest_hold, most_tokens, greatest_date}
 use Rattle.teg_net.specs.Names.{is_name}
-use Rattle.teg_net.specs.Nets.{NetLists, IsInput, IsPlaceOf, IsInputOf, IsNet, lists_of}
+use Rattle.teg_net.specs.Nets.{NetLists, IsPlaceOf, IsInputOf, IsNet, lists_of}
 
 le_of : (a b : ℕ) → nat_le a b ≡ true → a ≤ b
 le_of a b h = grind (arith, nat_tests)

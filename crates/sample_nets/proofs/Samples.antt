@@ -1,5 +1,5 @@
 -- The nets are nets.
-use Rattle.std.proofs.Common.{◌≡◌, ℕ, ◌≤◌, true, refl}
+use Rattle.std.proofs.Common.{ℕ, ◌≤◌, refl}
 use Rattle.teg_net.specs.Limits.{most_tokens, greatest_date}
 use Rattle.teg_net.specs.Nets.{IsNet}
 use Rattle.sample_nets.specs.Rings.{ring, ready_ring, back_first, two_ways, two_loops, takeover}

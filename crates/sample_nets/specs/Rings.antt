@@ -1,6 +1,6 @@
 -- Nets of circuits.
 use Rattle.std.specs.Prelude.{ℕ, List, [], ◌∷◌, codes}
-use Rattle.teg_net.specs.declared.entries.Role.TheVariants.{Internal, Output}
+use Rattle.teg_net.specs.declared.entries.Role.TheVariants.{Internal}
 use Rattle.teg_net.specs.declared.entries.Place.{Place}
 use Rattle.teg_net.specs.declared.entries.Transition.{Transition}
 use Rattle.teg_net.specs.Nets.{NetLists}

@@ -9,7 +9,7 @@ use Rattle.dioid.specs.Order.{Le}
 use Rattle.std.proofs.lemmas.Bool.{cases_lt}
 use Rattle.dioid.proofs.AtMost.{le_is, le_trans, move_le}
 use Rattle.dioid.proofs.Moves.{move_move, move_between}
-use Rattle.series_laws.specs.Forms.{form_with, value_at, gap, date_eqb, moves}
+use Rattle.series_laws.specs.Forms.{form_with, gap, date_eqb}
 use Rattle.series_laws.specs.Periodic.{Rising}
 use Rattle.series_laws.proofs.FormValues.{value_in, value_repeats, eqb_sound, eqb_complete}
 use Rattle.series_laws.proofs.Repeating.{rising_by_one}

@@ -1,13 +1,12 @@
 -- Numbers that fit.
-use Rattle.std.proofs.Common.{◌≡◌, ap, arith, ℕ, ℤ, pos, negsuc, zero, suc, ◌+◌, ◌*◌, ◌/◌, ◌%◌, ◌≤◌, ◌<◌, ◌+ℤ◌, ◌-ℤ◌, ◌*ℤ◌, sym, ◌∙◌, FitsSigned, to_z, of_z, get_or}
+use Rattle.std.proofs.Common.{◌≡◌, ap, arith, ℕ, ℤ, pos, negsuc, zero, suc, ◌+◌, ◌*◌, ◌/◌, ◌%◌, ◌≤◌, ◌<◌, ◌+ℤ◌, ◌-ℤ◌, ◌*ℤ◌, sym, ◌∙◌, FitsSigned, to_z, of_z}
 use Rattle.std.specs.Prelude.{◌≤ℤ◌}
 use Rattle.std.specs.Int.{w128}
 use Rattle.std.specs.Int.RustNames.{unsigned_abs}
 use Rattle.std.proofs.lemmas.Int.{ints, to_z-of_z, to_z_pos, fits_signed_from_abs, unsigned_abs-mul}
 use Rattle.std.proofs.lemmas.Nat.{mul-le, div-add-mod'}
 use Rattle.std.proofs.Math.Nat.{le-mul_of_pos_right}
-use Rattle.series_laws.specs.Forms.{Form}
-use Rattle.series_form.specs.Bounds.{IsSmallDate, IsWithin, IsModerateDate, HasSmallNumbers, IsModerate}
+use Rattle.series_form.specs.Bounds.{IsSmallDate, IsWithin, IsModerateDate}
 use Rattle.dioid.specs.declared.dates.Date.{Date}
 use Rattle.dioid.specs.declared.dates.Date.TheVariants.{Early, At, Never}
 use Rattle.series_laws.specs.Periodic.{times}

@@ -34,7 +34,7 @@ star_by Never s k = Never
 abbrev pub star_at : (ℕ → Date) → ℕ → Date
 star_at s = star_by (s 0) s
 
--- the sum with the monomial of shift 1 and date 0
+-- the monomial of shift 1 and date 0
 abbrev pub from_one : ℕ → Date
 from_one zero = Early
 from_one (suc k) = At (pos 0)

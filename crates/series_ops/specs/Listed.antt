@@ -1,4 +1,4 @@
--- Lists as functions, and a list without its last value.
+-- Working definitions of lists as functions, and of a list without its last value.
 use Rattle.std.specs.Prelude.{◌≡◌, ◌≤◌, ◌<◌, ◌+◌, ◌-◌, ℕ, ℤ, suc, cond, ltb, List, length, get_or, take}
 use Rattle.std.specs.Int.RustNames.{unsigned_abs}
 use Rattle.dioid.specs.declared.dates.Date.{Date}

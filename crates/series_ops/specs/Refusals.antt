@@ -1,4 +1,4 @@
--- Refusals of series as refusals of elements.
+-- Working definitions of refusals of series as refusals of elements.
 use Rattle.std.specs.Prelude.{◌≡◌}
 use Rattle.dioid.specs.declared.algebra.Refused.{Refused}
 use Rattle.dioid.specs.declared.algebra.Refused.TheVariants.{Range}

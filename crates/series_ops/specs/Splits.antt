@@ -1,4 +1,4 @@
--- The splits of a shift, some places at a time.
+-- Working definitions of the splits of a shift, some places at a time.
 use Rattle.std.specs.Prelude.{◌+◌, ◌-◌, ℕ, zero, suc, min}
 use Rattle.dioid.specs.Dates.{later_of, date_product}
 use Rattle.dioid.specs.declared.dates.Date.{Date}

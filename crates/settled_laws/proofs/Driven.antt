@@ -1,5 +1,5 @@
 -- Transitions whose every date is their release, and releases that go on.
-use Rattle.std.proofs.Common.{ℕ, ℤ, zero, suc, ◌+◌, ◌-◌, ◌<◌, ◌≤◌, ◌≡◌, true, false, ltb, length, get_or, sym, ap, subst, ◌∙◌, arith, ⊎_elim}
+use Rattle.std.proofs.Common.{ℕ, ℤ, zero, suc, ◌+◌, ◌-◌, ◌<◌, ◌≤◌, ◌≡◌, true, false, ltb, get_or, sym, ap, subst, ◌∙◌, arith, ⊎_elim}
 use Rattle.std.specs.Prelude.{All}
 use Rattle.std.proofs.lemmas.Bool.{cases_lt}
 use Rattle.std.proofs.lemmas.Bool.Decides.{nat_tests}
@@ -8,7 +8,7 @@ use Rattle.dioid.specs.Dates.{IsAtMostDate, delayed, move}
 use Rattle.dioid.proofs.DateOrder.{at_most_refl, same_by_at_most}
 use Rattle.dioid.proofs.Moves.{delayed_move}
 use Rattle.teg_net.specs.declared.entries.Place.{Place}
-use Rattle.teg_model.specs.Systems.{Dating, System, IsFeasibleIn}
+use Rattle.teg_model.specs.Systems.{Dating, System}
 use Rattle.teg_model.specs.Ranks.{AreRanks}
 use Rattle.teg_model.proofs.Delays.{delayed_not}
 use Rattle.teg_model.proofs.LeastOver.{least_over, least_is_feasible, least_is_tight}

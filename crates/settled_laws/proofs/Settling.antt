@@ -1,15 +1,13 @@
 -- A form that was seen in a window, and whose steps rise along the places, stands for the least dating at every number; and
 -- the steps of any form rise so.
-use Rattle.std.proofs.Common.{ℕ, ℤ, zero, suc, pos, ◌+◌, ◌-◌, ◌*◌, ◌<◌, ◌≤◌, ◌≡◌, true, ltb, length, get_or, refl, sym, ap, subst, ◌∙◌, arith, ⊎_elim, inl, inr, ◌+ℤ◌, ◌-ℤ◌}
-use Rattle.std.specs.Prelude.{negsuc, ◌≤ℤ◌, All, ◌⊎◌}
+use Rattle.std.proofs.Common.{ℕ, ℤ, zero, suc, ◌+◌, ◌-◌, ◌<◌, ◌≤◌, ◌≡◌, true, ltb, length, get_or, refl, sym, ap, subst, ◌∙◌, arith, ⊎_elim, inl, inr}
+use Rattle.std.specs.Prelude.{◌≤ℤ◌, All, ◌⊎◌}
 use Rattle.std.proofs.lemmas.Bool.{cases_lt}
 use Rattle.std.proofs.lemmas.Bool.Decides.{nat_tests}
-use Rattle.std.proofs.lemmas.Int.{ints, by_lt_z}
-use Rattle.dioid.specs.declared.dates.Date.{Date}
-use Rattle.dioid.specs.declared.dates.Date.TheVariants.{Early, At, Never}
-use Rattle.dioid.specs.Dates.{IsAtMostDate, delayed, move}
-use Rattle.dioid.proofs.DateOrder.{at_most_refl, at_most_trans, at_most_early, at_least_never, never_last}
-use Rattle.dioid.proofs.Moves.{move_rises, delayed_move, moved_to_never, moved_again}
+use Rattle.dioid.specs.declared.dates.Date.TheVariants.{Early, Never}
+use Rattle.dioid.specs.Dates.{IsAtMostDate, move}
+use Rattle.dioid.proofs.DateOrder.{at_most_refl, never_last}
+use Rattle.dioid.proofs.Moves.{move_rises, delayed_move, moved_again}
 use Rattle.teg_net.specs.declared.entries.Place.{Place}
 use Rattle.teg_net.specs.Circuits.{no_place}
 use Rattle.teg_model.specs.Systems.{Dating, System, available, IsFeasibleIn, IsTightIn}
@@ -17,7 +15,7 @@ use Rattle.teg_model.specs.Ranks.{AreRanks}
 use Rattle.teg_model.proofs.LeastOver.{least_over, least_is_feasible, least_is_attained, least_over_is_least, only_least_in}
 use Rattle.teg_model.proofs.Tokens.{available_same}
 use Rattle.teg_model.proofs.TightLeast.{tight_is_least_in}
-use Rattle.settled_laws.proofs.Everywhere.{Repeats, Climbing, IsNeverPast, IsEarlyPast, IsRising}
+use Rattle.settled_laws.proofs.Everywhere.{Repeats, IsNeverPast, IsEarlyPast, IsRising}
 
 -- a place has its token at just this date
 pub record AttainedBy (s : System) (y : Dating) (t k i : ℕ) : Type 0 where

@@ -9,10 +9,10 @@ use Rattle.dioid.specs.declared.dates.Date.{Date}
 use Rattle.dioid.specs.declared.dates.Date.TheVariants.{Early, Never}
 use Rattle.dioid.specs.Dates.{IsAtMostDate, move}
 use Rattle.dioid.proofs.DateOrder.{at_most_early, at_least_never}
-use Rattle.dioid.proofs.Moves.{move_zero, same_move}
+use Rattle.dioid.proofs.Moves.{same_move}
 use Rattle.teg_model.specs.Systems.{Dating}
 use Rattle.settled_laws.specs.Forms.{RepeatsAfter, IsTail, SettledForm, settled_length, row_of, row_date, step_of, HasSizes, StandsFor, IsShortest, IsSettlingLength, NeverFalls}
-use Rattle.settled_laws.proofs.Repeating.{later_form, period_least, after_least}
+use Rattle.settled_laws.proofs.Repeating.{period_least, after_least}
 use Rattle.settled_laws.proofs.Deciding.{RowRepeats, same_date, neat_step, neat_repeats, neat_is, all_below, decide_period}
 
 -- ---- it is found

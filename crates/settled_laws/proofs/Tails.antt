@@ -1,9 +1,8 @@
 -- One date decides a whole tail that never falls: once Never it is Never, and Early past the first number it is Early.
 use Rattle.std.proofs.Common.{ℕ, ℤ, zero, suc, ◌+◌, ◌-◌, ◌<◌, ◌≤◌, ◌≡◌, sym, ap, ◌∙◌, arith, ⊎_elim}
 use Rattle.std.proofs.lemmas.Bool.{cases_lt}
-use Rattle.dioid.specs.declared.dates.Date.{Date}
-use Rattle.dioid.specs.declared.dates.Date.TheVariants.{Early, At, Never}
-use Rattle.dioid.specs.Dates.{IsAtMostDate, move}
+use Rattle.dioid.specs.declared.dates.Date.TheVariants.{Early, Never}
+use Rattle.dioid.specs.Dates.{move}
 use Rattle.dioid.proofs.DateOrder.{at_most_early, at_least_never}
 use Rattle.dioid.proofs.Moves.{moved_to_never}
 use Rattle.teg_model.specs.Systems.{Dating}

@@ -1,4 +1,4 @@
--- What is read off two dates of a row.
+-- Working definitions of what is read off two dates of a row.
 use Rattle.std.specs.Prelude.{ℤ, pos, ◌-ℤ◌}
 use Rattle.dioid.specs.declared.dates.Date.{Date}
 use Rattle.dioid.specs.declared.dates.Date.TheVariants.{Early, At, Never}

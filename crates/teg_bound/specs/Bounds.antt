@@ -55,11 +55,13 @@ pub record KeepsBound (net : NetLists) (r : Fraction) (number : ℕ) (f : Settle
   pub after : f.after ≤ number
   pub period : (chosen : ℕ → List PlaceId) (multiple : ℕ) → IsChoice net r chosen → 1 ≤ multiple → IsMultipleOf net r chosen multiple → f.period ∣ multiple
 
+-- each shortest form of the least dating keeps the bound
 abbrev pub FormsKeepBound : NetLists → Fraction → ℕ → Type 0
 FormsKeepBound net r number = (x : ℕ → ℕ → Date) → IsLeastDating net x → (f : SettledForm) → IsShortest (length net.transitions) f x → KeepsBound net r number f
 
 -- ---- the answer
 
+-- no transition is an input
 abbrev pub NoInput : NetLists → Type 0
 NoInput net = (t : ℕ) → IsInput net t → ⊥
 

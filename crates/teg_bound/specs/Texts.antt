@@ -32,12 +32,15 @@ cause_words PlacesCause = codes "no" ∷ codes "place" ∷ []
 cause_words WaysCause = codes "not" ∷ codes "strongly" ∷ codes "connected" ∷ []
 cause_words DatesCause = codes "ready" ∷ codes "dates" ∷ []
 
+-- the line of a bound
 abbrev pub bound_line : ℕ → List (List ℕ)
 bound_line number = codes "bound" ∷ decimal number ∷ []
 
+-- the line of the shortest settled form: its number and its period
 abbrev pub settled_line : ℕ → ℕ → List (List ℕ)
 settled_line after period = codes "settled" ∷ codes "after" ∷ decimal after ∷ codes "period" ∷ decimal period ∷ []
 
+-- the line that says why no bound is told
 abbrev pub cause_line : Cause → List (List ℕ)
 cause_line cause = codes "no" ∷ codes "bound:" ∷ cause_words cause
 

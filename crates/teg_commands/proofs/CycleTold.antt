@@ -1,11 +1,10 @@
 -- What is told of the circuits of a net, from what is known of them.
-use Rattle.std.proofs.Common.{◌≡◌, ℕ, zero, suc, ◌+◌, ◌<◌, List, [], ◌∷◌, ◌++◌, All, Option, Some, None, map, length, take, get_or, slice_index_or, append-nil, refl, sym, subst, ap, ◌∙◌, arith}
+use Rattle.std.proofs.Common.{◌≡◌, ℕ, suc, ◌+◌, ◌<◌, List, [], ◌∷◌, ◌++◌, Option, Some, None, map, length, take, get_or, slice_index_or, refl, sym, subst, ap, arith}
 use Rattle.std.proofs.lemmas.List.{get_or-map, length-map, length-take-le}
 use Rattle.std.proofs.lemmas.List.Elements.{All-cons, All-map}
 use Rattle.std.proofs.lemmas.Simd.{map-map}
 use Rattle.std.proofs.Math.Seq.{take-suc}
 use Rattle.std.specs.Global.{Vec}
-use Rattle.std.specs.Option.{option_map}
 use native.Mathlib.Numerals.{unary_clauses}
 use Rattle.teg_net.specs.declared.answers.CycleAnswer.{CycleAnswer}
 use Rattle.teg_net.specs.declared.answers.PartAnswer.{PartAnswer}
@@ -25,10 +24,10 @@ use Rattle.teg_cycle.specs.LastRounds.{IsLastOfRun}
 use Rattle.teg_net.specs.Ratios.{Fraction}
 use Rattle.teg_howard.specs.Laws.{PolicyRunsAreOne}
 use Rattle.teg_howard.specs.Rounds.{IsRound, IsPolicyRun, choice_in, place_in}
-use Rattle.teg_howard.specs.Runs.{HasInnerPlace, IsAnswerOfLast}
+use Rattle.teg_howard.specs.Runs.{HasInnerPlace}
 use Rattle.teg_report.specs.Meanings.{part_lists, round_lists, runs_lists}
 use Rattle.teg_report.specs.Reports.{text_of}
-use Rattle.teg_report.specs.Rounds.{RoundLists, IsRoundIn, IsRunIn, AreRunsTold, circuits_in}
+use Rattle.teg_report.specs.Rounds.{RoundLists, IsRoundIn, IsRunIn, AreRunsTold}
 use Rattle.teg_commands.specs.CycleTimes.{IsCycleAnswer, AreRunsFrom, IsRunOf}
 use Rattle.teg_commands.specs.CycleTimes.{rounds_in}
 use Rattle.teg_commands.specs.Texts.{cycle_told, cycle_text, no_circuit_text}

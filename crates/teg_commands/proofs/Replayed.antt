@@ -1,5 +1,5 @@
 -- What a replay came to can be told.
-use Rattle.std.proofs.Common.{◌≡◌, ◌≢◌, ◌++◌, ℕ, inl, inr, List, Option, Some, None, Ok, Err, length, take, slice_index_or, subst}
+use Rattle.std.proofs.Common.{◌≡◌, ◌≢◌, ◌++◌, ℕ, inl, inr, List, Option, Some, None, Ok, Err, length, take, subst}
 use Rattle.std.proofs.Math.Seq.{take-append_seam}
 use Rattle.std.specs.Prelude.{IfSome}
 use Rattle.run_laws.specs.declared.fired.Fired.{Fired}

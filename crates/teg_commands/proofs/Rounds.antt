@@ -1,6 +1,6 @@
 -- Rounds of policy runs: their choices, and that runs of one part end in one answer.
-use Rattle.std.proofs.Common.{◌≡◌, ℕ, zero, suc, ◌+◌, ◌-◌, ◌<◌, ◌==◌, true, false, List, [], ◌∷◌, All, AllPairs, Some, map, length, get_or, slice_index_or, refl, sym, subst, ap, ◌∙◌, arith, eq-eqb, ne_eqb, ext_get_or}
-use Rattle.std.specs.Prelude.{ℤ, pos}
+use Rattle.std.proofs.Common.{◌≡◌, ℕ, zero, suc, ◌+◌, ◌-◌, ◌<◌, ◌==◌, true, false, List, [], ◌∷◌, AllPairs, Some, map, length, get_or, slice_index_or, refl, sym, subst, ap, ◌∙◌, arith, eq-eqb, ne_eqb, ext_get_or}
+use Rattle.std.specs.Prelude.{pos}
 use Rattle.std.proofs.lemmas.List.{get_or-map, length-map}
 use Rattle.teg_net.specs.declared.answers.PartAnswer.{PartAnswer}
 use Rattle.teg_net.specs.declared.answers.PartAnswer.TheVariants.{NoCircuit, Best}
@@ -10,7 +10,7 @@ use Rattle.teg_net.specs.declared.rounds.Round.{Round}
 use Rattle.teg_net.specs.Nets.{NetLists}
 use Rattle.teg_net.specs.Parts.{ListsMembers}
 use Rattle.teg_howard.specs.Laws.{AreSameRuns}
-use Rattle.teg_howard.specs.Rounds.{IsRound, IsRunTo, IsPolicyRun, choice_in, chosen_for, last_of, potential, value_in}
+use Rattle.teg_howard.specs.Rounds.{IsRound, IsRunTo, IsPolicyRun, choice_in, chosen_for, potential, value_in}
 use Rattle.teg_howard.specs.Runs.{IsAnswerOf, IsAnswerOfLast, potential_of}
 use Rattle.teg_report.proofs.Certified.{listed_members}
 

@@ -1,5 +1,5 @@
 //! The dates of a live net for ever, and one of them.
-ghost use Rattle.std.specs.Prelude.{◌≡◌, ◌≤◌, ◌<◌, IfSome, Some, length};
+ghost use Rattle.std.specs.Prelude.{◌≤◌, ◌<◌, IfSome, Some, length};
 ghost use Rattle.settled_laws.specs.Forms.{NetSettlesPast};
 ghost use Rattle.teg_commands.specs.Outcomes.{Tells, outcome_of};
 ghost use Rattle.teg_commands.specs.Settled.{ExceedsLimit, SaysDate, SaysDateOf, SaysDates, SaysTooLong, TellsNoTransition};

@@ -1,23 +1,20 @@
 -- What a certificate says of paths: those that end in the part where they begin stay there.
-use Rattle.std.proofs.Common.{ℕ, ℤ, pos, ◌+◌, ◌*◌, ◌<◌, ◌≤◌, ◌≡◌, ◌+ℤ◌, ◌-ℤ◌, List, [], ◌∷◌, length, get_or, zero, suc, Option, Some, None, refl, sym, ap, subst, ◌∙◌, arith, ⊎_elim}
-use Rattle.std.specs.Prelude.{◌≤ℤ◌, All, slice_index, slice_index_or}
-use Rattle.std.proofs.lemmas.Bool.{cases_lt}
+use Rattle.std.proofs.Common.{ℕ, ℤ, pos, ◌+◌, ◌*◌, ◌<◌, ◌≤◌, ◌≡◌, ◌+ℤ◌, List, [], ◌∷◌, length, zero, suc, Option, Some, None, refl, ap, subst, ◌∙◌, arith}
+use Rattle.std.specs.Prelude.{All, slice_index, slice_index_or}
 use Rattle.std.proofs.lemmas.Int.{ints}
-use Rattle.std.proofs.lemmas.List.{get_or_past}
 use Rattle.std.proofs.lemmas.List.Sums.{sum_by-cons}
-use Rattle.std.proofs.Math.Nat.{mul-le-mul_left, mul-le-mul_right, le_of_mul-le-mul_left}
 use Rattle.teg_net.specs.declared.entries.PlaceId.{PlaceId}
 use Rattle.teg_net.specs.declared.answers.PartAnswer.{PartAnswer}
 use Rattle.teg_net.specs.declared.answers.PartAnswer.TheVariants.{NoCircuit, Best}
 use Rattle.teg_net.specs.declared.answers.CycleAnswer.{CycleAnswer}
 use Rattle.teg_net.specs.Nets.{NetLists, IsNet, IsPlaceOf}
 use Rattle.teg_net.specs.Ratios.{Fraction}
-use Rattle.teg_net.specs.Circuits.{no_place, place_at, from_of, IsPathBetween, IsCircuit, time_of, tokens_of}
+use Rattle.teg_net.specs.Circuits.{no_place, place_at, from_of, IsPathBetween, time_of, tokens_of}
 use Rattle.teg_net.specs.Parts.{to_of, IsPlaceOfPart}
-use Rattle.teg_net.specs.ReducedTimes.{reduced_time, reduced_time_of}
-use Rattle.teg_net.specs.GreatestRatios.{IsGreatestRatio, IsAnyPlace, HasNoCircuit, ratio_in, ratio_at, IsFirstGreatest, IsFirstGreatestAt, IsCycleTime}
-use Rattle.teg_net.specs.Certificates.{potential_at, ArePotentials, IsPartCertificate, IsCertificate}
-use Rattle.teg_critical.specs.Losses.{ratio_of, potentials_of}
+use Rattle.teg_net.specs.ReducedTimes.{reduced_time_of}
+use Rattle.teg_net.specs.GreatestRatios.{IsAnyPlace, HasNoCircuit, ratio_in, ratio_at}
+use Rattle.teg_net.specs.Certificates.{IsPartCertificate, IsCertificate}
+use Rattle.teg_critical.specs.Losses.{ratio_of}
 
 -- a part in which some place lies tells a ratio
 pub ratio_told : (net : NetLists) (part_of : List ℕ) (k : ℕ) (q : PartAnswer) → IsPartCertificate net part_of k q → (p : PlaceId) → IsPlaceOfPart net part_of k p → ratio_in q ≡ Some (ratio_of q)

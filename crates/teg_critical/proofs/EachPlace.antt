@@ -1,6 +1,5 @@
 -- Places told their slack one by one, for one end after the other.
-use Rattle.std.proofs.Common.{ℕ, zero, suc, ◌+◌, ◌<◌, ◌≤◌, ◌≡◌, ◌≢◌, List, [], ◌∷◌, length, get_or, set, Option, Some, None, refl, sym, ap, subst, ◌∙◌, arith, ⊎_elim}
-use Rattle.std.specs.Prelude.{All}
+use Rattle.std.proofs.Common.{ℕ, ◌+◌, ◌<◌, ◌≤◌, ◌≡◌, ◌≢◌, List, length, get_or, set, Option, Some, None, sym, ap, subst, ◌∙◌, arith, ⊎_elim}
 use Rattle.std.proofs.lemmas.Bool.{cases_lt, cases_eq}
 use Rattle.std.proofs.lemmas.List.{length-set, get_or-set_same, get_or-set_other}
 use Rattle.teg_net.specs.declared.entries.PlaceId.{PlaceId}
@@ -17,7 +16,7 @@ use Rattle.teg_critical.specs.declared.slacks.Slack.TheVariants.{NoCircuit}
 use Rattle.teg_critical.specs.Slacks.{IsOnCircuit, IsSlackOf, AreSlacks}
 use Rattle.teg_critical.specs.Losses.{loss_at, AreLosses}
 use Rattle.teg_critical.specs.Searches.{IsLeastLoss, told_at, AreLeastLosses}
-use Rattle.teg_critical.specs.Told.{IsBestOf, CanTell, IsSlackOfGap, slack_at, AreToldUpTo}
+use Rattle.teg_critical.specs.Told.{IsBestOf, CanTell, IsSlackOfGap, slack_at}
 use Rattle.teg_critical.proofs.Certified.{no_circuit}
 use Rattle.teg_critical.proofs.LossFacts.{IsToldBy, best_told}
 use Rattle.teg_critical.proofs.Rounds.{greatest}

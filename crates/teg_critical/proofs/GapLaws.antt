@@ -1,5 +1,5 @@
 -- Slack by the gap that the best path back leaves.
-use Rattle.std.proofs.Common.{ℕ, zero, suc, ◌+◌, ◌-◌, ◌*◌, ◌/◌, ◌%◌, ◌<◌, ◌≤◌, ◌≡◌, ◌≢◌, List, [], ◌∷◌, length, get_or, refl, sym, ap, subst, ◌∙◌, arith, ⊎_elim, ◌⊎◌, inl, inr}
+use Rattle.std.proofs.Common.{ℕ, ◌+◌, ◌-◌, ◌*◌, ◌/◌, ◌%◌, ◌<◌, ◌≤◌, ◌≡◌, ◌≢◌, List, [], ◌∷◌, length, refl, sym, ap, ◌∙◌, arith, ⊎_elim, ◌⊎◌}
 use Rattle.std.specs.Prelude.{All, Contains, sum_by}
 use Rattle.std.proofs.lemmas.Bool.{cases_lt}
 use Rattle.std.proofs.lemmas.List.Sums.{sum_by-cons}
@@ -7,14 +7,14 @@ use Rattle.std.proofs.lemmas.Nat.{mod_below, div-add-mod'}
 use Rattle.teg_net.specs.declared.entries.PlaceId.{PlaceId}
 use Rattle.teg_net.specs.Nets.{NetLists}
 use Rattle.teg_net.specs.Ratios.{Fraction}
-use Rattle.teg_net.specs.Circuits.{place_at, from_of, IsPathBetween, IsCircuit, time_of, tokens_of}
+use Rattle.teg_net.specs.Circuits.{place_at, from_of, IsCircuit, time_of, tokens_of}
 use Rattle.teg_net.specs.Parts.{to_of}
 use Rattle.teg_net.specs.GreatestRatios.{IsGreatestRatio, IsAnyPlace}
 use Rattle.teg_loops.specs.Loops.{IsStraight}
 use Rattle.teg_loops.specs.Shortening.{NoCircuitGains}
 use Rattle.teg_loops.proofs.Splitting.{shorten}
 use Rattle.teg_loops.proofs.Through.{IsThrough, through, closes}
-use Rattle.teg_critical.specs.Slacks.{IsCritical, IsSlack, raised}
+use Rattle.teg_critical.specs.Slacks.{IsCritical, raised}
 use Rattle.teg_critical.specs.Gaps.{IsGap}
 use Rattle.teg_critical.specs.Laws.{GapTells, GapsTellSlacks}
 use Rattle.teg_critical.proofs.Raised.{circuit_up, circuit_down, tokens_same, time_without, time_with, passes_or_not}

@@ -1,9 +1,9 @@
 -- What a certificate gives for the loss of one place.
-use Rattle.std.proofs.Common.{ℕ, ℤ, pos, zero, suc, ◌+◌, ◌-◌, ◌*◌, ◌<◌, ◌≤◌, ◌≡◌, ◌≢◌, ◌+ℤ◌, ◌-ℤ◌, List, length, get_or, Option, Some, None, refl, sym, ap, subst, ◌∙◌, arith, ⊎_elim}
-use Rattle.std.specs.Prelude.{All, ◌≤ℤ◌, slice_index, slice_index_or}
+use Rattle.std.proofs.Common.{ℕ, ℤ, pos, ◌+◌, ◌-◌, ◌*◌, ◌<◌, ◌≤◌, ◌≡◌, ◌+ℤ◌, ◌-ℤ◌, List, length, get_or, Option, Some, None, sym, ap, subst, ◌∙◌, arith, ⊎_elim}
+use Rattle.std.specs.Prelude.{◌≤ℤ◌}
 use Rattle.std.specs.Int.Signed.{pos-nat_abs, yes_non_neg}
 use Rattle.std.proofs.Math.IntN.{nat_abs}
-use Rattle.std.proofs.Math.Nat.{mul-le-mul_left, mul-le-mul_right}
+use Rattle.std.proofs.Math.Nat.{mul-le-mul_left}
 use Rattle.std.proofs.lemmas.Bool.{cases_lt}
 use Rattle.std.proofs.lemmas.Int.{ints}
 use Rattle.std.proofs.lemmas.List.{get_or_past, get_or_read}
@@ -14,13 +14,13 @@ use Rattle.teg_net.specs.declared.answers.PartAnswer.{PartAnswer}
 use Rattle.teg_net.specs.declared.answers.PartAnswer.TheVariants.{NoCircuit, Best}
 use Rattle.teg_net.specs.declared.answers.CycleAnswer.{CycleAnswer}
 use Rattle.teg_net.specs.declared.circuits.Circuit.{Circuit}
-use Rattle.teg_net.specs.Limits.{greatest_potential, greatest_ratio, greatest_hold, most_tokens}
+use Rattle.teg_net.specs.Limits.{greatest_potential}
 use Rattle.teg_net.specs.Nets.{NetLists, IsNet, IsPlaceOf}
 use Rattle.teg_net.specs.Ratios.{Fraction}
 use Rattle.teg_net.specs.Circuits.{no_place, place_at, from_of, IsCircuit, time_of, tokens_of}
 use Rattle.teg_net.specs.Parts.{to_of, IsPlaceOfPart}
 use Rattle.teg_net.specs.ReducedTimes.{IsWithin}
-use Rattle.teg_net.specs.GreatestRatios.{ratio_in, ratio_at, IsFirstGreatest, IsFirstGreatestAt}
+use Rattle.teg_net.specs.GreatestRatios.{ratio_in, ratio_at, IsFirstGreatest}
 use Rattle.teg_net.specs.Certificates.{potential_at, IsBestCertificate, IsPartCertificate, IsCertificate}
 use Rattle.teg_critical.specs.declared.losses.Loss.{Loss}
 use Rattle.teg_critical.specs.Losses.{most_lost, most_loss, count_of, IsLost, CanLose, loss_at_best, ratio_of, potentials_of, IsLossOf, IsLossIn, part_at, part_of, IsPlaceLoss}

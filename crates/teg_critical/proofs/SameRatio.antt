@@ -1,14 +1,14 @@
 -- Slacks do not depend on how the greatest ratio is written, and a place has one.
-use Rattle.std.proofs.Common.{ℕ, zero, suc, ◌*◌, ◌<◌, ◌≤◌, ◌≡◌, List, length, refl, sym, ap, ◌∙◌, arith}
-use Rattle.std.proofs.Math.Nat.{mul-le-mul_left, mul-le-mul_right, le_of_mul-le-mul_left}
+use Rattle.std.proofs.Common.{ℕ, zero, suc, ◌*◌, ◌≤◌, ◌≡◌, refl, sym, ap, arith}
+use Rattle.std.proofs.Math.Nat.{mul-le-mul_left, le_of_mul-le-mul_left}
 use Rattle.teg_net.specs.declared.entries.PlaceId.{PlaceId}
 use Rattle.teg_net.specs.Nets.{NetLists}
 use Rattle.teg_net.specs.Ratios.{Fraction}
-use Rattle.teg_net.specs.Circuits.{IsCircuit, IsLive, time_of, tokens_of}
+use Rattle.teg_net.specs.Circuits.{IsLive, time_of, tokens_of}
 use Rattle.teg_net.specs.GreatestRatios.{IsGreatestRatio, IsAnyPlace}
 use Rattle.teg_critical.specs.declared.slacks.Slack.{Slack}
 use Rattle.teg_critical.specs.declared.slacks.Slack.TheVariants.{NoCircuit, Critical, Rise}
-use Rattle.teg_critical.specs.Slacks.{IsCritical, IsSlack, IsSlackOf, raised}
+use Rattle.teg_critical.specs.Slacks.{IsCritical, IsSlackOf, raised}
 use Rattle.teg_critical.specs.Laws.{SlacksAreOne, SlacksAreOfTheNet}
 use Rattle.teg_critical.proofs.GapLaws.{any_places}
 

@@ -1,17 +1,17 @@
 -- A search that is over has found the least losses.
-use Rattle.std.proofs.Common.{ℕ, zero, suc, ◌+◌, ◌*◌, ◌<◌, ◌≤◌, ◌≡◌, ◌≢◌, Bool, true, false, List, [], ◌∷◌, length, get_or, Option, Some, None, refl, sym, ap, subst, ◌∙◌, arith, ⊎_elim, inl, inr}
-use Rattle.std.specs.Prelude.{All, IsSome, sum_by}
+use Rattle.std.proofs.Common.{ℕ, suc, ◌+◌, ◌*◌, ◌≤◌, ◌≡◌, Bool, true, List, [], ◌∷◌, length, Option, Some, None, refl, sym, ap, subst, ◌∙◌, arith, ⊎_elim}
+use Rattle.std.specs.Prelude.{IsSome}
 use Rattle.std.proofs.lemmas.Bool.{cases_Bool}
 use Rattle.std.proofs.lemmas.List.Sums.{sum_by-cons}
 use Rattle.std.proofs.Math.Nat.{mul-le-mul_right}
 use Rattle.teg_net.specs.declared.entries.PlaceId.{PlaceId}
 use Rattle.teg_net.specs.Limits.{most_transitions}
 use Rattle.teg_net.specs.Nets.{NetLists, IsNet}
-use Rattle.teg_net.specs.Circuits.{from_of, IsPathBetween}
+use Rattle.teg_net.specs.Circuits.{from_of}
 use Rattle.teg_net.specs.Parts.{to_of}
 use Rattle.teg_critical.specs.declared.losses.Loss.{Loss}
 use Rattle.teg_critical.specs.Losses.{most_loss, loss_at}
-use Rattle.teg_critical.specs.Searches.{amount_in, loss_of, IsWay, IsLeastLoss, told_at, AreLeastLosses, IsWithin, unsettled, is_settled, IsSearching, IsOver}
+use Rattle.teg_critical.specs.Searches.{amount_in, loss_of, IsWay, IsLeastLoss, told_at, AreLeastLosses, IsWithin, is_settled, IsSearching, IsOver}
 
 pub within_more : (o : Option ℕ) (x y : ℕ) → IsWithin o x → x ≤ y → IsWithin o y
 within_more None x y h l = h

@@ -1,8 +1,8 @@
 -- One step of the search: the nearest transition is settled, and its steps are taken.
-use Rattle.std.proofs.Common.{ℕ, zero, suc, ◌+◌, ◌*◌, ◌<◌, ◌≤◌, ◌≡◌, ◌≢◌, Bool, true, false, List, [], ◌∷◌, ◌++◌, length, get_or, set, Option, Some, None, refl, sym, ap, subst, ◌∙◌, arith, ⊎_elim, ◌⊎◌, inl, inr}
-use Rattle.std.specs.Prelude.{All, Any, IsSome, sum_by, if◌then◌else◌}
-use Rattle.std.proofs.lemmas.Bool.{cases_eq, cases_lt}
-use Rattle.std.proofs.lemmas.List.{length-set, get_or-set_same, get_or-set_other, get_or_default, get_or_past}
+use Rattle.std.proofs.Common.{ℕ, zero, suc, ◌+◌, ◌*◌, ◌<◌, ◌≤◌, ◌≡◌, ◌≢◌, Bool, true, false, List, [], ◌∷◌, ◌++◌, length, set, Option, Some, refl, sym, ap, subst, ◌∙◌, arith, ⊎_elim, ◌⊎◌}
+use Rattle.std.specs.Prelude.{All, Any, IsSome, if◌then◌else◌}
+use Rattle.std.proofs.lemmas.Bool.{cases_eq}
+use Rattle.std.proofs.lemmas.List.{length-set, get_or-set_same, get_or-set_other}
 use Rattle.std.proofs.lemmas.List.Elements.{All-append}
 use Rattle.std.proofs.lemmas.List.Sums.{sum_by-append, sum_by-cons, sum_by-set}
 use Rattle.teg_net.specs.declared.entries.PlaceId.{PlaceId}
@@ -15,7 +15,7 @@ use Rattle.teg_critical.specs.declared.searches.Step.{Step}
 use Rattle.teg_critical.specs.declared.searches.Near.{Near}
 use Rattle.teg_critical.specs.Losses.{most_loss, loss_at}
 use Rattle.teg_critical.specs.Searches.{amount_in, loss_of, IsWay, told_at, IsStepBy, AreStepsFrom, IsWithin, unsettled, is_settled, IsSearching, IsNearest, IsRelaxed}
-use Rattle.teg_critical.proofs.Searching.{within_more, within_some, IsTold, within_told, same_some}
+use Rattle.teg_critical.proofs.Searching.{within_more, within_some, IsTold, within_told}
 
 true_false : (b : Bool) → b ≡ true → b ≡ false → ⊥
 true_false b e f = cc

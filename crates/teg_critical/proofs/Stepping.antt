@@ -1,10 +1,10 @@
 -- Steps listed place by place, the nearest transition looked for, and steps taken one by one.
-use Rattle.std.proofs.Common.{ℕ, zero, suc, ◌+◌, ◌*◌, ◌<◌, ◌≤◌, ◌≡◌, ◌≢◌, Bool, true, false, cond, List, [], ◌∷◌, ◌++◌, length, get_or, set, Option, Some, None, refl, sym, ap, subst, ◌∙◌, arith, ⊎_elim, ◌⊎◌, inl, inr}
+use Rattle.std.proofs.Common.{ℕ, ◌+◌, ◌<◌, ◌≤◌, ◌≡◌, Bool, true, false, cond, List, [], ◌∷◌, ◌++◌, length, get_or, Option, Some, None, refl, sym, ap, subst, ◌∙◌, arith, ⊎_elim, ◌⊎◌, inl, inr}
 use Rattle.std.specs.Prelude.{All, Any, IsSome, IfSome, nat_lt}
 use Rattle.std.specs.Option.{is_some}
 use Rattle.std.proofs.lemmas.Bool.Decides.{nat_tests}
-use Rattle.std.proofs.lemmas.Bool.{cases_lt, cases_eq}
-use Rattle.std.proofs.lemmas.List.{length-append, length-set, get_or_append_left, get_or-append-add, get_or-set_same, get_or-set_other, get_or_default, get_or_past, get_or_read}
+use Rattle.std.proofs.lemmas.Bool.{cases_lt}
+use Rattle.std.proofs.lemmas.List.{length-append, get_or_append_left, get_or-append-add, get_or_past, get_or_read}
 use Rattle.teg_net.specs.declared.entries.PlaceId.{PlaceId}
 use Rattle.teg_net.specs.declared.entries.Place.{Place}
 use Rattle.teg_net.specs.Nets.{NetLists, IsNet, IsPlaceOf}
@@ -14,8 +14,8 @@ use Rattle.teg_critical.specs.declared.losses.Loss.{Loss}
 use Rattle.teg_critical.specs.declared.searches.Step.{Step}
 use Rattle.teg_critical.specs.declared.searches.Near.{Near}
 use Rattle.teg_critical.specs.Losses.{most_loss, loss_at, AreKeptSmall}
-use Rattle.teg_critical.specs.Searches.{amount_in, told_at, IsStepBy, IsStepOf, AreStepsFrom, AreSteps, IsWithin, is_settled, nearer_of, IsNearest, IsOver, IsRelaxed}
-use Rattle.teg_critical.proofs.Searching.{within_more, within_some, IsTold, within_told, none_some, same_some}
+use Rattle.teg_critical.specs.Searches.{amount_in, told_at, IsStepBy, IsStepOf, AreStepsFrom, AreSteps, IsWithin, is_settled, nearer_of, IsNearest, IsOver}
+use Rattle.teg_critical.proofs.Searching.{none_some, same_some}
 
 -- ---- the steps from a transition
 

@@ -1,19 +1,14 @@
 -- What the least loss of the paths back tells of a place.
-use Rattle.std.proofs.Common.{ℕ, zero, suc, ◌+◌, ◌-◌, ◌*◌, ◌/◌, ◌<◌, ◌≤◌, ◌≡◌, ◌≢◌, List, [], ◌∷◌, length, get_or, set, Option, Some, None, true, refl, sym, ap, subst, ◌∙◌, arith, ⊎_elim, inl, inr}
-use Rattle.std.specs.Prelude.{All, Contains, IsSome, slice_index, sum_by}
-use Rattle.std.proofs.lemmas.Bool.{cases_lt, cases_eq}
-use Rattle.std.proofs.lemmas.List.{length-set, get_or-set_same, get_or-set_other}
+use Rattle.std.proofs.Common.{ℕ, suc, ◌+◌, ◌-◌, ◌*◌, ◌/◌, ◌<◌, ◌≤◌, ◌≡◌, List, ◌∷◌, length, Option, Some, None, refl, sym, ap, subst, ◌∙◌, arith}
+use Rattle.std.specs.Prelude.{All}
 use Rattle.std.proofs.lemmas.List.Sums.{sum_by-cons}
 use Rattle.std.proofs.Math.Nat.{mul-le-mul_left, mul-le-mul_right, le_of_mul-le-mul_left, mul-div_cancel_left}
 use Rattle.teg_net.specs.declared.entries.PlaceId.{PlaceId}
-use Rattle.teg_net.specs.declared.answers.CycleAnswer.{CycleAnswer}
-use Rattle.teg_net.specs.Limits.{most_tokens, most_transitions, greatest_ratio}
+use Rattle.teg_net.specs.Limits.{most_tokens, most_transitions}
 use Rattle.teg_net.specs.Nets.{NetLists, IsNet, IsPlaceOf}
 use Rattle.teg_net.specs.Ratios.{Fraction}
-use Rattle.teg_net.specs.Circuits.{no_place, place_at, from_of, IsPathBetween, IsCircuit, IsLive, time_of, tokens_of}
+use Rattle.teg_net.specs.Circuits.{no_place, place_at, from_of, IsPathBetween, time_of, tokens_of}
 use Rattle.teg_net.specs.Parts.{to_of, IsPlaceOfPart}
-use Rattle.teg_net.specs.GreatestRatios.{IsGreatestRatio, IsAnyPlace}
-use Rattle.teg_net.specs.Certificates.{IsCertificate}
 use Rattle.teg_loops.specs.Loops.{EndsBelow, IsStraight}
 use Rattle.teg_loops.proofs.Straight.{straight_short}
 use Rattle.teg_loops.proofs.Taking.{sum_most}
@@ -23,10 +18,10 @@ use Rattle.teg_critical.proofs.Certified.{parts_rise, path_inside}
 use Rattle.teg_critical.specs.declared.losses.Loss.{Loss}
 use Rattle.teg_critical.specs.declared.slacks.Slack.{Slack}
 use Rattle.teg_critical.specs.declared.slacks.Slack.TheVariants.{NoCircuit, Critical, Rise}
-use Rattle.teg_critical.specs.Slacks.{IsOnCircuit, IsCritical, IsSlack, IsSlackOf}
+use Rattle.teg_critical.specs.Slacks.{IsOnCircuit, IsSlack, IsSlackOf}
 use Rattle.teg_critical.specs.Gaps.{IsGap}
 use Rattle.teg_critical.specs.Laws.{GapTells}
-use Rattle.teg_critical.specs.Losses.{most_loss, part_of, loss_at, AreLosses, AreKeptSmall, LeavesGap}
+use Rattle.teg_critical.specs.Losses.{part_of, loss_at, LeavesGap}
 use Rattle.teg_critical.specs.Searches.{amount_in, loss_of, IsWay, IsLeastLoss}
 use Rattle.teg_critical.specs.Told.{CanTell, IsSlackOfGap}
 use Rattle.teg_critical.proofs.GapLaws.{gaps_tell}

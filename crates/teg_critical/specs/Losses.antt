@@ -1,4 +1,4 @@
--- What places lose against the greatest ratio, by the potentials of their parts (chapter 3).
+-- Working definitions of what places lose against the greatest ratio, by the potentials of their parts (chapter 3).
 use Rattle.std.specs.Prelude.{ℕ, ℤ, pos, ◌+ℤ◌, ◌-ℤ◌, ◌+◌, ◌-◌, ◌*◌, ◌<◌, ◌≤◌, ◌≡◌, ◌≢◌, List, [], length, Option, Some, None, slice_index, slice_index_or}
 use Rattle.teg_net.specs.declared.entries.PlaceId.{PlaceId}
 use Rattle.teg_net.specs.declared.entries.Place.{Place}

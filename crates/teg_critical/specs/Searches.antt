@@ -1,5 +1,6 @@
--- Least sums of losses along paths, from one transition on, and how they are searched (Dijkstra's algorithm).
-use Rattle.std.specs.Prelude.{ℕ, ◌+◌, ◌*◌, ◌<◌, ◌≤◌, ◌≡◌, ◌≢◌, ◌⊎◌, Bool, true, false, List, [], length, All, Any, IsSome, Option, Some, None, sum_by, slice_index_or, nat_lt, if◌then◌else◌}
+-- Working definitions of least sums of losses along paths, from one transition on, and of their search (Dijkstra's
+-- algorithm).
+use Rattle.std.specs.Prelude.{ℕ, ◌+◌, ◌*◌, ◌<◌, ◌≤◌, ◌≡◌, ◌⊎◌, Bool, true, false, List, [], length, All, Any, IsSome, Option, Some, None, sum_by, slice_index_or, nat_lt, if◌then◌else◌}
 use Rattle.teg_net.specs.declared.entries.PlaceId.{PlaceId}
 use Rattle.teg_net.specs.declared.entries.Place.{Place}
 use Rattle.teg_net.specs.Limits.{most_transitions}

@@ -1,5 +1,5 @@
--- How each place is told its slack.
-use Rattle.std.specs.Prelude.{ℕ, ◌/◌, ◌+◌, ◌<◌, ◌≤◌, ◌≡◌, List, length, Option, Some, slice_index_or}
+-- Working definitions of how each place is told its slack.
+use Rattle.std.specs.Prelude.{ℕ, ◌/◌, ◌<◌, ◌≤◌, ◌≡◌, List, length, Option, Some, slice_index_or}
 use Rattle.teg_net.specs.declared.entries.PlaceId.{PlaceId}
 use Rattle.teg_net.specs.declared.answers.CycleAnswer.{CycleAnswer}
 use Rattle.teg_net.specs.Limits.{greatest_ratio}

@@ -1,5 +1,5 @@
 //! The slack of each place, by what the best path back from its end to its start lacks.
-ghost use Rattle.std.specs.Prelude.{◌≡◌, ◌<◌, ◌≤◌, ◌+◌, length, All, IfOk, IfNone, IfSome, None};
+ghost use Rattle.std.specs.Prelude.{◌≡◌, ◌<◌, ◌+◌, length, All, IfOk, IfNone, IfSome, None};
 ghost use Rattle.teg_net.specs.Ratios.{Fraction};
 ghost use Rattle.teg_net.specs.Nets.{IsNet};
 ghost use Rattle.teg_net.specs.Circuits.{IsLive};

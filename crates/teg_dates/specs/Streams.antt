@@ -66,6 +66,7 @@ pub record FirstLists : Type 0 where
   pub order : List Turn
   pub window : WindowCells
 
+-- these rows stand for the net
 abbrev pub AreFirstRowsOf : NetLists → FirstLists → Type 0
 AreFirstRowsOf net rows = GoesOn net rows.order (window_rows rows.window)
 

@@ -1,7 +1,6 @@
 -- What the rows of a due file keep.
-use Rattle.std.proofs.Common.{rules, ℕ, zero, suc, ◌<◌, ◌≤◌, ◌+◌, ◌==◌, ◌&&◌, ◌≡◌, ◌≢◌, ◌∙◌, ◌⊎◌, ◌++◌, ◌∷◌, [], List, Bool, true, false, not, cond, length, get_or, Option, Some, None, Result, Ok, Err, All, AllPairs, inl, inr, refl, sym, subst, ap, arith}
-use Rattle.std.specs.Prelude.{IsSomeAnd, nat_le, nat_lt, position, slice_get}
-use Rattle.std.specs.List.{list_any}
+use Rattle.std.proofs.Common.{ℕ, zero, suc, ◌<◌, ◌≤◌, ◌+◌, ◌==◌, ◌&&◌, ◌≡◌, ◌≢◌, ◌⊎◌, ◌++◌, ◌∷◌, [], List, Bool, true, false, not, length, get_or, Option, Some, None, Ok, Err, All, AllPairs, inl, inr, refl, sym, subst, arith}
+use Rattle.std.specs.Prelude.{IsSomeAnd, nat_lt, position, slice_get}
 use Rattle.std.specs.Option.{option_map_or}
 use Rattle.std.specs.Str.{bytes_eq}
 use Rattle.std.specs.Str.Parse.{digits_value}
@@ -11,10 +10,8 @@ use Rattle.std.proofs.lemmas.List.Folds.{list_any_at, list_any_none}
 use Rattle.std.proofs.lemmas.List.Quantifiers.{position-Some}
 use Rattle.csv_records.specs.Numbers.{is_number}
 use Rattle.teg_net.specs.declared.entries.Transition.{Transition}
-use Rattle.teg_net.specs.declared.entries.Role.{Role}
 use Rattle.teg_net.specs.Nets.{NetLists, IsInput}
 use Rattle.teg_due.specs.declared.rows.DueRow.{DueRow}
-use Rattle.teg_due.specs.declared.rows.DueRefusal.{DueRefusal}
 use Rattle.teg_due.specs.declared.rows.DueRefusal.TheVariants as fault
 use Rattle.teg_due.specs.Dues.{due_numbered, due_placed, due_row, greatest_due_number, has_due, in_due_limits}
 use Rattle.teg_due.specs.Names.{number_named, is_input, is_input_role}

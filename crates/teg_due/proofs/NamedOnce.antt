@@ -1,6 +1,6 @@
 -- The transition that a look-up finds is the one of that name: names of a net are distinct.
-use Rattle.std.proofs.Common.{rules, ℕ, ◌≡◌, ◌≢◌, ◌∙◌, ◌<◌, ◌≤◌, List, Bool, true, false, [], length, get_or, Option, Some, None, All, AllPairs, inl, inr, refl, sym, ap, subst, arith}
-use Rattle.std.specs.Prelude.{IfSome, IsSomeAnd, option_map, nat_lt, position, slice_get}
+use Rattle.std.proofs.Common.{rules, ℕ, ◌≡◌, ◌≢◌, ◌∙◌, ◌<◌, List, true, false, [], length, get_or, Option, Some, None, All, AllPairs, inl, inr, refl, sym, ap, arith}
+use Rattle.std.specs.Prelude.{IfSome, IsSomeAnd, option_map, nat_lt, slice_get}
 use Rattle.std.specs.List.{position_or_len}
 use Rattle.std.specs.Str.{bytes_eq}
 use Rattle.std.proofs.lemmas.Bool.{cases_Bool}

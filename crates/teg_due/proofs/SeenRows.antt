@@ -1,11 +1,10 @@
 -- One more row, one more cell.
-use Rattle.std.proofs.Common.{◌≡◌, ◌≢◌, ◌∙◌, ◌<◌, ◌≤◌, ◌+◌, ◌*◌, ◌==◌, ◌∷◌, ◌++◌, ◌&&◌, ◌||◌, ◌⊎◌, ℕ, List, [], Bool, true, false, inl, inr, length, get_or, refl, sym, ap, ap₂, arith, rules, get_or-set_same, get_or-set_other, length-set, set}
-use Rattle.std.specs.List.{list_any}
+use Rattle.std.proofs.Common.{◌≡◌, ◌≢◌, ◌∙◌, ◌<◌, ◌≤◌, ◌+◌, ◌*◌, ◌==◌, ◌∷◌, ◌++◌, ◌&&◌, ◌||◌, ℕ, List, [], Bool, true, false, inl, inr, length, get_or, refl, sym, ap, arith, get_or-set_same, get_or-set_other, length-set, set}
 use Rattle.std.proofs.lemmas.Bool.{cases_Bool}
 use Rattle.std.proofs.lemmas.Bool.Decides.{nat_tests}
 use Rattle.std.proofs.lemmas.List.Folds.{list_any-append}
 use Rattle.teg_due.specs.Dues.{has_due}
-use Rattle.teg_due.specs.Gathered.{IsSeenOf, cell_of}
+use Rattle.teg_due.specs.Gathered.{IsSeenOf}
 use Rattle.teg_due.specs.declared.rows.DueRow.{DueRow}
 
 abbrev is_row : ℕ → ℕ → DueRow → Bool

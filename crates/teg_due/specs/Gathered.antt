@@ -1,4 +1,4 @@
--- Due rows that were read, with a table of the firings that they have.
+-- Working definitions of due rows that were read, with a table of the firings that they have.
 use Rattle.std.specs.Prelude.{ℕ, Bool, false, ◌+◌, ◌*◌, ◌<◌, ◌≤◌, ◌≡◌, List, length, slice_index_or}
 use Rattle.teg_net.specs.Limits.{most_transitions}
 use Rattle.teg_due.specs.declared.rows.DueRow.{DueRow}

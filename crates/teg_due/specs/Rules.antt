@@ -1,5 +1,5 @@
 -- The rules that the rows of a file keep in a net.
-use Rattle.std.specs.Prelude.{ℕ, ◌<◌, ◌≤◌, ◌≡◌, ◌⊎◌, ◌≢◌, List, length, All, AllPairs}
+use Rattle.std.specs.Prelude.{◌<◌, ◌≤◌, ◌⊎◌, ◌≢◌, List, length, All, AllPairs}
 use Rattle.teg_net.specs.Limits.{greatest_date}
 use Rattle.teg_net.specs.Nets.{NetLists, IsInput}
 use Rattle.teg_due.specs.declared.rows.DueRow.{DueRow}

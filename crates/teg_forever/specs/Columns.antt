@@ -1,4 +1,4 @@
--- The columns of series of an input and of the due rows, and what is answered of one input.
+-- Working definitions of the columns of series of an input and of the due rows, and of what is answered of one input.
 use Rattle.std.specs.Prelude.{ℕ, ◌≡◌, ◌≢◌, ◌<◌, ◌≤◌, List, [], Option, Some, None, length, get_or, slice_get, ⊤}
 use Rattle.dioid_matrix.specs.Residuals.{RowFits}
 use Rattle.dioid_matrix.specs.Tables.{Table, StopsAt, entry_of}

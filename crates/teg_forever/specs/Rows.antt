@@ -71,12 +71,15 @@ endless_of net bytes = rows_of is_endless_header (endless_row net) (records_of b
 abbrev pub has_numbers : List (List ℕ) → Bool
 has_numbers fields = nat_le 4 (length fields) && list_all is_number (drop 1 fields)
 
+-- every how many firings the dates go on: the second field
 abbrev pub every_in : List (List ℕ) → ℕ
 every_in fields = digits_value 10 (get_or fields 1 [])
 
+-- by how much they then go on: the third field
 abbrev pub gap_in : List (List ℕ) → ℕ
 gap_in fields = digits_value 10 (get_or fields 2 [])
 
+-- the first dates: the fields from the fourth on
 abbrev pub dates_in : List (List ℕ) → List ℕ
 dates_in fields = map (digits_value 10) (drop 3 fields)
 

@@ -1,4 +1,4 @@
--- What the search for a late firing goes by.
+-- Working definitions of what the search for a late firing goes by.
 use Rattle.std.specs.Prelude.{ℕ, pos, ◌<◌, ◌≤◌, ◌≡◌, length}
 use Rattle.dioid.specs.declared.dates.Date.{Date}
 use Rattle.dioid.specs.declared.dates.Date.TheVariants.{At}

@@ -19,6 +19,7 @@ use Rattle.teg_forever.specs.Releases.{inputs_of}
 
 -- ---- names
 
+-- what stands past the end of the list of transitions
 abbrev pub no_transition : Transition
 no_transition = record { name = []; role = Internal }
 

@@ -1,5 +1,5 @@
 //! The texts of the answers about endless due dates.
-ghost use Rattle.std.specs.Prelude.{◌≡◌, ◌≢◌, ◌<◌, ◌^◌, ◌++◌, [], ◌∷◌, Ok, Err, Some, All, get_or, length, map, slice_get, IfOk, string_bytes};
+ghost use Rattle.std.specs.Prelude.{◌≡◌, ◌≢◌, ◌<◌, ◌^◌, ◌++◌, [], Ok, Err, Some, All, get_or, length, map, slice_get, IfOk, string_bytes};
 ghost use Rattle.series_form.specs.Bounds.{IsSeries};
 ghost use Rattle.teg_due.specs.Names.{is_input};
 ghost use Rattle.teg_net.specs.Nets.{NetLists};

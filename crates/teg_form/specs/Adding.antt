@@ -1,4 +1,5 @@
--- How an entry is added behind others: entries of one kind, those of the same ends and tokens, become one.
+-- Working definitions of how an entry is added behind others: entries of one kind, those of the same ends and tokens,
+-- become one.
 use Rattle.std.specs.Prelude.{◌-◌, ◌<◌, ◌≤◌, ◌≡◌, ◌⊎◌, List, [], ◌∷◌, ◌++◌, length, slice_index_or, slice_set}
 use Rattle.teg_form.specs.declared.form.Entry.{Entry}
 

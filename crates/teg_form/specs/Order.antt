@@ -1,4 +1,4 @@
--- The places with tokens in the order of their upstream transitions, then of their tokens.
+-- Working definitions of the order of the places with tokens: by their upstream transitions, then by their tokens.
 use Rattle.std.specs.Prelude.{ℕ, ◌<◌, ◌≤◌, ◌≡◌, ◌+◌, ◌*◌, List, length, All, Contains}
 use Rattle.std.specs.List.Sorted.{IsNonDecreasingBy}
 use Rattle.teg_net.specs.Nets.{NetLists}

@@ -1,4 +1,4 @@
--- What the searches of a round find: policies as lists, and circuits with their sums.
+-- Working definitions of what the searches of a round find: policies as lists, and circuits with their sums.
 use Rattle.std.specs.Prelude.{ℕ, ℤ, pos, ◌*◌, ◌<◌, ◌≤◌, ◌≡◌, ◌≢◌, ⊤, List, length, All, AllPairs, Option, Some, None, Bool, true, false, slice_index_or}
 use Rattle.teg_net.specs.declared.entries.PlaceId.{PlaceId}
 use Rattle.teg_net.specs.Nets.{NetLists, IsNet}
@@ -19,6 +19,7 @@ use Rattle.teg_howard.specs.Rounds.{IsLowestInto, choice_in}
 abbrev pub policy_of : List PlaceId → Policy
 policy_of ps t = slice_index_or ps t first_id
 
+-- the list gives each transition its lowest numbered place of the part, and place 0 where none enters it
 pub record AreLowest (net : NetLists) (parts : List ℕ) (part : ℕ) (ps : List PlaceId) : Type 0 where
   pub count : length ps ≡ length parts
   pub lowest : (t : ℕ) (p : PlaceId) → Enters net parts part t p → IsLowestInto net parts part t (policy_of ps t)
@@ -47,6 +48,7 @@ abbrev pub GoesBelow : NetLists → Policy → ℕ → ℕ → Type 0
 GoesBelow net policy start n =
     (k : ℕ) → 0 < k → k ≤ n → step_back net policy k start ≡ start → (j : ℕ) × (j < k) × (step_back net policy j start < start)
 
+-- the transition is marked
 abbrev pub IsMarked : List Bool → ℕ → Type 0
 IsMarked marked t = slice_index_or marked t false ≡ true
 
@@ -55,6 +57,7 @@ abbrev pub IsAbove : FoundCircuit → Option FoundCircuit → Type 0
 IsAbove c None = ⊤
 IsAbove c (Some best) = best.time * c.tokens < c.time * best.tokens
 
+-- the time and the tokens of the circuit, where one was found, keep their bounds
 abbrev pub AreSmall : Option FoundCircuit → Type 0
 AreSmall None = ⊤
 AreSmall (Some f) = (f.time ≤ 400000000000) × (f.tokens ≤ 400000)
@@ -67,10 +70,12 @@ pub record IsBestFound (net : NetLists) (parts : List ℕ) (part : ℕ) (policy 
   pub time_in : f.time ≤ 400000000000
   pub tokens_in : f.tokens ≤ 400000
 
+-- the time and the tokens of a ratio keep the bounds of a circuit's
 pub record IsSmallRatio (r : Fraction) : Type 0 where
   pub time_in : r.time ≤ 400000000000
   pub tokens_in : r.tokens ≤ 400000
 
+-- the value that the list gives a transition, if any
 abbrev pub value_of : List (Option ℤ) → ℕ → Option ℤ
 value_of values t = slice_index_or values t None
 
@@ -86,6 +91,7 @@ pub record IsJoin (net : NetLists) (parts : List ℕ) (part : ℕ) (values : Lis
   pub starts : value_of values (from_of net p) ≢ None
   pub without : value_of values (to_of net p) ≡ None
 
+-- the value, and 0 where there is none
 abbrev pub value_or_zero : Option ℤ → ℤ
 value_or_zero None = pos 0
 value_or_zero (Some z) = z

@@ -16,6 +16,7 @@ pub record Enters (net : NetLists) (parts : List ℕ) (part t : ℕ) (p : PlaceI
   pub inside : IsPlaceOfPart net parts part p
   pub ends : to_of net p ≡ t
 
+-- each member of the part is given a place of the part that enters it
 abbrev pub IsPolicy : NetLists → List ℕ → ℕ → Policy → Type 0
 IsPolicy net parts part policy = (t : ℕ) → IsMember parts part t → Enters net parts part t (policy t)
 
@@ -28,6 +29,7 @@ step_back net policy (suc m) t = from_of net (policy (step_back net policy m t))
 abbrev pub LeadsBack : NetLists → Policy → ℕ → ℕ → Type 0
 LeadsBack net policy t s = (m : ℕ) × (step_back net policy m t ≡ s)
 
+-- place 0, which stands where no place is given
 abbrev pub first_id : PlaceId
 first_id = record { index = 0 }
 

@@ -15,18 +15,21 @@ abbrev pub choice_in : List Choice → ℕ → Option Choice
 choice_in [] t = None
 choice_in (c ∷ cs) t = if c.transition.index == t then Some c else choice_in cs t
 
+-- the place of a choice, and place 0 where there is none
 abbrev pub place_in : Option Choice → PlaceId
 place_in None = first_id
 place_in (Some c) = c.place
 
+-- the value of a choice, and 0 where there is none
 abbrev pub value_in : Option Choice → ℤ
 value_in None = pos 0
 value_in (Some c) = c.value
 
--- the places and the potentials that a round gives to the members
+-- the place that a round gives to a member
 abbrev pub chosen : Round → Policy
 chosen r t = place_in (choice_in r.choices.items t)
 
+-- the potential that a round gives to a member
 abbrev pub potential : Round → ℕ → ℤ
 potential r t = value_in (choice_in r.choices.items t)
 
@@ -48,6 +51,7 @@ pub record IsRoundOf (net : NetLists) (parts : List ℕ) (part : ℕ) (policy : 
   pub best : IsBestCircuit net parts part policy Kind r.circuit.places.items
   pub routing : (joins : List PlaceId) × IsRouting net parts part policy (first_transition_of net r.circuit.places.items) joins (chosen r)
 
+-- the lowest numbered place of the part that enters t
 pub record IsLowestInto (net : NetLists) (parts : List ℕ) (part t : ℕ) (p : PlaceId) : Type 0 where
   pub enters : Enters net parts part t p
   pub lowest : (q : PlaceId) → Enters net parts part t q → p.index ≤ q.index
@@ -78,6 +82,7 @@ pub record IsRunTo (net : NetLists) (parts : List ℕ) (part : ℕ) (rounds : Li
   pub first : (d : Round) → IsFirstRound net parts part (slice_index_or rounds 0 d)
   pub next : (k : ℕ) (d : Round) → k + 1 < length rounds → Follows net parts part (slice_index_or rounds k d) (slice_index_or rounds (k + 1) d)
 
+-- the last of the rounds
 abbrev pub last_of : List Round → Round → Round
 last_of rounds d = slice_index_or rounds (length rounds - 1) d
 

@@ -1,4 +1,4 @@
--- How the first late row is found, and where a late walk begins.
+-- Working definitions of how the first late row is found, and of where a late walk begins.
 use Rattle.std.specs.Prelude.{ℕ, pos, ◌^◌, ◌<◌, ◌≤◌, ◌≡◌, List, length, slice_index_or}
 use Rattle.dioid.specs.declared.dates.Date.{Date}
 use Rattle.dioid.specs.declared.dates.Date.TheVariants.{At}

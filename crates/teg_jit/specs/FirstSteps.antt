@@ -1,4 +1,4 @@
--- The first step of a latest date as a step of a walk.
+-- Working definitions of the first step of a latest date as a step of a walk.
 use Rattle.std.specs.Prelude.{◌≡◌, Option, Some, None}
 use Rattle.teg_net.specs.declared.walks.Step.{Step}
 use Rattle.teg_net.specs.declared.walks.Step.TheVariants.{By as by_place, Next as to_next}

@@ -1,4 +1,4 @@
--- The passes of one number, going back: how far the latest dates are settled.
+-- Working definitions of the passes of one number, going back: how far the latest dates are settled.
 use Rattle.std.specs.Prelude.{ℕ, ◌+◌, ◌*◌, ◌<◌, ◌≤◌, ◌≡◌, List, length, slice_index_or, Option, Some, None, nat_lt, if◌then◌else◌}
 use Rattle.dioid.specs.declared.dates.Date.{Date}
 use Rattle.dioid.specs.Dates.{IsAtMostDate, delayed}

@@ -1,5 +1,5 @@
 //! Where a late walk begins: at a firing whose latest date is its start.
-ghost use Rattle.std.specs.Prelude.{◌≡◌, ◌<◌, ◌≤◌, length, IfNone, IfSome};
+ghost use Rattle.std.specs.Prelude.{◌≡◌, ◌<◌, length, IfNone, IfSome};
 ghost use Rattle.teg_jit.specs.FirstLate.{HasDateAtStart, HasDateWhenReady, HasDateZero, IsAtStart, IsDateAt, IsWhenReady, StartsAreKept};
 
 use crate::answers::LatestDate;

@@ -1,9 +1,9 @@
 -- A long path meets one transition twice with a multiple of m tokens between.
-use Rattle.std.proofs.Common.{ℕ, zero, suc, ◌+◌, ◌-◌, ◌*◌, ◌%◌, ◌<◌, ◌≤◌, ◌≡◌, ◌≢◌, List, [], ◌∷◌, ◌++◌, length, get_or, take, drop, refl, sym, ap, subst, ◌∙◌, arith, ⊎_elim, ◌⊎◌, inl, inr, cond, ltb, Bool, true, false}
+use Rattle.std.proofs.Common.{ℕ, zero, suc, ◌+◌, ◌-◌, ◌*◌, ◌%◌, ◌<◌, ◌≤◌, ◌≡◌, ◌≢◌, List, [], ◌∷◌, ◌++◌, length, get_or, take, drop, refl, sym, ap, subst, ◌∙◌, arith, ⊎_elim, ◌⊎◌, cond, ltb, Bool, true, false}
 use Rattle.std.specs.Prelude.{All, sum_by}
-use Rattle.std.proofs.lemmas.Bool.{cases_lt, cases_eq}
+use Rattle.std.proofs.lemmas.Bool.{cases_lt}
 use Rattle.std.proofs.lemmas.Bool.Decides.{nat_tests}
-use Rattle.std.proofs.lemmas.List.{length-append, length-take-le, length-drop, take-append-drop}
+use Rattle.std.proofs.lemmas.List.{length-take-le, length-drop, take-append-drop}
 use Rattle.std.proofs.lemmas.List.Sums.{sum_by-append}
 use Rattle.std.proofs.lemmas.Nat.{mod_below}
 use Rattle.std.proofs.Math.Nat.{mul-le-mul_right}
@@ -15,7 +15,7 @@ use Rattle.teg_net.proofs.PathLaws.{no_id}
 use Rattle.teg_loops.specs.Loops.{EndsBelow}
 use Rattle.teg_loops.specs.Rounds.{HasRound}
 use Rattle.teg_loops.specs.Laws.{LongPathsComeRound}
-use Rattle.teg_loops.proofs.Stops.{met, met_length, met_at, met_below, to_met, from_met}
+use Rattle.teg_loops.proofs.Stops.{met, met_at, met_below, to_met, from_met}
 use Rattle.teg_loops.proofs.Pigeons.{pigeons, difference}
 
 abbrev meets : NetLists → ℕ → List PlaceId → ℕ → ℕ

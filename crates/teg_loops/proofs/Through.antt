@@ -1,10 +1,10 @@
 -- Circuits through one place, and the paths that close them.
-use Rattle.std.proofs.Common.{ℕ, zero, suc, ◌+◌, ◌-◌, ◌<◌, ◌≤◌, ◌≡◌, ◌≢◌, List, [], ◌∷◌, ◌++◌, length, get_or, take, drop, drop-cons, refl, sym, ap, subst, ◌∙◌, arith, add-one}
+use Rattle.std.proofs.Common.{ℕ, zero, suc, ◌+◌, ◌-◌, ◌<◌, ◌≡◌, ◌≢◌, List, ◌∷◌, ◌++◌, length, take, drop, drop-cons, refl, sym, ap, subst, ◌∙◌, arith, add-one}
 use Rattle.std.specs.Prelude.{All, AllPairs, Contains, sum_by}
 use Rattle.std.proofs.lemmas.List.Sums.{sum_by-cons}
 use Rattle.teg_net.specs.declared.entries.PlaceId.{PlaceId}
 use Rattle.teg_net.specs.Nets.{NetLists}
-use Rattle.teg_net.specs.Circuits.{place_at, from_of, IsPathBetween, IsCircuit}
+use Rattle.teg_net.specs.Circuits.{from_of, IsPathBetween, IsCircuit}
 use Rattle.teg_net.specs.Parts.{to_of}
 use Rattle.teg_net.proofs.Turning.{turned, turned_circuit, turned_sum}
 use Rattle.teg_loops.specs.Loops.{IsStraight}

@@ -8,7 +8,7 @@ use Rattle.teg_net.specs.declared.entries.PlaceId.{PlaceId}
 use Rattle.teg_net.specs.Nets.{NetLists}
 use Rattle.teg_net.specs.Circuits.{place_at, from_of, IsPathBetween}
 use Rattle.teg_net.proofs.PathLaws.{IsPathBetween-append}
-use Rattle.teg_loops.proofs.Stops.{met, met_length, first_met}
+use Rattle.teg_loops.proofs.Stops.{met, first_met}
 
 -- the path meets the transition
 pub record Meets (net : NetLists) (b : ℕ) (ps : List PlaceId) (c : ℕ) : Type 0 where

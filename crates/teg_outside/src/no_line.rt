@@ -1,5 +1,5 @@
 //! A monitor without a line.
-ghost use Rattle.std.specs.Prelude.{◌≡◌, List, [], ◌∷◌, false, is_ok, IfOk, string_bytes};
+ghost use Rattle.std.specs.Prelude.{◌≡◌, List, [], false, is_ok, IfOk, string_bytes};
 ghost use Rattle.teg_outside.specs.declared.monitor.Firing.{Firing};
 ghost use Rattle.teg_outside.specs.Monitors.{IsOneLine};
 

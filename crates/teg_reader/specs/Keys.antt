@@ -3,6 +3,7 @@ use Rattle.std.specs.Prelude.{ℕ, List, codes}
 use Rattle.teg_reader.specs.declared.keys.Key.{Key}
 use Rattle.teg_reader.specs.declared.keys.Key.TheVariants.{Version, Transition, Place, Input, Name, Role, Duration, From, To, Hold, Tokens, Ready, Dates, Every, Gap}
 
+-- the text of a key
 unfoldable pub key_text : Key → List ℕ
 key_text Version = codes "version"
 key_text Transition = codes "transition"

@@ -15,10 +15,11 @@ use Rattle.teg_reader.specs.declared.keys.Key.{Key}
 use Rattle.teg_reader.specs.declared.keys.Key.TheVariants as key
 use Rattle.teg_reader.specs.Keys.{key_text}
 
--- a number, and an array of numbers
+-- a number
 abbrev pub number_data : ℕ → Data
 number_data n = integer (pos n)
 
+-- an array of numbers
 abbrev pub numbers_data : List ℕ → Data
 numbers_data ns = array (items_of (map number_data ns))
 

@@ -1,4 +1,4 @@
--- What the makers of a net's entries ask of them; entries without a finding have it.
+-- Working definitions of what the makers of a net's entries ask of them; entries without a finding have it.
 use Rattle.std.specs.Prelude.{ℕ, Bool, true, ◌&&◌, nat_le, List}
 use Rattle.std.specs.Option.{option_map_or}
 use Rattle.toml.specs.Data.{Data}

@@ -1,4 +1,4 @@
--- A table that is filled key by key.
+-- Working definitions of a table that is filled key by key.
 use Rattle.std.specs.Prelude.{ℕ, List, [], ◌∷◌}
 use Rattle.std.specs.Ordering.{nat_cmp, match_ordering}
 use Rattle.std.specs.Cmp.Lexicographic.{slice_cmp}

@@ -1,5 +1,5 @@
 //! One pass over the tree.
-ghost use Rattle.std.specs.Prelude.{◌≡◌, ◌+◌, map};
+ghost use Rattle.std.specs.Prelude.{map};
 ghost use Rattle.toml.specs.View.{view};
 ghost use Rattle.teg_reader.specs.Walks.{Look, Finds, finding, first_finding};
 

@@ -1,4 +1,4 @@
--- What the parts of a firing's wait come to.
+-- Working definitions of what the parts of a firing's wait come to.
 use Rattle.std.specs.Prelude.{ℕ, ◌<◌, ◌≤◌, ◌≡◌, List, Some}
 use Rattle.teg_net.specs.Nets.{NetLists, IsInput}
 use Rattle.teg_net.specs.Inputs.{input_date}

@@ -1,7 +1,7 @@
 //! The run so far, with the dates of each transition beside it.
-ghost use Rattle.std.specs.Prelude.{◌≡◌, ◌<◌, ◌≤◌, ◌+◌, ◌++◌, ◌∷◌, [], IfOk, is_ok, replicate, if◌then◌else◌, length};
+ghost use Rattle.std.specs.Prelude.{◌≡◌, ◌<◌, ◌+◌, ◌++◌, ◌∷◌, [], IfOk, is_ok, replicate, if◌then◌else◌, length};
 ghost use Rattle.teg_replay.specs.Games.{Past, AreColumns};
-ghost use Rattle.run_laws.specs.Runs.{dates_of, next_number, firing_date, last_date};
+ghost use Rattle.run_laws.specs.Runs.{dates_of, last_date};
 
 use crate::column::Column;
 use run_laws::Fired;

@@ -1,10 +1,8 @@
 //! What a firing waits for: the tokens of the places into its transition, the firings before it, and a release.
-ghost use Rattle.std.specs.Prelude.{◌≡◌, ◌<◌, ◌≤◌, ◌+◌, ◌^◌, IfOk, IfErr, length, option_map, ◌-◌, ℕ, slice_get};
-ghost use Rattle.teg_net.specs.Limits.{most_tokens, greatest_hold, greatest_number};
+ghost use Rattle.std.specs.Prelude.{◌≡◌, ◌<◌, ◌≤◌, ◌+◌, ◌^◌, IfOk, IfErr, length, ◌-◌};
 ghost use Rattle.teg_net.specs.Circuits.{place_at};
-ghost use Rattle.teg_net.specs.Nets.{IsPlaceOf, IsInput, IsNet};
 ghost use Rattle.teg_net.specs.Inputs.{input_date};
-ghost use Rattle.run_laws.specs.Runs.{dates_of, next_number, firing_date, token_date, IsThereBy, HasTokensBy, IsReleasedBy, last_date, IsNotBefore};
+ghost use Rattle.run_laws.specs.Runs.{dates_of, next_number, token_date, HasTokensBy, IsReleasedBy, last_date, IsNotBefore};
 ghost use Rattle.run_laws.specs.Earliest.{last_of};
 ghost use Rattle.teg_replay.specs.Failures.{Fails};
 ghost use Rattle.teg_replay.specs.Games.{AreEnds, AreInto};

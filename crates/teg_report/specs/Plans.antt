@@ -85,11 +85,12 @@ pub record LateLists : Type 0 where
   pub first : ℕ
   pub steps : List Step
 
--- the transition and the number of the firing to which a step leads
+-- the transition of the firing to which a step leads
 abbrev pub step_to : NetLists → TransitionId → Step → TransitionId
 step_to net t (By p) = (place_at net p).to
 step_to net t Next = t
 
+-- the number of that firing
 abbrev pub step_number : NetLists → ℕ → Step → ℕ
 step_number net k (By p) = k + (place_at net p).tokens
 step_number net k Next = k + 1

@@ -1,6 +1,6 @@
 //! The text of cycle times: the greatest ratio and a circuit that has it, then the lines of each
 //! part, and then the rounds that led to them, where they are given.
-ghost use Rattle.std.specs.Prelude.{◌≡◌, ◌++◌, ◌<◌, ◌^◌, ◌∷◌, [], All, IfOk, IfSome, length, map, string_bytes};
+ghost use Rattle.std.specs.Prelude.{◌≡◌, ◌++◌, ◌<◌, ◌^◌, [], All, IfOk, IfSome, length, map, string_bytes};
 ghost use Rattle.std.specs.Option.{option_copied, option_map};
 ghost use Rattle.teg_net.specs.Circuits.{AreInRange};
 ghost use Rattle.teg_report.specs.Cycles.{HasCircuitIn, IsCycleTold, IsPartTold, IsPotentialIn, best_lines, best_of, circuit_line, cycle_lines, member_line, members_from, part_lines, potential_line, ratio_line};

@@ -7,7 +7,7 @@ ghost use Rattle.teg_report.specs.Rounds.{AreRunsTold, IsChoiceIn, IsRoundIn, Is
 ghost use Rattle.teg_text.specs.Lines.{line_then, written};
 
 use crate::cycles::push_circuit_line;
-use std::alloc::{AllocError, Global};
+use std::alloc::AllocError;
 use teg_net::{Choice, Net, PartAnswer, Ratio, Round};
 
 /// Appends the line of a choice.

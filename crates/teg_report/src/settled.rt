@@ -6,7 +6,7 @@ ghost use Rattle.settled_laws.specs.Forms.{row_of, step_of};
 ghost use Rattle.teg_report.specs.Forms.{name_of_transition};
 ghost use Rattle.teg_report.specs.Kept.{IsSettledKept, AreTimesKept, AreTimesToKept, IsWord64};
 ghost use Rattle.teg_report.specs.Meanings.{times_from, times_to};
-ghost use Rattle.teg_report.specs.SettledTexts.{AreTimesIn, from_line, from_lines, output_count, row_words, settled_line, settled_lines, settled_words, to_line, transfer_lines};
+ghost use Rattle.teg_report.specs.SettledTexts.{AreTimesIn, from_line, from_lines, output_count, row_words, settled_line, settled_lines, to_line, transfer_lines};
 ghost use Rattle.teg_text.specs.Lines.{further_then, line_then, written};
 ghost use Rattle.teg_text.specs.Words.{IsDate};
 

@@ -13,7 +13,7 @@ use Rattle.teg_commands.specs.declared.outcome.Verdict.{Verdict}
 use Rattle.teg_commands.specs.declared.outcome.Verdict.TheVariants.{Done as VerdictDone, TooLong as VerdictTooLong, Name as VerdictName, Schedule as VerdictSchedule, Late as VerdictLate, Log as VerdictLog, Calc as VerdictCalc}
 use Rattle.teg_run.specs.Calls.{Call}
 use Rattle.teg_run.specs.Endings.{Ending, Whole, Lost}
-use Rattle.teg_run.specs.Headline.{Ends, EndsLost, IsSaidOf, OwnOnly, HasFault, Follows, ComesOnly, ReadsAreCalm, WritesAreCalm, OverlongRose, WroteWhole, WrotePrefix, ReadsFirstOf, NamesLastRead, AllowsLimit, AllowsNet, AllowsFiles, Allows, EndsAsAllowed, Concerns, ConcernsBoth, SaysOfNet, SaysOfBoth, SaysLive, SaysLeastDates, SaysStandardForm, SaysCycleTimes, SaysPolicyRuns, SaysNoCircuit, SaysSlackOfPlaces, EndsTooLong, EndsReplay, SaysSettledDates, SaysOneDate, SaysTimes, SaysMigration, SaysFewestTokens, SaysSettlingBound, SaysLatestInputs, SaysReplayed, EndsUnreleased, SaysEndlessInputs, EndsUntabled, EndsUnspread, SaysSpreadDelays, SaysMachines, SaysValues, KeepsPromises}
+use Rattle.teg_run.specs.Headline.{Ends, EndsLost, IsSaidOf, OwnOnly, Follows, ComesOnly, ReadsAreCalm, WritesAreCalm, OverlongRose, WroteWhole, WrotePrefix, ReadsFirstOf, NamesLastRead, AllowsLimit, AllowsNet, AllowsFiles, Allows, EndsAsAllowed, Concerns, ConcernsBoth, SaysOfNet, SaysOfBoth, SaysLive, SaysLeastDates, SaysStandardForm, SaysCycleTimes, SaysPolicyRuns, SaysNoCircuit, SaysSlackOfPlaces, EndsTooLong, EndsReplay, SaysSettledDates, SaysOneDate, SaysTimes, SaysMigration, SaysFewestTokens, SaysSettlingBound, SaysLatestInputs, SaysReplayed, EndsUnreleased, SaysEndlessInputs, EndsUntabled, EndsUnspread, SaysSpreadDelays, SaysMachines, SaysValues, KeepsPromises}
 use Rattle.teg_run.specs.Requests.{NetCommand, CheckNet, ListNet, FormNet, CycleNet, SlackNet, DatesNet, DateNet, TransferNet, MigrateNet, SizeNet, BoundNet, FileCommand, JitNet, ReplayNet, ForeverNet, TimetableNet, Request, OfNet, OfFiles, ValueOf, TrialOf, request_of, files_of, asked_files, second_of}
 use Rattle.teg_run.specs.Runs.{Answered, CarriesOut, Finished, Runs}
 use Rattle.teg_run.specs.Openings.{OpensBytes}

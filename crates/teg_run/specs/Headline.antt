@@ -543,6 +543,7 @@ SaysValues call =
 
 -- ---- the promises
 
+-- all that a call promises
 pub record KeepsPromises (call : Call) : Type 0 where
   -- From the words by what the reads gave to what was written. The other promises follow from it.
   pub run : Runs call

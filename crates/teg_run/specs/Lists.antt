@@ -1,4 +1,4 @@
--- A list of dates that is written as its rows are made.
+-- Working definitions of a list of dates that is written as its rows are made.
 use Rattle.std.specs.Prelude.{ℕ, ◌≡◌, ◌+◌, ◌*◌, ◌≤◌, ◌<◌, ◌++◌, List, [], length, take, Result, Ok, Err}
 use Rattle.std.specs.List.{flat_map, range_with_len}
 use Rattle.dioid.specs.declared.dates.Date.{Date}

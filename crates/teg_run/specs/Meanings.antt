@@ -1,4 +1,4 @@
--- What values of the code mean.
+-- Working definitions of what values of the code mean.
 use Rattle.std.specs.Prelude.{ℕ, ◌≡◌, Option, Some, None, Result, Ok, Err}
 use Rattle.std.specs.Global.{Vec}
 use Rattle.teg_net.specs.declared.memory.OutOfMemory.{OutOfMemory}

@@ -1,4 +1,4 @@
--- The numbers that commands take.
+-- Working definitions of the numbers that commands take.
 use Rattle.std.specs.Prelude.{ℕ, ◌≤◌, Option, IfSome, length}
 use Rattle.teg_dates.specs.Tables.{most_numbers}
 use Rattle.teg_commands.specs.Limits.{most_expression}

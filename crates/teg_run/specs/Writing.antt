@@ -1,4 +1,4 @@
--- A text written into a sink.
+-- Working definitions of a text written into a sink.
 use Rattle.std.specs.Prelude.{ℕ, ◌≡◌, List, Result, Ok, Err}
 use Rattle.teg_outside.specs.Causes.{Rose}
 use Rattle.teg_outside.specs.Sinks.{SinkState, BytesGrow, PrefixGrows}

@@ -1,9 +1,5 @@
 //! The top call.
-ghost use Rattle.std.specs.Prelude.{List, IfOk, map, string_bytes};
-ghost use Rattle.teg_outside.specs.declared.monitor.Firing.{Firing};
-ghost use Rattle.teg_outside.specs.Shelves.{ShelfState};
-ghost use Rattle.teg_outside.specs.Sinks.{SinkState};
-ghost use Rattle.teg_run.specs.Calls.{Call};
+ghost use Rattle.std.specs.Prelude.{map, string_bytes};
 ghost use Rattle.teg_run.specs.Endings.{EndsWith};
 ghost use Rattle.teg_run.specs.Headline.{KeepsPromises};
 ghost use Rattle.teg_run.specs.Meanings.{ended};

@@ -1,9 +1,6 @@
 //! How a request is carried out: its files are opened one after another, its command answers, and the
 //! answer is written.
-ghost use Rattle.std.specs.Prelude.{[], ◌∷◌, ◌≤◌, List, map};
-ghost use Rattle.teg_outside.specs.declared.monitor.Firing.{Firing};
-ghost use Rattle.teg_outside.specs.Shelves.{ShelfState};
-ghost use Rattle.teg_outside.specs.Sinks.{SinkState};
+ghost use Rattle.std.specs.Prelude.{[], ◌∷◌, ◌≤◌, map};
 ghost use Rattle.teg_commands.specs.Sizes.{SaysList};
 ghost use Rattle.teg_dates.specs.Tables.{most_numbers};
 ghost use Rattle.teg_run.specs.Meanings.{asked, command_asked, ended, file_command_asked};

@@ -1,5 +1,5 @@
 //! One read of a file.
-ghost use Rattle.teg_outside.specs.Shelves.{Reads, ShelfState, replied};
+ghost use Rattle.teg_outside.specs.Shelves.{Reads, replied};
 ghost use Rattle.teg_run.specs.Limits.{most_bytes};
 
 use std::alloc::Global;

@@ -2,7 +2,6 @@
 ghost use Rattle.std.specs.Prelude.{ℕ, ◌≡◌, ◌+◌, ◌*◌, ◌<◌, ◌≤◌, length, map, IfOk};
 ghost use Rattle.dioid.specs.declared.dates.Date.{Date};
 ghost use Rattle.teg_model.specs.Datings.{IsLeastDating};
-ghost use Rattle.teg_outside.specs.Sinks.{SinkState};
 ghost use Rattle.teg_dates.specs.DateCells.{date_of};
 ghost use Rattle.teg_dates.specs.Streams.{AreFirstRowsOf, IsLeastRow};
 ghost use Rattle.teg_dates.specs.Tables.{most_numbers};

@@ -1,6 +1,6 @@
 //! The net file: a live net, or why there is none.
 ghost use Rattle.std.specs.Prelude.{◌≡◌, IfSome};
-ghost use Rattle.teg_outside.specs.Shelves.{ShelfState, replied};
+ghost use Rattle.teg_outside.specs.Shelves.{replied};
 ghost use Rattle.teg_reader.specs.Documents.{document};
 ghost use Rattle.teg_reader.specs.Walks.{is_memory};
 ghost use Rattle.teg_run.specs.Meanings.{opened};

@@ -1,6 +1,6 @@
 //! A second file: its bytes, or why there are none.
 ghost use Rattle.std.specs.Prelude.{◌≡◌, ◌≤◌, IfOk, IfSome, length};
-ghost use Rattle.teg_outside.specs.Shelves.{ShelfState, replied};
+ghost use Rattle.teg_outside.specs.Shelves.{replied};
 ghost use Rattle.teg_run.specs.Limits.{most_bytes};
 ghost use Rattle.teg_run.specs.Meanings.{opened};
 ghost use Rattle.teg_run.specs.Openings.{OpensBytes};

@@ -1,6 +1,4 @@
 //! Writing an answer.
-ghost use Rattle.std.specs.Prelude.{◌≡◌};
-ghost use Rattle.teg_outside.specs.Sinks.{SinkState};
 ghost use Rattle.teg_run.specs.Meanings.{ended};
 ghost use Rattle.teg_run.specs.Runs.{Finished};
 ghost use Rattle.teg_run.specs.Writing.{WritesText};

@@ -1,8 +1,7 @@
 -- The times of walks from an input are the least dates of a system whose releases repeat, and so they settle.
-use Rattle.std.proofs.Common.{ℕ, pos, ◌+◌, ◌<◌, length, sym, arith}
+use Rattle.std.proofs.Common.{ℕ, pos, sym, arith}
 use Rattle.dioid.proofs.DateOrder.{at_most_refl}
 use Rattle.dioid.proofs.Moves.{move_zero}
-use Rattle.teg_net.specs.Nets.{NetLists}
 use Rattle.teg_model.proofs.OfNet.{net_ends}
 use Rattle.teg_model.proofs.LiveRanks.{live_is_ranked}
 use Rattle.teg_model.proofs.SystemWalks.{least_in_is_walk}

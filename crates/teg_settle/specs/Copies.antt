@@ -1,4 +1,4 @@
--- A settled form that is copied from rows of dates.
+-- Working definitions of a settled form that is copied from rows of dates.
 use Rattle.std.specs.Prelude.{ℕ, ◌-◌, ◌≤◌, ◌≡◌, List, length, slice_index_or}
 use Rattle.dioid.specs.declared.dates.Date.{Date}
 use Rattle.dioid.specs.declared.dates.Date.TheVariants.{Early}

@@ -1,4 +1,4 @@
--- That a search without a limit ends.
+-- Working definitions of where a search without a limit ends.
 use Rattle.std.specs.Prelude.{ℕ, ℤ, ◌+◌, ◌≤◌, length}
 use Rattle.dioid.specs.declared.dates.Date.{Date}
 use Rattle.teg_net.specs.Nets.{NetLists}

@@ -1,4 +1,5 @@
--- What firings wait for beside the tokens of earlier firings: the net's own initial tokens and input lists, or one input alone.
+-- Working definitions of what firings wait for beside the tokens of earlier firings: the net's own initial tokens and
+-- input lists, or one input alone.
 use Rattle.std.specs.Prelude.{ℕ, ◌+◌, ◌<◌, ◌≤◌, ◌≡◌, ◌==◌, if◌then◌else◌, List, Option, Some, None, length, slice_get, slice_index_or}
 use Rattle.std.specs.List.{position_or_len}
 use Rattle.dioid.specs.declared.dates.Date.{Date}
@@ -36,6 +37,7 @@ release_as net (Dates list) k = date_of_list net list k
 abbrev pub wait_in : List Wait → ℕ → Wait
 wait_in waits t = slice_index_or waits t Nothing
 
+-- the date before which firing k of transition t is not released
 abbrev pub release_by : List Wait → NetLists → ℕ → ℕ → Date
 release_by waits net t k = release_as net (wait_in waits t) k
 
@@ -58,6 +60,7 @@ wait_by_role Internal list = Nothing
 wait_by_role Input list = Dates list
 wait_by_role Output list = Nothing
 
+-- the same of a transition that may be missing, which waits for nothing
 abbrev pub wait_by : Option Transition → ℕ → Wait
 wait_by None list = Nothing
 wait_by (Some t) list = wait_by_role t.role list

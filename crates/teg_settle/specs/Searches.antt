@@ -1,4 +1,4 @@
--- What the search for the shortest form finds.
+-- Working definitions of what the search for the shortest form finds.
 use Rattle.teg_net.specs.Nets.{NetLists}
 use Rattle.teg_settle.specs.declared.releases.Releases.{Releases}
 use Rattle.teg_settle.specs.declared.search.Found.{Found}

@@ -1,5 +1,5 @@
 //! The search for the settled form without a limit.
-ghost use Rattle.std.specs.Prelude.{◌≡◌, ◌≤◌, ℕ, IfOk};
+ghost use Rattle.std.specs.Prelude.{◌≤◌, ℕ, IfOk};
 ghost use Rattle.settled_laws.specs.Forms.{IsSettledFormOf};
 ghost use Rattle.teg_check.specs.Ranks.{IsRanking};
 ghost use Rattle.teg_settle.specs.Endless.{HasFormBy};

@@ -1,5 +1,5 @@
 //! The settled form of the least dating of a net, and that of the times of walks from an input.
-ghost use Rattle.std.specs.Prelude.{◌≤◌, ◌≡◌, IfErr, IfOk};
+ghost use Rattle.std.specs.Prelude.{◌≤◌, IfErr, IfOk};
 ghost use Rattle.settled_laws.specs.Forms.{IsSettledFormOf, NetSettlesPast, settled_length};
 ghost use Rattle.teg_check.specs.Ranks.{IsRanking};
 ghost use Rattle.teg_net.specs.Nets.{IsInput};

@@ -1,6 +1,6 @@
 //! What firings wait for beside the tokens of earlier firings: the net's own initial tokens and input
 //! lists, or one input alone.
-ghost use Rattle.std.specs.Prelude.{◌≡◌, ◌<◌, ◌≤◌, ◌^◌, length, IfOk};
+ghost use Rattle.std.specs.Prelude.{◌≡◌, ◌<◌, ◌≤◌, ◌^◌, IfOk};
 ghost use Rattle.teg_net.specs.Limits.{greatest_number, most_dates, most_every};
 ghost use Rattle.teg_net.specs.Nets.{IsNet};
 ghost use Rattle.teg_model.specs.Bounds.{IsWithin};

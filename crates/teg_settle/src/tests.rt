@@ -1,7 +1,7 @@
 //! Small nets whose settled forms are plain to see.
-ghost use Rattle.std.specs.Prelude.{◌<◌, length};
+ghost use Rattle.std.specs.Prelude.{◌<◌};
 
-use crate::{SettleRefusal, Settled, settle, settle_within, transfer};
+use crate::{SettleRefusal, settle, settle_within, transfer};
 use dioid::Date;
 use sample_nets::{driven, ended, kanban, takeover};
 use std::test::Fail;

@@ -1,4 +1,4 @@
--- The path that rounds tell, and the first circuit that a path closes.
+-- Working definitions of the path that rounds tell, and of the first circuit that a path closes.
 use Rattle.std.specs.Prelude.{ℕ, zero, suc, ◌-◌, ◌<◌, ◌≡◌, ◌≢◌, List, [], ◌∷◌, ◌++◌, length, take, drop, Option, Some, None, slice_index_or}
 use Rattle.teg_net.specs.declared.entries.PlaceId.{PlaceId}
 use Rattle.teg_net.specs.Nets.{NetLists}

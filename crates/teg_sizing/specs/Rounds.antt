@@ -26,10 +26,11 @@ value_of net r ps = pos (r.tokens * time_of net ps) -ℤ pos (r.time * tokens_of
 abbrev pub Avoids : PlaceId → List PlaceId → Type 0
 Avoids p ps = All (λ q. q.index ≢ p.index) ps
 
--- what no weight and no value of a round passes
+-- what no weight passes
 abbrev pub most_weight : ℕ
 most_weight = 1000000000000000
 
+-- what no value of a round passes
 abbrev pub most_value : ℕ
 most_value = 1000 * most_weight
 
@@ -84,6 +85,7 @@ pub record IsRoundUpTo (net : NetLists) (r : Fraction) (except : PlaceId) (befor
   pub same : (t : ℕ) → by_at after t ≡ None → value_at after t ≡ value_at before t
   pub by_place : (t : ℕ) (p : PlaceId) → by_at after t ≡ Some p → IsTakenBy net r except before after t p
 
+-- the round after, for which all places of the net have offered
 abbrev pub IsRoundAfter : NetLists → Fraction → PlaceId → List Cell → List Cell → Type 0
 IsRoundAfter net r except before after = IsRoundUpTo net r except before (length net.places) after
 

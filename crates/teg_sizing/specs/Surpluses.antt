@@ -1,4 +1,4 @@
--- Circuits above a target ratio, and the best of those that pass a place.
+-- Working definitions of circuits above a target ratio, and of the best of those that pass a place.
 use Rattle.std.specs.Prelude.{ℕ, ℤ, pos, ◌≤ℤ◌, ◌<◌, ◌≤◌, ◌≡◌, ◌≢◌, List, length, Some, None, Contains}
 use Rattle.teg_net.specs.declared.entries.PlaceId.{PlaceId}
 use Rattle.teg_net.specs.Nets.{NetLists}

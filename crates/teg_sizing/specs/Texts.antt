@@ -15,11 +15,13 @@ pub data Told : Type 0 where
   EnoughTold : (extra : ℕ) (circuit : Option (List PlaceId)) → Told
   ImpossibleTold : (circuit : List PlaceId) → Told
 
+-- an answer, as it is told
 abbrev pub told : Sizing → Told
 told (Enough extra None) = EnoughTold extra None
 told (Enough extra (Some circuit)) = EnoughTold extra (Some circuit.places.items)
 told (Impossible circuit) = ImpossibleTold circuit.places.items
 
+-- the name of a place
 abbrev pub name_of : NetLists → PlaceId → List ℕ
 name_of net id = (place_at net id).name
 
@@ -27,9 +29,11 @@ name_of net id = (place_at net id).name
 abbrev pub circuit_line : NetLists → List PlaceId → List (List ℕ)
 circuit_line net circuit = codes "circuit" ∷ map (name_of net) circuit
 
+-- the line that says how many further tokens are enough
 abbrev pub enough_line : NetLists → PlaceId → Fraction → ℕ → List (List ℕ)
 enough_line net p r extra = codes "size" ∷ name_of net p ∷ ratio_word r.time r.tokens ∷ codes "extra" ∷ decimal extra ∷ []
 
+-- the line that says that no number of them is enough
 abbrev pub impossible_line : NetLists → PlaceId → Fraction → List (List ℕ)
 impossible_line net p r = codes "size" ∷ name_of net p ∷ ratio_word r.time r.tokens ∷ codes "impossible" ∷ []
 

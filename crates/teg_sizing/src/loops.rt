@@ -1,5 +1,5 @@
 //! A circuit that stands in a path with more places than there are transitions.
-ghost use Rattle.std.specs.Prelude.{◌≡◌, ◌<◌, length, IfOk, IfNone, IfSome};
+ghost use Rattle.std.specs.Prelude.{◌<◌, length, IfOk, IfNone, IfSome};
 ghost use Rattle.teg_net.specs.Nets.{IsNet};
 ghost use Rattle.teg_net.specs.Circuits.{IsPath};
 ghost use Rattle.teg_sizing.specs.Paths.{IsLeftAt, IsFirstLoop, NoneLeaves};

@@ -1,6 +1,6 @@
 //! The greatest values of paths, round by round (the algorithm of Bellman and Ford): the paths of a
 //! round have at most one place more than those of the round before.
-ghost use Rattle.std.specs.Prelude.{◌+◌, ◌≡◌, ◌≢◌, ◌≤◌, ◌<◌, ℤ, length, IfOk, IfNone, IfSome, IsTrue, false, Some, None};
+ghost use Rattle.std.specs.Prelude.{◌+◌, ◌≡◌, ◌≢◌, ◌≤◌, ◌<◌, length, IfOk, IfNone, IfSome, IsTrue, false, Some, None};
 ghost use Rattle.teg_net.specs.Limits.{greatest_hold, most_tokens};
 ghost use Rattle.teg_net.specs.Nets.{IsNet};
 ghost use Rattle.teg_sizing.specs.Rounds.{IsTarget, value_at, weight_of, most_value, AreWithin, IsAtLeast, IsOffered, AreFresh, IsRoundAfter, AreRounds};

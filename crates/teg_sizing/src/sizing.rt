@@ -1,5 +1,5 @@
 //! The fewest further tokens of a place.
-ghost use Rattle.std.specs.Prelude.{◌≡◌, ◌<◌, ◌≤◌, length, pos, ◌≤ℤ◌, IfOk, IfNone, IfSome};
+ghost use Rattle.std.specs.Prelude.{◌<◌, length, IfOk};
 ghost use Rattle.teg_net.specs.Circuits.{IsCircuit};
 ghost use Rattle.teg_check.specs.Ranks.{IsRanking};
 ghost use Rattle.teg_sizing.specs.Rounds.{IsTarget};

@@ -1,6 +1,6 @@
 //! Circuits above the target: those that avoid the place, and the best of those that pass it.
-ghost use Rattle.std.specs.Prelude.{◌≡◌, ◌<◌, ◌≤◌, length, IfOk, IfNone, IfSome, Some};
-ghost use Rattle.teg_sizing.specs.Rounds.{IsTarget, value_at, AreWithin};
+ghost use Rattle.std.specs.Prelude.{◌<◌, length, IfOk, IfNone, IfSome, Some};
+ghost use Rattle.teg_sizing.specs.Rounds.{IsTarget};
 ghost use Rattle.teg_sizing.specs.Surpluses.{NoneIsAbove, IsAboveApart, StartsEverywhere, StartsAt, IsBetter, NoneIsBetter, NonePasses, IsBestThrough};
 
 use crate::loops::first_loop;

@@ -1,6 +1,5 @@
 //! The path that the rounds tell of a transition.
 ghost use Rattle.std.specs.Prelude.{◌≡◌, ◌<◌, length, IfOk};
-ghost use Rattle.teg_net.specs.Ratios.{Fraction};
 ghost use Rattle.teg_sizing.specs.Paths.{AreOfNet, trace_of};
 
 use crate::rounds::Round;

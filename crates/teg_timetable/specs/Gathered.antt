@@ -1,4 +1,4 @@
--- Entries that were read, with a table of what they are about.
+-- Working definitions of entries that were read, with a table of what they are about.
 use Rattle.std.specs.Prelude.{ℕ, Bool, false, ◌+◌, ◌*◌, ◌<◌, ◌≤◌, ◌≡◌, List, Option, Some, None, length, slice_index_or}
 use Rattle.delay_laws.specs.Tables.{greatest_delayed_number}
 use Rattle.teg_net.specs.Limits.{most_transitions}

@@ -1,4 +1,4 @@
--- The rules that the entries of a timetable's file keep.
+-- Working definitions of the rules that the entries of a timetable's file keep.
 use Rattle.std.specs.Prelude.{◌<◌, ◌≤◌, ◌≢◌, ◌⊎◌, List, length, All, AllPairs}
 use Rattle.delay_laws.specs.Tables.{IsDelayOf, greatest_departure}
 use Rattle.teg_net.specs.Nets.{NetLists}

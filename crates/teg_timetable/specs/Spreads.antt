@@ -18,6 +18,7 @@ pub data OutcomeTold : Type 0 where
   RecoveredTold : (after : ℕ) → OutcomeTold
   KeptTold : (circuit : List PlaceId) → OutcomeTold
 
+-- what becomes of delays, as it is told
 abbrev pub outcome_told : Outcome → OutcomeTold
 outcome_told (Recovered after) = RecoveredTold after
 outcome_told (Kept circuit) = KeptTold circuit.places.items
@@ -36,6 +37,7 @@ pub record LeftDelays : Type 0 where
   pub every : ℕ
   pub form : SettledForm
 
+-- the plan and the form of how delays spread
 abbrev pub left_in : Spread → LeftDelays
 left_in s = record { firsts = s.firsts; every = s.every; form = s.form }
 

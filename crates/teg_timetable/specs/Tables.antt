@@ -15,6 +15,7 @@ pub record TableLists : Type 0 where
   pub firsts : List ℕ
   pub delays : List Delay
 
+-- the lists of a timetable
 abbrev pub lists_of_table : Timetable → TableLists
 lists_of_table t = record { firsts = t.firsts.items; delays = t.delays.items }
 
@@ -45,6 +46,7 @@ abbrev pub table_with : Result (List ℕ) TableRefusal → List Delay → Result
 table_with (Ok firsts) delays = Ok (record { firsts = firsts; delays = delays })
 table_with (Err why) delays = Err why
 
+-- the same of entries that may be refused
 abbrev pub table_of : Result (List Entry) TableRefusal → ℕ → Result TableLists TableRefusal
 table_of (Ok entries) count = table_with (firsts_of entries count) (delays_of entries)
 table_of (Err why) count = Err why

@@ -58,9 +58,11 @@ delay_told delay.OutOfMemory = None
 abbrev pub no_transition : Transition
 no_transition = record { name = []; role = Internal }
 
+-- the name of a transition
 abbrev pub transition_name : NetLists → ℕ → List ℕ
 transition_name net t = (slice_index_or net.transitions t no_transition).name
 
+-- the name of a place
 abbrev pub place_name : NetLists → PlaceId → List ℕ
 place_name net id = (place_at net id).name
 

@@ -1,5 +1,5 @@
 -- The line of machines is a net.
-use Rattle.std.proofs.Common.{◌≡◌, ◌≢◌, ℕ, zero, suc, ◌+◌, ◌-◌, ◌<◌, ◌≤◌, ◌==◌, Bool, true, false, List, [], ◌∷◌, ◌++◌, map, length, All, AllPairs, IsTrue, ◌^◌, codes, get_or, slice_index_or, refl, sym, ap, subst, ◌∙◌, append_assoc, arith, inl}
+use Rattle.std.proofs.Common.{◌≡◌, ◌≢◌, ℕ, zero, suc, ◌+◌, ◌-◌, ◌<◌, ◌≤◌, true, List, [], ◌∷◌, ◌++◌, map, length, All, AllPairs, IsTrue, codes, get_or, refl, ap, ◌∙◌, append_assoc, arith, inl}
 use Rattle.std.specs.Prelude.{IsSomeAnd, slice_get}
 use Rattle.std.specs.Fmt.{decimal, digits}
 use Rattle.std.specs.List.{range_with_len}
@@ -15,8 +15,8 @@ use Rattle.teg_net.specs.declared.entries.Place.{Place}
 use Rattle.teg_net.specs.declared.entries.Role.TheVariants.{Internal, Input}
 use Rattle.teg_net.specs.Limits.{greatest_date}
 use Rattle.teg_net.specs.Names.{is_name}
-use Rattle.teg_net.specs.Nets.{NetLists, IsInput, IsPlaceOf, IsInputOf, IsNet, lists_of}
-use Rattle.trial_net.specs.Trials.{numbered, machine, own_place, feed_place, card_place, hold_of, cards_of, trial}
+use Rattle.teg_net.specs.Nets.{IsInput, IsPlaceOf, IsInputOf, IsNet, lists_of}
+use Rattle.trial_net.specs.Trials.{numbered, machine, own_place, feed_place, card_place, trial}
 
 -- ---- lists over numbers
 

@@ -1,5 +1,5 @@
 -- A line of machines: each works on one piece at a time and hands it on, and cards hold down how far it may be ahead of the next.
-use Rattle.std.specs.Prelude.{ℕ, ◌+◌, ◌-◌, ◌*◌, ◌%◌, List, [], ◌∷◌, ◌++◌, map, codes}
+use Rattle.std.specs.Prelude.{ℕ, ◌+◌, ◌-◌, ◌*◌, ◌%◌, List, [], ◌++◌, map, codes}
 use Rattle.std.specs.Fmt.{decimal}
 use Rattle.std.specs.List.{range_with_len}
 use Rattle.teg_net.specs.declared.entries.Role.TheVariants.{Internal}

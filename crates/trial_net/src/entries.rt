@@ -1,5 +1,5 @@
 //! The machines of the line, and the places of each.
-ghost use Rattle.std.specs.Prelude.{◌≡◌, ◌≤◌, ◌<◌, ◌-◌, IfOk, codes};
+ghost use Rattle.std.specs.Prelude.{◌≡◌, ◌≤◌, ◌<◌, ◌-◌, IfOk};
 ghost use Rattle.trial_net.specs.Trials.{card_place, feed_place, hold_of, machine, numbered, own_place, place_of};
 
 use std::alloc::Global;

@@ -8,6 +8,7 @@ use Rattle.dioid.specs.Laws.{IsAtMost, IsClosed, DioidLaws, StarLaws, ResidualLa
 use Rattle.dioid.specs.declared.dates.Date.{Date}
 use Rattle.dioid.specs.declared.dates.Date.TheVariants.{Early, At, Never}
 
+-- each date is an element
 abbrev pub any_date : Date → Type 0
 any_date _ = ⊤
 

@@ -6,6 +6,7 @@ use Rattle.dioid.specs.Laws.{IsAtMost, IsClosed, DioidLaws, StarLaws, ResidualLa
 use Rattle.dioid.specs.declared.flags.Flag.{Flag}
 use Rattle.dioid.specs.declared.flags.Flag.TheVariants.{No, Yes}
 
+-- each truth value is an element
 abbrev pub any_flag : Flag → Type 0
 any_flag _ = ⊤
 

@@ -1,4 +1,4 @@
-use Rattle.std.proofs.Common.{◌≡◌, ℕ, ℤ, false, ap, sym, ◌∙◌, arith, ◌+◌, to_z, of_z}
+use Rattle.std.proofs.Common.{◌≡◌, ℤ, false, ap, sym, ◌∙◌, arith, ◌+◌, to_z, of_z}
 use Rattle.std.specs.Int.{w128}
 use Rattle.std.proofs.lemmas.Int.{to_z-of_z}
 use Rattle.series_laws.specs.Forms.{moves}

@@ -2,8 +2,6 @@ use Rattle.std.proofs.Common.{◌≡◌, sym, ℤ, ◌≤◌, ◌<◌, to_z, of_
 use Rattle.std.specs.Int.{w128}
 use Rattle.std.specs.Int.RustNames.{unsigned_abs}
 use Rattle.std.proofs.lemmas.Int.{to_z-of_z}
-use Rattle.dioid.specs.declared.dates.Date.{Date}
-use Rattle.dioid.specs.declared.dates.Date.TheVariants.{At}
 use Rattle.series_laws.specs.Forms.{Form, form_with}
 use Rattle.series_form.specs.Bounds.{HasSmallNumbers}
 use Rattle.series_form.specs.Answer.{IsFirstGreat, IsFirstGreatValue, IsGreatStep}

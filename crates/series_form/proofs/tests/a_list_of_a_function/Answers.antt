@@ -1,4 +1,4 @@
-use Rattle.std.proofs.Common.{◌≡◌, ◌+◌, ◌<◌, ℕ, pos, zero, suc, arith, List, [], ◌∷◌, length, get_or}
+use Rattle.std.proofs.Common.{◌+◌, ◌<◌, ℕ, pos, zero, suc, arith, List, [], ◌∷◌, get_or}
 use Rattle.std.proofs.lemmas.Int.{ints}
 use Rattle.dioid.specs.declared.dates.Date.{Date}
 use Rattle.dioid.specs.declared.dates.Date.TheVariants.{Early, At}

@@ -1,10 +1,8 @@
-use Rattle.std.proofs.Common.{◌≡◌, ◌+◌, ◌<◌, ℕ, ℤ, pos, negsuc, zero, suc, arith, List, [], ◌∷◌, length, get_or}
+use Rattle.std.proofs.Common.{◌+◌, ◌<◌, ℕ, pos, negsuc, zero, suc, arith, [], ◌∷◌, get_or}
 use Rattle.std.proofs.lemmas.Int.{ints}
 use Rattle.dioid.specs.declared.dates.Date.{Date}
 use Rattle.dioid.specs.declared.dates.Date.TheVariants.{Early, At}
 use Rattle.dioid.specs.Order.{Le}
-use Rattle.series_laws.specs.Periodic.{Rising}
-use Rattle.series_form.proofs.FirstPart.{V}
 use Rattle.series_form.proofs.Listed.{list_rises}
 use Rattle.series_form.proofs.tests.lists_of_great_numbers.Goals as goal
 

@@ -1,4 +1,4 @@
-use Rattle.std.proofs.Common.{◌≡◌, ◌<◌, ◌+◌, ◌++◌, [], ◌∷◌, List, ℕ, Option, Some, None, length, map, take, slice_index_or, append-nil, ap, sym, subst, ◌∙◌, arith}
+use Rattle.std.proofs.Common.{◌≡◌, ◌<◌, ◌+◌, ◌++◌, [], ◌∷◌, List, ℕ, Option, length, take, slice_index_or, append-nil, ap, sym, subst, ◌∙◌, arith}
 use Rattle.std.proofs.lemmas.List.{get_or_default, map-append, take_all}
 use Rattle.std.specs.Global.{Vec}
 use Rattle.std.specs.Option.{option_map}

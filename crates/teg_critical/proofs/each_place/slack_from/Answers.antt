@@ -9,8 +9,7 @@ use Rattle.teg_net.specs.Parts.{to_of}
 use Rattle.teg_critical.specs.declared.losses.Loss.{Loss}
 use Rattle.teg_critical.specs.declared.slacks.Slack.{Slack}
 use Rattle.teg_critical.specs.Losses.{loss_at}
-use Rattle.teg_critical.specs.Searches.{told_at, AreLeastLosses}
-use Rattle.teg_critical.specs.Told.{CanTell}
+use Rattle.teg_critical.specs.Searches.{told_at}
 use Rattle.teg_critical.proofs.Reading.{read_place}
 use Rattle.teg_critical.proofs.Telling.{leaves}
 use Rattle.teg_critical.proofs.EachPlace.{no_loss, no_back, back_is, slack_is}

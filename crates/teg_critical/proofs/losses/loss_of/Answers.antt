@@ -1,4 +1,4 @@
-use Rattle.std.proofs.Common.{ℕ, ℤ, List, FitsSigned, to_z, of_z, to_z-of_z, Some, ◌≡◌, ◌<◌, ◌≤◌, length, get_or, refl, sym, ap, ◌∙◌, rules, arith}
+use Rattle.std.proofs.Common.{FitsSigned, to_z, of_z, to_z-of_z, ◌≡◌, refl, sym, ◌∙◌, rules}
 use Rattle.std.specs.Int.{w128}
 use Rattle.teg_net.specs.declared.entries.Place.{Place}
 use Rattle.teg_net.specs.declared.answers.PartAnswer.TheVariants.{Best}

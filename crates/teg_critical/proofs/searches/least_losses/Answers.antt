@@ -1,5 +1,4 @@
-use Rattle.std.proofs.Common.{ℕ, Bool, Option, List, ◌≡◌, ◌<◌, ◌≤◌, length, get_or, sym, ap, subst, arith}
-use Rattle.teg_net.specs.declared.entries.Place.{Place}
+use Rattle.std.proofs.Common.{ℕ, Bool, Option, List, ◌≡◌, length, get_or, sym, subst, arith}
 use Rattle.teg_net.specs.Nets.{NetLists, IsNet, IsPlaceOf}
 use Rattle.teg_net.specs.Circuits.{no_place, place_at}
 use Rattle.teg_critical.specs.declared.losses.Loss.{Loss}

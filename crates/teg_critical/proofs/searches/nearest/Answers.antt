@@ -1,7 +1,6 @@
-use Rattle.std.proofs.Common.{ℕ, ◌≡◌, ◌<◌, ◌+◌, Bool, true, false, Option, None, length, get_or, refl, sym, subst, ◌∙◌, arith}
+use Rattle.std.proofs.Common.{ℕ, ◌≡◌, ◌<◌, Bool, true, false, None, length, get_or, refl, sym, subst, ◌∙◌, arith}
 use Rattle.std.proofs.lemmas.List.{get_or_default}
-use Rattle.teg_critical.specs.declared.searches.Near.{Near}
-use Rattle.teg_critical.specs.Searches.{is_settled, told_at, nearer_of}
+use Rattle.teg_critical.specs.Searches.{is_settled}
 use Rattle.teg_critical.proofs.Stepping.{NearestUpTo, nearest_past, nearest_next, nearest_found, some_found}
 use Rattle.teg_critical.proofs.searches.nearest.Goals as goal
 use Rattle.teg_critical.proofs.searches.nearest.Goals.{then-not-is_settled, else-not-is_settled}

@@ -1,4 +1,4 @@
-use Rattle.std.proofs.Common.{Option, Some, None, Bool, true, false, ℕ, List, cond, ◌≡◌, ◌<◌, ◌∙◌, sym, inl, inr, arith}
+use Rattle.std.proofs.Common.{None, false, ℕ, List, ◌≡◌, ◌<◌, ◌∙◌, sym, inl, inr, arith}
 use Rattle.std.specs.Prelude.{nat_le}
 use Rattle.std.specs.Str.Parse.{digits_value}
 use Rattle.std.proofs.lemmas.Bool.{cases_Bool}

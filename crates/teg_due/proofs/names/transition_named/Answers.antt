@@ -1,6 +1,5 @@
-use Rattle.std.proofs.Common.{ℕ, ◌≡◌, ◌<◌, length, Option, Some, None}
+use Rattle.std.proofs.Common.{Option, Some, None}
 use Rattle.std.specs.Prelude.{IfSome}
-use Rattle.teg_net.specs.declared.entries.TransitionId.{TransitionId}
 use Rattle.teg_due.proofs.NamedOnce.{IsThere, found_there, named_number}
 use Rattle.teg_due.proofs.names.transition_named.Goals as goal
 

@@ -9,7 +9,7 @@ use Rattle.teg_howard.specs.FoundCircuits.{policy_of, IsFoundAt, IsBestFound}
 use Rattle.teg_net.specs.Nets.{NetLists, IsNet}
 use Rattle.teg_net.specs.Circuits.{IsLive}
 use Rattle.teg_howard.proofs.Best.{Passes, BestTo, best_skip, skip_outside, skip_none, skip_other, best_stay, best_take, best_all, none_all, found_circuit}
-use Rattle.teg_howard.proofs.policy_circuits.best_circuit.Goals.{then-parts-start+in_ok-circuit+in-Some+then-passes+then-is_greater, in-Some-2, in-None-2, then-parts-start+in_ok-circuit+in-Some+else-passes, else-passes-via-then-passes+else-is_greater, else-passes-via-else-passes, then-parts-start+in_ok-circuit+in_default, else-parts-start}
+use Rattle.teg_howard.proofs.policy_circuits.best_circuit.Goals.{then-parts-start+in_ok-circuit+in-Some+then-passes+then-is_greater, then-parts-start+in_ok-circuit+in-Some+else-passes, else-passes-via-then-passes+else-is_greater, else-passes-via-else-passes, then-parts-start+in_ok-circuit+in_default, else-parts-start}
 use Rattle.teg_howard.proofs.policy_circuits.best_circuit.Goals as goal
 
 pub loop-start-preserved : goal.loop-start-preserved
