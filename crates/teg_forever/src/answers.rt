@@ -90,6 +90,13 @@ fn keep_dues(
 /// are not told, by the order of [`ForeverRefusal`]: the first row, and its least number, that comes
 /// late whatever the inputs are; or the first input, in order, whose walk times have no settled form
 /// of at most 20,000 numbers, or for which a residual or a meet over the rows does not fit.
+/// `OutOfMemory` comes only where no memory is found.
+///
+/// The order of the work, for n transitions and p places: first the least dating with all inputs at 0
+/// is settled; for a settling length l it takes rows of order l, each in time of order `n + p`. Each
+/// due row is held against it in time of order `1,000 l + 10,000`. Then for each input the walk times
+/// are settled likewise; for a settling length k each due row takes a residual of at most 20,000
+/// values, each in time of order k.
 pub fn forever(
     alloc: Global,
     net: &Net,

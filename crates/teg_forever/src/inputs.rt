@@ -1,9 +1,7 @@
 //! The latest releases of the inputs, one by one.
 ghost use Rattle.std.specs.Prelude.{◌≡◌, ◌<◌, ◌≤◌, ◌+◌, length, IfOk, IfErr, IfSome, OnOk};
-ghost use Rattle.std.specs.Bool.{OnFalse, OnTrue};
 ghost use Rattle.due_laws.specs.Dues.{InputsMeet, inputs_at_zero};
 ghost use Rattle.teg_check.specs.Ranks.{IsRanking};
-ghost use Rattle.teg_due.specs.Names.{is_input};
 ghost use Rattle.teg_net.specs.Circuits.{IsLive};
 ghost use Rattle.teg_net.specs.Nets.{IsInput, IsNet};
 ghost use Rattle.teg_settle.specs.Transfers.{IsTransferOf};
@@ -21,7 +19,8 @@ use series_form::Series;
 use series_ops::Gain;
 use std::alloc::Global;
 use teg_check::Live;
-use teg_net::{Net, OutOfMemory, Role, TransitionId};
+use teg_due::is_input;
+use teg_net::{Net, OutOfMemory, TransitionId};
 use teg_settle::{SettleRefusal, Settled, transfer};
 
 /// The longest settled form of walk times that is taken.
@@ -142,16 +141,6 @@ fn dues_of(
         return Ok(None);
     }
     Ok(Some(due_column(alloc, net, rows)?))
-}
-
-// Whether the transition is an input.
-fn is_input(net: &Net, transition: TransitionId) -> bool
-    requires { transition.index < length net.now.transitions }
-    ensures is { result ≡ is_input net.now transition.index }
-    ensures input { OnTrue result (IsInput net.now transition.index) }
-    ensures other { OnFalse result (IsInput net.now transition.index → ⊥) }
-{
-    net.transitions()[transition.index as usize].role == Role::Input
 }
 
 // The release of one transition more, if it is an input.

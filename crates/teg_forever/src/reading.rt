@@ -1,10 +1,9 @@
 //! Files of due dates without end.
-ghost use Rattle.std.specs.Prelude.{◌≡◌, ◌≢◌, ◌≤◌, ◌<◌, ◌∷◌, [], Ok, Err, true, false, length, IfOk, IfErr, OnOk, IfSome, option_map};
+ghost use Rattle.std.specs.Prelude.{◌≡◌, ◌≢◌, ◌≤◌, ◌<◌, ◌∷◌, [], Ok, Err, true, false, length, IfOk, IfErr, OnOk};
 ghost use Rattle.csv.specs.Records.{fields_of};
 ghost use Rattle.csv_records.specs.Records.{most_file_bytes};
 ghost use Rattle.csv_records.specs.Rows.{one_more};
 ghost use Rattle.forever_laws.specs.Rows.{IsEndlessOf};
-ghost use Rattle.teg_due.specs.Names.{is_input, number_named};
 ghost use Rattle.teg_forever.specs.Rows.{dates_in, endless_numbered, endless_of, endless_row, every_in, gap_in, has_numbers, has_row, is_endless_header};
 
 use crate::numbers::{field_at, goes_on, has_numbers, limited_numbers};
@@ -12,7 +11,8 @@ use crate::rows::EndlessRefusal;
 use csv_records::{ByteRecord, Records};
 use forever_laws::EndlessRow;
 use std::alloc::Global;
-use teg_net::{DateList, NameOrder, Net, Role, TransitionId};
+use teg_due::{is_input, transition_named};
+use teg_net::{DateList, NameOrder, Net, TransitionId};
 
 // Whether the record is `transition`, `every`, `gap`, `dates`.
 fn is_header(record: &ByteRecord) -> bool
@@ -31,25 +31,6 @@ fn is_header(record: &ByteRecord) -> bool
         return false;
     }
     field_at(record, 3) == b"dates".as_slice()
-}
-
-// The transition of this name, if there is one.
-fn find(net: &Net, names: &NameOrder<'_>, name: &[u8]) -> Option<TransitionId>
-    requires { names.now ≡ net.now }
-    ensures named { option_map (λ id. id.index) result ≡ number_named net.now name.now }
-    ensures in_range { IfSome result (λ id. id.index < length net.now.transitions) }
-{
-    // (the rules of the net: its names are distinct)
-    net.transitions();
-    names.find(name)
-}
-
-// Whether the transition is an input.
-fn is_input(net: &Net, transition: TransitionId) -> bool
-    requires { transition.index < length net.now.transitions }
-    ensures { result ≡ is_input net.now transition.index }
-{
-    net.transitions()[transition.index as usize].role == Role::Input
 }
 
 // Whether a row has this transition.
@@ -110,7 +91,7 @@ fn read_row(
     if !has_numbers(record) {
         return Err(EndlessRefusal::BadRow { row });
     }
-    let Some(transition) = find(net, names, field_at(record, 0)) else {
+    let Some(transition) = transition_named(net, names, field_at(record, 0)) else {
         return Err(EndlessRefusal::UnknownTransition { row });
     };
     if is_input(net, transition) {
@@ -149,7 +130,7 @@ fn add_record(
 /// a later field than the first is no number; a name of no transition; an input; a transition that an
 /// earlier row has; a number of firings that is not 1 to 1,000, a gap or a date above 10^12, or more
 /// than 10,000 dates; dates that fall, within the list or past it. A first record `transition`,
-/// `every`, `gap`, `dates` is passed over.
+/// `every`, `gap`, `dates` is passed over. `OutOfMemory` comes only where no memory is found.
 pub fn read_endless(
     alloc: Global,
     net: &Net,

@@ -1,7 +1,6 @@
 //! The texts of the answers about endless due dates.
 ghost use Rattle.std.specs.Prelude.{◌≡◌, ◌≢◌, ◌<◌, ◌^◌, ◌++◌, [], Ok, Err, Some, All, get_or, length, map, slice_get, IfOk, string_bytes};
 ghost use Rattle.series_form.specs.Bounds.{IsSeries};
-ghost use Rattle.teg_due.specs.Names.{is_input};
 ghost use Rattle.teg_net.specs.Nets.{NetLists};
 ghost use Rattle.teg_text.specs.Lines.{further_then, line_then, phrase, written};
 ghost use Rattle.teg_forever.specs.Releases.{inputs_of};
@@ -11,7 +10,8 @@ use crate::releases::{ForeverRefusal, Release};
 use crate::rows::EndlessRefusal;
 use series_form::Series;
 use std::alloc::{AllocError, Global};
-use teg_net::{Net, OutOfMemory, Role, TransitionId};
+use teg_due::is_input;
+use teg_net::{Net, OutOfMemory, TransitionId};
 use teg_text::push_dates;
 
 // Appends the end of the line of an input: the values of its series, its period and its step.
@@ -44,14 +44,6 @@ fn push_release(
             push_series(text, series)
         }
     }
-}
-
-// Whether the transition is an input.
-fn is_input(net: &Net, transition: TransitionId) -> bool
-    requires { transition.index < length net.now.transitions }
-    ensures { result ≡ is_input net.now transition.index }
-{
-    net.transitions()[transition.index as usize].role == Role::Input
 }
 
 // The inputs in order.
