@@ -5,6 +5,13 @@ use Rattle.delay_laws.specs.Outcomes.{HasDelayPast}
 use Rattle.teg_timetable.specs.Spreads.{LeftDelays, left_at}
 use Rattle.teg_timetable.specs.Working.{IsTopUpTo}
 
+-- the first number
+pub top_first : (s : LeftDelays) (i n d : ℕ) → n ≡ s.form.after + 1 → d ≡ left_at s i n → 1 ≤ s.form.period → IsTopUpTo s i (n + 1) d
+top_first s i n d first is some = record {
+  greatest = λ k after before. let e : k ≡ n = omega arith in let own = ap (left_at s i) e in omega arith;
+  attained = record { number = n; past = omega arith; within = omega arith; is = sym is };
+}
+
 -- one number more
 pub top_more : (s : LeftDelays) (i upto top d : ℕ) → IsTopUpTo s i upto top → d ≡ left_at s i upto → s.form.after < upto → upto ≤ s.form.after + s.form.period → IsTopUpTo s i (upto + 1) (max top d)
 top_more s i upto top d old is past within = record {

@@ -16,7 +16,7 @@ fn top(left: &Left, transition: TransitionId) -> u64
     let first = left.after() + 1;
     let end = first + left.period();
     let mut top = left.delay(transition, first);
-    for number in first..end {
+    for number in first + 1..end {
         top = top.max(left.delay(transition, number));
     }
     top

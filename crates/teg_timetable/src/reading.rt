@@ -1,12 +1,11 @@
 //! The entries that the rows of a timetable's file give, or the first fault.
-ghost use Rattle.std.specs.Prelude.{◌≡◌, ◌≢◌, ◌≤◌, ◌<◌, ◌+◌, ◌∷◌, [], Ok, Err, All, true, false, length, IfOk, IfErr, IfSome, OnOk, option_map};
+ghost use Rattle.std.specs.Prelude.{◌≡◌, ◌≢◌, ◌≤◌, ◌<◌, ◌+◌, ◌∷◌, [], Ok, Err, All, true, false, length, IfOk, IfErr, OnOk};
 ghost use Rattle.csv.specs.Records.{fields_of};
 ghost use Rattle.std.specs.Str.Parse.{digits_value};
 ghost use Rattle.csv_records.specs.Numbers.{is_number};
 ghost use Rattle.csv_records.specs.Records.{most_file_bytes};
 ghost use Rattle.csv_records.specs.Rows.{one_more};
 ghost use Rattle.delay_laws.specs.Tables.{greatest_delayed_number};
-ghost use Rattle.teg_due.specs.Names.{number_named};
 ghost use Rattle.teg_timetable.specs.Entries.{delay_row, departure_row, entries_of, entry_row, is_table_header, number_of};
 ghost use Rattle.teg_timetable.specs.Rules.{AreEntriesOf};
 
@@ -16,6 +15,7 @@ use crate::refusals::TableRefusal;
 use csv_records::{ByteRecord, Records, is_number, number_up_to, three_fields, two_fields};
 use delay_laws::Delay;
 use std::alloc::Global;
+use teg_due::transition_named;
 use teg_net::{NameOrder, Net, TransitionId};
 
 /// The greatest first departure.
@@ -23,17 +23,6 @@ const GREATEST_DEPARTURE: u64 = 1_000_000_000;
 
 /// The greatest delay.
 const GREATEST_DELAY: u64 = 50_000;
-
-// The transition of this name, if there is one.
-fn find(net: &Net, names: &NameOrder<'_>, name: &[u8]) -> Option<TransitionId>
-    requires { names.now ≡ net.now }
-    ensures named { option_map (λ id. id.index) result ≡ number_named net.now name.now }
-    ensures in_range { IfSome result (λ id. id.index < length net.now.transitions) }
-{
-    // (the rules of the net: its names are distinct)
-    net.transitions();
-    names.find(name)
-}
 
 // Whether the record is `transition`, `first`.
 fn is_header(record: &ByteRecord) -> bool
@@ -124,7 +113,7 @@ fn read_delay(
     if !is_number(fields.second) || !is_number(fields.third) {
         return Err(TableRefusal::BadRow { row });
     }
-    match find(net, names, fields.first) {
+    match transition_named(net, names, fields.first) {
         Some(transition) => delay_row(gathered, row, transition, fields.second, fields.third),
         None => Err(TableRefusal::UnknownTransition { row }),
     }
@@ -149,7 +138,7 @@ fn read_row(
     if !is_number(fields.second) {
         return Err(TableRefusal::BadRow { row });
     }
-    match find(net, names, fields.first) {
+    match transition_named(net, names, fields.first) {
         Some(transition) => departure_row(gathered, row, transition, fields.second),
         None => Err(TableRefusal::UnknownTransition { row }),
     }

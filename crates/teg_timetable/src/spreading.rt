@@ -64,13 +64,12 @@ fn firsts_of(alloc: Global, table: &Timetable) -> Result<Vec<u64>, OutOfMemory>
 fn left_by(
     alloc: Global,
     net: &Net,
-    _live: &Live,
     period: u64,
     table: &Timetable,
     limit: Option<u32>,
 ) -> Result<Left, DelayRefusal>
     requires rules { IsNet net.now }
-    requires stands { IsRanking net.now _live.now }
+    requires live { IsLive net.now }
     requires some { 1 ≤ period }
     requires period { period ≤ greatest_period }
     requires table { IsTableOf net.now table.now }
@@ -131,7 +130,7 @@ pub fn spread(
     if let Some(place) = first_unworkable(net, period, table) {
         return Err(DelayRefusal::Unworkable { place });
     }
-    let left = left_by(alloc, net, live, period, table, limit)?;
+    let left = left_by(alloc, net, period, table, limit)?;
     let outcome = outcome(alloc, net, period, table, &left)?;
     Ok(Delayed::new(left, outcome))
 }

@@ -81,7 +81,8 @@ fn delays(alloc: Global, entries: &[Entry]) -> Result<Vec<Delay>, AllocError>
 /// Refused is the first faulty row with the first of its faults in the order of [`TableRefusal`], and
 /// last the lowest numbered transition without a first departure; so an empty file misses transition
 /// 0. A first record `transition`, `first` is passed over. First departures come in order of
-/// transitions, delays in order of rows. Inputs have departures like others.
+/// transitions, delays in order of rows. Inputs have departures like others. `OutOfMemory` comes only
+/// where no memory is found.
 pub fn read_timetable(alloc: Global, net: &Net, bytes: &[u8]) -> Result<Timetable, TableRefusal>
     requires { length bytes.now ≤ most_file_bytes }
     ensures table { IfOk result (λ table. timetable_of net.now bytes.now ≡ Ok (lists_of_table table)) }

@@ -130,7 +130,8 @@ fn push_outcome(text: &mut String, net: &Net, outcome: &Outcome) -> Result<(), A
 
 /// The text of how delays spread: a line of the number past which dates go on, and of the period; one
 /// that the delays are over after a number, or two of the circuit that keeps them; and for each
-/// transition a line of its delays at the numbers up to the end of the first period.
+/// transition a line of its delays at the numbers up to the end of the first period. `OutOfMemory`
+/// comes only where no memory is found.
 pub fn spread_text(alloc: Global, net: &Net, delayed: &Delayed) -> Result<String, OutOfMemory>
     requires width { length delayed.now.firsts ≡ length net.now.transitions }
     requires outcome { IsOutcomeIn net.now delayed.now.outcome }
@@ -153,7 +154,8 @@ fn row_text(alloc: Global, row: u32, fault: &str) -> Result<String, AllocError>
     Ok(text)
 }
 
-/// The text that a file is no timetable; there is none that no memory was found.
+/// The text of why a file is no timetable. [`TableRefusal::OutOfMemory`] has no text: it is answered by
+/// `OutOfMemory`, which else comes only where no memory is found.
 pub fn table_refusal_text(
     alloc: Global,
     net: &Net,
@@ -176,7 +178,8 @@ pub fn table_refusal_text(
     }
 }
 
-/// The text that the delays of a timetable are not followed; there is none that no memory was found.
+/// The text of why the delays of a timetable are not followed. [`DelayRefusal::OutOfMemory`] has no
+/// text: it is answered by `OutOfMemory`, which else comes only where no memory is found.
 pub fn delay_refusal_text(
     alloc: Global,
     net: &Net,

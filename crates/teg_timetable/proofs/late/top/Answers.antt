@@ -1,7 +1,14 @@
 use Rattle.std.proofs.Common.{◌<◌, ◌≤◌, ◌+◌, ◌≡◌, max, subst, arith}
 use Rattle.teg_timetable.specs.Working.{IsTopUpTo}
-use Rattle.teg_timetable.proofs.Tops.{top_more}
+use Rattle.teg_timetable.proofs.Tops.{top_first, top_more}
 use Rattle.teg_timetable.proofs.late.top.Goals as goal
+
+pub loop-number-init : goal.loop-number-init
+loop-number-init c =
+    let s = c.args.left.now in
+    let first : c.after-first.result + 1 ≡ s.form.after + 1 = omega (arith, c.after-first.ensures.value) in
+    let some : 1 ≤ s.form.period = omega (arith, c.period.ensures.value, c.period.ensures.some) in
+    top_first s c.args.transition.index (c.after-first.result + 1) c.delay-top.result first c.delay-top.ensures.value some
 
 pub loop-number-preserved : goal.loop-number-preserved
 loop-number-preserved c =

@@ -5,6 +5,9 @@ use Rattle.teg_timetable.specs.Spreads.{Spread, left_at, outcome_told}
 use Rattle.teg_timetable.proofs.Settling.{outcome_in, settled_left, spread_is}
 use Rattle.teg_timetable.proofs.spreading.spread.Goals as goal
 
+pub left_by-requires-clause-live : goal.left_by-requires-clause-live
+left_by-requires-clause-live c = ranking_is_live c.args.net.now c.args.live.now c.requires.stands
+
 pub outcome-requires-clause-live : goal.outcome-requires-clause-live
 outcome-requires-clause-live c = ranking_is_live c.args.net.now c.args.live.now c.requires.stands
 
