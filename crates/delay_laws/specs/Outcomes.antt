@@ -4,8 +4,6 @@ use Rattle.teg_net.specs.declared.entries.PlaceId.{PlaceId}
 use Rattle.teg_net.specs.Nets.{NetLists}
 use Rattle.teg_net.specs.Circuits.{place_at, from_of, IsCircuit, BeginsLowest, time_of, tokens_of}
 use Rattle.delay_laws.specs.declared.table.Timetable.{Timetable}
-use Rattle.delay_laws.specs.declared.table.Outcome.{Outcome}
-use Rattle.delay_laws.specs.declared.table.Outcome.TheVariants.{Recovered, Kept}
 use Rattle.delay_laws.specs.Tables.{first_of}
 
 -- no delay is left after this number, and no smaller number will do
@@ -24,11 +22,6 @@ pub record IsKept (net : NetLists) (period : ℕ) (delay : ℕ → ℕ → ℕ) 
   pub lowest_first : BeginsLowest net circuit
   pub no_spare : time_of net circuit ≡ period * tokens_of net circuit
   pub late : All (λ p. IsLateForever (delay (from_of net p))) circuit
-
--- what becomes of the delays left
-abbrev pub IsOutcome : NetLists → ℕ → (ℕ → ℕ → ℕ) → Outcome → Type 0
-IsOutcome net period delay (Recovered after) = IsRecovered net delay after
-IsOutcome net period delay (Kept circuit) = IsKept net period delay circuit.places.items
 
 -- the plan leaves the place just the time that it takes
 pub record HasNoSpare (net : NetLists) (period : ℕ) (t : Timetable) (p : PlaceId) : Type 0 where
