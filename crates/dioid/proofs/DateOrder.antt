@@ -107,12 +107,6 @@ later_either (At s) (At t) = ⊎_elim (λ e. inl (ap At e)) (λ e. inr (ap At e)
 later_either (At s) Never = inr refl
 later_either Never b = inl refl
 
-pub later_is_greater : (a b : Date) → IsGreaterOf a b (later_of a b)
-later_is_greater a b = record { one = later_either a b; left = later_left a b; right = later_right a b }
-
-pub later_rises : (a b c d : Date) → IsAtMostDate a c → IsAtMostDate b d → IsAtMostDate (later_of a b) (later_of c d)
-later_rises a b c d h l = later_least a b (later_of c d) (at_most_trans a c (later_of c d) h (later_left c d)) (at_most_trans b d (later_of c d) l (later_right c d))
-
 -- the later of a and b is b where a is at most b
 pub later_is_right : (a b : Date) → IsAtMostDate a b → later_of a b ≡ b
 later_is_right a b h = same_by_at_most (later_of a b) b (later_least a b b h (at_most_refl b)) (later_right a b)
@@ -154,9 +148,6 @@ earlier_either (At s) Early = inr refl
 earlier_either (At s) (At t) = ⊎_elim (λ e. inl (ap At e)) (λ e. inr (ap At e)) (int_min_either s t)
 earlier_either (At s) Never = inl refl
 earlier_either Never b = inr refl
-
-pub earlier_is_lesser : (a b : Date) → IsLesserOf a b (earlier_of a b)
-earlier_is_lesser a b = record { one = earlier_either a b; left = earlier_left a b; right = earlier_right a b }
 
 -- ---- delays and products
 

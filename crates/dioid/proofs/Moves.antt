@@ -52,9 +52,6 @@ same_move x y Never h = inr (inr refl)
 pub moved_to_never : (x : ℤ) (a : Date) → move x a ≡ Never → a ≡ Never
 moved_to_never x a h = move_injective x a Never h
 
-pub moved_to_early : (x : ℤ) (a : Date) → move x a ≡ Early → a ≡ Early
-moved_to_early x a h = move_injective x a Early h
-
 -- ---- the order
 
 pub move_rises : (x y : ℤ) (a b : Date) → x ≤ℤ y → IsAtMostDate a b → IsAtMostDate (move x a) (move y b)

@@ -85,10 +85,6 @@ due_again net r ok k l =
 pub listed_low : (net : NetLists) (r : EndlessRow) → IsEndlessRow net r → (k : ℕ) → k ≤ length r.dates → due_number r k ≤ greatest_date
 listed_low net r ok k l = let low = date_le r.dates (k - 1) ok.dates_in in let is = due_listed r k l in omega arith
 
--- no due date is later than that of a list that goes on by the greatest gap
-pub due_most : (net : NetLists) (r : EndlessRow) → IsEndlessRow net r → (k : ℕ) → due_number r k ≤ greatest_date * (k + 1)
-due_most net r ok k = rw (due_is r k) at (list_date-most r.dates (Some (again_of r)) k ok.dates_in ok.goes_on)
-
 slow_on : (net : NetLists) (r : EndlessRow) → IsEndlessRow net r → (fuel k : ℕ) → k < fuel → r.every * due_number r k ≤ r.every * greatest_date + r.gap * (k + r.every)
 slow_on net r ok zero k l = absurd (omega arith)
 slow_on net r ok (suc fuel) k l =

@@ -28,9 +28,6 @@ pub record Holds (g : Gain) (s : ℕ → Date) : Type 0 where
   pub is : IsCanonical g.series
   pub values : HasValues g.series s
 
-pub rising_of : (g : Gain) (s : ℕ → Date) → Holds g s → Rising s
-rising_of g s h = record { rises = λ j k w. le_trans (le_is (sym (h.values j))) (le_trans (h.is.form.rising.rises j k w) (le_is (h.values k))) }
-
 pub holds_own : (g : Gain) → IsCanonical g.series → Holds g (value_at g.series)
 holds_own g h = record { is = h; values = λ k. refl }
 

@@ -78,11 +78,6 @@ sum_of a m x g h k r =
     ap (λ (z : ℤ). z +ℤ to_z w128 (of_z w128 (to_z w128 m *ℤ to_z w128 (of_z w128 x)))) (to_z-of_z w128 a (moderate_fits a g))
     ∙ ap (λ (z : ℤ). a +ℤ to_z w128 (of_z w128 z)) (step_of m x h k) ∙ ap (λ (z : ℤ). a +ℤ z) (to_z-of_z w128 (pos m *ℤ x) (mul_fits m x r))
 
-pub sub_fits : (a b : ℤ) → unsigned_abs a ≤ 1000000000000000000000000000 + 10000000000000000000000000000000000000 → unsigned_abs b ≤ 1000000000000000000000000000 + 10000000000000000000000000000000000000 → FitsSigned w128 (a -ℤ b)
-sub_fits a b g h =
-    let p : unsigned_abs (a -ℤ b) ≤ (1000000000000000000000000000 + 10000000000000000000000000000000000000) + (1000000000000000000000000000 + 10000000000000000000000000000000000000) = abs_difference a b (1000000000000000000000000000 + 10000000000000000000000000000000000000) (1000000000000000000000000000 + 10000000000000000000000000000000000000) g h in
-    fits_signed_from_abs w128 (a -ℤ b) (omega arith)
-
 pub moderate_date_within : (d : Date) → IsModerateDate d → IsWithin d
 moderate_date_within Early h = tt
 moderate_date_within (At t) h = let k : unsigned_abs t ≤ 1000000000000000000000000000 = h in omega arith

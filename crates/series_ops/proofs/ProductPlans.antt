@@ -21,9 +21,6 @@ use Rattle.series_laws.specs.ProductNeeds.{product_plan}
 
 -- ---- lifts
 
-pub lifts_cover : (n l : ℕ) → 0 < l → (n + (l - 1)) / l * l ≤ n + (l - 1)
-lifts_cover n l h = let e : (n + (l - 1)) / l * l + (n + (l - 1)) % l ≡ n + (l - 1) = div-add-mod' (n + (l - 1)) l in omega arith
-
 -- m lifts of l shifts, each with k periods, move by no more than the shifts do
 pub lifted_bound : (m k n l : ℕ) (x : ℤ) → k * n ≡ l → 0 < n → m * l ≤ 400020000 → unsigned_abs x ≤ 1000000000000000000 → unsigned_abs (times m (times k x)) ≤ 1000000000000000000000000000
 lifted_bound m k n l x e pos_n low small =

@@ -6,11 +6,6 @@ use Rattle.teg_net.specs.declared.entries.Role.TheVariants.{Input}
 use Rattle.teg_net.specs.declared.entries.Transition.{Transition}
 use Rattle.teg_net.specs.Nets.{NetLists, IsInput}
 
-pub input_found : (net : NetLists) → Any (λ t. t.role ≡ Input) net.transitions → (t : ℕ) × IsInput net t
-input_found net h =
-    let found = slice_get_read net.transitions (length net.transitions) h.0 h.1 refl h.2 (sym h.3) in
-    (h.0, rw found h.4)
-
 pub input_is_some : (net : NetLists) (t : ℕ) → IsInput net t → Any (λ x. x.role ≡ Input) net.transitions
 input_is_some net t h =
     ⊎_elim

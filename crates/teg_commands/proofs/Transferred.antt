@@ -53,10 +53,6 @@ pub those_are_inputs : (net : NetLists) → All (λ t. IsInput net t.index) (tho
 those_are_inputs net k d lt =
     input_there (slice_get net.transitions (get_or (those_of_role net Input) k d).index) (filter_passes (has_role net Input) (map transition_id (range_with_len 0 (length net.transitions))) k d lt)
 
-pub times_made : (net : NetLists) (limit : ℕ) (input : TransitionId) (f : SettledForm) (times : TimesFrom) → IsTransferOf net input.index f → settled_length f ≤ limit → times ≡ times_of net input f →
-    IsTimesFrom net limit times
-times_made net limit input f times stands within e = subst (IsTimesFrom net limit) (sym e) (f, stands, within, refl)
-
 lines_within : (net : NetLists) (f : SettledForm) → All (λ l. l.to.index < length net.transitions) (map (times_in f) (those_of_role net Output))
 lines_within net f = All-map (λ (l : TimesTo). l.to.index < length net.transitions) (times_in f) (those_of_role net Output) (those_within net Output)
 

@@ -73,37 +73,6 @@ column_moved width reach room old now new u start dest less in' full h d s copie
       from (t * room + i) 0 (omega (arith, d, after, rows_below room (u + 1) t l, rows_more room u 1)) ∙ h.rest t i (omega arith) m n;
 }
 
--- with the row at `at`, which is not the last index, the columns end one further
-pub added_behind : (reach room at : ℕ) (old new row : List ℕ) → HasColumnSet room at old new row → at + 1 < room → HaveRowAdded reach room at old new row (at + 1)
-added_behind reach room at old new row set l = record {
-  full = set.full;
-  within = l;
-  enough = omega arith;
-  few = omega arith;
-  last = λ t m o. let is : at + 1 - 1 ≡ at = omega arith in rw is (set.here t m);
-  before = λ t b m o p.
-      let is : at + 1 - (b + 1) ≡ at - b = omega arith in
-      let other : at - b ≢ at = omega (arith, p) in
-      rw is (set.other t (at - b) m (omega arith) other);
-}
-
--- and where it is, their last dates are moved
-pub added_and_moved : (reach room at : ℕ) (old new moved row : List ℕ) → HasColumnSet room at old new row → at + 1 ≡ room → reach < room → AreMoved (length row) reach room new moved
-    → HaveRowAdded reach room at old moved row reach
-added_and_moved reach room at old new moved row set end less moves = record {
-  full = moves.full ∙ set.full;
-  within = less;
-  enough = omega arith;
-  few = omega arith;
-  last = λ t m o.
-      let is : room - reach + (reach - 1) ≡ at = omega arith in
-      moves.moved t (reach - 1) m (omega arith) ∙ (ap (column_at room new t) is ∙ set.here t m);
-  before = λ t b m o p.
-      let is : room - reach + (reach - (b + 1)) ≡ at - b = omega arith in
-      let other : at - b ≢ at = omega arith in
-      moves.moved t (reach - (b + 1)) m (omega arith) ∙ (ap (column_at room new t) is ∙ set.other t (at - b) m (omega arith) other);
-}
-
 -- the dates of a row
 dates_at : (row : List ℕ) (t : ℕ) → t < length row → get_or (map date_of row) t Early ≡ date_of (get_or row t 0)
 dates_at row t l = get_or-map date_of row t 0 Early l

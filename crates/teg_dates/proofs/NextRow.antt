@@ -11,12 +11,6 @@ use Rattle.teg_dates.specs.Rows.{IsRows, AreLeastRows, AreFirst, AreFirstLeast}
 use Rattle.teg_dates.specs.Passes.{IsRowOf}
 use Rattle.teg_dates.proofs.Cells.{rows_before, cell_before}
 
-pub rows_are_first : (net : NetLists) (s : System) (rows : TableDates) → IsRows rows → AreLeastRows net s rows → AreFirstLeast net s rows.count rows.dates
-rows_are_first net s rows is h x least = record {
-  full = is.full ∙ ap (λ w. rows.count * w) h.width;
-  same = λ t k l o m. rw h.width at (h.least x least t k l o m);
-}
-
 -- the first dates and the row of the next number are the first dates of one number more
 pub first_with_row : (net : NetLists) (x : Dating) (k : ℕ) (before row : List Date) → 1 ≤ k → AreFirst net x (k - 1) before → IsRowOf net x k row → AreFirst net x k (before ++ row)
 first_with_row net x k before row o first is =

@@ -66,12 +66,3 @@ listed_skip parts part π vs cs i h out = record {
   inside = λ t l k. ⊎_elim (λ (q : t < i). h.inside t q k) (λ (q : i ≤ t). let is : t ≡ i = omega arith in absurd (out (subst (IsMember parts part) is k))) (cases_lt t i);
   outside = λ t n. h.outside t (λ l k. n (omega arith) k);
 }
-
-pub listed_made : (parts : List ℕ) (part : ℕ) (π : Policy) (vs : List (Option ℤ)) (cs : List Choice) (n : ℕ) (r : Round) → length parts ≤ n → Listed parts part π vs cs n → r.choices.items ≡ cs → IsMade parts part π vs r
-listed_made parts part π vs cs n r l h e =
-    let all = λ (t : ℕ) (m : IsMember parts part t). let k = m.in_range in h.inside t (omega arith) m in
-    record {
-      lists = rw e (record { only = h.only; order = h.order; all = λ t m z. let y = all t m in cc });
-      inside = rw e (λ t m. all t m);
-      outside = rw e (λ t out. h.outside t (λ k m. out m));
-    }

@@ -170,18 +170,6 @@ module _ (net : NetLists) (parts : List ℕ) (part a b : ℕ) (v : ℕ → ℤ) 
         in_range = All-set (λ q. q.index < length net.places) ps t p inside.in_range h.in_range;
       }
 
-pub improving_start : (net : NetLists) (parts : List ℕ) (part a b : ℕ) (v : ℕ → ℤ) (ps : List PlaceId) (gs : List ℤ) (cs : List Bool) → length ps ≡ length parts → length gs ≡ length parts → length cs ≡ length parts → ((t : ℕ) → get_or cs t false ≡ false) → All (λ p. p.index < length net.places) ps
-    → Improving net parts part a b v (policy_of ps) ps gs cs 0
-improving_start net parts part a b v ps gs cs p g k none in_range = record {
-  count = p;
-  count_gs = g;
-  count_cs = k;
-  marked = λ t m. let n = none t in let f : ⊥ = cc in absurd f;
-  same = λ t m. refl;
-  low = λ t m q n l. absurd (omega arith);
-  in_range = in_range;
-}
-
 pub improving_all : (net : NetLists) (parts : List ℕ) (part : ℕ) (r : Fraction) (values : List (Option ℤ)) (policy ps : List PlaceId) (gs : List ℤ) (cs : List Bool) (n : ℕ) → length net.places ≤ n → Improving net parts part r.time r.tokens (potentials values) (policy_of policy) ps gs cs n
     → IsBetter net parts part r values policy ps cs
 improving_all net parts part r values policy ps gs cs n long h =

@@ -34,12 +34,3 @@ lowest_taken net parts part ps i p h e inside =
           let s : t ≢ u = λ (z : t ≡ u). n p (record { inside = inside; ends = sym z }) in
           get_or-set_other ps u t p first_id s ∙ h.others t n;
     }
-
-pub lowest_kept : (net : NetLists) (parts : List ℕ) (part : ℕ) (ps : List PlaceId) (i : ℕ) (p : PlaceId) → LowestFrom net parts part ps (i + 1) → p.index ≡ i → (IsPlaceOfPart net parts part p → ⊥) → LowestFrom net parts part ps i
-lowest_kept net parts part ps i p h e outside = record {
-  count = h.count;
-  found = λ t q l n.
-      let apart : q.index ≢ i = λ (z : q.index ≡ i). outside (subst (IsPlaceOfPart net parts part) (ap (λ (x : ℕ). let r : PlaceId = record { index = x } in r) (z ∙ sym e)) n.inside) in
-      h.found t q (omega arith) n;
-  others = h.others;
-}

@@ -23,9 +23,6 @@ pub record Walked (net : NetLists) (π : Policy) (start m at : ℕ) (backs : Lis
   pub tokens_is : tokens ≡ tokens_of net (trail net π m start)
   pub not_yet : (j : ℕ) → 0 < j → j ≤ m → step_back net π j start ≢ start
 
-pub walked_none : (net : NetLists) (π : Policy) (start : ℕ) → Walked net π start 0 start [] 0 0
-walked_none net π start = record { places = refl; here = refl; time_is = refl; tokens_is = refl; not_yet = λ j l m. absurd (omega arith) }
-
 module _ (net : NetLists) (π : Policy) (start m at : ℕ) (backs : List PlaceId) (time tokens : ℕ) (h : Walked net π start m at backs time tokens) where
   step_place : π at ≡ π (step_back net π m start)
   step_place = ap π h.here

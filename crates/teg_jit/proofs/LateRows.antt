@@ -27,9 +27,6 @@ use Rattle.teg_jit.proofs.LateWalks.{Reached, reached}
 
 -- ---- the table
 
-pub bare_ranking : (net : NetLists) (ranks : List ℕ) → IsRanking net ranks → IsRanking (without_inputs net) ranks
-bare_ranking net ranks r = record { count = r.count; small = r.small; rises = r.rises }
-
 -- without input lists each input waits for nothing
 pub bare_least : (net : NetLists) (x : ℕ → ℕ → Date) → IsLeastDating (without_inputs net) x → IsLeastUnder net inputs_at_zero x
 bare_least net x h = record {

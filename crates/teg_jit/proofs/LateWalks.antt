@@ -37,9 +37,6 @@ one_each : (net : NetLists) (r : DueRow) → NamesFiring net r → (i : ℕ) (d 
 one_each net r h zero d l = h
 one_each net r h (suc i) d l = absurd (omega arith)
 
-pub one_names : (net : NetLists) (r : DueRow) → NamesFiring net r → NameFirings net (r ∷ [])
-one_names net r h = record { each = λ i d l. one_each net r h i d l; once = λ i j d l m. absurd (omega arith) }
-
 one_most : (r : DueRow) (i : ℕ) (d : DueRow) → i < length (r ∷ []) → (get_or (r ∷ []) i d).number ≤ r.number
 one_most r zero d l = omega arith
 one_most r (suc i) d l = absurd (omega arith)
@@ -139,9 +136,6 @@ tight_is_late net r t k date w at h =
       starts = refl;
       takes = rw (h.from, h.number) (omega (arith, ints, low, high, e.2));
     }
-
-pub date_is_there : (b : LatestDate) (d : ℕ) → date_or_never b ≡ on_date (pos d) → b ≢ Free
-date_is_there b d e = λ f. at_most_is Never (on_date (pos d)) (ap date_or_never (sym f) ∙ e)
 
 -- ---- options and results
 

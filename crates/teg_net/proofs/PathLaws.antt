@@ -35,27 +35,6 @@ pub record IsLeft (net : NetLists) (ps : List PlaceId) (start i at : ℕ) : Type
   pub forth : (b : ℕ) → IsPathBetween net start ps b → IsPathBetween net at (drop i ps) b
   pub back : (b : ℕ) → IsPathBetween net at (drop i ps) b → IsPathBetween net start ps b
 
-pub IsLeft-more :
-    (net : NetLists) (ps : List PlaceId) (start i at : ℕ) (d : PlaceId) → IsLeft net ps start i at → i < length ps
-    → (get_or ps i d).index < length net.places → from_of net (get_or ps i d) ≡ at → IsLeft net ps start (i + 1) (place_at net (get_or ps i d)).to.index
-IsLeft-more net ps start i at d h l r e =
-    let p : PlaceId = get_or ps i d in
-    let cut : drop i ps ≡ p ∷ drop (i + 1) ps = rw add-one (drop-cons ps i d l) in
-    record {
-      forth = λ b w. (let whole : IsPathBetween net at (p ∷ drop (i + 1) ps) b = subst (λ z. IsPathBetween net at z b) cut (h.forth b w) in whole.2);
-      back = λ b w. h.back b (subst (λ z. IsPathBetween net at z b) (sym cut) (r, e, w));
-    }
-
--- a place that is not of the net, or does not begin where the path stands, ends the path
-pub IsLeft-none :
-    (net : NetLists) (ps : List PlaceId) (start i at : ℕ) (d : PlaceId) → IsLeft net ps start i at → i < length ps
-    → ((get_or ps i d).index < length net.places → from_of net (get_or ps i d) ≡ at → ⊥) → (b : ℕ) → IsPathBetween net start ps b → ⊥
-IsLeft-none net ps start i at d h l no_step b w =
-    let p : PlaceId = get_or ps i d in
-    let cut : drop i ps ≡ p ∷ drop (i + 1) ps = rw add-one (drop-cons ps i d l) in
-    let whole : IsPathBetween net at (p ∷ drop (i + 1) ps) b = subst (λ z. IsPathBetween net at z b) cut (h.forth b w) in
-    no_step whole.0 whole.1
-
 pub IsPath-in_range : (net : NetLists) (ps : List PlaceId) → IsPath net ps → AreInRange net ps
 IsPath-in_range net ps (a, b, h) = IsPathBetween-in_range net ps a b h
 

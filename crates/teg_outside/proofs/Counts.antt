@@ -7,24 +7,9 @@ use Rattle.teg_outside.specs.Causes.{Rose, Rested}
 pub rose_not_rested : (before now : ℕ) → Rose before now → Rested before now → ⊥
 rose_not_rested before now rose rested = omega arith
 
--- a count rose or rested
-pub rose_or_rested : (before now : ℕ) → Rose before now ⊎ Rested before now
-rose_or_rested before now =
-    ⊎_elim (λ (more : before < now). inl (inl more))
-    (λ (below : now ≤ before). ⊎_elim (λ (top : now ≡ 2 ^ 64 - 1). inl (inr top)) (λ (beneath : now ≢ 2 ^ 64 - 1). inr (below, beneath)) (cases_eq now (2 ^ 64 - 1)))
-    (cases_lt before now)
-
--- a count that rose first, and did not fall then, rose in all
-pub rose_first : (a b c : ℕ) → a ≤ b → Rose a b → b ≤ c → Rose a c
-rose_first a b c below rose above = grind arith
-
 -- a count that did not fall first, and rose then, rose in all
 pub rose_then : (a b c : ℕ) → a ≤ b → Rose b c → Rose a c
 rose_then a b c below rose = grind arith
-
--- a count that rested in all rested first
-pub rested_first : (a b c : ℕ) → a ≤ b → b ≤ c → Rested a c → Rested a b
-rested_first a b c below above rested = omega arith
 
 -- a count that rested in all rested then
 pub rested_then : (a b c : ℕ) → a ≤ b → Rested a c → Rested b c

@@ -212,11 +212,3 @@ module _ (net : NetLists) (way : Option PlaceId) (ms : List Mark) (st : List ℕ
     mutual_reach = λ u v c e f. h.mutual_reach u v c (done_before u c e) (done_before v c f);
     few = let a = h.few in let long = stack_long in let less = unseen_less ms t (length st) t_marked new in omega arith;
   }
-
--- a transition that was met stays so
-pub entered_seen : (ms : List Mark) (t i : ℕ) → t < length ms → KeepsSeen ms (set ms t (Open i))
-entered_seen ms t i l u n e =
-    ⊎_elim
-    (λ (q : u ≡ t). unseen_not_open (mark_of (set ms t (Open i)) u) i e (ap (mark_of (set ms t (Open i))) q ∙ get_or-set_same ms t (Open i) Unseen l))
-    (λ (q : u ≢ t). n (sym (get_or-set_other ms t u (Open i) Unseen q) ∙ e))
-    (cases_eq u t)

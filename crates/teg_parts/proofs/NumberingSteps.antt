@@ -24,13 +24,6 @@ flag_past n c =
 false_not_true : (b : Bool) → b ≡ false → b ≡ true → ⊥
 false_not_true b e f = cc
 
-flag_in : (flags : List Bool) (c : ℕ) → get_or flags c false ≡ true → c < length flags
-flag_in flags c e =
-    ⊎_elim
-    (λ (l : c < length flags). l)
-    (λ (l : length flags ≤ c). absurd (false_not_true (get_or flags c false) (get_or_past flags c false l) e))
-    (cases_lt c (length flags))
-
 set_flag : (flags : List Bool) (u c : ℕ) → u < length flags → get_or flags c false ≡ true → get_or (set flags u true) c false ≡ true
 set_flag flags u c l e =
     ⊎_elim
@@ -135,19 +128,6 @@ given_none components old component number e = record {
   fewer = λ t l s n. absurd (omega arith);
 }
 
-pub given_skip : (components : List ℕ) (old now : List (Option ℕ)) (component number i : ℕ) → GivenTo components old now component number i → component_at components i ≢ component → GivenTo components old now component number (i + 1)
-given_skip components old now component number i h n =
-    let below = λ (t : ℕ) (l : t < i + 1) (s : component_at components t ≡ component).
-    let r : t < i = ⊎_elim (λ (q : t < i). q) (λ (q : i ≤ t). let e : t ≡ i = omega arith in absurd (n (ap (component_at components) (sym e) ∙ s))) (cases_lt t i) in r in
-    record {
-      count = h.count;
-      given = λ t l s. h.given t (below t l s) s;
-      kept = h.kept;
-      waiting = λ t l. h.waiting t (omega arith);
-      no_more = h.no_more;
-      fewer = λ t l s e. h.fewer t (below t l s) s e;
-    }
-
 pub given_more : (components : List ℕ) (old now : List (Option ℕ)) (component number i : ℕ) → GivenTo components old now component number i → i < length components → component_at components i ≡ component
     → GivenTo components old (set now i (Some number)) component number (i + 1)
 given_more components old now component number i h l e =
@@ -175,13 +155,6 @@ given_more components old now component number i h l e =
           (λ (z : t ≢ i). let f = h.fewer t (omega arith) q n in omega (arith, s))
           (cases_eq t i);
     }
-
-pub given_all : (components : List ℕ) (old now : List (Option ℕ)) (component number i : ℕ) → GivenTo components old now component number i → length components ≤ i → IsGiven components old now component number
-given_all components old now component number i h l = record {
-  given = λ t m e. h.given t (omega arith) e;
-  kept = h.kept;
-  fewer = λ t m e n. h.fewer t (omega arith) e n;
-}
 
 -- ---- the marks of the parts
 pub record MarkedTo (net : NetLists) (part_of : List ℕ) (count : ℕ) (inner : List Bool) (i : ℕ) : Type 0 where

@@ -8,12 +8,6 @@ use Rattle.run_laws.specs.declared.fired.Fired.{Fired}
 use Rattle.run_laws.proofs.Dates.{dates_of_own, dates_of_other}
 use Rattle.teg_replay.specs.Games.{AreColumns}
 
-pub columns_begin : (width : ℕ) → AreColumns [] (replicate width [])
-columns_begin width = record {
-  same = λ t l. get_or-replicate width t [] [] (let e : length (replicate {A = List ℕ} width []) ≡ width = length-replicate width [] in omega (arith, l, e));
-  known = λ i d l. absurd (omega arith);
-}
-
 pub columns_more : (run : List Fired) (columns : List (List ℕ)) (f : Fired) → AreColumns run columns → f.transition.index < length columns
     → AreColumns (run ++ f ∷ []) (set columns f.transition.index (get_or columns f.transition.index [] ++ f.date ∷ []))
 columns_more run columns f h in' =

@@ -59,12 +59,6 @@ pub record PositionsUpTo (net : NetLists) (positions : List (Option ℕ)) (i : �
   pub width : length positions ≡ length net.transitions
   pub each : (t : ℕ) → t < length net.transitions → list_at net.inputs (get_or positions t None) ≡ find (λ l. l.transition.index == t) (take i net.inputs)
 
-pub positions_begin : (net : NetLists) → PositionsUpTo net (replicate (length net.transitions) None) 0
-positions_begin net = record {
-  width = length-replicate {A = Option ℕ} (length net.transitions) None;
-  each = λ t l. rw (get_or-replicate {A = Option ℕ} (length net.transitions) t None None l) refl;
-}
-
 pub positions_more : (net : NetLists) (positions : List (Option ℕ)) (i to : ℕ) → IsNet net → PositionsUpTo net positions i → i < length net.inputs → (get_or net.inputs i no_list).transition.index ≡ to → to < length net.transitions
     → PositionsUpTo net (set positions to (Some i)) (i + 1)
 positions_more net positions i to ok h in' e to_in =
@@ -84,6 +78,3 @@ positions_more net positions i to ok h in' e to_in =
           (h.each t l ∙ sym (find_other (λ x. x.transition.index == t) (take i net.inputs) own test)))
           (cases_eq t to);
     }
-
-pub positions_end : (net : NetLists) (positions : List (Option ℕ)) (i : ℕ) → length net.inputs ≡ i → PositionsUpTo net positions i → (t : ℕ) → t < length net.transitions → list_at net.inputs (get_or positions t None) ≡ list_of net t
-positions_end net positions i end h t l = h.each t l ∙ ap (find (λ x. x.transition.index == t)) (take_all i net.inputs (omega arith))

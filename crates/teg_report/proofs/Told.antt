@@ -16,13 +16,5 @@ latest_told net due y t k (At date Due) h = tt
 latest_told net due y t k (At date (By p)) h = h.0
 latest_told net due y t k (At date Next) h = tt
 
-pub plan_told : (net : NetLists) (due : ℕ → ℕ → Option ℕ) (plan : PlanDates) → IsPlanFor net due plan → IsPlanIn net plan
-plan_told net due plan h = record {
-  width = h.width;
-  each = λ t k l o m.
-      subst (λ (w : ℕ). IsLatestIn net (latest_in w plan.dates t k)) (sym h.width)
-      (latest_told net due (dates_in (length net.transitions) plan.dates) t k (latest_in (length net.transitions) plan.dates t k) (h.onward t k (omega (arith, l, h.width)) o));
-}
-
 pub path_told : (net : NetLists) (walk : Walk) → IsWalk net walk → IsPathIn net walk.start walk.number walk.steps.items
 path_told net walk h = record { inside = h.start_in; walks = h.steps; numbers = h.numbers }

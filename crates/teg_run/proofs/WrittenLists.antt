@@ -61,18 +61,6 @@ cut_up a c text r Failed Failed is h = subst (λ (x : Result (Unit {0}) SinkFaul
 
 -- ---- what is gathered
 
--- nothing is written while less than a piece is gathered
-pub full_none : (a : SinkState) (block : List ℕ) (filled : ℕ) → filled < piece → filled ≤ length block → WritesFull a a block filled (Ok filled)
-full_none a block filled l m = (l, m, ([], writes_none a, refl))
-
--- all of it is written
-pub full_written : (a b : SinkState) (block : List ℕ) (filled : ℕ) → WritesText a b (take filled block) (Ok tt) → WritesFull a b block filled (Ok 0)
-full_written a b block filled h = (omega arith, omega arith, (take filled block, h, append-nil (take filled block)))
-
--- or a fault comes first
-pub full_cut : (a b : SinkState) (block : List ℕ) (filled : ℕ) (e : SinkFault) → WritesText a b (take filled block) (Err e) → WritesFull a b block filled (Err e)
-full_cut a b block filled Failed h = h
-
 cut_of : (a b : SinkState) (block : List ℕ) (filled : ℕ) (e : SinkFault) → WritesFull a b block filled (Err e) → WritesText a b (take filled block) (Err e)
 cut_of a b block filled Failed h = h
 

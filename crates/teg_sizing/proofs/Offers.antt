@@ -22,16 +22,6 @@ one_offer net r e before p u v f g =
     let two = g.is in
     omega (arith, ints)
 
--- before the first place
-pub round_begun : (net : NetLists) (r : Fraction) (e : PlaceId) (before after : List Cell) → AreFresh before after → IsRoundUpTo net r e before 0 after
-round_begun net r e before after f = record {
-  count = f.count;
-  kept = λ t v told. at_least_is (value_at after t) v (f.same t ∙ told);
-  each = λ p v l. absurd (omega arith);
-  same = λ t none. f.same t;
-  by_place = λ t p by. absurd (none_some (by_at after t) p (f.by_none t) by);
-}
-
 -- past a place whose offer is told already, or that has none
 pub round_past : (net : NetLists) (r : Fraction) (e : PlaceId) (before after : List Cell) (k : ℕ) → IsRoundUpTo net r e before k after
     → ((v : ℤ) → IsOffered r e before (record { index = k }) (place_at net (record { index = k })) v → IsAtLeast (value_at after (to_of net (record { index = k }))) v) → IsRoundUpTo net r e before (k + 1) after
@@ -114,9 +104,6 @@ pub record FreshUpTo (before cells : List Cell) (k : ℕ) : Type 0 where
   pub low : k ≤ length before
   pub same : (t : ℕ) → t < k → value_at cells t ≡ value_at before t
   pub by_none : (t : ℕ) → by_at cells t ≡ None
-
-pub fresh_none : (before : List Cell) → FreshUpTo before [] 0
-fresh_none before = record { count = refl; low = omega arith; same = λ t l. absurd (omega arith); by_none = λ t. refl }
 
 pub fresh_more : (before cells : List Cell) (k : ℕ) (cell : Cell) → FreshUpTo before cells k → k < length before → cell ≡ get_or before k cell → FreshUpTo before (cells ++ (record { value = cell.value; by = None } ∷ [])) (k + 1)
 fresh_more before cells k cell h l is =

@@ -147,11 +147,6 @@ rows_back g f a (suc width) count xs d full back =
     ∙ ap (λ (j : ℕ). get_or xs j d) same ∙ sym (get_or-drop count xs (t * count + k) d)))
     ∙ take-append-drop count xs)
 
-pub grid_back : {A L : Type 0} (g : L → A) (f : ℕ → ℕ → L) (width count : ℕ) (xs : List A) (d : A) → length xs ≡ width * count →
-    ((t k : ℕ) → t < width → k < count → g (f t k) ≡ get_or xs (t * count + k) d) → map g (flat_map (λ t. map (f t) (range_with_len 0 count)) (range_with_len 0 width)) ≡ xs
-grid_back g f width count xs d full back = rows_back g f 0 width count xs d full
-    (λ t k l m. let here : t ≡ 0 + t = omega arith in subst (λ (b : ℕ). g (f b k) ≡ get_or xs (t * count + k) d) here (back t k l m))
-
 pub grid_passes : {L : Type 0} (test : L → Bool) (f : ℕ → ℕ → L) (width count : ℕ) → ((t k : ℕ) → t < width → k < count → test (f t k) ≡ true) →
     list_all test (flat_map (λ t. map (f t) (range_with_len 0 count)) (range_with_len 0 width)) ≡ true
 grid_passes test f width count pass =
