@@ -10,7 +10,7 @@ use Rattle.teg_net.specs.declared.entries.InputList.{InputList}
 use Rattle.teg_net.specs.Limits.{greatest_date}
 use Rattle.teg_net.specs.Nets.{NetLists, IsInputOf, lists_of}
 use Rattle.teg_net.specs.Inputs.{rounds_past}
-use Rattle.teg_net.proofs.InputDates.{date_le, list_date-most}
+use Rattle.teg_net.proofs.InputDates.{date_le}
 use Rattle.teg_model.specs.Datings.{as_date}
 use Rattle.teg_settle.proofs.Listing.{dates_climb}
 use Rattle.forever_laws.specs.declared.rows.EndlessRow.{EndlessRow}

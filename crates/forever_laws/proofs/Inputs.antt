@@ -27,7 +27,8 @@ use Rattle.due_laws.specs.LatestDates.{IsDateToDue, IsLatestDate}
 use Rattle.due_laws.proofs.LatestDates.{Dues, kept_below, never_or_not, due_next, feasible_keeps, earlier_by, earlier_delayed}
 use Rattle.forever_laws.specs.Laws.{LatestAtInputsAreLatest, LatestDatesFromZero}
 
-input_in : (net : NetLists) (t : ℕ) → IsInput net t → t < length net.transitions
+-- an input is a transition of the net
+pub input_in : (net : NetLists) (t : ℕ) → IsInput net t → t < length net.transitions
 input_in net t i =
     ⊎_elim
     (λ (l : t < length net.transitions). l)

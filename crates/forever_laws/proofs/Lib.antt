@@ -10,3 +10,4 @@ pub mod Series
 pub mod Residuals
 pub mod FirstRows
 pub mod OneColumn
+pub mod Fitting

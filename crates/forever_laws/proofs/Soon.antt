@@ -92,7 +92,7 @@ setting net ok live x least r row =
 
 -- ---- the bound
 
-product_most : (a b c d : ℕ) → a ≤ c → b ≤ d → a * b ≤ c * d
+pub product_most : (a b c d : ℕ) → a ≤ c → b ≤ d → a * b ≤ c * d
 product_most a b c d l m =
     let one : a * b ≤ c * b = mul-le-mul_right {m = a} {n = c} b l in
     let two : c * b ≤ c * d = mul-le-mul_left {m = b} {n = d} c m in
@@ -158,9 +158,10 @@ have_least net ok live x least r row k due date h =
     ))
     (least_to z (due_number r) k)
 
--- dates of numbers below 10^23 are below 10^35
-pub date_low : (net : NetLists) → IsNet net → IsLive net → (x : ℕ → ℕ → Date) → IsLeastUnder net inputs_at_zero x → (t k date : ℕ) → t < length net.transitions → 1 ≤ k → k < 10 ^ 23 → x t k ≡ At (pos date) → date < 10 ^ 35
-date_low net ok live x least t k date l o few e =
+-- the date of a firing grows with its number
+pub date_within : (net : NetLists) → IsNet net → IsLive net → (x : ℕ → ℕ → Date) → IsLeastUnder net inputs_at_zero x → (t k date : ℕ) → t < length net.transitions → 1 ≤ k → x t k ≡ At (pos date)
+    → date ≤ greatest_date + greatest_hold * (k * 402 + 402)
+date_within net ok live x least t k date l o e =
     let ranks = live_ranks net (net_ends net ok) live in
     let w : AreWithin net inputs_at_zero (λ j. greatest_date) =
     record { grows = λ j m q. omega arith; ready = omega arith; inputs = λ v j q i. (omega (arith, ints), omega (arith, ints)) } in
@@ -170,6 +171,10 @@ date_low net ok live x least t k date l o few e =
     let low = ranks.1.below t in
     let wide : k * suc (suc n) ≤ k * 402 = mul-le-mul_left {m = suc (suc n)} {n = 402} k (omega arith) in
     omega (arith, ints, within.1)
+
+-- dates of numbers below 10^23 are below 10^35
+pub date_low : (net : NetLists) → IsNet net → IsLive net → (x : ℕ → ℕ → Date) → IsLeastUnder net inputs_at_zero x → (t k date : ℕ) → t < length net.transitions → 1 ≤ k → k < 10 ^ 23 → x t k ≡ At (pos date) → date < 10 ^ 35
+date_low net ok live x least t k date l o few e = let within = date_within net ok live x least t k date l o e in omega arith
 
 pub late_is_soon : LateIsSoon
 late_is_soon net ok live x least r row k due date h =

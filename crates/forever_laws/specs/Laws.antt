@@ -2,12 +2,13 @@
 use Rattle.std.specs.Prelude.{ℕ, pos, ◌+◌, ◌*◌, ◌^◌, ◌<◌, ◌≤◌, ◌≡◌, ◌≢◌, ◌⊎◌, ◌↔◌, List, Option, length, All}
 use Rattle.dioid.specs.declared.dates.Date.{Date}
 use Rattle.dioid.specs.declared.dates.Date.TheVariants.{At, Never}
-use Rattle.series_laws.specs.Forms.{value_at}
+use Rattle.series_laws.specs.Forms.{Form, value_at}
+use Rattle.series_form.specs.Bounds.{IsSeries}
 use Rattle.series_ops.specs.declared.gains.Gain.{Gain}
 use Rattle.teg_net.specs.Nets.{NetLists, IsNet, IsInput, without_inputs}
 use Rattle.teg_net.specs.Circuits.{IsLive}
 use Rattle.teg_model.specs.Datings.{IsLeastUnder, IsLeastDating}
-use Rattle.settled_laws.specs.Forms.{SettledForm, StandsFor, row_of, step_of}
+use Rattle.settled_laws.specs.Forms.{SettledForm, StandsFor, row_of, step_of, settled_length}
 use Rattle.teg_settle.specs.Transfers.{IsGreatestWalkTime, IsTransferOf}
 use Rattle.due_laws.specs.Dues.{InputsMeet, AreLatestInputs, inputs_at_zero}
 use Rattle.due_laws.specs.LatestDates.{IsLatestDate}
@@ -16,7 +17,7 @@ use Rattle.forever_laws.specs.declared.rows.EndlessRow.{EndlessRow}
 use Rattle.forever_laws.specs.Rows.{due_on, IsEndlessRow, IsEndlessOf}
 use Rattle.forever_laws.specs.Late.{IsLateAt, NoneLateTo, NoneLate, IsLeastLate, IsFirstLate}
 use Rattle.forever_laws.specs.Searches.{IsTurnOf, turns_to, IsSoonest}
-use Rattle.forever_laws.specs.Columns.{due_date_at, AreColumns, residual_over, IsSeriesList, listed_dates}
+use Rattle.forever_laws.specs.Columns.{due_date_at, AreColumns, residual_over, IsWalkSeries, IsDueSeries, IsSeriesList, listed_dates}
 
 -- ---- late numbers
 
@@ -109,3 +110,15 @@ TransfersAreSeries = (net : NetLists) → IsNet net → (input : ℕ) (f : Settl
 abbrev pub DuesAreSeries : Type 0
 DuesAreSeries = (net : NetLists) (r : EndlessRow) → IsEndlessRow net r
     → IsSeriesList (listed_dates r) r.every (pos r.gap) (λ k d. d ≡ due_date_at r k)
+
+-- ---- series fit
+
+-- the canonical form of due dates has at most 20,000 values, and numbers of a magnitude up to 10^18
+abbrev pub DueSeriesFit : Type 0
+DueSeriesFit = (net : NetLists) (r : EndlessRow) → IsEndlessRow net r → (d : Form) → IsDueSeries r d → IsSeries d
+
+-- so has that of walk times in a live net, where their settled form is of at most 20,000 numbers
+abbrev pub WalkSeriesFit : Type 0
+WalkSeriesFit = (net : NetLists) → IsNet net → IsLive net → (input : ℕ) → IsInput net input
+    → (f : SettledForm) → IsTransferOf net input f → settled_length f ≤ 20000
+    → (t : ℕ) → t < length net.transitions → (h : Form) → IsWalkSeries net input t h → IsSeries h

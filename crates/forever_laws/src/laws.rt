@@ -1,7 +1,7 @@
 //! The laws of endless due dates. Each is a function that does nothing when it runs: its contract is
 //! the law.
 ghost use Rattle.forever_laws.specs.ColumnLaws.{ColumnsAreOne, ColumnsExist, RowsFitAlike, TransfersHaveOneLength};
-ghost use Rattle.forever_laws.specs.Laws.{DuesAreSeries, FreeAtEachNumber, LateExcludesMeet, LateIsSoon, LateNumbersHaveLeast, LatestAtInputsAreLatest, LatestDatesFromZero, MeetOrLate, ResidualsAreFreeOrNumbers, ResidualsAreLatestDates, StepsAreFromZero, TransfersAreSeries, TurnsTellLate, ZeroInputsAreNoLists, ZeroMeetsWhereNoneLate};
+ghost use Rattle.forever_laws.specs.Laws.{DueSeriesFit, DuesAreSeries, FreeAtEachNumber, LateExcludesMeet, LateIsSoon, LateNumbersHaveLeast, LatestAtInputsAreLatest, LatestDatesFromZero, MeetOrLate, ResidualsAreFreeOrNumbers, ResidualsAreLatestDates, StepsAreFromZero, TransfersAreSeries, TurnsTellLate, WalkSeriesFit, ZeroInputsAreNoLists, ZeroMeetsWhereNoneLate};
 
 use teg_settle::walk_times_settle;
 
@@ -88,4 +88,11 @@ pub fn columns_are_one()
     ensures columns { ColumnsAreOne }
     ensures fit { RowsFitAlike }
     ensures length { TransfersHaveOneLength }
+{}
+
+/// Due dates have a series of at most 20,000 values, with numbers of a magnitude up to 10^18; so have
+/// walk times in a live net where their settled form is of at most 20,000 numbers.
+pub fn series_fit()
+    ensures dues { DueSeriesFit }
+    ensures walks { WalkSeriesFit }
 {}

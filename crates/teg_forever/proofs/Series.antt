@@ -1,15 +1,18 @@
 -- Series that are made of lists.
-use Rattle.std.proofs.Common.{ℕ, inl, inr, ◌≡◌, ◌+◌, ◌*◌, ◌<◌, ◌≤◌, List, [], ◌∷◌, ◌++◌, Option, Some, None, Result, Ok, Err, length, get_or, refl, sym, subst, ap, ◌∙◌, arith, ⊎_elim}
+use Rattle.std.proofs.Common.{ℕ, ℤ, ◌⊎◌, inl, inr, ◌≡◌, ◌+◌, ◌*◌, ◌<◌, ◌≤◌, List, [], ◌∷◌, ◌++◌, Option, Some, None, Result, Ok, Err, length, get_or, refl, sym, subst, ap, ◌∙◌, arith, ⊎_elim}
 use Rattle.std.specs.Prelude.{IfOk, slice_get}
 use Rattle.std.proofs.lemmas.Bool.{cases_lt}
 use Rattle.std.proofs.Math.ListN.{get_or-append}
 use Rattle.std.proofs.Math.Seq.{get_or-append_seam}
 use Rattle.std.proofs.lemmas.List.{length-append}
 use Rattle.dioid.specs.declared.dates.Date.{Date}
-use Rattle.series_laws.specs.Forms.{Form, value_at, HasValues}
+use Rattle.dioid.specs.declared.dates.Date.TheVariants.{Early}
+use Rattle.std.specs.Int.RustNames.{unsigned_abs}
+use Rattle.series_laws.specs.Forms.{Form, value_at, HasValues, IsCanonical}
 use Rattle.series_form.specs.declared.forms.SeriesRefused.{SeriesRefused}
-use Rattle.series_form.specs.Bounds.{IsSeries}
-use Rattle.series_form.specs.Answer.{AnswersOf}
+use Rattle.series_form.specs.declared.forms.SeriesRefused.TheVariants.{TooLong, TooGreat, OutOfMemory}
+use Rattle.series_form.specs.Bounds.{IsSmallDate, HasSmallNumbers, IsSeries}
+use Rattle.series_form.specs.Answer.{AnswersOf, IsFirstGreatValue, IsGreatStep}
 use Rattle.series_ops.specs.declared.gains.Gain.{Gain}
 use Rattle.series_ops.specs.Gains.{gain_zero}
 use Rattle.teg_net.specs.Nets.{NetLists}
@@ -21,7 +24,7 @@ use Rattle.std.proofs.lemmas.Option.{slice_get_cases}
 use Rattle.series_laws.proofs.Pigeons.{pigeons}
 use Rattle.dioid_matrix.specs.Tables.{Table, table_of}
 use Rattle.forever_laws.specs.Rows.{IsEndlessOf}
-use Rattle.teg_forever.specs.Columns.{AreGainsTo, AreGainsOf, IsColumnOf}
+use Rattle.teg_forever.specs.Columns.{FitsIfMade, AreGainsTo, AreGainsOf, IsColumnOf}
 
 -- the gain of a series that was made
 made_gain : {E : Type 0} (s : ℕ → Date) (n : ℕ) (made : Result Form SeriesRefused) (result : Result Gain E) (P : Gain → Type 0) → AnswersOf (λ f. HasValues f s) n n made
@@ -37,6 +40,36 @@ pub walk_made : {E : Type 0} (net : NetLists) (u t : ℕ) (f : Form) (n : ℕ) (
     → IfOk result (λ g. made ≡ Ok g.series) → IfOk result (λ g. IsWalkSeries net u t g.series)
 walk_made net u t f n made result each h k =
     made_gain (value_at f) n made result (λ g. IsWalkSeries net u t g.series) h k (λ g s v. record { canonical = s.canonical; times = λ i. subst (IsGreatestWalkTime net u t (i + 1)) (sym (v i)) (each i) })
+
+-- ---- refusals
+
+-- a form with small numbers has no great one
+no_great : (f : Form) (v : ℤ) → HasSmallNumbers f → (IsFirstGreatValue f v ⊎ IsGreatStep f v) → ⊥
+no_great f v h (inl g) =
+    let small : IsSmallDate (get_or f.values g.place Early) = h.values g.place in
+    let low : unsigned_abs v ≤ 1000000000000000000 = rw g.value at small in
+    let high : 1000000000000000000 < unsigned_abs v = g.great in
+    omega arith
+no_great f v h (inr g) =
+    let low : unsigned_abs v ≤ 1000000000000000000 = rw g.value at h.step in
+    let high : 1000000000000000000 < unsigned_abs v = g.great in
+    omega arith
+
+-- a list whose canonical form is a series is refused for want of memory alone
+fits_if_made : (s : ℕ → Date) (n : ℕ) (made : Result Form SeriesRefused) → n ≤ 20000 → ((f : Form) → IsCanonical f → HasValues f s → IsSeries f) → AnswersOf (λ f. HasValues f s) n n made → FitsIfMade made
+fits_if_made s n (Ok f) few fits h = tt
+fits_if_made s n (Err (TooLong need)) few fits h = let long : 20000 < n = h.0 in absurd (omega arith)
+fits_if_made s n (Err (TooGreat v)) few fits h = no_great h.1.form v (fits h.1.form h.1.canonical h.1.values).small h.1.number
+fits_if_made s n (Err OutOfMemory) few fits h = tt
+
+pub due_fits : (r : EndlessRow) (f : Form) (n : ℕ) (made : Result Form SeriesRefused) → n ≤ 20000 → ((d : Form) → IsDueSeries r d → IsSeries d) → ((k : ℕ) → value_at f k ≡ due_date_at r k)
+    → AnswersOf (λ g. HasValues g (value_at f)) n n made → FitsIfMade made
+due_fits r f n made few fits each h = fits_if_made (value_at f) n made few (λ g is v. fits g (record { canonical = is; dates = λ k. v k ∙ each k })) h
+
+pub walk_fits : (net : NetLists) (u t : ℕ) (f : Form) (n : ℕ) (made : Result Form SeriesRefused) → n ≤ 20000 → ((h : Form) → IsWalkSeries net u t h → IsSeries h) → ((k : ℕ) → IsGreatestWalkTime net u t (k + 1) (value_at f k))
+    → AnswersOf (λ g. HasValues g (value_at f)) n n made → FitsIfMade made
+walk_fits net u t f n made few fits each h =
+    fits_if_made (value_at f) n made few (λ g is v. fits g (record { canonical = is; times = λ k. subst (IsGreatestWalkTime net u t (k + 1)) (sym (v k)) (each k) })) h
 
 -- ---- columns
 

@@ -1,5 +1,5 @@
 -- Working definitions of the columns of series of an input and of the due rows, and of what is answered of one input.
-use Rattle.std.specs.Prelude.{ℕ, ◌≡◌, ◌≢◌, ◌<◌, ◌≤◌, List, [], Option, Some, None, length, get_or, slice_get, ⊤}
+use Rattle.std.specs.Prelude.{ℕ, ◌≡◌, ◌≢◌, ◌<◌, ◌≤◌, List, [], Option, Some, None, Result, Ok, Err, length, get_or, slice_get, ⊤}
 use Rattle.dioid_matrix.specs.Residuals.{RowFits}
 use Rattle.dioid_matrix.specs.Tables.{Table, StopsAt, entry_of}
 use Rattle.dioid.specs.declared.dates.Date.TheVariants.{Never}
@@ -7,6 +7,8 @@ use Rattle.dioid_matrix.specs.declared.refusals.MatrixRefused.{MatrixRefused}
 use Rattle.dioid_matrix.specs.declared.refusals.MatrixRefused.TheVariants.{Count, Shape, Range, OutOfMemory as NoRoom}
 use Rattle.series_laws.specs.Forms.{Form, value_at}
 use Rattle.series_form.specs.Bounds.{IsSeries}
+use Rattle.series_form.specs.declared.forms.SeriesRefused.{SeriesRefused}
+use Rattle.series_form.specs.declared.forms.SeriesRefused.TheVariants.{TooLong, TooGreat, OutOfMemory as NoSpace}
 use Rattle.series_ops.specs.declared.gains.Gain.{Gain}
 use Rattle.series_ops.specs.Gains.{gain_zero}
 use Rattle.periodic_laws.specs.Equations.{gains}
@@ -18,8 +20,15 @@ use Rattle.forever_laws.specs.Columns.{AreColumns, IsWalkSeries, IsDueSeries, ga
 use Rattle.teg_forever.specs.declared.releases.Release.{Release}
 use Rattle.teg_forever.specs.declared.releases.Release.TheVariants.{Free, Latest}
 use Rattle.teg_forever.specs.declared.releases.ForeverRefusal.{ForeverRefusal}
-use Rattle.teg_forever.specs.declared.releases.ForeverRefusal.TheVariants.{Late, TooLong, TooWide, OutOfMemory}
+use Rattle.teg_forever.specs.declared.releases.ForeverRefusal.TheVariants.{Late, TooLong as FormTooLong, TooWide, OutOfMemory}
 use Rattle.teg_forever.specs.Releases.{SettlesWithin, IsFine, IsReleaseOf, AreBeside, inputs_below, longest_form}
+
+-- a series was made, or no memory was found
+abbrev pub FitsIfMade : Result Form SeriesRefused → Type 0
+FitsIfMade (Ok series) = ⊤
+FitsIfMade (Err (TooLong need)) = ⊥
+FitsIfMade (Err (TooGreat number)) = ⊥
+FitsIfMade (Err NoSpace) = ⊤
 
 -- a column of gains, one for each row
 pub record IsColumnOf (rows : List EndlessRow) (is : EndlessRow → Gain → Type 0) (m : Table Gain) : Type 0 where
@@ -64,7 +73,7 @@ pub record StopsAtRow (net : NetLists) (rows : List EndlessRow) (u row : ℕ) : 
 -- why there is no release of the input
 abbrev pub IsStopped : NetLists → List EndlessRow → TransitionId → ForeverRefusal → Type 0
 IsStopped net rows u (Late t k due least) = ⊥
-IsStopped net rows u (TooLong v) = (v ≡ u) × TransferSettlesPast net u.index longest_form
+IsStopped net rows u (FormTooLong v) = (v ≡ u) × TransferSettlesPast net u.index longest_form
 IsStopped net rows u (TooWide v row) = (v ≡ u) × StopsAtRow net rows u.index row
 IsStopped net rows u OutOfMemory = ⊤
 

@@ -49,10 +49,7 @@ fn keep_rows(net: &Net, settled: &Settled, rows: &[EndlessRow]) -> Result<(), Fo
     ensures late { IfErr result (ForeverRefused net.now rows.now) }
 {
     for row in rows {
-        let Ok(late) = late_in_row(net, settled, row) else {
-            return Err(ForeverRefusal::OutOfMemory);
-        };
-        if let Some(late) = late {
+        if let Some(late) = late_in_row(net, settled, row)? {
             return Err(ForeverRefusal::Late {
                 transition: row.transition,
                 number: late.number,
@@ -79,9 +76,7 @@ fn keep_dues(
     ensures late { IfErr result (ForeverRefused net.now rows.now) }
 {
     zero_meets_where_none_late();
-    let Ok(settled) = settled_at_zero(alloc, net, live) else {
-        return Err(ForeverRefusal::OutOfMemory);
-    };
+    let settled = settled_at_zero(alloc, net, live)?;
     keep_rows(net, &settled, rows)
 }
 
@@ -111,8 +106,6 @@ pub fn forever(
     net.transitions();
     ranked_nets_are_live();
     latest_at_inputs_are_latest();
-    if let Err(why) = keep_dues(alloc, net, live, rows) {
-        return Err(why);
-    }
+    keep_dues(alloc, net, live, rows)?;
     releases_of(alloc, net, live, rows)
 }

@@ -1,17 +1,18 @@
 //! The series of walk times from an input and of due dates, a column of each over the rows.
 ghost use Rattle.std.specs.Prelude.{◌≡◌, ◌<◌, ◌≤◌, Ok, length, map, pos, IfOk};
 ghost use Rattle.dioid.specs.declared.dates.Date.TheVariants.{At};
-ghost use Rattle.teg_net.specs.Nets.{IsNet};
+ghost use Rattle.teg_net.specs.Circuits.{IsLive};
+ghost use Rattle.teg_net.specs.Nets.{IsInput, IsNet};
 ghost use Rattle.settled_laws.specs.Forms.{settled_length};
 ghost use Rattle.teg_settle.specs.Transfers.{IsTransferOf};
 ghost use Rattle.forever_laws.specs.Columns.{IsDueSeries, IsWalkSeries};
 ghost use Rattle.forever_laws.specs.Rows.{IsEndlessOf, IsEndlessRow};
-ghost use Rattle.teg_forever.specs.Columns.{AreGainsOf, IsDueColumn, IsWalkColumn};
+ghost use Rattle.teg_forever.specs.Columns.{AreGainsOf, FitsIfMade, IsDueColumn, IsWalkColumn};
 ghost use Rattle.teg_forever.specs.Releases.{longest_form};
 
 use dioid::Date;
 use dioid_matrix::Matrix;
-use forever_laws::{EndlessRow, forms_are_series};
+use forever_laws::{EndlessRow, forms_are_series, series_fit};
 use series_form::{Series, SeriesRefused};
 use series_ops::Gain;
 use std::alloc::{AllocError, Global};
@@ -28,14 +29,15 @@ fn listed(alloc: Global, dates: &[u64]) -> Result<Vec<Date>, AllocError>
         .collect(alloc)
 }
 
-// The gain of a series that was made. The lists here are of at most 20,000 numbers up to 10^16, so
-// that no other refusal than want of memory comes.
+// The gain of a series that fits.
 fn gain_of(made: Result<Series, SeriesRefused>) -> Result<Gain, OutOfMemory>
+    requires { FitsIfMade made }
     ensures { IfOk result (λ gain. made ≡ Ok gain.series) }
 {
     match made {
         Ok(series) => Ok(Gain { series }),
-        Err(_) => Err(OutOfMemory),
+        Err(SeriesRefused::OutOfMemory) => Err(OutOfMemory),
+        Err(_) => unreachable!(),
     }
 }
 
@@ -45,6 +47,7 @@ fn due_gain(alloc: Global, net: &Net, row: &EndlessRow) -> Result<Gain, OutOfMem
     ensures { IfOk result (λ gain. IsDueSeries row.now gain.series) }
 {
     forms_are_series();
+    series_fit();
     let list = listed(alloc, row.dates.as_slice())?;
     gain_of(Series::from_list(alloc, list.as_slice(), row.every as usize, row.gap as i128))
 }
@@ -58,12 +61,15 @@ fn walk_gain(
     transition: TransitionId,
 ) -> Result<Gain, OutOfMemory>
     requires rules { IsNet net.now }
+    requires live { IsLive net.now }
+    requires input { IsInput net.now input.index }
     requires transfer { IsTransferOf net.now input.index settled.now }
     requires short { settled_length settled.now ≤ longest_form }
     requires transition { transition.index < length net.now.transitions }
     ensures { IfOk result (λ gain. IsWalkSeries net.now input.index transition.index gain.series) }
 {
     forms_are_series();
+    series_fit();
     gain_of(Series::from_list(
         alloc,
         settled.row(transition),
@@ -95,6 +101,8 @@ fn walk_gains(
     rows: &[EndlessRow],
 ) -> Result<Vec<Gain>, OutOfMemory>
     requires rules { IsNet net.now }
+    requires live { IsLive net.now }
+    requires input { IsInput net.now input.index }
     requires transfer { IsTransferOf net.now input.index settled.now }
     requires short { settled_length settled.now ≤ longest_form }
     requires rows { IsEndlessOf net.now rows.now }
@@ -123,7 +131,7 @@ pub(crate) fn due_column(
 {
     match Matrix::new(rows.len(), 1, due_gains(alloc, net, rows)?) {
         Ok(column) => Ok(column),
-        Err(_) => Err(OutOfMemory),
+        Err(_) => unreachable!(),
     }
 }
 
@@ -136,6 +144,8 @@ pub(crate) fn walk_column(
     rows: &[EndlessRow],
 ) -> Result<Matrix<Gain>, OutOfMemory>
     requires rules { IsNet net.now }
+    requires live { IsLive net.now }
+    requires input { IsInput net.now input.index }
     requires transfer { IsTransferOf net.now input.index settled.now }
     requires short { settled_length settled.now ≤ longest_form }
     requires rows { IsEndlessOf net.now rows.now }
@@ -144,6 +154,6 @@ pub(crate) fn walk_column(
 {
     match Matrix::new(rows.len(), 1, walk_gains(alloc, net, settled, input, rows)?) {
         Ok(column) => Ok(column),
-        Err(_) => Err(OutOfMemory),
+        Err(_) => unreachable!(),
     }
 }

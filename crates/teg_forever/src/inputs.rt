@@ -55,10 +55,8 @@ fn release_by(alloc: Global, latest: &Series) -> Result<Release, ForeverRefusal>
     if latest.at(0) == Date::Never {
         return Ok(Release::Free);
     }
-    match latest.duplicate(alloc) {
-        Ok(series) => Ok(Release::Latest { series }),
-        Err(_) => Err(ForeverRefusal::OutOfMemory),
-    }
+    let series = latest.duplicate(alloc)?;
+    Ok(Release::Latest { series })
 }
 
 // The release of an input whose walk times settle, by the column of the due series.
@@ -84,9 +82,7 @@ fn release_over(
     ensures stopped { IfErr result (IsStopped net.now rows.now input) }
 {
     residuals_are_latest_dates();
-    let Ok(walks) = walk_column(alloc, net, settled, input, rows) else {
-        return Err(ForeverRefusal::OutOfMemory);
-    };
+    let walks = walk_column(alloc, net, settled, input, rows)?;
     match walks.left_residual(alloc, dues) {
         Ok(residual) => release_by(alloc, &residual.entry(0, 0).series),
         Err(why) => match row_at(rows, step_in(why)) {
@@ -167,10 +163,7 @@ fn add_release(
     if !is_input(net, input) {
         return Ok(());
     }
-    let release = match release_of(alloc, net, live, input, rows, dues) {
-        Ok(release) => release,
-        Err(why) => return Err(why),
-    };
+    let release = release_of(alloc, net, live, input, rows, dues)?;
     if releases.push(release).is_err() {
         return Err(ForeverRefusal::OutOfMemory);
     }
@@ -217,8 +210,6 @@ pub(crate) fn releases_of(
     ensures releases { IfOk result (λ releases. AreReleasesBelow net.now rows.now (length net.now.transitions) releases.items) }
     ensures stopped { IfErr result (ForeverRefused net.now rows.now) }
 {
-    match dues_of(alloc, net, rows) {
-        Ok(dues) => releases_by(alloc, net, live, rows, &dues),
-        Err(_) => Err(ForeverRefusal::OutOfMemory),
-    }
+    let dues = dues_of(alloc, net, rows)?;
+    releases_by(alloc, net, live, rows, &dues)
 }

@@ -1,5 +1,5 @@
 //! Files of due dates without end.
-ghost use Rattle.std.specs.Prelude.{◌≡◌, ◌≢◌, ◌≤◌, ◌∷◌, [], Ok, Err, true, false, length, IfOk, IfErr, OnOk};
+ghost use Rattle.std.specs.Prelude.{◌≡◌, ◌≢◌, ◌≤◌, Ok, Err, true, false, length, IfOk, IfErr, OnOk};
 ghost use Rattle.csv.specs.Records.{fields_of};
 ghost use Rattle.csv_records.specs.Records.{most_file_bytes};
 ghost use Rattle.csv_records.specs.Rows.{one_more};
@@ -57,10 +57,7 @@ fn numbered_row(
     if has_row(rows, transition) {
         return Err(EndlessRefusal::RepeatedDue { row });
     }
-    let Ok(numbers) = limited_numbers(alloc, record) else {
-        return Err(EndlessRefusal::OutOfMemory);
-    };
-    let Some(numbers) = numbers else {
+    let Some(numbers) = limited_numbers(alloc, record)? else {
         return Err(EndlessRefusal::OutOfRange { row });
     };
     if !goes_on(numbers.every, numbers.gap, numbers.dates.as_slice()) {
@@ -141,28 +138,14 @@ pub fn read_endless(
     ensures refused { IfErr result (λ e. e ≢ EndlessRefusal.OutOfMemory → endless_of net.now bytes.now ≡ Err e) }
     ensures rules { IfOk result (λ rows. IsEndlessOf net.now rows.items) }
 {
-    let Ok(names) = NameOrder::new(alloc, net) else {
-        return Err(EndlessRefusal::OutOfMemory);
-    };
+    let names = NameOrder::new(alloc, net)?;
     let mut rows = Vec::new(alloc);
     let mut records = Records::new(alloc, bytes);
     let mut record = ByteRecord::new(alloc);
     let mut row: u32 = 0;
-    while read_next(&mut records, &mut record)? {
+    while records.read(&mut record)? {
         row += 1;
         add_record(alloc, net, &names, &mut rows, row, &record)?;
     }
     Ok(rows)
-}
-
-// Reads the next record, if there is one.
-fn read_next(records: &mut Records<'_>, row: &mut ByteRecord) -> Result<bool, EndlessRefusal>
-    ensures found { IfOk result (λ found. found ≡ true → records.old ≡ fields_of row.new ∷ records.new) }
-    ensures ended { IfOk result (λ found. found ≡ false → records.old ≡ []) }
-    ensures memory { IfErr result (λ e. e ≡ EndlessRefusal.OutOfMemory) }
-{
-    match records.read(row) {
-        Ok(found) => Ok(found),
-        Err(_) => Err(EndlessRefusal::OutOfMemory),
-    }
 }

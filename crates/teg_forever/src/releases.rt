@@ -1,6 +1,10 @@
 //! What is answered of endless due dates.
+ghost use Rattle.std.specs.Prelude.{◌≡◌};
+ghost use Rattle.teg_forever.specs.declared.releases.ForeverRefusal.TheVariants.{OutOfMemory};
+
 use series_form::Series;
-use teg_net::TransitionId;
+use std::alloc::AllocError;
+use teg_net::{OutOfMemory, TransitionId};
 
 /// When an input is released at the latest.
 #[derive(Drop)]
@@ -36,4 +40,20 @@ pub enum ForeverRefusal {
     },
     /// No memory was found.
     OutOfMemory,
+}
+
+impl From<AllocError> for ForeverRefusal {
+    ghost from_gives = { λ _ e. e ≡ OutOfMemory };
+
+    fn from(_error: AllocError) -> ForeverRefusal {
+        ForeverRefusal::OutOfMemory
+    }
+}
+
+impl From<OutOfMemory> for ForeverRefusal {
+    ghost from_gives = { λ _ e. e ≡ OutOfMemory };
+
+    fn from(_error: OutOfMemory) -> ForeverRefusal {
+        ForeverRefusal::OutOfMemory
+    }
 }

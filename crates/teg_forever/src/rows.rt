@@ -1,4 +1,8 @@
 //! The faults of a file of due dates without end.
+ghost use Rattle.std.specs.Prelude.{◌≡◌};
+ghost use Rattle.teg_forever.specs.declared.rows.EndlessRefusal.TheVariants.{OutOfMemory};
+
+use teg_net::OutOfMemory;
 
 /// Why a file has no endless due dates: its first faulty row, and the first of its faults in this
 /// order.
@@ -20,4 +24,20 @@ pub enum EndlessRefusal {
     Falls { row: u32 },
     /// No memory was found.
     OutOfMemory,
+}
+
+impl From<OutOfMemory> for EndlessRefusal {
+    ghost from_gives = { λ _ e. e ≡ OutOfMemory };
+
+    fn from(_error: OutOfMemory) -> EndlessRefusal {
+        EndlessRefusal::OutOfMemory
+    }
+}
+
+impl From<csv_records::OutOfMemory> for EndlessRefusal {
+    ghost from_gives = { λ _ e. e ≡ OutOfMemory };
+
+    fn from(_error: csv_records::OutOfMemory) -> EndlessRefusal {
+        EndlessRefusal::OutOfMemory
+    }
 }

@@ -14,14 +14,14 @@ use Rattle.teg_forever.proofs.answers.keep_rows.Goals as goal
 pub returns-in-Some-clause-late : goal.returns-in-Some-clause-late
 returns-in-Some-clause-late c =
     let late : IsSoonLate c.args.settled.now c.row-item.result c.in-Some.late.number c.in-Some.late.due c.in-Some.late.least =
-    subst (λ (o : Option LateFiring). IfSome o (λ l. IsSoonLate c.args.settled.now c.row-item.result l.number l.due l.least)) c.in-Some.is c.in-Ok.ensures.some in
+    subst (λ (o : Option LateFiring). IfSome o (λ l. IsSoonLate c.args.settled.now c.row-item.result l.number l.due l.least)) c.in-Some.is c.in_ok-late.ensures.some in
     late_answer c.args.net.now c.requires.rules c.requires.live c.args.settled.now c.requires.form c.args.rows.now c.requires.rows c.loop-row.row-index c.row-item.result
     (got c.args.rows.now c.loop-row.row-index c.row-item.result c.loop-row-test.true c.row-item.is) c.loop-row.invariant c.in-Some.late.number c.in-Some.late.due c.in-Some.late.least late
 
 pub loop-row-preserved : goal.loop-row-preserved
 loop-row-preserved c =
     all_items (NoneLate (date_of c.args.settled.now)) c.args.rows.now c.args.rows.now c.loop-row.row-index c.row-item.result refl c.loop-row-test.true
-    (subst (NoneLate (date_of c.args.settled.now)) c.row-item.is (none_of c.in-Ok.late _ c.in_default-late.not-Some c.in-Ok.ensures.none)) c.loop-row.invariant
+    (subst (NoneLate (date_of c.args.settled.now)) c.row-item.is (none_of _ _ c.in_default.not-Some c.in_ok-late.ensures.none)) c.loop-row.invariant
 
 pub returns-clause-kept : goal.returns-clause-kept
 returns-clause-kept c =

@@ -6,5 +6,5 @@ use Rattle.teg_forever.proofs.columns.due_column.Goals as goal
 pub new-requires-clause-few_rows : goal.new-requires-clause-few_rows
 new-requires-clause-few_rows c = omega (arith, few_rows c.args.net.now c.args.rows.now c.requires.rows, c.requires.rules.few_transitions)
 
-pub returns-in-Ok : goal.returns-in-Ok
-returns-in-Ok c = column_made c.args.rows.now (λ r g. IsDueSeries r g.series) c.in_ok-due_gains.field-0.items c.in-Ok.column c.in-Ok.ensures.answer.0 c.in_ok-due_gains.ensures
+pub returns : goal.returns
+returns c = column_made c.args.rows.now (λ r g. IsDueSeries r g.series) c.in_ok-due_gains.field-0.items c.in-Ok.column c.in-Ok.ensures.answer.0 c.in_ok-due_gains.ensures
