@@ -97,14 +97,12 @@ fn nested(mut outer: Vec<Bracket>, inner: Bracket, call: Call) -> Result<Reader,
     if outer.len() >= 64 {
         return Err(Stop::TooDeep);
     }
-    match outer.push(inner) {
-        Ok(()) => Ok(Reader {
-            outer,
-            inner: opened(call),
-            place: Place::Operand,
-        }),
-        Err(_) => Err(Stop::OutOfMemory),
-    }
+    outer.push(inner)?;
+    Ok(Reader {
+        outer,
+        inner: opened(call),
+        place: Place::Operand,
+    })
 }
 
 /// One byte more, where an operand begins.

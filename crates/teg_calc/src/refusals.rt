@@ -1,5 +1,8 @@
 //! Why a text has no tree.
-use std::alloc::AllocError;
+ghost use Rattle.std.specs.Prelude.{◌≡◌};
+ghost use Rattle.teg_calc.specs.declared.refusals.Stop.TheVariants.{OutOfMemory};
+
+use std::alloc::{AllocError, AllocFailed};
 use thiserror::Error;
 
 /// Why there is no tree to answer. Offsets count the bytes of the text from 0.
@@ -26,10 +29,15 @@ pub(crate) enum Stop {
     OutOfMemory,
 }
 
-impl From<AllocError> for Stop {
-    ghost use Rattle.std.specs.Prelude.{◌≡◌};
-    ghost use Rattle.teg_calc.specs.declared.refusals.Stop.TheVariants.{OutOfMemory};
+impl<T: Drop> From<AllocFailed<T>> for Stop {
+    ghost from_gives = { λ _ e. e ≡ OutOfMemory };
 
+    fn from(_error: AllocFailed<T>) -> Stop {
+        Stop::OutOfMemory
+    }
+}
+
+impl From<AllocError> for Stop {
     ghost from_gives = { λ _ e. e ≡ OutOfMemory };
 
     fn from(_error: AllocError) -> Stop {

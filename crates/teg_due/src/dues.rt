@@ -1,5 +1,5 @@
 //! Due files: dates by which firings are due.
-ghost use Rattle.std.specs.Prelude.{◌≡◌, ◌≢◌, ◌≤◌, ◌<◌, ◌+◌, ◌∷◌, [], Ok, Err, All, true, false, length, IfOk, IfErr, OnOk};
+ghost use Rattle.std.specs.Prelude.{◌≡◌, ◌≢◌, ◌≤◌, ◌<◌, ◌+◌, Ok, Err, All, true, false, length, IfOk, IfErr, OnOk};
 ghost use Rattle.csv.specs.Records.{fields_of};
 ghost use Rattle.std.specs.Str.Parse.{digits_value};
 ghost use Rattle.csv_records.specs.Numbers.{is_number};
@@ -113,9 +113,7 @@ fn add_record(
         return Ok(());
     }
     let due = read_row(net, names, gathered, row, record)?;
-    if gathered.add(due).is_err() {
-        return Err(DueRefusal::OutOfMemory);
-    }
+    gathered.add(due)?;
     Ok(())
 }
 
@@ -131,32 +129,16 @@ pub fn read_due(alloc: Global, net: &Net, bytes: &[u8]) -> Result<Due, DueRefusa
     ensures rules { IfOk result (λ due. IsDueOf net.now due.rows.items) }
     ensures few { IfOk result (λ due. length due.rows.items ≤ length bytes.now) }
 {
-    let Ok(names) = NameOrder::new(alloc, net) else {
-        return Err(DueRefusal::OutOfMemory);
-    };
-    let Ok(mut gathered) = Gathered::new(alloc, net.transitions().len()) else {
-        return Err(DueRefusal::OutOfMemory);
-    };
+    let names = NameOrder::new(alloc, net)?;
+    let mut gathered = Gathered::new(alloc, net.transitions().len())?;
     let mut records = Records::new(alloc, bytes);
     let mut record = ByteRecord::new(alloc);
     let mut row: u32 = 0;
-    while read_next(&mut records, &mut record)? {
+    while records.read(&mut record)? {
         row += 1;
         add_record(net, &names, &mut gathered, row, &record)?;
     }
     Ok(Due {
         rows: gathered.into_rows(),
     })
-}
-
-// Reads the next record, if there is one.
-fn read_next(records: &mut Records<'_>, row: &mut ByteRecord) -> Result<bool, DueRefusal>
-    ensures found { IfOk result (λ found. found ≡ true → records.old ≡ fields_of row.new ∷ records.new) }
-    ensures ended { IfOk result (λ found. found ≡ false → records.old ≡ []) }
-    ensures memory { IfErr result (λ e. e ≡ DueRefusal.OutOfMemory) }
-{
-    match records.read(row) {
-        Ok(found) => Ok(found),
-        Err(_) => Err(DueRefusal::OutOfMemory),
-    }
 }

@@ -39,9 +39,7 @@ impl Gathered {
         requires { width ≤ most_transitions }
         ensures { IfOk result (λ g. g ≡ record { width = width; rows = [] }) }
     {
-        let Ok(seen) = vec![in alloc; false; width * CELLS] else {
-            return Err(OutOfMemory);
-        };
+        let seen = vec![in alloc; false; width * CELLS]?;
         Ok(Gathered {
             width,
             rows: Vec::new(alloc),

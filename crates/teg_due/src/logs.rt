@@ -1,5 +1,5 @@
 //! Logs: recorded runs.
-ghost use Rattle.std.specs.Prelude.{◌≡◌, ◌≢◌, ◌≤◌, ◌+◌, ◌∷◌, [], Ok, Err, true, false, length, IfOk, IfErr, OnOk};
+ghost use Rattle.std.specs.Prelude.{◌≡◌, ◌≢◌, ◌≤◌, ◌+◌, [], Ok, Err, false, length, IfOk, IfErr, OnOk};
 ghost use Rattle.csv.specs.Records.{fields_of};
 ghost use Rattle.csv_records.specs.Records.{most_file_bytes};
 ghost use Rattle.csv_records.specs.Rows.{one_more};
@@ -81,18 +81,6 @@ fn add_record(
     Ok(())
 }
 
-// Reads the next record, if there is one.
-fn read_next(records: &mut Records<'_>, row: &mut ByteRecord) -> Result<bool, LogRefusal>
-    ensures found { IfOk result (λ found. found ≡ true → records.old ≡ fields_of row.new ∷ records.new) }
-    ensures ended { IfOk result (λ found. found ≡ false → records.old ≡ []) }
-    ensures memory { IfErr result (λ e. e ≡ LogRefusal.OutOfMemory) }
-{
-    match records.read(row) {
-        Ok(found) => Ok(found),
-        Err(_) => Err(LogRefusal::OutOfMemory),
-    }
-}
-
 /// The rows of a log of at most 4,194,304 bytes, in order (rules of logs), or its first faulty row
 /// with the first of its faults in the order of [`LogRefusal`]: a record that has not two fields or
 /// whose second is no number; a name of no transition; a date above 10^18. A first record
@@ -104,14 +92,12 @@ pub fn read_log(alloc: Global, net: &Net, bytes: &[u8]) -> Result<Vec<LogRow>, L
     ensures rules { IfOk result (λ rows. IsLogOf net.now rows.items) }
     ensures few { IfOk result (λ rows. length rows.items ≤ length bytes.now) }
 {
-    let Ok(names) = NameOrder::new(alloc, net) else {
-        return Err(LogRefusal::OutOfMemory);
-    };
+    let names = NameOrder::new(alloc, net)?;
     let mut rows = Vec::new(alloc);
     let mut records = Records::new(alloc, bytes);
     let mut record = ByteRecord::new(alloc);
     let mut row: u32 = 0;
-    while read_next(&mut records, &mut record)? {
+    while records.read(&mut record)? {
         row += 1;
         add_record(net, &names, &mut rows, row, &record)?;
     }

@@ -1,5 +1,9 @@
 //! The rows of due files and logs, and their faults.
-use teg_net::TransitionId;
+ghost use Rattle.std.specs.Prelude.{◌≡◌};
+ghost use Rattle.teg_due.specs.declared.rows.DueRefusal.TheVariants.{OutOfMemory as NoDueMemory};
+ghost use Rattle.teg_due.specs.declared.rows.LogRefusal.TheVariants.{OutOfMemory as NoLogMemory};
+
+use teg_net::{OutOfMemory, TransitionId};
 
 /// A date by which a firing is due.
 #[derive(Clone, Copy, Debug, PartialEq, Eq)]
@@ -58,4 +62,36 @@ pub enum LogRefusal {
     OutOfRange { row: u32 },
     /// No memory was found.
     OutOfMemory,
+}
+
+impl From<OutOfMemory> for DueRefusal {
+    ghost from_gives = { λ _ e. e ≡ NoDueMemory };
+
+    fn from(_error: OutOfMemory) -> DueRefusal {
+        DueRefusal::OutOfMemory
+    }
+}
+
+impl From<csv_records::OutOfMemory> for DueRefusal {
+    ghost from_gives = { λ _ e. e ≡ NoDueMemory };
+
+    fn from(_error: csv_records::OutOfMemory) -> DueRefusal {
+        DueRefusal::OutOfMemory
+    }
+}
+
+impl From<OutOfMemory> for LogRefusal {
+    ghost from_gives = { λ _ e. e ≡ NoLogMemory };
+
+    fn from(_error: OutOfMemory) -> LogRefusal {
+        LogRefusal::OutOfMemory
+    }
+}
+
+impl From<csv_records::OutOfMemory> for LogRefusal {
+    ghost from_gives = { λ _ e. e ≡ NoLogMemory };
+
+    fn from(_error: csv_records::OutOfMemory) -> LogRefusal {
+        LogRefusal::OutOfMemory
+    }
 }

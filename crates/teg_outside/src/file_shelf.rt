@@ -54,9 +54,7 @@ fn read_up_to<F: Read>(alloc: Global, file: &mut F, limit: usize) -> Result<Vec<
         if count > limit - bytes.len() {
             return Err(ShelfFault::TooLarge);
         }
-        if bytes.extend_from_slice(&piece[..count]).is_err() {
-            return Err(ShelfFault::OutOfMemory);
-        }
+        bytes.extend_from_slice(&piece[..count])?;
     }
 }
 
@@ -116,6 +114,7 @@ mod tests {
             let answer = read_from(&mut shelf, rt.alloc(), name, limit).err();
             assert_eq!(rt; answer, Some(fault), "of {name} up to {limit}");
         }
+        fs::remove_file(&rt, "long")?;
         Ok(())
     }
 }

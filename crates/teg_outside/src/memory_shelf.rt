@@ -85,12 +85,8 @@ impl Shelf for MemoryShelf {
         ensures rule { MemoryReads self.old self.new name.now limit (replied result) }
     {
         self.calls = self.calls.saturating_add(1);
-        let Ok(asked) = String::from_str(alloc, name) else {
-            return Err(ShelfFault::OutOfMemory);
-        };
-        if self.reads.push((asked, limit)).is_err() {
-            return Err(ShelfFault::OutOfMemory);
-        }
+        let asked = String::from_str(alloc, name)?;
+        self.reads.push((asked, limit))?;
         if self.failing.contains(&self.calls) {
             self.faults = self.faults.saturating_add(1);
             return Err(ShelfFault::Failed);
@@ -103,10 +99,7 @@ impl Shelf for MemoryShelf {
             self.overlong = self.overlong.saturating_add(1);
             return Err(ShelfFault::TooLarge);
         }
-        match file.to_vec(alloc) {
-            Ok(bytes) => Ok(bytes),
-            Err(_) => Err(ShelfFault::OutOfMemory),
-        }
+        Ok(file.to_vec(alloc)?)
     }
 }
 

@@ -1,8 +1,9 @@
 //! A shelf of files.
 ghost use Rattle.std.specs.Prelude.{◌≡◌, ◌≤◌};
+ghost use Rattle.teg_outside.specs.declared.shelf.ShelfFault.TheVariants.{OutOfMemory};
 ghost use Rattle.teg_outside.specs.Shelves.{ShelfState, ReadAnswers, replied};
 
-use std::alloc::Global;
+use std::alloc::{AllocError, AllocFailed, Global};
 
 /// Why a read gave no file.
 #[derive(Clone, Copy, Debug, PartialEq, Eq)]
@@ -13,6 +14,22 @@ pub enum ShelfFault {
     TooLarge,
     /// No memory was found.
     OutOfMemory,
+}
+
+impl<T: Drop> From<AllocFailed<T>> for ShelfFault {
+    ghost from_gives = { λ _ e. e ≡ OutOfMemory };
+
+    fn from(_error: AllocFailed<T>) -> ShelfFault {
+        ShelfFault::OutOfMemory
+    }
+}
+
+impl From<AllocError> for ShelfFault {
+    ghost from_gives = { λ _ e. e ≡ OutOfMemory };
+
+    fn from(_error: AllocError) -> ShelfFault {
+        ShelfFault::OutOfMemory
+    }
 }
 
 /// A shelf of files, each with a name.

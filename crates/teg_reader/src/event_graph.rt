@@ -81,14 +81,12 @@ fn look_at_ends(alloc: Global, place: &Value) -> Result<(), ReadRefusal>
     let (Ok(producers), Ok(consumers)) = (u32::try_from(producers), u32::try_from(consumers)) else {
         return Err(ReadRefusal::OutOfMemory);
     };
-    match copy_name(alloc, text_at(place, Key::Name)) {
-        Ok(place) => Err(ReadRefusal::NotEventGraph {
-            place,
-            producers,
-            consumers,
-        }),
-        Err(_) => Err(ReadRefusal::OutOfMemory),
-    }
+    let place = copy_name(alloc, text_at(place, Key::Name))?;
+    Err(ReadRefusal::NotEventGraph {
+        place,
+        producers,
+        consumers,
+    })
 }
 
 /// Looks for a place that has not one producer and one consumer.
@@ -168,10 +166,8 @@ fn look_at_end(
     if !is_input_named(names, transitions, end_at(place, Key::To)) {
         return Ok(());
     }
-    match copy_name(alloc, text_at(place, Key::Name)) {
-        Ok(place) => Err(ReadRefusal::InputHasUpstream { place }),
-        Err(_) => Err(ReadRefusal::OutOfMemory),
-    }
+    let place = copy_name(alloc, text_at(place, Key::Name))?;
+    Err(ReadRefusal::InputHasUpstream { place })
 }
 
 /// Looks for a place that enters an input.

@@ -54,10 +54,8 @@ fn look_at_hold(
     if hold_of(names, transitions, place) <= 1_000_000_000 {
         return Ok(());
     }
-    match copy_name(alloc, text_at(place, Key::Name)) {
-        Ok(place) => Err(ReadRefusal::TooSlow { place }),
-        Err(_) => Err(ReadRefusal::OutOfMemory),
-    }
+    let place = copy_name(alloc, text_at(place, Key::Name))?;
+    Err(ReadRefusal::TooSlow { place })
 }
 
 /// Looks for a place whose hold is too great.

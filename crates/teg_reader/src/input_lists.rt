@@ -106,13 +106,11 @@ fn look_at_input(
     let Ok(position) = u32::try_from(position) else {
         return Err(ReadRefusal::OutOfMemory);
     };
-    match copy_name(alloc, text_at(entry, Key::Transition)) {
-        Ok(transition) => Err(ReadRefusal::BadInput {
-            transition,
-            position,
-        }),
-        Err(_) => Err(ReadRefusal::OutOfMemory),
-    }
+    let transition = copy_name(alloc, text_at(entry, Key::Transition))?;
+    Err(ReadRefusal::BadInput {
+        transition,
+        position,
+    })
 }
 
 /// Looks for a faulty entry.

@@ -21,10 +21,9 @@ pub(crate) fn number_names(alloc: Global, entries: &[Value]) -> Result<IndexSet<
     let mut names = IndexSet::new(alloc);
     for entry in entries {
         let name = text_at(entry, Key::Name);
-        match names.insert_full(name) {
-            Ok((_, true)) => {}
-            Ok((_, false)) => unreachable!(),
-            Err(_) => return Err(AllocError),
+        let (_, is_new) = names.insert_full(name)?;
+        if !is_new {
+            unreachable!();
         }
     }
     Ok(names)

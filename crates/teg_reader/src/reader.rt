@@ -79,15 +79,10 @@ fn read_tree(alloc: Global, top: &Value) -> Result<Net, ReadRefusal>
     ensures { Answers (tree_document (view top.now)) result }
 {
     look_at_entries(alloc, top)?;
-    let Ok(names) = number_names(alloc, list_at(top, Key::Transition)) else {
-        return Err(ReadRefusal::OutOfMemory);
-    };
+    let names = number_names(alloc, list_at(top, Key::Transition))?;
     look_at_graph(alloc, &names, top)?;
     look_at_places(alloc, &names, top)?;
-    match make_net(alloc, &names, top) {
-        Ok(net) => Ok(net),
-        Err(_) => Err(ReadRefusal::OutOfMemory),
-    }
+    Ok(make_net(alloc, &names, top)?)
 }
 
 /// The net of a table.

@@ -37,14 +37,12 @@ fn look_at_ready(alloc: Global, place: &Value) -> Result<(), ReadRefusal>
     let (Ok(given), Ok(tokens)) = (given, tokens) else {
         return Err(ReadRefusal::OutOfMemory);
     };
-    match copy_name(alloc, text_at(place, Key::Name)) {
-        Ok(place) => Err(ReadRefusal::BadReady {
-            place,
-            given,
-            tokens,
-        }),
-        Err(_) => Err(ReadRefusal::OutOfMemory),
-    }
+    let place = copy_name(alloc, text_at(place, Key::Name))?;
+    Err(ReadRefusal::BadReady {
+        place,
+        given,
+        tokens,
+    })
 }
 
 /// Looks for a place that has another number of ready dates than of tokens.

@@ -1,6 +1,10 @@
 //! What the reader refuses, and where.
+ghost use Rattle.std.specs.Prelude.{◌≡◌};
+ghost use Rattle.teg_reader.specs.declared.refusals.ReadRefusal.TheVariants.{OutOfMemory};
+
 use crate::keys::Key;
-use teg_net::{Label, Name};
+use std::alloc::{AllocError, AllocFailed};
+use teg_net::{Label, Name, OutOfMemory};
 
 /// A part of a net file.
 #[derive(Clone, Copy, Debug, PartialEq, Eq)]
@@ -92,4 +96,28 @@ pub enum ReadRefusal {
     },
     /// No memory was found.
     OutOfMemory,
+}
+
+impl From<AllocError> for ReadRefusal {
+    ghost from_gives = { λ _ e. e ≡ OutOfMemory };
+
+    fn from(_error: AllocError) -> ReadRefusal {
+        ReadRefusal::OutOfMemory
+    }
+}
+
+impl<T: Drop> From<AllocFailed<T>> for ReadRefusal {
+    ghost from_gives = { λ _ e. e ≡ OutOfMemory };
+
+    fn from(_error: AllocFailed<T>) -> ReadRefusal {
+        ReadRefusal::OutOfMemory
+    }
+}
+
+impl From<OutOfMemory> for ReadRefusal {
+    ghost from_gives = { λ _ e. e ≡ OutOfMemory };
+
+    fn from(_error: OutOfMemory) -> ReadRefusal {
+        ReadRefusal::OutOfMemory
+    }
 }

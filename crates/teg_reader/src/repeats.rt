@@ -27,13 +27,9 @@ fn look_for_repeats_at(
         let Ok(position) = u32::try_from(index.saturating_add(1)) else {
             return Err(ReadRefusal::OutOfMemory);
         };
-        match texts.insert(text_at(entry, key)) {
-            Ok(true) => {}
-            Ok(false) => {
-                let spot = Spot { section, position };
-                return Err(ReadRefusal::Repeated { spot });
-            }
-            Err(_) => return Err(ReadRefusal::OutOfMemory),
+        if !texts.insert(text_at(entry, key))? {
+            let spot = Spot { section, position };
+            return Err(ReadRefusal::Repeated { spot });
         }
     }
     Ok(())

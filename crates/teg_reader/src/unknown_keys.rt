@@ -79,10 +79,10 @@ impl Pass for UnknownKeys {
     #[tactic(auto, unfolding(crate::specs::UnknownKeys::unknown_key))]
     fn look(&self, alloc: Global, spot: Spot, entry: &Value) -> Result<(), ReadRefusal> {
         match unlisted_key(entry, listed_fields(self.second, spot.section)) {
-            Some(text) => match Label::new(alloc, text) {
-                Ok(key) => Err(ReadRefusal::UnknownKey { spot, key }),
-                Err(_) => Err(ReadRefusal::OutOfMemory),
-            },
+            Some(text) => {
+                let key = Label::new(alloc, text)?;
+                Err(ReadRefusal::UnknownKey { spot, key })
+            }
             None => Ok(()),
         }
     }

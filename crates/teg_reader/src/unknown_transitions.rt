@@ -97,10 +97,10 @@ impl<'a, 'b> Pass for UnknownTransitions<'a, 'b> {
     #[tactic(auto, unfolding(crate::specs::UnknownTransitions::unknown_transition))]
     fn look(&self, alloc: Global, spot: Spot, entry: &Value) -> Result<(), ReadRefusal> {
         match unknown_text(self.names, spot.section, entry) {
-            Some(text) => match Label::new(alloc, text) {
-                Ok(name) => Err(ReadRefusal::UnknownTransition { spot, name }),
-                Err(_) => Err(ReadRefusal::OutOfMemory),
-            },
+            Some(text) => {
+                let name = Label::new(alloc, text)?;
+                Err(ReadRefusal::UnknownTransition { spot, name })
+            }
             None => Ok(()),
         }
     }

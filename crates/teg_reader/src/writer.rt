@@ -27,10 +27,8 @@ fn put(alloc: Global, table: &mut Table, key: Key, value: Value) -> Result<(), A
     ensures { OnOk result (table_view table.new ≡ with_member (key_text key) (view value) (table_view table.old)) }
 {
     let key = String::from_str(alloc, key.text())?;
-    match table.insert(key, value) {
-        Ok(_) => Ok(()),
-        Err(_) => Err(AllocError),
-    }
+    table.insert(key, value)?;
+    Ok(())
 }
 
 /// Puts a text under a key.

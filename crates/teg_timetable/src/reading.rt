@@ -1,5 +1,5 @@
 //! The entries that the rows of a timetable's file give, or the first fault.
-ghost use Rattle.std.specs.Prelude.{◌≡◌, ◌≢◌, ◌≤◌, ◌<◌, ◌+◌, ◌∷◌, [], Ok, Err, All, true, false, length, IfOk, IfErr, OnOk};
+ghost use Rattle.std.specs.Prelude.{◌≡◌, ◌≢◌, ◌≤◌, ◌<◌, ◌+◌, Ok, Err, All, true, false, length, IfOk, IfErr, OnOk};
 ghost use Rattle.csv.specs.Records.{fields_of};
 ghost use Rattle.std.specs.Str.Parse.{digits_value};
 ghost use Rattle.csv_records.specs.Numbers.{is_number};
@@ -164,22 +164,8 @@ fn add_record(
         return Ok(());
     }
     let entry = read_row(net, names, gathered, row, record)?;
-    if gathered.add(entry).is_err() {
-        return Err(TableRefusal::OutOfMemory);
-    }
+    gathered.add(entry)?;
     Ok(())
-}
-
-// Reads the next record, if there is one.
-fn read_next(records: &mut Records<'_>, row: &mut ByteRecord) -> Result<bool, TableRefusal>
-    ensures found { IfOk result (λ found. found ≡ true → records.old ≡ fields_of row.new ∷ records.new) }
-    ensures ended { IfOk result (λ found. found ≡ false → records.old ≡ []) }
-    ensures memory { IfErr result (λ e. e ≡ TableRefusal.OutOfMemory) }
-{
-    match records.read(row) {
-        Ok(found) => Ok(found),
-        Err(_) => Err(TableRefusal::OutOfMemory),
-    }
 }
 
 /// The entries of a file in order, or its first faulty row with the first of its faults.
@@ -193,16 +179,12 @@ pub(crate) fn read_entries(
     ensures refused { IfErr result (λ e. e ≢ TableRefusal.OutOfMemory → entries_of net.now bytes.now ≡ Err e) }
     ensures rules { IfOk result (λ entries. AreEntriesOf net.now entries.items) }
 {
-    let Ok(names) = NameOrder::new(alloc, net) else {
-        return Err(TableRefusal::OutOfMemory);
-    };
-    let Ok(mut gathered) = Gathered::new(alloc, net.transitions().len()) else {
-        return Err(TableRefusal::OutOfMemory);
-    };
+    let names = NameOrder::new(alloc, net)?;
+    let mut gathered = Gathered::new(alloc, net.transitions().len())?;
     let mut records = Records::new(alloc, bytes);
     let mut record = ByteRecord::new(alloc);
     let mut row: u32 = 0;
-    while read_next(&mut records, &mut record)? {
+    while records.read(&mut record)? {
         row += 1;
         add_record(net, &names, &mut gathered, row, &record)?;
     }

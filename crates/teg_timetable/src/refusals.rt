@@ -1,7 +1,9 @@
 //! Why a file is no timetable, and why delays are not spread.
 ghost use Rattle.std.specs.Prelude.{◌≡◌};
-ghost use Rattle.teg_timetable.specs.declared.refusals.DelayRefusal.TheVariants.{OutOfMemory as DelayMemory};
+ghost use Rattle.teg_timetable.specs.declared.refusals.DelayRefusal.TheVariants.{OutOfMemory as NoDelayMemory};
+ghost use Rattle.teg_timetable.specs.declared.refusals.TableRefusal.TheVariants.{OutOfMemory as NoTableMemory};
 
+use std::alloc::AllocError;
 use teg_net::{OutOfMemory, PlaceId, TransitionId};
 
 /// Why a file is no timetable of a net: its first faulty row, and the first of its faults in this
@@ -38,9 +40,33 @@ pub enum DelayRefusal {
 }
 
 impl From<OutOfMemory> for DelayRefusal {
-    ghost from_gives = { λ _ e. e ≡ DelayMemory };
+    ghost from_gives = { λ _ e. e ≡ NoDelayMemory };
 
     fn from(_error: OutOfMemory) -> DelayRefusal {
         DelayRefusal::OutOfMemory
+    }
+}
+
+impl From<AllocError> for TableRefusal {
+    ghost from_gives = { λ _ e. e ≡ NoTableMemory };
+
+    fn from(_error: AllocError) -> TableRefusal {
+        TableRefusal::OutOfMemory
+    }
+}
+
+impl From<OutOfMemory> for TableRefusal {
+    ghost from_gives = { λ _ e. e ≡ NoTableMemory };
+
+    fn from(_error: OutOfMemory) -> TableRefusal {
+        TableRefusal::OutOfMemory
+    }
+}
+
+impl From<csv_records::OutOfMemory> for TableRefusal {
+    ghost from_gives = { λ _ e. e ≡ NoTableMemory };
+
+    fn from(_error: csv_records::OutOfMemory) -> TableRefusal {
+        TableRefusal::OutOfMemory
     }
 }

@@ -47,9 +47,7 @@ fn firsts(alloc: Global, width: usize, entries: &[Entry]) -> Result<Vec<u64>, Ta
     ensures firsts { IfOk result (λ firsts. firsts_of entries.now width ≡ Ok firsts.items) }
     ensures missing { IfErr result (λ e. e ≢ TableRefusal.OutOfMemory → firsts_of entries.now width ≡ Err e) }
 {
-    let Ok(cells) = departures(alloc, width, entries) else {
-        return Err(TableRefusal::OutOfMemory);
-    };
+    let cells = departures(alloc, width, entries)?;
     let mut firsts = Vec::new(alloc);
     for t in 0..width {
         let Some(first) = cells[t] else {
@@ -92,8 +90,6 @@ pub fn read_timetable(alloc: Global, net: &Net, bytes: &[u8]) -> Result<Timetabl
 {
     let entries = read_entries(alloc, net, bytes)?;
     let firsts = firsts(alloc, net.transitions().len(), &entries)?;
-    match delays(alloc, &entries) {
-        Ok(delays) => Ok(Timetable { firsts, delays }),
-        Err(_) => Err(TableRefusal::OutOfMemory),
-    }
+    let delays = delays(alloc, &entries)?;
+    Ok(Timetable { firsts, delays })
 }

@@ -1,6 +1,7 @@
 //! The simple command, and what words give by it.
 ghost use Rattle.std.specs.Prelude.{◌≡◌, ◌≢◌, Some, None, [], map, IfOk, IsErrOf, string_bytes};
 ghost use Rattle.clap.specs.Words.{app_of, fault_of, found_of, matches_of, rows_of};
+ghost use Rattle.teg_words.specs.declared.simple_command.WordsRefusal.TheVariants.{OutOfMemory};
 ghost use Rattle.teg_words.specs.Meanings.{told};
 ghost use Rattle.teg_words.specs.Words.{flag_of, given_from, given_of, simple_command};
 
@@ -30,6 +31,14 @@ pub enum WordsRefusal {
     OutOfMemory,
 }
 
+impl From<AllocError> for WordsRefusal {
+    ghost from_gives = { λ _ e. e ≡ OutOfMemory };
+
+    fn from(_error: AllocError) -> WordsRefusal {
+        WordsRefusal::OutOfMemory
+    }
+}
+
 fn simple_command<'a>(alloc: Global) -> Result<Command<'a>, AllocError>
     ensures { IfOk result (λ command. app_of command ≡ simple_command) }
 {
@@ -55,9 +64,7 @@ fn parse<'a>(alloc: Global, words: &'a [String]) -> Result<ArgMatches<'a>, Words
     ensures rows { IfOk result (λ matches. rows_of (found_of matches) ≡ matches_of simple_command (map string_bytes words.now)) }
     ensures refused { IsErrOf result WordsRefusal.Refused → fault_of simple_command (map string_bytes words.now) ≢ [] }
 {
-    let Ok(command) = simple_command(alloc) else {
-        return Err(WordsRefusal::OutOfMemory);
-    };
+    let command = simple_command(alloc)?;
     match command.try_get_matches_from(words) {
         Ok(matches) => Ok(matches),
         Err(error) => {
@@ -89,9 +96,7 @@ fn given<'a>(alloc: Global, matches: &ArgMatches<'a>) -> Result<GivenWords<'a>, 
         return Err(WordsRefusal::Refused);
     };
     let rest = matches.get_strs("rest").unwrap_or(&[]);
-    let Ok(rest) = Vec::from_slice(alloc, rest) else {
-        return Err(WordsRefusal::OutOfMemory);
-    };
+    let rest = Vec::from_slice(alloc, rest)?;
     let limit = matches.get_str("limit");
     let rounds = has_rounds(matches);
     Ok(GivenWords {

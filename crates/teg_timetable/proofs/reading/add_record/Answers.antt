@@ -1,18 +1,12 @@
-use Rattle.std.proofs.Common.{◌≡◌, ◌∙◌, Result, Ok, Err, false, sym, subst}
-use Rattle.std.specs.Prelude.{OnOk}
-use Rattle.std.specs.Result.{is_err}
+use Rattle.std.proofs.Common.{◌∙◌, sym, subst}
 use Rattle.csv.specs.Records.{fields_of}
 use Rattle.teg_timetable.specs.Rules.{AreEntriesOf}
 use Rattle.teg_timetable.proofs.EntryRules.{accepted_new, one_entry_more}
 use Rattle.teg_timetable.proofs.reading.add_record.Goals as goal
 
-on_ok : {X E : Type 0} (r : Result X E) (P : Type 0) → is_err r ≡ false → OnOk r P → P
-on_ok (Ok x) P h p = p
-on_ok (Err e) P h p = cc h
-
 pub returns-clause-rules : goal.returns-clause-rules
 returns-clause-rules c =
     let entries = c.args.gathered.now.entries in
     let new = accepted_new c.args.net.now entries c.args.row (fields_of c.args.record.now) c.in_ok-entry.entry (sym c.read_row.ensures ∙ c.in_ok-entry.was) in
-    let added = on_ok c.add.result _ (sym c.is_err.ensures.value ∙ c.if-is_err.false) c.add.ensures in
+    let added = c.in_ok-add.ensures in
     subst (λ g. AreEntriesOf c.args.net.now g.entries) (sym added) (one_entry_more c.args.net.now entries c.in_ok-entry.entry c.requires.rules new)

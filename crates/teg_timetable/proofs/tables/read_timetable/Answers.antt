@@ -23,12 +23,12 @@ returns-in_err-firsts-clause-about c =
     rw (p.1, p.2)
     (but_for_memory net (firsts_of entries (length net.transitions)) (firsts_fine net entries (length net.transitions) (omega arith)) c.in_err-firsts.field-0.0 is)
 
-pub returns-in-Ok-clause-rules : goal.returns-in-Ok-clause-rules
-returns-in-Ok-clause-rules c =
+pub returns-clause-rules : goal.returns-clause-rules
+returns-clause-rules c =
     let rules = c.in_ok-entries.ensures.rules in
     let is = rw (c.deref.ensures.value, c.transitions.ensures.value) at c.in_ok-firsts.ensures.firsts in
     let firsts = firsts_are c.args.net.now c.in_ok-entries.entries.items rules.each (length c.args.net.now.transitions) c.in_ok-firsts.firsts.items is in
-    let same = c.in-Ok.ensures ∙ ap delays_of c.deref-2.ensures.value in
+    let same = c.in_ok-delays.ensures ∙ ap delays_of c.deref-2.ensures.value in
     record {
       one_each = firsts.long;
       firsts_in = firsts.small;

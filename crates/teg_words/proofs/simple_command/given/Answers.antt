@@ -32,9 +32,9 @@ returns-clause-ok c =
     let command_is : Some c.in-Some.command.now ≡ first_of (codes "command") rows = c.in-Some.ensures ∙ first_value-rows found (codes "command") in
     let limit_is = c.get_str-limit.ensures ∙ first_value-rows found (codes "limit") in
     let given : option_map (λ s. texts s.now) c.get_strs.result ≡ all_of (codes "rest") rows = c.get_strs.ensures ∙ raw_values-rows found (codes "rest") in
-    let rest_is : texts c.in-Ok.rest.items ≡ rest_of rows =
-    ap texts c.in-Ok.ensures.items
+    let rest_is : texts c.in_ok-rest.rest.items ≡ rest_of rows =
+    ap texts c.in_ok-rest.ensures.items
     ∙ ap (λ (s : Bor (List (Bor Text))). texts s.now) c.unwrap_or-rest.ensures
     ∙ words_or_none c.get_strs.result _ refl
     ∙ ap (λ (o : Option (List Text)). unwrap_or o []) given in
-    given_is rows c.in-Some.command.now (texts c.in-Ok.rest.items) _ c.has_rounds-rounds.result command_is rest_is limit_is c.has_rounds-rounds.ensures
+    given_is rows c.in-Some.command.now (texts c.in_ok-rest.rest.items) _ c.has_rounds-rounds.result command_is rest_is limit_is c.has_rounds-rounds.ensures
