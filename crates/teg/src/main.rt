@@ -2,9 +2,9 @@
 //! ends with the status of that call. It stands on `teg_run` and `teg_outside`.
 #![tactic(auto)]
 
-ghost use Rattle.std.specs.Prelude.{ℕ, List, ◌≡◌, ◌∷◌, ◌++◌, [], IfOk, map, string_bytes};
+ghost use Rattle.std.specs.Prelude.{◌≡◌, ◌∷◌, ◌++◌, ◌-◌, ◌^◌, [], IfOk, length, map, min, string_bytes};
 ghost use Rattle.std.specs.Process.{exit_status};
-ghost use Rattle.teg_outside.specs.declared.monitor.Firing.{Firing};
+ghost use Rattle.teg_outside.specs.MonitorLines.{count_line, greatest_lateness, greatest_tokens, high_water_line, lateness_line};
 ghost use Rattle.teg_run.specs.Headline.{KeepsPromises};
 ghost use Rattle.teg_run.specs.Statuses.{code_of};
 ghost use Rattle.teg_run.specs.declared.status.Status.{Status};
@@ -67,18 +67,21 @@ fn keep(monitors: &mut Vec<Box<dyn Monitor>>, monitor: Box<dyn Monitor>) -> Resu
     Ok(())
 }
 
-// The call with the monitors of the program: the number of firings, the greatest number of tokens,
-// the greatest lateness, in this order.
+// The call with the monitors of the program, whose lines tell the number of firings, the greatest
+// number of tokens and the greatest lateness, in this order.
 fn run_watched<S: Shelf, W: Sink>(
     alloc: Global,
     words: &[String],
     shelf: &mut S,
     out: &mut W,
 ) -> Result<ExitCode, AllocError>
-    ensures { IfOk result (λ code. (lines : List Firing → List (List ℕ)) × (status : Status)
+    ensures { IfOk result (λ code. (status : Status)
         × KeepsPromises (record {
           words = map string_bytes words.now;
-          lines = lines;
+          lines = λ firings. count_line (min (length firings) (2 ^ 64 - 1))
+              ∷ high_water_line (greatest_tokens firings)
+              ∷ lateness_line (greatest_lateness firings)
+              ∷ [];
           shelf_before = S.state shelf.old;
           shelf_after = S.state shelf.new;
           sink_before = W.state out.old;
