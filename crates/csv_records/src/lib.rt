@@ -4,13 +4,12 @@
 //! trimming, no header; empty lines are no records, and one byte order mark at the start is passed
 //! over. Contracts see the list of the records that are left. So a file of rows is a plain loop,
 //! and the theory of `csv`'s machine is used here alone. The crate stands on `csv`.
+//! Its examples stand in `base_examples`.
 #![tactic(auto)]
 
 mod fields;
 mod numbers;
 mod records;
-#[cfg(test)]
-mod tests;
 
 pub use csv::ByteRecord;
 pub use fields::{ThreeFields, TwoFields, three_fields, two_fields};

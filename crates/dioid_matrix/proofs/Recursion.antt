@@ -54,9 +54,6 @@ module _ {M : Type 0} (d : DioidOf M) (s : KleeneOf M) (size : ℕ) (xs : List M
     pub entries : (i j : ℕ) → i < size → j < size → entry_of d (table_of size size t) i j ≡ steps_of d s (entry_of d (table_of size size xs)) k i j
     pub fit : StepsFit d s size (entry_of d (table_of size size xs)) k
 
-  pub at_start : IsAfter 0 xs
-  at_start = record { entries = λ i j _ _. refl; fit = λ m i j h _ _. absurd (omega arith) }
-
   -- what is said of the table's entries is said of the recursion
   on_steps : (P : M → M → M → M → Type 0) (k i j : ℕ) (t : List M) → IsAfter k t → k < size → i < size → j < size
       → P (entry_of d (table_of size size t) i j) (entry_of d (table_of size size t) i k) (entry_of d (table_of size size t) k k) (entry_of d (table_of size size t) k j)

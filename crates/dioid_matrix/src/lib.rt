@@ -5,6 +5,7 @@
 //! fits, and otherwise the first one that does not; a star, and `solve_least` by it, gives the least
 //! solution of `x = a x + b`, a residual the greatest `x` with `a x` at most `b`. It stands on
 //! `dioid` alone, and `thiserror` derives the error traits of its refusal.
+//! Its examples stand in `base_examples`.
 #![tactic(auto)]
 
 ghost use Rattle.dioid_matrix.specs.Stars.{StarsAreLeast};
@@ -14,8 +15,6 @@ mod lists;
 mod passes;
 mod refusals;
 mod residues;
-#[cfg(test)]
-mod tests;
 
 use dioid::Kleene;
 pub use grid::Matrix;

@@ -43,10 +43,6 @@ pub record IsNewRow (net : NetLists) (rows : List DueRow) (r : DueRow) : Type 0 
   pub rule : IsDueRow net r
   pub fresh : has_due rows r.transition.index r.number ≡ false
 
-and_left : (a b : Bool) → (a && b) ≡ true → a ≡ true
-and_left true b h = refl
-and_left false b h = cc h
-
 -- the name of a row is that of a transition of the net
 pub named_in : (net : NetLists) (name : List ℕ) (t : ℕ) → number_named net name ≡ Some t → t < length net.transitions
 named_in net name t e = first net.transitions t e

@@ -1,3 +1,2 @@
-pub mod SeenRows
 pub mod DueRules
 pub mod NamedOnce

@@ -5,6 +5,7 @@
 //! keep the rules that the crates above ask for (`IsDueOf`, `IsLogOf`). [`transition_named`] and
 //! [`is_input`] are what other readers of rows ask of a net too. The crate stands on
 //! `teg_net` for the names of transitions and on `csv_records` for the records of a text.
+//! Its examples stand in `worked_examples`.
 #![tactic(auto)]
 
 mod dues;
@@ -12,8 +13,6 @@ mod gathered;
 mod logs;
 mod names;
 mod rows;
-#[cfg(test)]
-mod tests;
 
 pub use dues::read_due;
 pub use logs::read_log;

@@ -11,7 +11,7 @@ use Rattle.teg_net.specs.declared.entries.Again.{Again}
 use Rattle.teg_net.specs.declared.entries.InputList.{InputList}
 use Rattle.teg_net.specs.Limits.{greatest_date}
 use Rattle.teg_net.specs.Nets.{NetLists, IsNet, IsInputOf, EndsOrGoesOn}
-use Rattle.teg_net.specs.Inputs.{moved_by, GoOnBy, IsInputDates, AreInputDates, IsInputDate, rounds_past, date_past, list_date, date_by, input_date}
+use Rattle.teg_net.specs.Inputs.{moved_by, GoOnBy, IsInputDates, IsListDate, AreInputDates, IsInputDate, rounds_past, date_past, list_date, date_by, input_date}
 
 in_list : (dates : List ℕ) (again : Option Again) (k : ℕ) → k ≤ length dates → list_date dates again k ≡ Some (get_or dates (k - 1) 0)
 in_list dates again k l = let e : leb k (length dates) ≡ true = grind (arith, nat_tests) in rw e refl
@@ -124,6 +124,13 @@ one_date l u v rule h g (suc n) k m p =
     (λ (past : length l.dates < k). past_agree l u v k l.again rule h.past g.past past (λ j b q. one_date l u v rule h g n j (omega arith) q))
     (λ (inside : k ≤ length l.dates). h.listed k p inside ∙ sym (g.listed k p inside))
     (cases_lt (length l.dates) k)
+
+-- the function gives the date that the list gives
+pub is_date_of_list : (l : InputList) (k : ℕ) (date : Option ℕ) → EndsOrGoesOn l.dates l.again → 1 ≤ k → date ≡ list_date l.dates l.again k → IsListDate l k date
+is_date_of_list l k date rule one is = record {
+  some = (list_date l.dates l.again, IsInputDates-list_date l rule);
+  each = λ u h. one_date l u (list_date l.dates l.again) rule h (IsInputDates-list_date l rule) k k (omega arith) one ∙ sym is;
+}
 
 -- a transition has a list or none
 has_list : (xs : List InputList) (t : ℕ) → Any (λ l. l.transition.index ≡ t) xs ⊎ All (λ l. l.transition.index ≢ t) xs

@@ -1,5 +1,5 @@
 -- Walks taken apart: a first step, and the rest.
-use Rattle.std.proofs.Common.{ℕ, zero, suc, ◌+◌, ◌<◌, ◌≤◌, ◌≡◌, List, [], ◌∷◌, length, get_or, drop, refl, sym, subst, ◌∙◌, arith, drop-cons, add-one}
+use Rattle.std.proofs.Common.{ℕ, zero, suc, ◌+◌, ◌<◌, ◌≤◌, ◌≡◌, List, [], ◌∷◌, length, get_or, drop, refl, sym, subst, arith, drop-cons, add-one}
 use Rattle.std.proofs.lemmas.List.{drop_all}
 use Rattle.std.specs.Prelude.{All}
 use Rattle.teg_net.specs.declared.walks.Step.{Step}
@@ -120,9 +120,3 @@ Walks-steps net (By p ∷ steps) a s b k h zero d l = h.0
 Walks-steps net (By p ∷ steps) a s b k h (suc i) d l = Walks-steps net steps (place_at net p).to.index (s + (place_at net p).tokens) b k h.2 i d (omega arith)
 Walks-steps net (Next ∷ steps) a s b k h zero d l = tt
 Walks-steps net (Next ∷ steps) a s b k h (suc i) d l = Walks-steps net steps a (s + 1) b k h i d (omega arith)
-
--- a walk has one end
-pub Walks-one_end : (net : NetLists) (steps : List Step) (a s b k c n : ℕ) → Walks net a s steps b k → Walks net a s steps c n → (b ≡ c) × (k ≡ n)
-Walks-one_end net [] a s b k c n h w = (sym h.0 ∙ w.0, sym h.1 ∙ w.1)
-Walks-one_end net (By p ∷ steps) a s b k c n h w = Walks-one_end net steps (place_at net p).to.index (s + (place_at net p).tokens) b k c n h.2 w.2
-Walks-one_end net (Next ∷ steps) a s b k c n h w = Walks-one_end net steps a (s + 1) b k c n h w

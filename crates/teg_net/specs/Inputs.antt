@@ -18,6 +18,11 @@ pub record IsInputDates (l : InputList) (u : ℕ → Option ℕ) : Type 0 where
   pub listed : (k : ℕ) → 1 ≤ k → k ≤ length l.dates → u k ≡ Some (slice_index l.dates (k - 1))
   pub past : GoOnBy (length l.dates) l.again u
 
+-- the date of firing k by the list: some dates are those of the list, and all that are give firing k this one
+pub record IsListDate (l : InputList) (k : ℕ) (date : Option ℕ) : Type 0 where
+  pub some : (u : ℕ → Option ℕ) × IsInputDates l u
+  pub each : (u : ℕ → Option ℕ) → IsInputDates l u → u k ≡ date
+
 -- u gives each firing of the transition its date: by its list, and 0 where it has none; no date is never
 pub record AreInputDates (net : NetLists) (t : ℕ) (u : ℕ → Option ℕ) : Type 0 where
   pub by_list : All (λ l. l.transition.index ≡ t → IsInputDates l u) net.inputs

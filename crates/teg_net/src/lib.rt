@@ -3,6 +3,7 @@
 //!
 //! A [`Net`] is seen by contracts as its three lists (`NetLists`), which keep the rules of `IsNet`.
 //! This crate stands on std alone; what speaks of dates of firings stands in crates above it.
+//! Its examples stand in `net_examples`.
 #![tactic(auto)]
 
 mod answers;
@@ -20,8 +21,6 @@ mod paths;
 mod ratios;
 mod ready;
 mod rounds;
-#[cfg(test)]
-mod tests;
 mod walks;
 
 pub use answers::{CycleAnswer, PartAnswer, Potential};

@@ -93,28 +93,3 @@ impl<R: Files> Shelf for FileShelf<'_, R> {
         answer
     }
 }
-
-#[cfg(test)]
-mod tests {
-    use super::*;
-    use crate::tests::read_from;
-    use std::test::Fail;
-
-    #[test]
-    fn a_real_file_is_read_whole_up_to_its_limit(rt: HostRuntime) -> Result<(), Fail> {
-        let long = vec![in rt.alloc(); b'x'; 10_000]?;
-        fs::write(&rt, "long", long.as_slice())?;
-        let mut shelf = FileShelf::new(&rt);
-        let found = read_from(&mut shelf, rt.alloc(), "long", 10_000)?;
-        assert_eq!(rt; found.as_slice(), long.as_slice());
-        for (name, limit, fault) in [
-            ("long", 9_999, ShelfFault::TooLarge),
-            ("missing", 10_000, ShelfFault::Failed),
-        ] {
-            let answer = read_from(&mut shelf, rt.alloc(), name, limit).err();
-            assert_eq!(rt; answer, Some(fault), "of {name} up to {limit}");
-        }
-        fs::remove_file(&rt, "long")?;
-        Ok(())
-    }
-}

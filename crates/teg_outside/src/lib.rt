@@ -9,6 +9,7 @@
 //! print a number each of the firings seen, and `NoLine` never finds memory for a line.
 //!
 //! It stands on std alone.
+//! Its examples stand in `base_examples`.
 #![tactic(auto)]
 
 mod file_shelf;
@@ -21,8 +22,6 @@ mod monitor;
 mod no_line;
 mod shelf;
 mod sink;
-#[cfg(test)]
-mod tests;
 mod writer_sink;
 
 pub use file_shelf::FileShelf;

@@ -100,34 +100,3 @@ impl Sink for MemorySink {
         Ok(count)
     }
 }
-
-#[cfg(test)]
-mod tests {
-    use super::*;
-    use std::test::Fail;
-
-    // What the sink answers to this piece.
-    fn written<W: Sink>(sink: &mut W, piece: &[u8]) -> Result<usize, SinkFault> {
-        sink.write(piece)
-    }
-
-    #[test]
-    fn writes_are_bounded_and_the_chosen_call_fails(rt: HostRuntime) -> Result<(), Fail> {
-        let failing = [2u64].as_slice().to_vec(rt.alloc())?;
-        let mut sink = MemorySink::new(rt.alloc(), 3, 7, failing)?;
-        // three bytes a call; an empty piece has no number; the second call fails; room for seven
-        for (piece, answer) in [
-            (b"abcde".as_slice(), Ok(3)),
-            (b"".as_slice(), Ok(0)),
-            (b"de".as_slice(), Err(SinkFault::Failed)),
-            (b"de".as_slice(), Ok(2)),
-            (b"fgh".as_slice(), Ok(2)),
-            (b"h".as_slice(), Err(SinkFault::Failed)),
-        ] {
-            assert_eq!(rt; written(&mut sink, piece), answer, "of {piece:?}");
-        }
-        assert_eq!(rt; sink.contents(), b"abcdefg".as_slice());
-        assert_eq!(rt; sink.faults, 2);
-        Ok(())
-    }
-}

@@ -1,9 +1,9 @@
 -- A table that is filled key by key beside the table that is written.
-use Rattle.std.proofs.Common.{◌≡◌, ℕ, ◌<◌, ◌≤◌, List, [], ◌∷◌, map, length, Option, Some, None, codes, String, Global, string_bytes, Ordering, Less, Equal, Greater, refl, ◌∙◌, arith}
+use Rattle.std.proofs.Common.{◌≡◌, ℕ, ◌≤◌, List, [], ◌∷◌, map, Option, Some, None, codes, String, Global, string_bytes, Ordering, Less, Equal, Greater, refl, ◌∙◌, arith}
 use Rattle.std.specs.Ordering.{match_ordering}
 use Rattle.std.specs.String.{string_cmp}
 use Rattle.std.specs.BTreeMap.{insert_entry}
-use Rattle.toml.specs.Data.{Data, string, array, Members, no_members, member, items_depth, members_depth}
+use Rattle.toml.specs.Data.{Data, string, Members, no_members, member, items_depth, members_depth}
 use Rattle.toml.specs.View.{view, items_of, members_view}
 use Rattle.toml.specs.declared.value.Value.{Value}
 use Rattle.teg_net.specs.Nets.{NetLists}
@@ -28,19 +28,6 @@ match_members Greater a b c = refl
 pub members_view-insert : (es : List Entry) (k : String Global) (v : Value) → members_view (insert_entry string_cmp es k v) ≡ with_member (string_bytes k) (view v) (members_view es)
 members_view-insert [] k v = refl
 members_view-insert (e ∷ es) k v = match_members (string_cmp k e.0) _ _ _ ∙ rw (members_view-insert es k v)
-
--- a list with something in it is put
-pub with_some : (k : Key) (ds : List Data) (ms : Members) → 0 < length ds → with_list k ds ms ≡ with_member (key_text k) (array (items_of ds)) ms
-with_some k [] ms h = absurd (omega arith)
-with_some k (d ∷ ds) ms h = refl
-
--- ready dates are put among the keys of a place
-pub ready_put : (ready : List ℕ) (from hold name to tokens : Data)
-    → with_list key.Ready (map number_data ready) (member (codes "from") from (member (codes "hold") hold (member (codes "name") name (member (codes "to") to (member (codes "tokens") tokens no_members)))))
-    ≡ member (codes "from") from (member (codes "hold") hold (member (codes "name") name (with_ready ready (member (codes "to") to (member (codes "tokens") tokens no_members)))))
-unfolding key_text
-ready_put [] from hold name to tokens = refl
-ready_put (d ∷ ds) from hold name to tokens = refl
 
 -- the lists are put before the version
 lists_put : (is ps ts : List Data) (version : Data)

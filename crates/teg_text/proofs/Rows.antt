@@ -1,7 +1,7 @@
 -- Lists of fields, of rows and of blocks of rows are read back.
-use Rattle.std.proofs.Common.{take, ◌≤◌, subst, ◌≡◌, ℕ, suc, ◌+◌, ◌-◌, ◌*◌, ◌/◌, ◌%◌, ◌<◌, Bool, true, false, not, List, [], ◌∷◌, ◌++◌, All, map, refl, ap, ap₂, sym, ◌∙◌, length, get_or, drop, zero, arith, append-nil, div-add-mod', div-lt_iff_lt-mul, mod-lt, ext_get_or}
+use Rattle.std.proofs.Common.{◌≤◌, subst, ◌≡◌, ℕ, suc, ◌+◌, ◌-◌, ◌*◌, ◌/◌, ◌%◌, ◌<◌, Bool, true, false, not, List, [], ◌∷◌, ◌++◌, All, map, refl, ap, ap₂, sym, ◌∙◌, length, get_or, drop, zero, arith, append-nil, div-add-mod', div-lt_iff_lt-mul, mod-lt, ext_get_or}
 use Rattle.std.proofs.lemmas.Bool.{and_parts, and_from, not-true}
-use Rattle.std.proofs.lemmas.List.{get_or_default, map-append, take-append-drop, length-take-le, length-drop, get_or-take, get_or-drop}
+use Rattle.std.proofs.lemmas.List.{get_or_default}
 use Rattle.std.proofs.lemmas.List.Elements.{All-head, All-tail}
 use Rattle.std.proofs.lemmas.Simd.{map-map}
 use Rattle.teg_text.proofs.Words.{all_append}
@@ -126,27 +126,6 @@ first_at test (x ∷ xs) zero d l before here = rw here refl
 first_at test (x ∷ xs) (suc i) d l before here = rw (before 0 (omega arith)) (ap suc (first_at test xs i d (omega (arith, l)) (λ j m. before (suc j) (omega (arith, m))) here))
 
 -- a line for each cell, row by row
-
-rows_back : {A L : Type 0} (g : L → A) (f : ℕ → ℕ → L) (a width count : ℕ) (xs : List A) (d : A) → length xs ≡ width * count →
-    ((t k : ℕ) → t < width → k < count → g (f (a + t) k) ≡ get_or xs (t * count + k) d) → map g (flat_map (λ t. map (f t) (range_with_len 0 count)) (range_with_len a width)) ≡ xs
-rows_back g f a zero count [] d full back = refl
-rows_back g f a zero count (x ∷ xs) d full back = absurd (omega (arith, full))
-rows_back g f a (suc width) count xs d full back =
-    let long : length xs ≡ count + width * count = full ∙ omega arith in
-    map-append g (map (f a) (range_with_len 0 count)) _
-    ∙ (ap₂ (λ (ys zs : List _). ys ++ zs)
-    (row_back g (f a) count (take count xs) d (length-take-le count xs (omega (arith, long))) (λ k l.
-    let here : a + 0 ≡ a = omega arith in
-    let same : 0 * count + k ≡ k = omega arith in
-    subst (λ (b : ℕ). g (f b k) ≡ get_or xs (0 * count + k) d) here (back 0 k (omega arith) l)
-    ∙ ap (λ (j : ℕ). get_or xs j d) same ∙ sym (get_or-take count xs k d l)))
-    (rows_back g f (a + 1) width count (drop count xs) d (length-drop count xs ∙ omega (arith, long)) (λ t k l m.
-    let here : a + suc t ≡ a + 1 + t = omega arith in
-    let same : suc t * count + k ≡ count + (t * count + k) = omega arith in
-    subst (λ (b : ℕ). g (f b k) ≡ get_or xs (suc t * count + k) d) here (back (suc t) k (omega (arith, l)) m)
-    ∙ ap (λ (j : ℕ). get_or xs j d) same ∙ sym (get_or-drop count xs (t * count + k) d)))
-    ∙ take-append-drop count xs)
-
 pub grid_passes : {L : Type 0} (test : L → Bool) (f : ℕ → ℕ → L) (width count : ℕ) → ((t k : ℕ) → t < width → k < count → test (f t k) ≡ true) →
     list_all test (flat_map (λ t. map (f t) (range_with_len 0 count)) (range_with_len 0 width)) ≡ true
 grid_passes test f width count pass =

@@ -5,11 +5,10 @@
 //! tell different things differs. Its contracts are those of [`push_date`], [`push_dates`] and
 //! [`push_label`], which append just these words, and the laws [`lines_are_read`] and
 //! [`words_are_read`]. It stands on `dioid` for dates.
+//! Its examples stand in `base_examples`.
 #![tactic(auto)]
 
 mod laws;
-#[cfg(test)]
-mod tests;
 mod writing;
 
 pub use laws::{lines_are_read, words_are_read};

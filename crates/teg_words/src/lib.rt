@@ -6,12 +6,11 @@
 //! flag `--rounds`, without help and version. Which commands there are, and what each takes, is the
 //! business of the caller. [`number`] is the one reading of a number among the words.
 //! It stands on `clap`.
+//! Its examples stand in `worked_examples`.
 #![tactic(auto)]
 
 mod numbers;
 mod simple_command;
-#[cfg(test)]
-mod tests;
 
 pub use numbers::number;
 pub use simple_command::{GivenWords, WordsRefusal, read_words};

@@ -3,11 +3,10 @@
 //!
 //! Its one contract is that of [`make_trial`]: the net is `trial`, which `specs/Trials.antt` writes
 //! out place by place. The crate stands on `teg_net` alone.
+//! Its examples stand in `worked_examples`.
 #![tactic(auto)]
 
 mod entries;
-#[cfg(test)]
-mod tests;
 mod trial;
 
 pub use trial::make_trial;
