@@ -1,5 +1,8 @@
+pub mod Cycles
 pub mod Finished
 pub mod FirstPart
+pub mod Great
+pub mod Heights
 pub mod Listed
 pub mod Numbers
 pub mod PointwiseTables

@@ -6,7 +6,7 @@ use Rattle.std.specs.Int.RustNames.{unsigned_abs}
 use Rattle.std.proofs.lemmas.Int.{ints, to_z-of_z, to_z_pos, fits_signed_from_abs, unsigned_abs-mul}
 use Rattle.std.proofs.lemmas.Nat.{mul-le, div-add-mod'}
 use Rattle.std.proofs.Math.Nat.{le-mul_of_pos_right}
-use Rattle.series_form.specs.Bounds.{IsSmallDate, IsWithin, IsModerateDate}
+use Rattle.series_form.specs.Bounds.{IsWithin, IsModerateDate}
 use Rattle.dioid.specs.declared.dates.Date.{Date}
 use Rattle.dioid.specs.declared.dates.Date.TheVariants.{Early, At, Never}
 use Rattle.series_laws.specs.Periodic.{times}
@@ -82,11 +82,6 @@ pub moderate_date_within : (d : Date) → IsModerateDate d → IsWithin d
 moderate_date_within Early h = tt
 moderate_date_within (At t) h = let k : unsigned_abs t ≤ 1000000000000000000000000000 = h in omega arith
 moderate_date_within Never h = tt
-
-pub small_date_moderate : (d : Date) → IsSmallDate d → IsModerateDate d
-small_date_moderate Early h = tt
-small_date_moderate (At t) h = let k : unsigned_abs t ≤ 1000000000000000000 = h in omega arith
-small_date_moderate Never h = tt
 
 pub div_below : (k n : ℕ) → 0 < n → k / n ≤ k
 div_below k n h =

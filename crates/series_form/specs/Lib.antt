@@ -1,3 +1,4 @@
 pub mod Answer
 pub mod Bounds
+pub mod Leads
 pub mod Shapes

@@ -3,14 +3,14 @@
 //! of each operation is that of the functions: the result has their values at every shift, and the
 //! refusals come exactly where the need or a number is too great. Stands on `series_laws` for the
 //! definitions and their laws, and on `dioid`.
+//! Its examples stand in `series_examples`.
 #![tactic(auto)]
 
 mod forms;
+mod leads;
 mod plans;
 mod pointwise;
 mod shorten;
-#[cfg(test)]
-mod tests;
 mod values;
 
 pub use forms::{Series, SeriesRefused};

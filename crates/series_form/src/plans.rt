@@ -4,11 +4,29 @@ ghost use Rattle.std.specs.Int.RustNames.{unsigned_abs};
 ghost use Rattle.series_laws.specs.Periodic.{times};
 ghost use Rattle.series_laws.specs.Forms.{start_of};
 ghost use Rattle.series_form.specs.Bounds.{IsSeries};
-ghost use Rattle.series_laws.specs.Needs.{common, ceiling, period_with, rise_of, fall_of, tail_of, slopes_of, by_sign};
+ghost use Rattle.series_laws.specs.Needs.{turns_of, common, ceiling, period_with, rise_of, fall_of, tail_of, slopes_of, by_sign};
 
 use crate::forms::Series;
 use dioid::Date;
 use series_laws::Slopes;
+
+/// The least number of turns of the first, one or more, that the second divides.
+pub(crate) fn turns_between(first: usize, second: usize) -> usize
+    requires first { 0 < first }
+    requires second { 0 < second }
+    requires first_bound { first ≤ 20000 }
+    requires second_bound { second ≤ 40000 }
+    ensures value { result ≡ turns_of first second }
+    ensures positive { 0 < result }
+    ensures bound { result ≤ second }
+{
+    for turns in 1..second {
+        if turns * first % second == 0 {
+            return turns;
+        }
+    }
+    second
+}
 
 /// The least common multiple.
 fn common_multiple(first: usize, second: usize) -> usize
@@ -19,12 +37,7 @@ fn common_multiple(first: usize, second: usize) -> usize
     ensures value { result ≡ common first second }
     ensures bound { result ≤ 400000000 }
 {
-    for turns in 1..second {
-        if turns * first % second == 0 {
-            return turns * first;
-        }
-    }
-    second * first
+    turns_between(first, second) * first
 }
 
 /// The least common multiple of the two periods.

@@ -1,18 +1,17 @@
 //! The sum and the minimum of two series, shift by shift.
-ghost use Rattle.std.specs.Prelude.{◌≡◌, ◌≤◌, ◌<◌, ◌+◌, ◌-◌, ◌*◌, ◌-ℤ◌, ◌<ℤ◌, IfOk, pos};
-ghost use Rattle.std.specs.Int.{int_max};
-ghost use Rattle.std.specs.Int.RustNames.{unsigned_abs};
+ghost use Rattle.std.specs.Prelude.{◌≡◌, ◌≤◌, ◌<◌, ◌*◌, ◌-ℤ◌, ◌<ℤ◌, IfOk, pos};
 ghost use Rattle.series_laws.specs.declared.plans.Slopes.TheVariants.{First};
-ghost use Rattle.series_laws.specs.Forms.{value_at, gap, table, HasValues};
+ghost use Rattle.series_laws.specs.Forms.{value_at, table, HasValues};
 ghost use Rattle.series_form.specs.Bounds.{IsSeries};
 ghost use Rattle.series_form.specs.Answer.{AnswersOf, Answers};
+ghost use Rattle.series_form.specs.Leads.{AreNumbers};
 ghost use Rattle.series_laws.specs.Pointwise.{sum_at, least_at};
-ghost use Rattle.series_laws.specs.Needs.{need_of, greatest_int, later_start, crossing, slopes_of, periods_behind, period_with, rise_of, fall_of, sum_plan, least_plan, form_sum, form_least};
+ghost use Rattle.series_laws.specs.Needs.{need_of, later_start, crossing, slopes_of, periods_behind, period_with, rise_of, fall_of, sum_plan, least_plan, form_sum, form_least};
 
 use crate::forms::{Series, SeriesRefused};
+use crate::leads::greatest_lead;
 use crate::plans::{common_period, compare_slopes, gains_for, lead_gain, start, tail};
 use crate::shorten::shortest;
-use crate::values::gap_of;
 use dioid::Date;
 use series_laws::{Plan, Slopes};
 use std::alloc::{AllocError, Global};
@@ -29,39 +28,6 @@ pub fn common_start(first: &Series, second: &Series) -> usize
     if first < second { second } else { first }
 }
 
-/// The lead of the second series over the first at a shift, 0 unless both have numbers there.
-fn lead_at(first: &Series, second: &Series, shift: usize) -> i128
-    requires { shift ≤ 400020000 }
-    ensures value { result ≡ gap (value_at first.now shift) (value_at second.now shift) }
-    ensures bound { unsigned_abs result ≤ 1000000000000000000000000000 }
-    ensures left { IsSeries first.now }
-    ensures right { IsSeries second.now }
-{
-    gap_of(first.at(shift as u64), second.at(shift as u64))
-}
-
-/// The greater of two numbers.
-fn greater(first: i128, second: i128) -> i128
-    ensures { result ≡ int_max first second }
-{
-    if first < second { second } else { first }
-}
-
-/// The greatest lead of the second series over the first on `count` shifts.
-fn greatest_lead(first: &Series, second: &Series, from: usize, count: usize) -> i128
-    requires positive { 0 < count }
-    requires count { count ≤ 400000000 }
-    requires from { from ≤ 20000 }
-    ensures value { result ≡ greatest_int (λ i. gap (value_at first.now (from + i)) (value_at second.now (from + i))) (count - 1) }
-    ensures bound { unsigned_abs result ≤ 1000000000000000000000000000 }
-{
-    let mut best = lead_at(first, second, from);
-    for place in 0..count - 1 {
-        best = greater(best, lead_at(first, second, from + (place + 1)));
-    }
-    best
-}
-
 /// From where the first series, of the greater slope, has the greater values: past the starts of
 /// both, the common periods in which it makes up the greatest lead of the other.
 fn crossing_of(first: &Series, second: &Series) -> u128
@@ -71,21 +37,20 @@ fn crossing_of(first: &Series, second: &Series) -> u128
 {
     let from = common_start(first, second);
     match (tail(first), tail(second)) {
-        (Date::At(_), Date::At(_)) => from as u128 + shifts_behind(first, second, from),
+        (Date::At(_), Date::At(_)) => from as u128 + shifts_behind(first, second),
         _ => from as u128,
     }
 }
 
 /// The shifts in which the first series makes up the greatest lead of the second.
-fn shifts_behind(first: &Series, second: &Series, from: usize) -> u128
-    requires from { from ≡ later_start first.now second.now }
-    requires bound { from ≤ 20000 }
+fn shifts_behind(first: &Series, second: &Series) -> u128
+    requires numbers { AreNumbers first.now second.now }
     requires gain { pos 0 <ℤ (rise_of first.now second.now -ℤ fall_of first.now second.now) }
     ensures value { result ≡ periods_behind first.now second.now * period_with first.now second.now }
     ensures bound { result ≤ 1000000000000000000000000000000000000 }
 {
     let shifts = common_period(first, second);
-    let lead = greatest_lead(first, second, from, shifts);
+    let lead = greatest_lead(first, second);
     let periods = gains_for(lead, lead_gain(first, second));
     periods * shifts as u128
 }

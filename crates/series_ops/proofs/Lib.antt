@@ -1,4 +1,5 @@
 pub mod FirstValues
+pub mod LeftBegun
 pub mod LeftParts
 pub mod LeftValues
 pub mod Many

@@ -16,6 +16,10 @@ listed l k = get_or l k Early
 abbrev pub AreUpTo : ℕ → List Date → Type 0
 AreUpTo n l = (k : ℕ) → IsUpTo n (get_or l k Early)
 
+-- the first n values are Early
+abbrev pub AreEarlyTo : ℕ → List Date → Type 0
+AreEarlyTo n l = (k : ℕ) → k < n → get_or l k Early ≡ Early
+
 -- the list without its last value
 abbrev pub all_but_last : List Date → List Date
 all_but_last l = take (length l - 1) l

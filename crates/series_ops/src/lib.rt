@@ -2,6 +2,7 @@
 //! operation is that of the functions: the result has, at every shift, the value that the book's
 //! definition gives, and the refusals come exactly where the need or a number is too great. Stands on
 //! `series_laws` for the definitions and their laws, on `series_form` and on `dioid`.
+//! Its examples stand in `series_examples`.
 #![tactic(auto)]
 
 mod anchors;
@@ -11,8 +12,6 @@ mod residuals;
 mod splits;
 mod stars;
 mod tables;
-#[cfg(test)]
-mod tests;
 
 pub use gains::Gain;
 pub use products::product;

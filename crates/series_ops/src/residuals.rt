@@ -10,7 +10,7 @@ ghost use Rattle.series_form.specs.Answer.{AnswersOf, Answers};
 ghost use Rattle.series_laws.specs.Needs.{need_of, tail_of};
 ghost use Rattle.series_laws.specs.Residual.{IsLeftAt};
 ghost use Rattle.series_laws.specs.ProductNeeds.{offsets_of, left_over, OffsetsDecide, left_at, long_left, short_left, left_plan, form_left};
-ghost use Rattle.series_ops.specs.Listed.{AreUpTo, part_listed, left_listed, star_left_listed, IsStarLeft};
+ghost use Rattle.series_ops.specs.Listed.{AreEarlyTo, AreUpTo, part_listed, left_listed, star_left_listed, IsStarLeft};
 
 use crate::tables::{ended, first_values};
 use dioid::Date;
@@ -147,9 +147,32 @@ fn left_part(
     subtracted(first[place], date)
 }
 
-/// The least residual at a shift, over the places of the first list.
-fn left_value(first: &[Date], from: usize, second: &[Date], by_star: &[Date], shift: usize) -> Date
-    requires some { 0 < length first.now }
+/// How many places of a list come before one that is not Early, or else before the last.
+fn places_begun(list: &[Date]) -> usize
+    requires some { 0 < length list.now }
+    ensures within { result < length list.now }
+    ensures early { AreEarlyTo result list.now }
+{
+    for place in 0..list.len() - 1 {
+        if list[place] != Date::Early {
+            return place;
+        }
+    }
+    list.len() - 1
+}
+
+/// The least residual at a shift, over the places of the first list. Those where the first list is
+/// still Early bound nothing, and are passed over.
+fn left_value(
+    first: &[Date],
+    begun: usize,
+    from: usize,
+    second: &[Date],
+    by_star: &[Date],
+    shift: usize,
+) -> Date
+    requires begun { begun < length first.now }
+    requires early { AreEarlyTo begun first.now }
     requires second { shift + length first.now ≤ length second.now }
     requires by_star { shift + length first.now ≤ length by_star.now }
     requires first_bound { AreUpTo 500000000000000000000000000 first.now }
@@ -157,9 +180,9 @@ fn left_value(first: &[Date], from: usize, second: &[Date], by_star: &[Date], sh
     requires by_star_bound { AreUpTo 500000000000000000000000000 by_star.now }
     ensures { result ≡ left_listed first.now second.now by_star.now from shift }
 {
-    let mut best = left_part(first, from, second, by_star, shift, 0);
-    for place in 0..first.len() - 1 {
-        best = best.earlier(left_part(first, from, second, by_star, shift, place + 1));
+    let mut best = left_part(first, from, second, by_star, shift, begun);
+    for place in begun + 1..first.len() {
+        best = best.earlier(left_part(first, from, second, by_star, shift, place));
     }
     best
 }
@@ -168,6 +191,7 @@ fn left_value(first: &[Date], from: usize, second: &[Date], by_star: &[Date], sh
 /// past the list of the second by its period.
 fn next_left(
     first: &Series,
+    begun: usize,
     second: &Series,
     list: &[Date],
     by_star: &[Date],
@@ -175,6 +199,8 @@ fn next_left(
 ) -> Date
     requires series { IsSeries first.now }
     requires decide { OffsetsDecide first.now second.now }
+    requires begun { begun < size_of first.now }
+    requires early { AreEarlyTo begun first.now.values }
     requires few { offsets_of first.now second.now ≤ 40000 }
     requires list { list.now ≡ table (value_at second.now) (size_of second.now + offsets_of first.now second.now) }
     requires by_star { IsStarLeft list.now by_star.now first.now.period first.now.step }
@@ -184,7 +210,7 @@ fn next_left(
 {
     let shift = values.len();
     if shift < second.values().len() {
-        return left_value(first.values(), start(first), list, by_star, shift);
+        return left_value(first.values(), begun, start(first), list, by_star, shift);
     }
     subtracted(Date::At(-second.step()), values[shift - second.period()])
 }
@@ -207,9 +233,10 @@ fn left_list(
     requires count { count ≤ 20001 }
     ensures { IfOk result (λ values. values.items ≡ table (left_over first.now second.now) count) }
 {
+    let begun = places_begun(first.values());
     let mut values = Vec::new(alloc);
     for _shift in 0..count {
-        let next = next_left(first, second, list, by_star, values.as_slice());
+        let next = next_left(first, begun, second, list, by_star, values.as_slice());
         values.push(next)?;
     }
     Ok(values)
@@ -218,7 +245,8 @@ fn left_list(
 /// The first values of the residual where the offsets decide. From its start on the first series is
 /// its last period times the star of the monomial of that period and its step, and the residual by a
 /// product is that by one factor of the residual by the other: so the places of its list are enough.
-/// The work grows with the product of the lengths of the two lists.
+/// The work grows with the product of the length of the second list and the places from the first
+/// number of the first list on.
 fn values_by_offsets(
     alloc: Global,
     first: &Series,

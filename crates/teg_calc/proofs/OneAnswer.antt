@@ -9,7 +9,8 @@ use Rattle.series_form.specs.declared.forms.SeriesRefused.{SeriesRefused}
 use Rattle.series_form.specs.declared.forms.SeriesRefused.TheVariants.{TooLong, TooGreat, OutOfMemory}
 use Rattle.series_laws.specs.Forms.{Form, value_at, HasValues, IsCanonical, monomial_at}
 use Rattle.series_laws.specs.Pointwise.{sum_at, least_at}
-use Rattle.series_form.specs.Bounds.{IsSmallDate, HasSmallNumbers}
+use Rattle.series_form.specs.Bounds.{IsSmallDate}
+use Rattle.series_form.proofs.Great.{no_great}
 use Rattle.series_laws.proofs.Canonical.{one_canonical}
 use Rattle.series_form.specs.Answer.{AnswersOf, IsConstant, IsFirstGreatValue, IsGreatStep}
 use Rattle.series_laws.specs.Product.{product_at}
@@ -19,18 +20,6 @@ use Rattle.teg_calc.specs.Trees.{Tree, mono, epsilon, unit, never, plus, times, 
 use Rattle.teg_calc.specs.Meaning.{AnswersBoth, AnswersInOrder, AnswersOne, AnswersAfter, Evaluates, AreOneAnswer, signed_date, sum_answers, product_answers, least_answers, left_answers, star_answers}
 
 -- ---- one operation
-
--- a form with small numbers has no great one
-no_great : (f : Form) (v : ℤ) → HasSmallNumbers f → (IsFirstGreatValue f v ⊎ IsGreatStep f v) → ⊥
-no_great f v h (inl g) =
-    let small : IsSmallDate (get_or f.values g.place Early) = h.values g.place in
-    let low : unsigned_abs v ≤ 1000000000000000000 = rw g.value at small in
-    let high : 1000000000000000000 < unsigned_abs v = g.great in
-    omega arith
-no_great f v h (inr g) =
-    let low : unsigned_abs v ≤ 1000000000000000000 = rw g.value at h.step in
-    let high : 1000000000000000000 < unsigned_abs v = g.great in
-    omega arith
 
 -- a value that is great is not small
 great_here : (f : Form) (place : ℕ) (v : ℤ) → get_or f.values place Early ≡ At v → 1000000000000000000 < unsigned_abs v → IsSmallDate (get_or f.values place Early) → ⊥

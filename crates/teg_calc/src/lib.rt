@@ -6,6 +6,7 @@
 //! operations. [`print`] writes a series as a line. The crate stands on `series_form` and
 //! `series_ops` for series, on `series_laws` for what they mean, on `dioid` for dates, on `teg_text`
 //! for words and on `teg_net` for want of memory.
+//! Its examples stand in `series_examples`.
 #![tactic(auto)]
 
 mod brackets;
@@ -17,8 +18,6 @@ mod parsing;
 mod printing;
 mod readers;
 mod refusals;
-#[cfg(test)]
-mod tests;
 mod tokens;
 
 pub use evaluation::evaluate;

@@ -1,10 +1,9 @@
-use Rattle.std.proofs.Common.{◌≡◌, ◌≤◌, ◌+◌, ◌-◌, ◌*◌, ◌-ℤ◌, ℕ, ℤ, arith, ◌∙◌, ap, to_z, of_z}
+use Rattle.std.proofs.Common.{◌≡◌, ◌≤◌, ◌+◌, ◌*◌, ◌-ℤ◌, ℕ, ℤ, arith, ◌∙◌, ap, to_z, of_z}
 use Rattle.std.specs.Int.{w128}
 use Rattle.std.specs.Int.RustNames.{unsigned_abs}
 use Rattle.std.proofs.lemmas.Int.{to_z-of_z}
 use Rattle.std.proofs.lemmas.Nat.{mul-le}
-use Rattle.series_laws.specs.Forms.{value_at, gap}
-use Rattle.series_laws.specs.Needs.{ceiling, greatest_int, later_start, lead_of, periods_behind, rise_of, fall_of}
+use Rattle.series_laws.specs.Needs.{ceiling, lead_of, periods_behind, rise_of, fall_of}
 use Rattle.series_form.proofs.Numbers.{moderate_fits}
 use Rattle.series_form.proofs.pointwise.shifts_behind.Goals as goal
 
@@ -25,10 +24,7 @@ overflow_mul-result c =
 
 pub returns-clause-value : goal.returns-clause-value
 returns-clause-value c =
-    let lead : c.greatest_lead-lead.result ≡ lead_of c.args.first.now c.args.second.now =
-    c.greatest_lead-lead.ensures.value
-    ∙ ap (λ (z : ℕ). greatest_int (λ i. gap (value_at c.args.first.now (z + i)) (value_at c.args.second.now (z + i))) (c.common_period-shifts.result - 1)) c.requires.from
-    ∙ ap (λ (z : ℕ). greatest_int (λ i. gap (value_at c.args.first.now (later_start c.args.first.now c.args.second.now + i)) (value_at c.args.second.now (later_start c.args.first.now c.args.second.now + i))) (z - 1)) c.common_period-shifts.ensures.value in
+    let lead : c.greatest_lead-lead.result ≡ lead_of c.args.first.now c.args.second.now = c.greatest_lead-lead.ensures.value in
     let a : to_z w128 (of_z w128 c.greatest_lead-lead.result) ≡ lead_of c.args.first.now c.args.second.now = to_z-of_z w128 c.greatest_lead-lead.result (record { sfits = c.greatest_lead-lead.type_inv }) ∙ lead in
     let b : to_z w128 (of_z w128 c.lead_gain.result) ≡ rise_of c.args.first.now c.args.second.now -ℤ fall_of c.args.first.now c.args.second.now = to_z-of_z w128 c.lead_gain.result (record { sfits = c.lead_gain.type_inv }) ∙ c.lead_gain.ensures.value in
     let periods : c.gains_for-periods.result ≡ periods_behind c.args.first.now c.args.second.now =
