@@ -12,17 +12,9 @@ use Rattle.teg_net.proofs.PathLaws.{IsPathBetween-append}
 use Rattle.teg_loops.specs.Loops.{EndsBelow}
 use Rattle.teg_loops.proofs.Taking.{Keeps, closed_keeps}
 use Rattle.teg_loops.specs.Rounds.{HasRound}
-use Rattle.teg_loops.proofs.Again.{round_in, round_off}
+use Rattle.teg_loops.proofs.Again.{round_in, round_off, round_sum}
 use Rattle.teg_loops.proofs.Visits.{Meets, FirstVisit, first_visit, joined_meets, rounds, rounds_lead, rounds_sum}
 use Rattle.bound_laws.proofs.Best.{Setting, IsCriticalIn, MeetsCritical, bound, best_meets}
-
-round_sum : (f : PlaceId → ℕ) (net : NetLists) (a b m most : ℕ) (ps : List PlaceId) → (h : HasRound net a b m most ps) → sum_by f ps ≡ sum_by f (h.before ++ h.after) + sum_by f h.round
-round_sum f net a b m most ps h =
-    let one = sum_by-append f h.before (h.round ++ h.after) in
-    let two = sum_by-append f h.round h.after in
-    let three = sum_by-append f h.before h.after in
-    let e : sum_by f ps ≡ sum_by f (h.before ++ (h.round ++ h.after)) = ap (sum_by f) h.is in
-    omega arith
 
 -- a walk with m tokens fewer, or some multiple, that loses no more
 pub record Swapped (e : NetLists) (a b j t c m : ℕ) (ps : List PlaceId) : Type 0 where

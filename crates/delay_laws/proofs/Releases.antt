@@ -23,10 +23,6 @@ one_release period t i k d e a b =
     let there = b.attained.3 in
     omega arith
 
--- what departure s asks for
-asked : ℕ → Timetable → ℕ → ℕ → ℕ
-asked period t i s = planned period t i s + delay_given t i s
-
 -- the first release, and the next one
 first_release : (period : ℕ) (t : Timetable) (i : ℕ) → IsReleaseAt period t i 1 (planned period t i 1 + delay_given t i 1)
 first_release period t i = record {

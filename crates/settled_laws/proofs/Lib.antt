@@ -8,3 +8,5 @@ pub mod Settling
 pub mod Rising
 pub mod Driven
 pub mod Seen
+pub mod Alike
+pub mod OneForm

@@ -22,14 +22,16 @@ difference c x k p q s u l a b = record {
       move_between (s t) (u t) (x t (i + (q - p))) (x t i) long;
 }
 
-record HasPeriod (c : ℕ) (x : Dating) (k p : ℕ) : Type 0 where
-  step : ℕ → ℤ
-  repeats : RepeatsAfter c x k p step
+-- past number k the dates go on in this period
+pub record HasPeriod (c : ℕ) (x : Dating) (k p : ℕ) : Type 0 where
+  pub step : ℕ → ℤ
+  pub repeats : RepeatsAfter c x k p step
 
-record HasCommon (c : ℕ) (x : Dating) (k p q : ℕ) : Type 0 where
-  gcd : ℕ
-  is_gcd : IsGcd p q gcd
-  form : HasPeriod c x k gcd
+-- and in the greatest common divisor of two
+pub record HasCommon (c : ℕ) (x : Dating) (k p q : ℕ) : Type 0 where
+  pub gcd : ℕ
+  pub is_gcd : IsGcd p q gcd
+  pub form : HasPeriod c x k gcd
 
 swap_gcd : (c : ℕ) (x : Dating) (k p q : ℕ) → HasCommon c x k p q → HasCommon c x k q p
 swap_gcd c x k p q h = record { gcd = h.gcd; is_gcd = IsGcd-swap p q h.gcd h.is_gcd; form = h.form }
@@ -38,7 +40,7 @@ more_gcd : (c : ℕ) (x : Dating) (k p q : ℕ) → p < q → HasCommon c x k (q
 more_gcd c x k p q l h = record { gcd = h.gcd; is_gcd = IsGcd-from_sub q p h.gcd (omega arith) h.is_gcd; form = h.form }
 
 -- so the greatest common divisor of two periods is a period
-gcd_period : (c : ℕ) (x : Dating) (k n p q : ℕ) → p + q < n → HasPeriod c x k p → HasPeriod c x k q → HasCommon c x k p q
+pub gcd_period : (c : ℕ) (x : Dating) (k n p q : ℕ) → p + q < n → HasPeriod c x k p → HasPeriod c x k q → HasCommon c x k p q
 gcd_period c x k zero p q m a b = absurd (omega arith)
 gcd_period c x k (suc n) p q m a b =
     let one = a.repeats.at_least_one in

@@ -10,4 +10,6 @@
 
 mod laws;
 
-pub use laws::{forms_tell_dates, shortest_forms_are_one, shortest_forms_exist};
+pub use laws::{
+    forms_tell_dates, settled_forms_are_one, shortest_forms_are_one, shortest_forms_exist,
+};

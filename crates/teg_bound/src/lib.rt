@@ -8,13 +8,12 @@
 //! crate stands on `teg_net`, on `teg_check`, `teg_parts` and `teg_cycle` for nets that are live,
 //! parts and certificates, on `teg_loops` for the laws of circuits, on `bound_laws` for the laws of
 //! the bound, on `settled_laws` and `teg_model` for forms and datings, and on `teg_text` for texts.
+//! Its examples stand in `worked_examples`.
 #![tactic(auto)]
 
 mod bound;
 mod numbers;
 mod readings;
-#[cfg(test)]
-mod tests;
 mod texts;
 
 pub use bound::{BoundAnswer, settling_bound};

@@ -1,6 +1,6 @@
 mod Sorting
-mod Ranking
-mod Cells
+pub mod Ranking
+pub mod Cells
 mod Seeing
 mod Filling
 mod Beginning
@@ -9,3 +9,4 @@ mod Bounded
 mod Columns
 mod NextRow
 mod Keeping
+mod Shortening

@@ -6,7 +6,7 @@ use Rattle.dioid.specs.declared.dates.Date.{Date}
 use Rattle.dioid.specs.declared.dates.Date.TheVariants.{Early}
 use Rattle.teg_net.specs.Nets.{NetLists}
 use Rattle.teg_model.specs.Systems.{System, Dating}
-use Rattle.teg_dates.specs.Tables.{TableDates, cell_of}
+use Rattle.teg_dates.specs.Tables.{TableDates, cell_of, date_in}
 use Rattle.teg_dates.specs.Rows.{IsRows, AreLeastRows, AreFirst, AreFirstLeast}
 use Rattle.teg_dates.specs.Passes.{IsRowOf}
 use Rattle.teg_dates.proofs.Cells.{rows_before, cell_before}
@@ -27,3 +27,10 @@ first_with_row net x k before row o first is =
           rw last (get_or-append_right before row (length before) (cell_of w t k) Early refl (omega (arith, first.full)) ∙ (ap (λ z. get_or row z Early) at ∙ is.same t l)))
           (cases_lt j k);
     }
+
+-- rows of the net's width that have the first dates of each least dating are rows of it
+pub rows_of_first : (net : NetLists) (s : System) (rows : TableDates) → rows.width ≡ length net.transitions → AreFirstLeast net s rows.count rows.dates → AreLeastRows net s rows
+rows_of_first net s rows wide first = record {
+  width = wide;
+  least = λ x h t k l o m. ap (λ w. date_in w rows.dates t k) wide ∙ (first x h).same t k l o m;
+}

@@ -2,8 +2,9 @@
 use Rattle.std.specs.Prelude.{ℕ, ◌+◌, ◌*◌, ◌<◌, ◌≤◌, ◌≡◌, ◌^◌, List, length}
 use Rattle.dioid.specs.declared.dates.Date.{Date}
 use Rattle.teg_net.specs.Limits.{most_transitions, greatest_hold, greatest_number}
-use Rattle.teg_net.specs.Nets.{NetLists}
+use Rattle.teg_net.specs.Nets.{NetLists, IsNet}
 use Rattle.teg_model.specs.Systems.{System, IsLeastIn}
+use Rattle.teg_model.specs.Datings.{listed, system_of}
 use Rattle.teg_model.specs.Bounds.{IsBoundedBy}
 use Rattle.teg_dates.specs.Tables.{TableDates, HasDatesOf, date_in}
 
@@ -24,6 +25,10 @@ pub record IsRows (rows : TableDates) : Type 0 where
 -- the initial dates and the releases up to the greatest number are from 0 to the bound, or none
 abbrev pub KeepsBounds : System → Type 0
 KeepsBounds s = (first : ℕ → ℕ) × IsBoundedBy s greatest_hold first × (first greatest_number ≤ greatest_first)
+
+-- the ready dates and the input lists of a net are so
+abbrev pub NetsKeepBounds : Type 0
+NetsKeepBounds = (net : NetLists) → IsNet net → KeepsBounds (system_of net (listed net))
 
 -- with the initial dates and the releases of numbers up to k, all holds up to there come to at most so much
 abbrev pub StaysWithin : ℕ → ℕ → System → Type 0

@@ -1,5 +1,6 @@
 //! The rows of the first numbers, one after another, in memory that does not grow.
-ghost use Rattle.std.specs.Prelude.{◌≡◌, ◌+◌, ◌<◌, length, map, IfOk};
+ghost use Rattle.std.specs.Prelude.{◌≡◌, ◌+◌, ◌<◌, ◌≤◌, length, map, IfOk};
+ghost use Rattle.teg_net.specs.Limits.{greatest_number};
 ghost use Rattle.teg_check.specs.Ranks.{IsRanking};
 ghost use Rattle.teg_dates.specs.DateCells.{date_of};
 ghost use Rattle.teg_dates.specs.Tables.{most_numbers};
@@ -45,6 +46,14 @@ impl FirstRows {
         let reach = most_tokens_of(net) as usize;
         let window = Window::new(alloc, net.transitions().len(), reach)?;
         Ok(FirstRows { order, window })
+    }
+
+    /// How many rows were given so far. It takes no memory.
+    pub fn number(&self) -> u64
+        ensures value { result ≡ self.now.window.number }
+        ensures few { result ≤ greatest_number }
+    {
+        self.window.number()
     }
 
     /// Writes the next row: the dates of the firings of number `number + 1` by the least dating of

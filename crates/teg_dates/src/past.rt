@@ -5,6 +5,7 @@ ghost use Rattle.teg_dates.specs.Tables.{cell_of};
 ghost use Rattle.teg_dates.specs.Rows.{most_rows};
 
 use crate::date_cell::DateCell;
+use crate::date_list::DateList;
 use dioid::Date;
 use teg_net::TransitionId;
 
@@ -40,7 +41,7 @@ pub(crate) fn cell_of(width: usize, transition: TransitionId, number: u64) -> us
 pub(crate) struct AllRows<'a> {
     pub(crate) width: usize,
     pub(crate) count: u64,
-    pub(crate) dates: &'a [Date],
+    pub(crate) dates: &'a DateList,
     ghost width_in: { width ≤ most_transitions },
     ghost count_in: { count ≤ most_rows },
     ghost full: { length dates.now ≡ count * width },
@@ -53,6 +54,7 @@ impl Past<Date> for AllRows<'_> {
     ghost rows = { λ p. record { width = p.width; reach = p.count; number = p.count; kept = p.count; back = λ t b. date_in p.width p.dates.now t (p.count + 1 - b) } };
 
     fn back(&self, transition: TransitionId, behind: u64) -> Date {
-        self.dates[cell_of(self.width, transition, self.count + 1 - behind)]
+        self.dates
+            .date(cell_of(self.width, transition, self.count + 1 - behind))
     }
 }

@@ -1,62 +1,58 @@
 //! The rows of the least dating of a system, as many as a caller asks for.
-ghost use Rattle.std.specs.Prelude.{◌≡◌, ◌+◌, ◌-◌, ◌*◌, ◌<◌, ◌≤◌, length, take, [], IfOk};
-ghost use Rattle.dioid.specs.declared.dates.Date.{Date};
+ghost use Rattle.std.specs.Prelude.{◌≡◌, ◌+◌, ◌-◌, ◌*◌, ◌<◌, ◌≤◌, ◌++◌, length, [], IfOk};
 ghost use Rattle.teg_net.specs.Nets.{IsNet};
 ghost use Rattle.teg_dates.specs.Tables.{date_at};
 ghost use Rattle.teg_dates.specs.Order.{OrdersPlaces};
 ghost use Rattle.teg_dates.specs.Sources.{system_by};
 ghost use Rattle.teg_dates.specs.Rows.{most_rows, KeepsBounds, AreFirstLeast, AreLeastRows, HasLeastDating};
 
+use crate::date_list::DateList;
 use crate::order::{PlaceOrder, Turn};
 use crate::passes::fill_row;
 use crate::past::{AllRows, cell_of};
 use crate::sources::Source;
 use dioid::Date;
-use std::alloc::{AllocError, Global};
+use std::alloc::Global;
 use std::marker::Model;
 use teg_net::{Net, OutOfMemory, TransitionId};
 
-/// Appends room for one row.
-fn extend(dates: &mut Vec<Date>, width: usize) -> Result<(), AllocError>
-    ensures more { IfOk result (λ _. length dates.new.items ≡ length dates.old.items + width) }
-    ensures before { IfOk result (λ _. take (length dates.old.items) dates.new.items ≡ dates.old.items) }
-{
-    for _index in 0..width {
-        dates.push(Date::Early)?;
-    }
-    Ok(())
-}
-
-/// Writes the last of the rows, that of the number.
-fn fill_last<S: Source>(net: &Net, order: &[Turn], source: &S, dates: &mut [Date], number: u64)
+/// Writes the row of the number behind the dates of the numbers before it.
+fn fill_next<S: Source>(
+    net: &Net,
+    order: &[Turn],
+    source: &S,
+    dates: &DateList,
+    row: &mut [Date],
+    number: u64,
+)
     requires order { OrdersPlaces net.now order.now }
     requires bounded { KeepsBounds (system_by S.Source source.now net.now) }
     requires number { 1 ≤ number }
     requires few { number ≤ most_rows }
-    requires full { length dates.old ≡ number * length net.now.transitions }
-    requires before { AreFirstLeast net.now (system_by S.Source source.now net.now) (number - 1) (take ((number - 1) * length net.now.transitions) dates.old) }
-    ensures full { length dates.new ≡ number * length net.now.transitions }
-    ensures least { AreFirstLeast net.now (system_by S.Source source.now net.now) number dates.new }
+    requires kept { length dates.now ≡ (number - 1) * length net.now.transitions }
+    requires full { length row.old ≡ length net.now.transitions }
+    requires before { AreFirstLeast net.now (system_by S.Source source.now net.now) (number - 1) dates.now }
+    ensures full { length row.new ≡ length net.now.transitions }
+    ensures least { AreFirstLeast net.now (system_by S.Source source.now net.now) number (dates.now ++ row.new) }
     ensures exists { HasLeastDating (system_by S.Source source.now net.now) }
 {
-    let width = net.transitions().len();
-    let count = number - 1;
-    let (before, row) = dates.split_at_mut(count as usize * width);
     let past = AllRows {
-        width,
-        count,
-        dates: before,
+        width: net.transitions().len(),
+        count: number - 1,
+        dates,
     };
     fill_row(net, order, source, &past, row, number);
 }
 
 /// The dates of the first firings of each transition, number by number: one row a number, at most
-/// 10^15 of them, which is more than any memory holds. Contracts see them as those of a table.
+/// 10^15 of them, which is more than any memory holds. A date takes eight bytes, as long as each is
+/// below 2^64 - 2. Contracts see them as those of a table.
 #[derive(Debug, Drop)]
 pub struct Rows {
     width: usize,
     count: u64,
-    dates: Vec<Date>,
+    dates: DateList,
+    next: Vec<Date>,
 }
 
 impl Model for Rows {
@@ -65,9 +61,9 @@ impl Model for Rows {
 
     ghost Value = { TableDates };
 
-    ghost view = { λ a. record { width = a.width; count = a.count; dates = a.dates.items } };
+    ghost view = { λ a. record { width = a.width; count = a.count; dates = a.dates } };
 
-    ghost invariant = { λ a. IsRows (record { width = a.width; count = a.count; dates = a.dates.items }) };
+    ghost invariant = { λ a. IsRows (record { width = a.width; count = a.count; dates = a.dates }) };
 }
 
 impl Rows {
@@ -82,7 +78,8 @@ impl Rows {
         Rows {
             width: net.transitions().len(),
             count: 0,
-            dates: Vec::new(alloc),
+            dates: DateList::new(alloc),
+            next: Vec::new(alloc),
         }
     }
 
@@ -107,8 +104,16 @@ impl Rows {
     {
         let mut rows = self;
         let number = rows.count + 1;
-        extend(&mut rows.dates, rows.width)?;
-        fill_last(net, order.turns(), source, &mut rows.dates, number);
+        rows.next.resize(rows.width, Date::Early)?;
+        fill_next(
+            net,
+            order.turns(),
+            source,
+            &rows.dates,
+            &mut rows.next,
+            number,
+        );
+        rows.dates.extend(&rows.next)?;
         rows.count = number;
         Ok(rows)
     }
@@ -128,6 +133,6 @@ impl Rows {
         requires last { number ≤ self.now.count }
         ensures { result ≡ date_at self.now transition.index number }
     {
-        self.dates[cell_of(self.width, transition, number)]
+        self.dates.date(cell_of(self.width, transition, number))
     }
 }

@@ -158,10 +158,17 @@ path_of net (suc j) t e =
     let all = sum_by-cons (λ q. (place_at net q).tokens) id rest.0 in
     (id ∷ rest.0, rest.1, (a.2, from, rest.2), omega (arith, rest.3), omega (arith, rest.4))
 
--- ranks below two more than the number of transitions
-pub live_ranks : (net : NetLists) → HasEndsInRange net → IsLive net → (rank : ℕ → ℕ) × AreRanks net.places (suc (suc (length net.transitions))) rank
-unfolding depth
-live_ranks net ok live =
+-- no rank of a transition reaches this
+abbrev pub rank_bound : NetLists → ℕ
+rank_bound net = suc (suc (length net.transitions))
+
+-- the rank of a transition: the fewer places without tokens lead on from it, the higher
+pub rank_in : NetLists → ℕ → ℕ
+rank_in net t = suc (length net.transitions) - depth net.places (suc (length net.transitions)) t
+
+pub ranks_in : (net : NetLists) → HasEndsInRange net → IsLive net → AreRanks net.places (rank_bound net) (rank_in net)
+unfolding depth rank_in
+ranks_in net ok live =
     let n : ℕ = length net.transitions in
     let end : (t : ℕ) → leads_on net.places (suc n) t ≡ false =
     λ t. ⊎_elim
@@ -170,16 +177,18 @@ live_ranks net ok live =
     absurd (omega (arith, p.3, path_short net p.0 t p.1 ok live p.2 p.4)))
     (λ (e : leads_on net.places (suc n) t ≡ false). e)
     (cases_Bool (leads_on net.places (suc n) t)) in
-    let same : (t : ℕ) → depth net.places (suc n) t ≡ depth net.places n t = λ t. rw (end t) (omega arith) in (
-      λ t. suc n - depth net.places (suc n) t,
-      record {
-        below = λ t. omega arith;
-        rise = λ i d l none.
-            let up = depth_more net.places i d l none n in
-            let most = depth_below net.places (suc n) (get_or net.places i d).from.index in
-            omega (arith, up, most, same (get_or net.places i d).to.index);
-      },
-    )
+    let same : (t : ℕ) → depth net.places (suc n) t ≡ depth net.places n t = λ t. rw (end t) (omega arith) in
+    record {
+      below = λ t. omega arith;
+      rise = λ i d l none.
+          let up = depth_more net.places i d l none n in
+          let most = depth_below net.places (suc n) (get_or net.places i d).from.index in
+          omega (arith, up, most, same (get_or net.places i d).to.index);
+    }
+
+-- ranks below two more than the number of transitions
+pub live_ranks : (net : NetLists) → HasEndsInRange net → IsLive net → (rank : ℕ → ℕ) × AreRanks net.places (rank_bound net) rank
+live_ranks net ok live = (rank_in net, ranks_in net ok live)
 
 pub live_is_ranked : (net : NetLists) → HasEndsInRange net → IsLive net → IsRanked net
-live_is_ranked net ok live = let ranks = live_ranks net ok live in (suc (suc (length net.transitions)), ranks.0, ranks.1)
+live_is_ranked net ok live = (rank_bound net, rank_in net, ranks_in net ok live)

@@ -1,7 +1,8 @@
 -- What holds of the least datings of a net: there is one, and only one; it is tight; its dates are those of walks; and
 -- they keep a bound (chapter 2).
-use Rattle.std.specs.Prelude.{ℕ, ◌<◌, ◌≤◌, ◌≡◌, length, All}
+use Rattle.std.specs.Prelude.{ℕ, pos, ◌<◌, ◌≤◌, ◌≡◌, length, All}
 use Rattle.dioid.specs.declared.dates.Date.{Date}
+use Rattle.dioid.specs.declared.dates.Date.TheVariants.{At}
 use Rattle.dioid.specs.Dates.{IsAtMostDate}
 use Rattle.teg_net.specs.Limits.{greatest_number}
 use Rattle.teg_net.specs.Nets.{NetLists, IsNet, IsInput}
@@ -61,3 +62,8 @@ LeastDatesAreWalks = (net : NetLists) → HasEndsInRange net → IsLive net → 
 abbrev pub LeastDatesAreWithin : Type 0
 LeastDatesAreWithin = (net : NetLists) → IsNet net → IsLive net → (x : ℕ → ℕ → Date) → IsLeastDating net x
     → (t k : ℕ) → t < length net.transitions → 1 ≤ k → k ≤ greatest_number → IsWithin greatest_least_date (x t k)
+
+-- and none of them is Early: no firing comes before date 0
+abbrev pub LeastDatesAreFromZero : Type 0
+LeastDatesAreFromZero = (net : NetLists) → IsNet net → IsLive net → (x : ℕ → ℕ → Date) → IsLeastDating net x
+    → (t k : ℕ) → t < length net.transitions → 1 ≤ k → IsAtMostDate (At (pos 0)) (x t k)

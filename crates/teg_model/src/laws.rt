@@ -1,6 +1,6 @@
 //! The laws of the least datings of nets. Each is a function that does nothing when it runs: its
 //! contract is the law.
-ghost use Rattle.teg_model.specs.Laws.{LeastDatesAreWalks, LeastDatesAreWithin, LeastDatingsAreOne, LeastDatingsAreTight, LeastDatingsExist, LeastOfSystemsAreLeast, LiveNetsAreRanked, TightDatingsAreLeast};
+ghost use Rattle.teg_model.specs.Laws.{LeastDatesAreFromZero, LeastDatesAreWalks, LeastDatesAreWithin, LeastDatingsAreOne, LeastDatingsAreTight, LeastDatingsExist, LeastOfSystemsAreLeast, LiveNetsAreRanked, TightDatingsAreLeast};
 
 /// A live net has ranks: numbers of its transitions that rise along each place without tokens (chapter 2).
 pub fn live_nets_are_ranked()
@@ -33,7 +33,9 @@ pub fn least_dates_are_walks()
     ensures { LeastDatesAreWalks }
 {}
 
-/// In a live net the least dates of numbers up to the greatest are from 0 to 2 times 10^30, or `Never`.
+/// In a live net each least date is a number from 0 on, or `Never`, and up to the greatest number
+/// those that are numbers are at most 2 times 10^30.
 pub fn least_dates_are_within()
-    ensures { LeastDatesAreWithin }
+    ensures first { LeastDatesAreFromZero }
+    ensures last { LeastDatesAreWithin }
 {}

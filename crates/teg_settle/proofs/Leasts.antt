@@ -1,5 +1,5 @@
 -- The least dating of the system of a net and its releases: it climbs, follows its releases, and stays within a bound.
-use Rattle.std.proofs.Common.{ℕ, ◌+◌, ◌*◌, ◌<◌, ◌≤◌, ◌≡◌, List, length, get_or, refl, sym, ap, subst, arith, ⊎_elim, inl, inr}
+use Rattle.std.proofs.Common.{ℕ, ◌+◌, ◌*◌, ◌<◌, ◌≤◌, ◌≡◌, List, length, refl, sym, ap, subst, arith, ⊎_elim, inl, inr}
 use Rattle.std.specs.Prelude.{pos, All, ◌⊎◌, slice_get}
 use Rattle.std.proofs.lemmas.Bool.{cases_lt}
 use Rattle.std.proofs.lemmas.Int.{ints}
@@ -11,7 +11,6 @@ use Rattle.dioid.proofs.DateOrder.{at_most_early}
 use Rattle.teg_net.specs.Limits.{greatest_hold, greatest_number}
 use Rattle.teg_net.specs.Nets.{NetLists, IsNet, IsInput, IsInputOf}
 use Rattle.teg_net.specs.Circuits.{no_place}
-use Rattle.teg_check.specs.Ranks.{IsRanking}
 use Rattle.teg_model.specs.Systems.{Dating, System, IsLeastIn}
 use Rattle.teg_model.specs.Ranks.{AreRanks}
 use Rattle.teg_model.specs.Bounds.{IsWithin, IsBoundedBy, greatest_least_date}
@@ -22,6 +21,7 @@ use Rattle.teg_model.proofs.Tokens.{implicit_gives}
 use Rattle.teg_model.proofs.Within.{within_more, least_in_within, net_is_bounded}
 use Rattle.teg_model.proofs.ListDates.{first_bound, listed_within}
 use Rattle.teg_dates.specs.Rows.{KeepsBounds}
+use Rattle.teg_dates.proofs.Ranking.{rank_of, ranks_of}
 use Rattle.settled_laws.proofs.Everywhere.{Climbing}
 use Rattle.settled_laws.proofs.Settling.{HasNoRelease, FollowsRelease}
 use Rattle.settled_laws.proofs.Driven.{source_follows}
@@ -33,18 +33,6 @@ use Rattle.teg_settle.specs.declared.releases.Releases.{Releases}
 use Rattle.teg_settle.specs.Releases.{initial_by, release_as, wait_in, release_by, system_for, OnlyInputsWait}
 use Rattle.teg_settle.specs.Windows.{IsReady}
 use Rattle.teg_settle.proofs.Listing.{got_rules, dates_climb, dates_late, dates_within}
-
-abbrev pub rank_of : List ℕ → ℕ → ℕ
-rank_of ranks t = get_or ranks t 0
-
-pub ranks_of : (net : NetLists) (ranks : List ℕ) → IsNet net → IsRanking net ranks → AreRanks net.places 400 (rank_of ranks)
-ranks_of net ranks ok r = record {
-  below = λ t. ⊎_elim
-      (λ (l : t < length ranks). omega (arith, r.small t 0 l, ok.few_transitions))
-      (λ (l : length ranks ≤ t). rw get_or_past (omega arith))
-      (cases_lt t (length ranks));
-  rise = r.rises;
-}
 
 pub ranks_on : (net : NetLists) (r : Releases) (most : ℕ) (h : IsReady net r most) → AreRanks (extended_places net) 400 (rank_of h.ranks)
 ranks_on net r most h = ranks_extended net 400 (rank_of h.ranks) (ranks_of net h.ranks h.is_net h.ranking)

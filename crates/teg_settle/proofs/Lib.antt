@@ -9,3 +9,6 @@ pub mod OwnForms
 pub mod Reaching
 pub mod Transferring
 pub mod WalkForms
+mod Witnessed
+pub mod OneTransfer
+pub mod Showing

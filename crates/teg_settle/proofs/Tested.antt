@@ -24,7 +24,8 @@ use Rattle.teg_dates.specs.Tables.{TableDates, HasDatesOf, date_at}
 use Rattle.teg_settle.specs.declared.releases.Releases.{Releases}
 use Rattle.teg_settle.specs.Releases.{system_for}
 use Rattle.teg_settle.specs.Windows.{read_step, IsRisingPlace, IsMovedAt, IsMovedPast, AreReleasedAlike, IsReady, IsWindow, AreRowsOf, IsRefuted, IsSeenFrom, IsSeen}
-use Rattle.teg_settle.proofs.Leasts.{rank_of, ranks_on, least, least_is, release_outside, outside, climbs, tokens_on, releases_on, dates_on}
+use Rattle.teg_dates.proofs.Ranking.{rank_of}
+use Rattle.teg_settle.proofs.Leasts.{ranks_on, least, least_is, release_outside, outside, climbs, tokens_on, releases_on, dates_on}
 
 -- the tests of a period past `after`
 pub record AreTested (net : NetLists) (r : Releases) (rows : TableDates) (period after : ℕ) : Type 0 where

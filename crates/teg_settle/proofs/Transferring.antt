@@ -30,7 +30,7 @@ use Rattle.teg_settle.specs.declared.releases.Wait.TheVariants.{Nothing, Dates}
 use Rattle.teg_settle.specs.declared.releases.Releases.{Releases}
 use Rattle.teg_settle.specs.Releases.{initial_by, release_as, wait_in, release_by, system_for, AreWaits, wait_from, OnlyInputsWait}
 use Rattle.teg_settle.specs.Transfers.{IsGreatestWalkTime, AreWalkTimes}
-use Rattle.teg_settle.proofs.Leasts.{rank_of, ranks_of}
+use Rattle.teg_dates.proofs.Ranking.{rank_of, ranks_of}
 use Rattle.teg_settle.proofs.Owning.{least_same, waits_within}
 
 -- the input is released at 0, and nothing else at all

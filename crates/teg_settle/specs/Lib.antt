@@ -1,7 +1,9 @@
 pub mod Kept
+pub mod Shown
 pub mod Refusals
 pub mod Releases
 pub mod Windows
+pub mod Witnesses
 pub mod Searches
 pub mod Copies
 pub mod Transfers

@@ -1,15 +1,17 @@
 //! The search for the settled form without a limit.
-ghost use Rattle.std.specs.Prelude.{◌≤◌, ℕ, IfOk};
+ghost use Rattle.std.specs.Prelude.{◌≡◌, ◌≤◌, ℕ, IfOk};
 ghost use Rattle.settled_laws.specs.Forms.{IsSettledFormOf};
 ghost use Rattle.teg_check.specs.Ranks.{IsRanking};
 ghost use Rattle.teg_settle.specs.Endless.{HasFormBy};
+ghost use Rattle.teg_settle.specs.Releases.{AreWaits, wait_of};
 ghost use Rattle.teg_settle.specs.Searches.{IsFound};
 ghost use Rattle.teg_settle.specs.Slopes.{HasSlopes};
 ghost use Rattle.teg_settle.specs.Windows.{IsReady};
 
-use crate::releases::Releases;
-use crate::search::{Found, form_of, grow, most_tokens, seen};
+use crate::releases::{Releases, Tokens};
+use crate::search::{Found, dates_of, form_of, grow, most_tokens, seen};
 use crate::settled::Settled;
+use crate::shown::SettledDates;
 use periodic_laws::least_datings_repeat;
 use std::alloc::Global;
 use teg_check::Live;
@@ -17,7 +19,7 @@ use teg_dates::{PlaceOrder, Rows};
 use teg_net::{Net, OutOfMemory};
 
 /// Where more rows than this show no form, no further ones are made: the dates of so many fill more
-/// than 48 bits of addresses tell apart.
+/// than 47 bits of addresses tell apart.
 const MOST_ROWS: u64 = 20_000_000_000_000;
 
 /// Rows that show the shortest form, where a form is known to be: they are doubled until they show one.
@@ -51,19 +53,41 @@ fn endless(
     }
 }
 
+/// Rows that show the shortest form of the net's least dating, which every live net has.
+fn found(alloc: Global, net: &Net, live: &Live, releases: &Releases) -> Result<Found, OutOfMemory>
+    requires stands { IsRanking net.now live.now }
+    requires tokens { releases.now.tokens ≡ Tokens.Ready }
+    requires waits { AreWaits net.now (wait_of net.now) releases.now.waits.items }
+    ensures ready { (most : ℕ) × IsReady net.now releases.now most }
+    ensures found { IfOk result (IsFound net.now releases.now) }
+{
+    least_datings_repeat();
+    let most = most_tokens(net);
+    endless(alloc, net, live, releases, most)
+}
+
 /// The shortest settled form of the least dates of a live net, with its ready dates and its input
 /// lists (chapter 3, cyclicity): the one of `settle_within`, whatever its length. Each live net has
 /// one, so the search for it ends: `OutOfMemory` comes where no memory is found, and past
-/// 20,000,000,000,000 rows, which no memory holds. For a settling length l it makes rows of order l
-/// for all transitions, each in time of order `n + p` for n transitions and p places.
+/// 20,000,000,000,000 rows, which no memory holds. It takes the time and the memory of
+/// [`settle_within`](crate::settle_within) with no limit.
 pub fn settle(alloc: Global, net: &Net, live: &Live) -> Result<Settled, OutOfMemory>
     requires stands { IsRanking net.now live.now }
     ensures form { IfOk result (IsSettledFormOf net.now) }
     ensures slopes { IfOk result (HasSlopes net.now) }
 {
-    least_datings_repeat();
-    let most = most_tokens(net);
     let releases = Releases::of_net(alloc, net)?;
-    let found = endless(alloc, net, live, &releases, most)?;
+    let found = found(alloc, net, live, &releases)?;
     form_of(alloc, net, &releases, &found)
+}
+
+/// The form of [`settle`], for callers that ask for some of its dates: it keeps the rows of the search
+/// and makes no other table of them.
+pub fn settle_dates(alloc: Global, net: &Net, live: &Live) -> Result<SettledDates, OutOfMemory>
+    requires stands { IsRanking net.now live.now }
+    ensures form { IfOk result (IsSettledFormOf net.now) }
+{
+    let releases = Releases::of_net(alloc, net)?;
+    let found = found(alloc, net, live, &releases)?;
+    dates_of(alloc, net, &releases, found)
 }

@@ -5,13 +5,16 @@
 //! exceeds a limit; [`settle`] the same form whatever its length, which every live net has;
 //! [`transfer`] that of the greatest times of walks from an input, within a limit. A [`Settled`] has
 //! a number, a period, and for each transition the dates up to the end of the first period past that
-//! number and a step; contracts see it as a `SettledForm`. It tells the date of every number.
+//! number and a step; contracts see it as a `SettledForm`. It tells the date of every number. [`settle_dates`]
+//! and [`settle_dates_within`] answer the same form as the rows that show it, for callers that ask for
+//! some of its dates: [`SettledDates`] takes a quarter of the memory.
 //!
 //! Rows of dates are made until they show a form: in its last period no step falls along a place, the
 //! dates before move alike, and so do the releases of the inputs. The crate stands on `teg_dates` for
 //! rows, on `teg_check` for ranks, on `settled_laws` for what settled forms are and what rows tell, on
 //! `periodic_laws` for that there is one, on `slope_laws` for their slopes, on `teg_model` for
 //! datings, and on `dioid` for dates.
+//! Its examples stand in `worked_examples`.
 #![tactic(auto)]
 
 mod endless;
@@ -21,12 +24,13 @@ mod refusals;
 mod releases;
 mod search;
 mod settled;
-#[cfg(test)]
-mod tests;
+mod shown;
 mod window;
+mod witness;
 
-pub use endless::settle;
-pub use laws::walk_times_settle;
-pub use limited::{settle_within, transfer};
+pub use endless::{settle, settle_dates};
+pub use laws::{transfers_are_one, walk_times_settle};
+pub use limited::{settle_dates_within, settle_within, transfer};
 pub use refusals::SettleRefusal;
 pub use settled::Settled;
+pub use shown::SettledDates;

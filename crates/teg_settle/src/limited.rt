@@ -1,24 +1,56 @@
 //! The settled form of the least dating of a net, and that of the times of walks from an input.
-ghost use Rattle.std.specs.Prelude.{◌≤◌, IfErr, IfOk};
+ghost use Rattle.std.specs.Prelude.{◌+◌, ◌≤◌, IfErr, IfOk};
 ghost use Rattle.settled_laws.specs.Forms.{IsSettledFormOf, NetSettlesPast, settled_length};
 ghost use Rattle.teg_check.specs.Ranks.{IsRanking};
 ghost use Rattle.teg_net.specs.Nets.{IsInput};
 ghost use Rattle.teg_settle.specs.Refusals.{IsRightRefusal, greatest_limit};
 ghost use Rattle.teg_settle.specs.Releases.{OnlyInputsWait};
+ghost use Rattle.teg_settle.specs.Searches.{IsFound};
 ghost use Rattle.teg_settle.specs.Slopes.{HasSlopes};
 ghost use Rattle.teg_settle.specs.Transfers.{IsTransferOf, TransferSettlesPast};
-ghost use Rattle.teg_settle.specs.Windows.{IsLeastForm, LeastSettlesPast};
+ghost use Rattle.teg_settle.specs.Windows.{IsLeastForm, IsReady, LeastSettlesPast};
 
 use crate::refusals::SettleRefusal;
 use crate::releases::Releases;
-use crate::search::{form_of, most_tokens, search};
+use crate::search::{Found, dates_of, form_of, most_tokens, search};
 use crate::settled::Settled;
+use crate::shown::SettledDates;
 use std::alloc::Global;
 use teg_check::Live;
 use teg_net::{Net, TransitionId};
 
-/// The shortest form of the least dating of the net with these releases, if its length is within the
-/// limit: rows of twice the limit and the tokens of a place show each form of such a length.
+/// Rows that show the shortest form of the least dating of the net with these releases, if its length
+/// is within the limit: rows of twice the limit and the tokens of a place show each form of such a
+/// length.
+fn found_within(
+    alloc: Global,
+    net: &Net,
+    live: &Live,
+    releases: &Releases,
+    most: u64,
+    limit: u32,
+) -> Result<Found, SettleRefusal>
+    requires stands { IsRanking net.now live.now }
+    requires ready { IsReady net.now releases.now most }
+    requires tokens { most ≤ 1000 }
+    requires few { limit ≤ greatest_limit }
+    ensures found { IfOk result (IsFound net.now releases.now) }
+    ensures within { IfOk result (λ found. found.form.after + found.form.period ≤ limit) }
+    ensures too_long { IfErr result (IsRightRefusal (LeastSettlesPast net.now releases.now limit) limit) }
+{
+    let last = 2 * u64::from(limit) + most;
+    match search(alloc, net, live, releases, most, last)? {
+        Some(found) => {
+            if found.form.after + found.form.period > u64::from(limit) {
+                return Err(SettleRefusal::TooLong { limit });
+            }
+            Ok(found)
+        }
+        None => Err(SettleRefusal::TooLong { limit }),
+    }
+}
+
+/// The form that they show.
 fn within(
     alloc: Global,
     net: &Net,
@@ -34,16 +66,28 @@ fn within(
     ensures too_long { IfErr result (IsRightRefusal (LeastSettlesPast net.now releases.now limit) limit) }
 {
     let most = most_tokens(net);
-    let last = 2 * u64::from(limit) + most;
-    match search(alloc, net, live, releases, most, last)? {
-        Some(found) => {
-            if found.form.after + found.form.period > u64::from(limit) {
-                return Err(SettleRefusal::TooLong { limit });
-            }
-            Ok(form_of(alloc, net, releases, &found)?)
-        }
-        None => Err(SettleRefusal::TooLong { limit }),
-    }
+    let found = found_within(alloc, net, live, releases, most, limit)?;
+    Ok(form_of(alloc, net, releases, &found)?)
+}
+
+/// The same form by its rows.
+fn dates_within(
+    alloc: Global,
+    net: &Net,
+    live: &Live,
+    releases: &Releases,
+    limit: u32,
+) -> Result<SettledDates, SettleRefusal>
+    requires stands { IsRanking net.now live.now }
+    requires waits { OnlyInputsWait net.now releases.now.waits.items }
+    requires few { limit ≤ greatest_limit }
+    ensures form { IfOk result (IsLeastForm net.now releases.now) }
+    ensures within { IfOk result (λ form. settled_length form ≤ limit) }
+    ensures too_long { IfErr result (IsRightRefusal (LeastSettlesPast net.now releases.now limit) limit) }
+{
+    let most = most_tokens(net);
+    let found = found_within(alloc, net, live, releases, most, limit)?;
+    Ok(dates_of(alloc, net, releases, found)?)
 }
 
 /// The shortest settled form of the least dates of a live net, with its ready dates and its input
@@ -51,7 +95,9 @@ fn within(
 /// plus period, is the settling length. `limit` is at most 200,000, and `TooLong` comes exactly where
 /// the settling length exceeds it. `OutOfMemory` comes only where no memory is found. For a settling
 /// length l, or a limit l below it, it makes rows of order l for all transitions, each in time of order
-/// `n + p` for n transitions and p places.
+/// `n + p` for n transitions and p places, and keeps them, eight bytes a date where dates are below
+/// 2^64 - 2. Of order l periods are tried: most are refuted by what refuted one before, and each
+/// other one takes time of at most the order of all these dates and of those of the input lists.
 pub fn settle_within(
     alloc: Global,
     net: &Net,
@@ -69,11 +115,30 @@ pub fn settle_within(
     within(alloc, net, live, &releases, limit)
 }
 
+/// The form of [`settle_within`], for callers that ask for some of its dates: it keeps the rows of the
+/// search, eight bytes a date where dates are below 2^64 - 2, and makes no other table of them.
+pub fn settle_dates_within(
+    alloc: Global,
+    net: &Net,
+    live: &Live,
+    limit: u32,
+) -> Result<SettledDates, SettleRefusal>
+    requires stands { IsRanking net.now live.now }
+    requires few { limit ≤ greatest_limit }
+    ensures form { IfOk result (IsSettledFormOf net.now) }
+    ensures within { IfOk result (λ form. settled_length form ≤ limit) }
+    ensures too_long { IfErr result (IsRightRefusal (NetSettlesPast net.now limit) limit) }
+{
+    let releases = Releases::of_net(alloc, net)?;
+    dates_within(alloc, net, live, &releases, limit)
+}
+
 /// The shortest settled form of the greatest times of walks from the first firing of this input to
 /// each firing of each transition (chapters 2 and 3); a firing to which no such walk leads has the date
 /// `Early`. Its number and its period are both least over all transitions. `limit` is at most 200,000,
 /// and `TooLong` comes exactly where the length of that form exceeds it. `OutOfMemory` comes only where
-/// no memory is found. It takes the time of [`settle_within`].
+/// no memory is found. It takes the time of [`settle_within`]: rows
+/// are made of all transitions, those that the input does not reach too.
 pub fn transfer(
     alloc: Global,
     net: &Net,

@@ -1,15 +1,18 @@
 //! The growing search for the shortest form: rows are made until they show one.
-ghost use Rattle.std.specs.Prelude.{◌≡◌, ◌+◌, ◌<◌, ◌≤◌, All, IfOk, MatchOption, ℕ};
+ghost use Rattle.std.specs.Prelude.{◌≡◌, ◌+◌, ◌-◌, ◌<◌, ◌≤◌, All, IfOk, IfSome, MatchOption, MatchResult, ℕ};
 ghost use Rattle.teg_net.specs.Nets.{IsNet};
 ghost use Rattle.teg_check.specs.Ranks.{IsRanking};
 ghost use Rattle.settled_laws.specs.Forms.{settled_length};
 ghost use Rattle.teg_dates.specs.Order.{OrdersPlaces};
 ghost use Rattle.teg_settle.specs.Searches.{IsFound};
 ghost use Rattle.teg_settle.specs.Windows.{AreRowsOf, IsLeastForm, IsReady, IsRefuted, IsSeen, IsSeenFrom, most_window};
+ghost use Rattle.teg_settle.specs.Witnesses.{Refutes};
 
 use crate::releases::{Releases, Repetition};
 use crate::settled::Settled;
+use crate::shown::SettledDates;
 use crate::window::{are_released_alike, is_rising, moved_past};
+use crate::witness::{Witness, Witnesses, witness_against};
 use std::alloc::Global;
 use teg_check::Live;
 use teg_dates::{PlaceOrder, Rows};
@@ -50,6 +53,93 @@ fn seen_from(net: &Net, releases: &Releases, rows: &Rows, most: u64, period: u64
     if after > latest { None } else { Some(after) }
 }
 
+/// What refutes this period, where it was refuted.
+fn found_against(
+    net: &Net,
+    releases: &Releases,
+    rows: &Rows,
+    most: u64,
+    period: u64,
+) -> Option<Witness>
+    requires ready { IsReady net.now releases.now most }
+    requires rows { AreRowsOf net.now releases.now rows.now }
+    requires some { 1 ≤ period }
+    requires fits { most + period + period ≤ rows.now.count }
+    ensures { IfSome result (Refutes net.now releases.now rows.now period (rows.now.count - most - period - period)) }
+{
+    let latest = rows.count() - most - period - period;
+    let near = latest.max((rows.count() - period).saturating_sub(FIRST_PAIRS));
+    witness_against(net, releases, rows, period, latest, near)
+}
+
+/// Another firing of a transition that a witness names, which refutes this period.
+fn other_against(
+    net: &Net,
+    releases: &Releases,
+    rows: &Rows,
+    most: u64,
+    period: u64,
+    witnesses: Witnesses,
+) -> Option<Witness>
+    requires ready { IsReady net.now releases.now most }
+    requires rows { AreRowsOf net.now releases.now rows.now }
+    requires some { 1 ≤ period }
+    requires fits { most + period + period ≤ rows.now.count }
+    ensures { IfSome result (λ _. IsRefuted net.now releases.now most rows.now.count period) }
+{
+    let latest = rows.count() - most - period - period;
+    witnesses.other(net, releases, rows, period, latest)
+}
+
+/// A witness that refutes this period too.
+fn still_against(
+    net: &Net,
+    releases: &Releases,
+    rows: &Rows,
+    most: u64,
+    period: u64,
+    witnesses: Witnesses,
+) -> Option<Witness>
+    requires ready { IsReady net.now releases.now most }
+    requires rows { AreRowsOf net.now releases.now rows.now }
+    requires some { 1 ≤ period }
+    requires fits { most + period + period ≤ rows.now.count }
+    ensures { IfSome result (λ _. IsRefuted net.now releases.now most rows.now.count period) }
+{
+    let latest = rows.count() - most - period - period;
+    witnesses.refute(net, releases, rows, period, latest)
+}
+
+/// The number from which this period is seen, or the witnesses with what refutes it. Those that there
+/// are come first, then another firing of their transitions, and then the tests.
+fn tried(
+    net: &Net,
+    releases: &Releases,
+    rows: &Rows,
+    most: u64,
+    period: u64,
+    witnesses: Witnesses,
+) -> Result<u64, Witnesses>
+    requires ready { IsReady net.now releases.now most }
+    requires rows { AreRowsOf net.now releases.now rows.now }
+    requires some { 1 ≤ period }
+    requires fits { most + period + period ≤ rows.now.count }
+    ensures { MatchResult result (IsSeenFrom net.now releases.now rows.now most period) (λ _. IsRefuted net.now releases.now most rows.now.count period) }
+{
+    match still_against(net, releases, rows, most, period, witnesses) {
+        Some(_) => return Err(witnesses),
+        None => {}
+    }
+    match other_against(net, releases, rows, most, period, witnesses) {
+        Some(witness) => return Err(witnesses.joined(Some(witness))),
+        None => {}
+    }
+    match seen_from(net, releases, rows, most, period) {
+        Some(after) => Ok(after),
+        None => Err(witnesses.joined(found_against(net, releases, rows, most, period))),
+    }
+}
+
 /// The least number and the least period by which the dates go on, if the rows are enough to see them.
 pub(crate) fn seen(net: &Net, releases: &Releases, rows: &Rows, most: u64) -> Option<Repetition>
     requires ready { IsReady net.now releases.now most }
@@ -60,10 +150,13 @@ pub(crate) fn seen(net: &Net, releases: &Releases, rows: &Rows, most: u64) -> Op
     if count < most {
         return None;
     }
+    let mut witnesses = Witnesses::nothing();
     for period in 1..(count - most) / 2 + 1 {
-        match seen_from(net, releases, rows, most, period) {
-            Some(after) => return Some(Repetition { after, period }),
-            None => {}
+        match tried(net, releases, rows, most, period, witnesses) {
+            Ok(after) => return Some(Repetition { after, period }),
+            Err(more) => {
+                witnesses = more;
+            }
         }
     }
     None
@@ -149,4 +242,19 @@ pub(crate) fn form_of(
     ensures length { IfOk result (λ form. settled_length form ≡ found.now.form.after + found.now.form.period) }
 {
     Ok(Settled::of_rows(alloc, net, &found.rows, found.form)?)
+}
+
+/// The same form by its rows, which it takes over.
+pub(crate) fn dates_of(
+    alloc: Global,
+    net: &Net,
+    releases: &Releases,
+    found: Found,
+) -> Result<SettledDates, OutOfMemory>
+    requires ready { (most : ℕ) × IsReady net.now releases.now most }
+    requires found { IsFound net.now releases.now found }
+    ensures form { IfOk result (IsLeastForm net.now releases.now) }
+    ensures length { IfOk result (λ form. settled_length form ≡ found.form.after + found.form.period) }
+{
+    Ok(SettledDates::of_rows(alloc, net, found.rows, found.form)?)
 }

@@ -40,7 +40,7 @@ impl Model for Settled {
 }
 
 /// The number so many steps on.
-fn moved(number: i128, rounds: u64, step: i128) -> i128
+pub(crate) fn moved(number: i128, rounds: u64, step: i128) -> i128
     requires product { FitsSigned w128 (pos rounds *ℤ step) }
     requires sum { FitsSigned w128 (number +ℤ pos rounds *ℤ step) }
     ensures { result ≡ number +ℤ pos rounds *ℤ step }

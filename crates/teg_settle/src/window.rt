@@ -24,7 +24,7 @@ fn step_between(early: Date, late: Date) -> i128
 }
 
 /// Whether the step leads from one date to the other.
-fn is_step(early: Date, late: Date, step: i128) -> bool
+pub(crate) fn is_step(early: Date, late: Date, step: i128) -> bool
     requires early { IsWithin (2 ^ 126) early }
     requires late { IsWithin (2 ^ 126) late }
     ensures { Decides result (late ≡ move step early) }
@@ -51,7 +51,7 @@ pub(crate) fn step_in(net: &Net, rows: &Rows, period: u64, transition: Transitio
 }
 
 /// Whether the step does not fall along the place, or it leads to never or from early.
-fn rises_along(net: &Net, rows: &Rows, period: u64, place: &Place) -> bool
+pub(crate) fn rises_along(net: &Net, rows: &Rows, period: u64, place: &Place) -> bool
     requires window { IsWindow net.now rows.now period }
     requires from { place.now.from.index < length net.now.transitions }
     requires to { place.now.to.index < length net.now.transitions }

@@ -13,7 +13,7 @@ use Rattle.teg_net.specs.Nets.{IsNet, NetLists}
 use Rattle.teg_net.proofs.PathLaws.{IsPathBetween-in_range}
 use Rattle.teg_timetable.specs.declared.refusals.DelayRefusal.{DelayRefusal}
 use Rattle.teg_timetable.specs.declared.refusals.DelayRefusal.TheVariants.{TooLarge, Unworkable, TooLong, OutOfMemory}
-use Rattle.teg_timetable.specs.Answers.{ExceedsLimit, IsDelayRefusal, IsOutcomeIn, IsOver, IsSettlingRefusal, IsRightOutcome, IsSpread, IsWithinLimit}
+use Rattle.teg_timetable.specs.Answers.{ExceedsLimit, IsOutcomeIn, IsOver, IsSettlingRefusal, IsRightOutcome, IsSpread, IsWithinLimit}
 use Rattle.teg_timetable.specs.Spreads.{AreLeftDelays, LeftDelays, OutcomeTold, RecoveredTold, KeptTold, greatest_period, left_at, most_dates}
 use Rattle.teg_timetable.proofs.Feeding.{ends_in}
 
@@ -86,11 +86,3 @@ exceeds net d period t limit tells (TooLarge transitions places) h = h
 exceeds net d period t limit tells (Unworkable place) h = h
 exceeds net d period t limit tells (TooLong l) h = (h.0, tells.past l h.1)
 exceeds net d period t limit tells OutOfMemory h = h
-
--- such a refusal is the right one of a plan that is followed
-pub refused_so : (net : NetLists) (period : ℕ) (t : Timetable) (limit : Option ℕ) → (IsOver net → ⊥) → IsWorkable net period t → (e : DelayRefusal) → ExceedsLimit net period t limit e
-    → IsDelayRefusal net period t limit e
-refused_so net period t limit not_over workable (TooLarge transitions places) h = absurd h
-refused_so net period t limit not_over workable (Unworkable place) h = absurd h
-refused_so net period t limit not_over workable (TooLong l) h = (not_over, workable, h.0, h.1)
-refused_so net period t limit not_over workable OutOfMemory h = tt

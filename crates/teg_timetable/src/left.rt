@@ -8,7 +8,7 @@ ghost use Rattle.teg_timetable.specs.Spreads.{AreLeftDelays, left_at, most_dates
 use dioid::Date;
 use std::marker::Model;
 use teg_net::TransitionId;
-use teg_settle::Settled;
+use teg_settle::SettledDates;
 
 /// A plan, by its first departures and its period, and a settled form whose first rows are the delayed
 /// dates of its transitions. No call takes memory.
@@ -16,7 +16,7 @@ use teg_settle::Settled;
 pub(crate) struct Left {
     firsts: Vec<u64>,
     every: u64,
-    settled: Settled,
+    settled: SettledDates,
 }
 
 impl Model for Left {
@@ -31,7 +31,7 @@ impl Model for Left {
 
 impl Left {
     /// The delays of this plan by this form.
-    pub(crate) fn new(firsts: Vec<u64>, every: u64, settled: Settled) -> Left
+    pub(crate) fn new(firsts: Vec<u64>, every: u64, settled: SettledDates) -> Left
         requires { AreLeftDelays (record { firsts = firsts.items; every = every; form = settled }) }
         ensures { result ≡ record { firsts = firsts.items; every = every; form = settled } }
     {

@@ -9,6 +9,7 @@
 //! The crate stands on `delay_laws` for what delays are, on `teg_settle` for settled forms, on
 //! `teg_net` and `teg_check` for nets, on `csv_records` for the records of a file, and on `teg_text`
 //! for texts.
+//! Its examples stand in `worked_examples`.
 #![tactic(auto)]
 
 mod circuits;
@@ -24,8 +25,6 @@ mod refusals;
 mod releases;
 mod spreading;
 mod tables;
-#[cfg(test)]
-mod tests;
 mod texts;
 mod workable;
 

@@ -20,7 +20,7 @@ use delay_laws::Timetable;
 use std::alloc::Global;
 use teg_check::{CheckRefusal, Live, check};
 use teg_net::{Net, OutOfMemory};
-use teg_settle::{SettleRefusal, Settled, settle, settle_within};
+use teg_settle::{SettleRefusal, SettledDates, settle_dates, settle_dates_within};
 
 // The ranks of a live net.
 fn ranks(alloc: Global, net: &Net) -> Result<Live, OutOfMemory>
@@ -35,7 +35,7 @@ fn ranks(alloc: Global, net: &Net) -> Result<Live, OutOfMemory>
 }
 
 // The settled form of a live net, within the limit if there is one.
-fn settled_in(alloc: Global, net: &Net, limit: Option<u32>) -> Result<Settled, DelayRefusal>
+fn settled_in(alloc: Global, net: &Net, limit: Option<u32>) -> Result<SettledDates, DelayRefusal>
     requires live { IsLive net.now }
     requires few { IfSome limit (λ l. l ≤ greatest_limit) }
     ensures form { IfOk result (IsSettledFormOf net.now) }
@@ -44,8 +44,8 @@ fn settled_in(alloc: Global, net: &Net, limit: Option<u32>) -> Result<Settled, D
 {
     let live = ranks(alloc, net)?;
     match limit {
-        None => Ok(settle(alloc, net, &live)?),
-        Some(limit) => match settle_within(alloc, net, &live, limit) {
+        None => Ok(settle_dates(alloc, net, &live)?),
+        Some(limit) => match settle_dates_within(alloc, net, &live, limit) {
             Ok(settled) => Ok(settled),
             Err(SettleRefusal::TooLong { limit }) => Err(DelayRefusal::TooLong { limit }),
             Err(SettleRefusal::OutOfMemory) => Err(DelayRefusal::OutOfMemory),
@@ -101,7 +101,9 @@ fn left_by(
 /// places together; `Unworkable` exactly where the plan does not leave some place its time, with the
 /// lowest numbered such place; `TooLong` exactly where there is a limit, from 1 to 200,000, that
 /// the settling length exceeds. `OutOfMemory` comes only where no memory is found. For n transitions,
-/// p places, r delays and a settling length l it takes time of order `n r + (n + p) l`.
+/// p places, r delays and a settling length l it takes time of order `n r + (n + p) l`, and what the
+/// periods that are tried take beside the rows, as in [`settle_within`](teg_settle::settle_within); the
+/// rows are kept, eight bytes a date where dates are below 2^64 - 2.
 pub fn spread(
     alloc: Global,
     net: &Net,

@@ -3,10 +3,10 @@ use Rattle.std.proofs.lemmas.Bool.{cases_lt}
 use Rattle.teg_settle.proofs.Tested.{seen_is_least}
 use Rattle.teg_settle.proofs.search.seen.Goals as goal
 
-pub returns-in-Some : goal.returns-in-Some
-returns-in-Some c =
-    let found = rw c.in-Some.is at c.seen_from.ensures in
-    seen_is_least c.args.net.now c.args.releases.now c.args.rows.now c.args.most c.loop-period.period c.in-Some.after (omega arith) found c.loop-period.invariant
+pub returns-in-Ok : goal.returns-in-Ok
+returns-in-Ok c =
+    let found = rw c.in-Ok.is at c.tried.ensures in
+    seen_is_least c.args.net.now c.args.releases.now c.args.rows.now c.args.most c.loop-period.period c.in-Ok.after (omega arith) found c.loop-period.invariant
 
 pub loop-period-preserved : goal.loop-period-preserved
 loop-period-preserved c = λ p o l.
@@ -14,7 +14,7 @@ loop-period-preserved c = λ p o l.
     (λ (q : p < c.loop-period.period). c.loop-period.invariant p o q)
     (λ (q : c.loop-period.period ≤ p).
     let is : p ≡ c.loop-period.period = omega arith in
-    rw is (rw c.in-None.is at c.seen_from.ensures))
+    rw is (rw c.in-Err.is at c.tried.ensures))
     (cases_lt p c.loop-period.period)
 
 pub returns : goal.returns

@@ -1,5 +1,0 @@
-use Rattle.teg_settle.proofs.Reaching.{enough_rows}
-use Rattle.teg_settle.proofs.endless.settle.Given as goal
-
-abbrev pub ghost-endless : goal.ghost-endless
-ghost-endless a = enough_rows a.net.now a.most

@@ -1,0 +1,12 @@
+use Rattle.std.proofs.lemmas.Result.{IfOk-weaker}
+use Rattle.settled_laws.specs.Forms.{IsSettledFormOf}
+use Rattle.teg_settle.specs.Windows.{IsLeastForm}
+use Rattle.teg_settle.proofs.OwnForms.{own_form}
+use Rattle.teg_settle.proofs.endless.settle_dates.Goals as goal
+
+pub returns : goal.returns
+returns c =
+    let net = c.args.net.now in
+    let r = c.in_ok-releases.releases in
+    let own = c.in_ok-releases.ensures in
+    record { form = IfOk-weaker c.dates_of.result (IsLeastForm net r) (IsSettledFormOf net) (own_form net r own.tokens own.waits) c.dates_of.ensures.form }

@@ -1,0 +1,128 @@
+//! A settled form by the rows of dates that show it.
+ghost use Rattle.std.specs.Prelude.{ℕ, ◌≡◌, ◌<◌, ◌≤◌, ◌+◌, IfOk, length, pos, slice_index_or};
+ghost use Rattle.teg_net.specs.Limits.{greatest_number};
+ghost use Rattle.teg_net.specs.Nets.{IsNet};
+ghost use Rattle.settled_laws.specs.Forms.{StandsFor, date_of, row_date, settled_length, step_of};
+ghost use Rattle.teg_settle.specs.Kept.{IsKept};
+ghost use Rattle.teg_settle.specs.Windows.{IsToldBy, IsWindow, read_step};
+
+use crate::releases::Repetition;
+use crate::settled::moved;
+use crate::window::step_in;
+use dioid::Date;
+use std::alloc::{AllocError, Global};
+use std::marker::Model;
+use teg_dates::Rows;
+use teg_net::{Net, TransitionId};
+
+/// A settled form (chapter 3), for callers that ask for some of its dates: the rows of the search are
+/// kept as they are, and no other table is made. Contracts see the same form as of a
+/// [`Settled`](crate::Settled). No call takes memory.
+#[derive(Debug, Drop)]
+pub struct SettledDates {
+    form: Repetition,
+    rows: Rows,
+    steps: Vec<i128>,
+}
+
+impl Model for SettledDates {
+    ghost use Rattle.settled_laws.specs.Forms.{SettledForm};
+    ghost use Rattle.teg_settle.specs.Shown.{IsShown, shown_form};
+
+    ghost Value = { SettledForm };
+
+    ghost view = { λ s. shown_form s.rows s.form s.steps.items };
+
+    ghost invariant = { λ s. IsShown s.rows s.form s.steps.items };
+}
+
+/// The steps of the last period of the rows.
+fn steps_of(alloc: Global, net: &Net, rows: &Rows, period: u64) -> Result<Vec<i128>, AllocError>
+    requires window { IsWindow net.now rows.now period }
+    ensures rules { IsNet net.now }
+    ensures count { IfOk result (λ steps. length steps.items ≡ length net.now.transitions) }
+    ensures each { IfOk result (λ steps. (t : ℕ) → t < length net.now.transitions → slice_index_or steps.items t (pos 0) ≡ read_step rows.now period t) }
+{
+    let mut steps = Vec::new(alloc);
+    for index in 0..net.transitions().len() {
+        let id = TransitionId {
+            index: index as u32,
+        };
+        steps.push(step_in(net, rows, period, id))?;
+    }
+    Ok(steps)
+}
+
+impl SettledDates {
+    /// The form that the rows show.
+    pub(crate) fn of_rows(
+        alloc: Global,
+        net: &Net,
+        rows: Rows,
+        form: Repetition,
+    ) -> Result<SettledDates, AllocError>
+        requires window { IsWindow net.now rows form.period }
+        requires fits { form.after + form.period + form.period ≤ rows.count }
+        requires told { (x : ℕ → ℕ → Date) × IsToldBy net.now rows form x }
+        ensures after { IfOk result (λ settled. settled.after ≡ form.after) }
+        ensures period { IfOk result (λ settled. settled.period ≡ form.period) }
+        ensures stands { IfOk result (λ settled. (x : ℕ → ℕ → Date) → IsToldBy net.now rows form x → StandsFor (length net.now.transitions) settled x) }
+    {
+        let steps = steps_of(alloc, net, &rows, form.period)?;
+        Ok(SettledDates { form, rows, steps })
+    }
+
+    /// The number past which the dates go on by their steps, 0 or more.
+    pub fn after(&self) -> u64
+        ensures value { result ≡ self.now.after }
+        ensures kept { IsKept self.now }
+    {
+        self.form.after
+    }
+
+    /// In how many numbers the dates go on by a step, at least 1.
+    pub fn period(&self) -> u64
+        ensures value { result ≡ self.now.period }
+        ensures kept { IsKept self.now }
+    {
+        self.form.period
+    }
+
+    /// By what the dates of this transition move in a period; 0 where they stay Never or Early.
+    pub fn step(&self, transition: TransitionId) -> i128
+        requires transition { transition.index < length self.now.rows }
+        ensures value { result ≡ step_of self.now transition.index }
+    {
+        self.steps[transition.index as usize]
+    }
+
+    /// One of the dates of the rows, up to the end of the first period.
+    fn row_date(&self, transition: TransitionId, number: u64) -> Date
+        requires transition { transition.index < length self.now.rows }
+        requires first { 1 ≤ number }
+        requires last { number ≤ settled_length self.now }
+        ensures { result ≡ row_date self.now transition.index number }
+    {
+        self.rows.date(transition, number)
+    }
+
+    /// The date of the firing of this number, from 1 to 10^18, of this transition: one of the rows, or
+    /// past the first period that of some periods before, moved by as many steps.
+    pub fn date(&self, transition: TransitionId, number: u64) -> Date
+        requires transition { transition.index < length self.now.rows }
+        requires first { 1 ≤ number }
+        requires last { number ≤ greatest_number }
+        ensures value { result ≡ date_of self.now transition.index number }
+    {
+        let settled = self.form.after + self.form.period;
+        if number <= settled {
+            return self.row_date(transition, number);
+        }
+        let rounds = (number - settled - 1) / self.form.period + 1;
+        let before = number - rounds * self.form.period;
+        match self.row_date(transition, before) {
+            Date::At(date) => Date::At(moved(date, rounds, self.step(transition))),
+            other => other,
+        }
+    }
+}
