@@ -9,12 +9,13 @@ use Rattle.teg_net.specs.declared.entries.Role.TheVariants.{Input}
 use Rattle.teg_net.specs.declared.entries.InputList.{InputList}
 use Rattle.teg_net.specs.Limits.{greatest_date}
 use Rattle.teg_net.specs.Nets.{NetLists, IsInputOf, lists_of}
-use Rattle.teg_net.specs.Inputs.{rounds_past}
+use Rattle.teg_net.specs.Inputs.{rounds_past, moved_by}
 use Rattle.teg_net.proofs.InputDates.{date_le}
 use Rattle.teg_model.specs.Datings.{as_date}
 use Rattle.teg_settle.proofs.Listing.{dates_climb}
 use Rattle.forever_laws.specs.declared.rows.EndlessRow.{EndlessRow}
 use Rattle.forever_laws.specs.Rows.{again_of, row_due, IsEndlessRow}
+use Rattle.forever_laws.specs.Laws.{RowsGoOn}
 
 abbrev number_in : Option ℕ → ℕ
 number_in None = 0
@@ -80,6 +81,11 @@ pub due_again : (net : NetLists) (r : EndlessRow) → IsEndlessRow net r → (k 
 due_again net r ok k l =
     let back : k + r.every - r.every ≡ k = omega arith in
     goes_back r (k + r.every) ok.goes_on.some ok.goes_on.enough l ∙ ap (λ j. due_number r j + r.gap) back
+
+-- the same of the row's own words
+pub rows_on : RowsGoOn
+rows_on net r ok k l =
+    due_is r k ∙ (ap (λ (d : ℕ). Some d) (goes_back r k ok.goes_on.some ok.goes_on.enough l) ∙ sym (ap (moved_by r.gap) (due_is r (k - r.every))))
 
 -- listed due dates keep the limit of dates
 pub listed_low : (net : NetLists) (r : EndlessRow) → IsEndlessRow net r → (k : ℕ) → k ≤ length r.dates → due_number r k ≤ greatest_date

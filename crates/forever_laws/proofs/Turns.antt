@@ -1,6 +1,6 @@
 -- What is looked up to a turn past the numbers from which dates and due dates repeat tells all late numbers of a row.
 use Rattle.std.proofs.Common.{ℕ, ℤ, zero, suc, ◌+◌, ◌-◌, ◌*◌, ◌<◌, ◌≤◌, ◌≡◌, length, refl, sym, ap, subst, ◌∙◌, arith, ⊎_elim, ◌+ℤ◌}
-use Rattle.std.specs.Prelude.{pos, ◌*ℤ◌}
+use Rattle.std.specs.Prelude.{pos}
 use Rattle.std.proofs.lemmas.Bool.{cases_lt}
 use Rattle.std.proofs.lemmas.Int.{ints}
 use Rattle.dioid.specs.declared.dates.Date.{Date}
@@ -11,8 +11,7 @@ use Rattle.teg_net.specs.Nets.{NetLists, IsNet}
 use Rattle.teg_net.specs.Circuits.{IsLive}
 use Rattle.teg_model.specs.Datings.{IsLeastUnder}
 use Rattle.teg_model.proofs.Tokens.{dates_climb}
-use Rattle.settled_laws.specs.Forms.{SettledForm, StandsFor, step_of}
-use Rattle.settled_laws.proofs.Telling.{rounds_on}
+use Rattle.settled_laws.specs.Forms.{step_of}
 use Rattle.due_laws.specs.Dues.{inputs_at_zero}
 use Rattle.bound_laws.proofs.WalkTimes.{number_of}
 use Rattle.forever_laws.specs.declared.rows.EndlessRow.{EndlessRow}
@@ -25,11 +24,11 @@ use Rattle.forever_laws.proofs.FirstLate.{GoOn, on_by, never_late, IsFewest, IsF
 use Rattle.forever_laws.proofs.Zeros.{least_number, date_is, at_most_numbers}
 use Rattle.forever_laws.proofs.Soon.{late_from, late_to}
 
-moved : (z m n : ℕ) → number_of (move (pos m *ℤ pos n) (At (pos z))) ≡ z + m * n
-moved z m n = refl
+moved : (z rise : ℕ) → number_of (move (pos rise) (At (pos z))) ≡ z + rise
+moved z rise = refl
 
 module _ (net : NetLists) (ok : IsNet net) (live : IsLive net) (x : ℕ → ℕ → Date) (least : IsLeastUnder net inputs_at_zero x)
-    (f : SettledForm) (stands : StandsFor (length net.transitions) f x) (r : EndlessRow) (row : IsEndlessRow net r) (past turn rise fall : ℕ) (s : IsTurnOf f r past turn rise fall) where
+    (r : EndlessRow) (row : IsEndlessRow net r) (past turn rise fall : ℕ) (s : IsTurnOf x r past turn rise fall) where
   abbrev z : ℕ → ℕ
   z k = least_number net ok live x least r.transition.index k
 
@@ -37,11 +36,8 @@ module _ (net : NetLists) (ok : IsNet net) (live : IsLive net) (x : ℕ → ℕ 
   goes_on = record {
     some = s.some;
     dates = λ k l. (
-        let far = s.past_form in
-        let on = rounds_on (length net.transitions) x f.after f.period (step_of f) stands.repeats r.transition.index k s.periods row.in_range (omega arith) in
         let here : x r.transition.index k ≡ At (pos (z k)) = date_is net ok live x least r.transition.index k row.in_range (omega arith) in
-        let there : k + turn ≡ k + s.periods * f.period = ap (λ (n : ℕ). k + n) s.by_form in
-        ap z there ∙ (ap number_of (on ∙ (ap (λ w. move (pos s.periods *ℤ w) (x r.transition.index k)) s.step_is ∙ ap (move (pos s.periods *ℤ pos s.step)) here)) ∙ (moved (z k) s.periods s.step ∙ ap (λ (n : ℕ). z k + n) (sym s.rise_is)))
+        ap number_of (s.dates_rise k l ∙ ap (move (pos rise)) here) ∙ moved (z k) rise
         );
     dues = λ k l. (
         let far = s.past_list in
@@ -94,9 +90,9 @@ module _ (net : NetLists) (ok : IsNet net) (live : IsLive net) (x : ℕ → ℕ 
       (subst (λ n. IsLeastLate x r (base + turns_to (due_number r base) n gain * turn) (due_number r base + turns_to (due_number r base) n gain * fall) (n + turns_to (due_number r base) n gain * rise)) two (least_of gain base none some e own))
 
 pub turns_tell : TurnsTellLate
-turns_tell net ok live x least f stands r row past turn rise fall s none = (
-  none_at_all net ok live x least f stands r row past turn rise fall s none,
-  λ gain base due date some e h. least_late net ok live x least f stands r row past turn rise fall s gain base due date none some e h,
+turns_tell net ok live x least r row past turn rise fall s none = (
+  none_at_all net ok live x least r row past turn rise fall s none,
+  λ gain base due date some e h. least_late net ok live x least r row past turn rise fall s gain base due date none some e h,
 )
 
 -- ---- steps

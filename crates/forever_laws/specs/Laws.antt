@@ -1,5 +1,5 @@
 -- What holds of endless due dates: late numbers, their search and their bound, latest inputs, and series of walk times and due dates.
-use Rattle.std.specs.Prelude.{ℕ, pos, ◌+◌, ◌*◌, ◌^◌, ◌<◌, ◌≤◌, ◌≡◌, ◌≢◌, ◌⊎◌, ◌↔◌, List, Option, length, All}
+use Rattle.std.specs.Prelude.{ℕ, pos, ◌+◌, ◌-◌, ◌*◌, ◌^◌, ◌<◌, ◌≤◌, ◌≡◌, ◌≢◌, ◌⊎◌, ◌↔◌, List, Option, length, All}
 use Rattle.dioid.specs.declared.dates.Date.{Date}
 use Rattle.dioid.specs.declared.dates.Date.TheVariants.{At, Never}
 use Rattle.series_laws.specs.Forms.{Form, value_at}
@@ -14,10 +14,17 @@ use Rattle.due_laws.specs.Dues.{InputsMeet, AreLatestInputs, inputs_at_zero}
 use Rattle.due_laws.specs.LatestDates.{IsLatestDate}
 use Rattle.due_laws.specs.Laws.{LeadsToNoDue}
 use Rattle.forever_laws.specs.declared.rows.EndlessRow.{EndlessRow}
-use Rattle.forever_laws.specs.Rows.{due_on, IsEndlessRow, IsEndlessOf}
+use Rattle.teg_net.specs.Inputs.{moved_by}
+use Rattle.forever_laws.specs.Rows.{due_on, row_due, IsEndlessRow, IsEndlessOf}
 use Rattle.forever_laws.specs.Late.{IsLateAt, NoneLateTo, NoneLate, IsLeastLate, IsFirstLate}
 use Rattle.forever_laws.specs.Searches.{IsTurnOf, turns_to, IsSoonest}
 use Rattle.forever_laws.specs.Columns.{due_date_at, AreColumns, residual_over, IsWalkSeries, IsDueSeries, IsSeriesList, listed_dates}
+
+-- ---- due dates
+
+-- past its list an endless row makes each firing due by its gap later than that of `every` firings before
+abbrev pub RowsGoOn : Type 0
+RowsGoOn = (net : NetLists) (r : EndlessRow) → IsEndlessRow net r → (k : ℕ) → length r.dates < k → row_due r k ≡ moved_by r.gap (row_due r (k - r.every))
 
 -- ---- late numbers
 
@@ -30,12 +37,12 @@ abbrev pub ZeroMeetsWhereNoneLate : Type 0
 ZeroMeetsWhereNoneLate = (net : NetLists) → IsNet net → IsLive net → (rows : List EndlessRow) → IsEndlessOf net rows
     → (x : ℕ → ℕ → Date) → IsLeastUnder net inputs_at_zero x → InputsMeet net (due_on rows) inputs_at_zero ↔ All (NoneLate x) rows
 
--- where nothing is late up to a turn past the number from which dates and due dates repeat, nothing is where the due dates rise no less
--- in a turn, and otherwise the least late number is that which is late after the fewest turns
+-- where nothing is late up to a turn past the number from which the dates of the transition and its due dates repeat, nothing is where the
+-- due dates rise no less in a turn, and otherwise the least late number is that which is late after the fewest turns
 abbrev pub TurnsTellLate : Type 0
 TurnsTellLate = (net : NetLists) → IsNet net → IsLive net → (x : ℕ → ℕ → Date) → IsLeastUnder net inputs_at_zero x
-    → (f : SettledForm) → StandsFor (length net.transitions) f x → (r : EndlessRow) → IsEndlessRow net r
-    → (past turn rise fall : ℕ) → IsTurnOf f r past turn rise fall → NoneLateTo x r (past + turn)
+    → (r : EndlessRow) → IsEndlessRow net r
+    → (past turn rise fall : ℕ) → IsTurnOf x r past turn rise fall → NoneLateTo x r (past + turn)
     → (rise ≤ fall → NoneLate x r)
     × ((gain base due date : ℕ) → 0 < gain → rise ≡ fall + gain → IsSoonest x r past (past + turn) gain base due date
     → IsLeastLate x r (base + turns_to due date gain * turn) (due + turns_to due date gain * fall) (date + turns_to due date gain * rise))

@@ -2,22 +2,17 @@
 use Rattle.std.specs.Prelude.{ℕ, pos, ◌+◌, ◌-◌, ◌*◌, ◌/◌, ◌<◌, ◌≤◌, ◌≡◌, ◌⊎◌, Some, length}
 use Rattle.dioid.specs.declared.dates.Date.{Date}
 use Rattle.dioid.specs.declared.dates.Date.TheVariants.{At}
-use Rattle.settled_laws.specs.Forms.{SettledForm, step_of}
+use Rattle.dioid.specs.Dates.{move}
 use Rattle.forever_laws.specs.declared.rows.EndlessRow.{EndlessRow}
 use Rattle.forever_laws.specs.Rows.{row_due}
 
--- past number `past` each turn of `turn` firings adds `rise` to the dates of the form and `fall` to the due dates of the row
-pub record IsTurnOf (f : SettledForm) (r : EndlessRow) (past turn rise fall : ℕ) : Type 0 where
-  pub past_form : f.after ≤ past
-  pub past_list : length r.dates ≤ past + r.every
+-- past number `past` each turn of `turn` firings adds `rise` to the dates of the row's transition and `fall` to the due dates of the row
+pub record IsTurnOf (x : ℕ → ℕ → Date) (r : EndlessRow) (past turn rise fall : ℕ) : Type 0 where
   pub some : 1 ≤ turn
-  pub periods : ℕ
+  pub dates_rise : (k : ℕ) → past < k → x r.transition.index (k + turn) ≡ move (pos rise) (x r.transition.index k)
+  pub past_list : length r.dates ≤ past + r.every
   pub rounds : ℕ
-  pub step : ℕ
-  pub by_form : turn ≡ periods * f.period
   pub by_list : turn ≡ rounds * r.every
-  pub step_is : step_of f r.transition.index ≡ pos step
-  pub rise_is : rise ≡ periods * step
   pub fall_is : fall ≡ rounds * r.gap
 
 -- the turns after which a firing that comes at `date` and is due at `due`, no earlier, is late, where each turn gains so much on its due date

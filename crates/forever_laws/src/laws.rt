@@ -1,7 +1,7 @@
 //! The laws of endless due dates. Each is a function that does nothing when it runs: its contract is
 //! the law.
 ghost use Rattle.forever_laws.specs.ColumnLaws.{ColumnsAreOne, ColumnsExist, RowsFitAlike, TransfersHaveOneLength};
-ghost use Rattle.forever_laws.specs.Laws.{DueSeriesFit, DuesAreSeries, FreeAtEachNumber, LateExcludesMeet, LateIsSoon, LateNumbersHaveLeast, LatestAtInputsAreLatest, LatestDatesFromZero, MeetOrLate, ResidualsAreFreeOrNumbers, ResidualsAreLatestDates, StepsAreFromZero, TransfersAreSeries, TurnsTellLate, WalkSeriesFit, ZeroInputsAreNoLists, ZeroMeetsWhereNoneLate};
+ghost use Rattle.forever_laws.specs.Laws.{DueSeriesFit, DuesAreSeries, FreeAtEachNumber, LateExcludesMeet, LateIsSoon, LateNumbersHaveLeast, LatestAtInputsAreLatest, LatestDatesFromZero, MeetOrLate, ResidualsAreFreeOrNumbers, ResidualsAreLatestDates, RowsGoOn, StepsAreFromZero, TransfersAreSeries, TurnsTellLate, WalkSeriesFit, ZeroInputsAreNoLists, ZeroMeetsWhereNoneLate};
 
 use teg_settle::walk_times_settle;
 
@@ -23,8 +23,16 @@ pub fn zero_meets_where_none_late()
     ensures { ZeroMeetsWhereNoneLate }
 {}
 
+/// Past its list an endless row goes on as it says: each firing is due by the gap later than the
+/// firing `every` before it.
+pub fn rows_go_on()
+    ensures { RowsGoOn }
+{}
+
 /// What a table of dates tells of all late numbers of a row: up to a turn past the number from which
-/// dates and due dates repeat together they are looked up, past that the steps tell them.
+/// the dates of its transition and the due dates repeat together they are looked up, past that what a
+/// turn adds tells them. A turn is of the transition's own dates; those of other transitions may take
+/// longer to repeat.
 ///
 /// The step of each transition is a number from 0 on.
 pub fn turns_tell_late()

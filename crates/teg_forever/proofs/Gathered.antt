@@ -1,5 +1,5 @@
 -- The releases so far, with those of one transition more; and what they come to.
-use Rattle.std.proofs.Common.{ℕ, ◌+◌, ◌<◌, ◌≤◌, ◌≡◌, ◌∷◌, [], ◌++◌, List, true, false, length, refl, sym, subst, ap, ◌∙◌, arith, ⊎_elim}
+use Rattle.std.proofs.Common.{ℕ, ◌+◌, ◌<◌, ◌≤◌, ◌≡◌, ◌∷◌, [], ◌++◌, List, true, length, refl, sym, subst, ap, ◌∙◌, arith, ⊎_elim}
 use Rattle.std.proofs.lemmas.Bool.{cases_lt}
 use Rattle.std.proofs.lemmas.List.{length-append}
 use Rattle.teg_net.specs.Nets.{NetLists, IsNet, IsInput}
@@ -14,21 +14,11 @@ use Rattle.teg_forever.specs.declared.releases.Release.{Release}
 use Rattle.teg_forever.specs.declared.releases.Release.TheVariants.{Free, Latest}
 use Rattle.teg_forever.specs.Releases.{AreBeside, AreReleases, IsFine, IsReleaseOf, inputs_below, inputs_of, release_date, released, release_in}
 use Rattle.teg_forever.specs.Columns.{AreReleasesBelow}
-use Rattle.teg_forever.proofs.InputLists.{inputs_more, inputs_same, input_test, input_within, input_in, beside_more, beside_in}
+use Rattle.teg_forever.proofs.InputLists.{inputs_more, input_test, input_within, input_in, beside_more, beside_in}
 
 module _ (net : NetLists) (rows : List EndlessRow) (n : ℕ) (releases : List Release) (h : AreReleasesBelow net rows n releases) where
   one_fine : (IsInput net n → IsFine net rows n) → (u : ℕ) → u < n + 1 → IsInput net u → IsFine net rows u
   one_fine here u w i = ⊎_elim (λ low. h.fine u low i) (λ high. let e : n ≡ u = omega arith in subst (IsFine net rows) e (here (subst (IsInput net) (sym e) i))) (cases_lt u n)
-
-  -- a transition that is no input
-  pub below_same : is_input net n ≡ false → (IsInput net n → ⊥) → AreReleasesBelow net rows (n + 1) releases
-  below_same none other =
-      let e = inputs_same net n none in
-      record {
-        fine = one_fine (λ i. absurd (other i));
-        each_input = h.each_input ∙ ap (λ (l : List ℕ). length l) (sym e);
-        right = subst (λ (l : List ℕ). AreBeside (IsReleaseOf net rows) l releases) (sym e) h.right;
-      }
 
   -- an input with its release
   pub below_more : (r : Release) → is_input net n ≡ true → IsFine net rows n → IsReleaseOf net rows n r → AreReleasesBelow net rows (n + 1) (releases ++ r ∷ [])

@@ -1,5 +1,5 @@
 -- The inputs of a net in order, and what stands beside them.
-use Rattle.std.proofs.Common.{ℕ, zero, suc, ◌+◌, ◌<◌, ◌≤◌, ◌≡◌, ◌==◌, ◌⊎◌, inl, inr, Bool, true, false, List, [], ◌∷◌, ◌++◌, All, Option, Some, None, length, get_or, refl, sym, subst, ap, ◌∙◌, arith, ⊎_elim, append-nil}
+use Rattle.std.proofs.Common.{ℕ, zero, suc, ◌+◌, ◌<◌, ◌≤◌, ◌≡◌, ◌==◌, ◌⊎◌, inl, inr, Bool, true, false, List, [], ◌∷◌, ◌++◌, All, Option, Some, None, length, get_or, refl, sym, subst, ap, ◌∙◌, arith, ⊎_elim}
 use Rattle.std.specs.Prelude.{slice_get, IsSomeAnd, if◌then◌else◌}
 use Rattle.std.specs.Option.{option_map_or}
 use Rattle.std.proofs.lemmas.Bool.{cases_Bool, cases_lt}
@@ -18,9 +18,6 @@ plus_one net n = let e : n + 1 ≡ suc n = omega arith in ap (inputs_below net) 
 
 pub inputs_more : (net : NetLists) (n : ℕ) → is_input net n ≡ true → inputs_below net (n + 1) ≡ inputs_below net n ++ n ∷ []
 inputs_more net n h = plus_one net n ∙ ap (λ (b : Bool). inputs_below net n ++ (if b then n ∷ [] else [])) h
-
-pub inputs_same : (net : NetLists) (n : ℕ) → is_input net n ≡ false → inputs_below net (n + 1) ≡ inputs_below net n
-inputs_same net n h = plus_one net n ∙ ap (λ (b : Bool). inputs_below net n ++ (if b then n ∷ [] else [])) h ∙ append-nil (inputs_below net n)
 
 one_low : (n t : ℕ) → t < n → All (λ u. u < n) (t ∷ [])
 one_low n t h = λ k d w. at k d w

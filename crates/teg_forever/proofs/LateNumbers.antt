@@ -18,9 +18,6 @@ module _ (x : ℕ → ℕ → Date) (r : EndlessRow) where
   pub none_less : (m n : ℕ) → n ≤ m → NoneLateTo x r m → NoneLateTo x r n
   none_less m n w h k d z low = h k d z (omega arith)
 
-  pub none_begun : NoneLateTo x r 0
-  none_begun k d z low h = let one : 1 ≤ k = h.from_one in absurd (omega arith)
-
   pub none_more : (n d z : ℕ) → 1 ≤ n → row_due r n ≡ Some d → x r.transition.index n ≡ At (pos z) → z ≤ d → NoneLateTo x r (n - 1) → NoneLateTo x r n
   none_more n d z one due date low h k e y w l = ⊎_elim
       (λ before. h k e y (omega arith) l)

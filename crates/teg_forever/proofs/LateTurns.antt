@@ -19,7 +19,7 @@ use Rattle.forever_laws.specs.Late.{NoneLateTo, NoneLate, IsLeastLate}
 use Rattle.forever_laws.specs.Searches.{IsTurnOf, IsSoonest, turns_to}
 use Rattle.forever_laws.specs.Laws.{TurnsTellLate, LateIsSoon, StepsAreFromZero, ZeroInputsAreNoLists, ZeroMeetsWhereNoneLate}
 use Rattle.forever_laws.proofs.Zeros.{date_is, least_number}
-use Rattle.teg_forever.specs.Searches.{IsZeroForm, IsClimbing, IsSoonLate}
+use Rattle.teg_forever.specs.Searches.{GoesOnBySteps, IsZeroForm, IsClimbing, IsSoonLate}
 use Rattle.teg_forever.specs.Releases.{IsLateAnswer}
 use Rattle.teg_forever.proofs.Series.{got_within, got_is}
 use Rattle.teg_forever.proofs.LateNumbers.{none_to_as, none_as, least_as, soonest_as}
@@ -64,12 +64,29 @@ module _ (net : NetLists) (ok : IsNet net) (live : IsLive net) (f : SettledForm)
         step_low = omega (arith, ints, sum, high);
       }
 
+  -- past the settling number they go on by it
+  pub goes_on : (t : ℕ) → t < length net.transitions → GoesOnBySteps f t
+  goes_on t lt = record {
+    again = λ j l. tells t (j + f.period) lt (omega arith) ∙ (form.stands.repeats.again t j lt l ∙ ap (move (step_of f t)) (sym (tells t j lt (omega arith))));
+  }
+
   module _ (r : EndlessRow) (rule : IsEndlessRow net r) where
     same : (k : ℕ) → 1 ≤ k → date_of f r.transition.index k ≡ form.dating r.transition.index k
     same k one = tells r.transition.index k rule.in_range one
 
     back : (k : ℕ) → 1 ≤ k → form.dating r.transition.index k ≡ date_of f r.transition.index k
     back k one = sym (same k one)
+
+    -- the same turn of the dating that the form stands for
+    turn_as : (past turn rise fall : ℕ) → IsTurnOf (date_of f) r past turn rise fall → IsTurnOf form.dating r past turn rise fall
+    turn_as past turn rise fall is = record {
+      some = is.some;
+      dates_rise = λ k l. back (k + turn) (omega arith) ∙ (is.dates_rise k l ∙ ap (move (pos rise)) (same k (omega arith)));
+      past_list = is.past_list;
+      rounds = is.rounds;
+      by_list = is.by_list;
+      fall_is = is.fall_is;
+    }
 
     -- the least late number is not great
     pub soon : LateIsSoon → (k due least : ℕ) → IsLeastLate (date_of f) r k due least → IsSoonLate f r k due least
@@ -78,18 +95,18 @@ module _ (net : NetLists) (ok : IsNet net) (live : IsLive net) (f : SettledForm)
         record { is = h; number_in = omega (arith, low.0); due_in = omega (arith, low.1); least_in = omega (arith, low.2) }
 
     -- where the due dates rise no less, none is late
-    pub none_at_all : TurnsTellLate → (past turn rise fall : ℕ) → IsTurnOf f r past turn rise fall → NoneLateTo (date_of f) r (past + turn) → rise ≤ fall → NoneLate (date_of f) r
+    pub none_at_all : TurnsTellLate → (past turn rise fall : ℕ) → IsTurnOf (date_of f) r past turn rise fall → NoneLateTo (date_of f) r (past + turn) → rise ≤ fall → NoneLate (date_of f) r
     none_at_all law past turn rise fall is none flat =
         none_as form.dating (date_of f) r back
-        ((law net ok live form.dating form.least f form.stands r rule past turn rise fall is (none_to_as (date_of f) form.dating r same (past + turn) none)).0 flat)
+        ((law net ok live form.dating form.least r rule past turn rise fall (turn_as past turn rise fall is) (none_to_as (date_of f) form.dating r same (past + turn) none)).0 flat)
 
     -- and otherwise the least late number is that which is late after the fewest turns
-    pub soon_by_turns : TurnsTellLate → LateIsSoon → (past turn rise fall gain base due date : ℕ) → IsTurnOf f r past turn rise fall → NoneLateTo (date_of f) r (past + turn) → 0 < gain → rise ≡ fall + gain
+    pub soon_by_turns : TurnsTellLate → LateIsSoon → (past turn rise fall gain base due date : ℕ) → IsTurnOf (date_of f) r past turn rise fall → NoneLateTo (date_of f) r (past + turn) → 0 < gain → rise ≡ fall + gain
         → IsSoonest (date_of f) r past (past + turn) gain base due date → IsSoonLate f r (base + turns_to due date gain * turn) (due + turns_to due date gain * fall) (date + turns_to due date gain * rise)
     soon_by_turns law low past turn rise fall gain base due date is none some steep soonest =
         soon low (base + turns_to due date gain * turn) (due + turns_to due date gain * fall) (date + turns_to due date gain * rise)
         (least_as form.dating (date_of f) r back _ _ _
-        ((law net ok live form.dating form.least f form.stands r rule past turn rise fall is (none_to_as (date_of f) form.dating r same (past + turn) none)).1 gain base due date some steep
+        ((law net ok live form.dating form.least r rule past turn rise fall (turn_as past turn rise fall is) (none_to_as (date_of f) form.dating r same (past + turn) none)).1 gain base due date some steep
         (soonest_as (date_of f) form.dating r same past (past + turn) gain base due date soonest)))
 
 -- the first row that is late, with its least late number

@@ -1,3 +1,4 @@
+pub mod Cycles
 pub mod Gathered
 pub mod InputLists
 pub mod LateNumbers

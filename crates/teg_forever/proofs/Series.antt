@@ -1,18 +1,17 @@
 -- Series that are made of lists.
-use Rattle.std.proofs.Common.{ℕ, ℤ, ◌⊎◌, inl, inr, ◌≡◌, ◌+◌, ◌*◌, ◌<◌, ◌≤◌, List, [], ◌∷◌, ◌++◌, Option, Some, None, Result, Ok, Err, length, get_or, refl, sym, subst, ap, ◌∙◌, arith, ⊎_elim}
+use Rattle.std.proofs.Common.{ℕ, ◌⊎◌, inl, inr, ◌≡◌, ◌+◌, ◌*◌, ◌<◌, ◌≤◌, List, [], ◌∷◌, ◌++◌, Option, Some, None, Result, Ok, Err, length, get_or, refl, sym, subst, ap, ◌∙◌, arith, ⊎_elim}
 use Rattle.std.specs.Prelude.{IfOk, slice_get}
 use Rattle.std.proofs.lemmas.Bool.{cases_lt}
 use Rattle.std.proofs.Math.ListN.{get_or-append}
 use Rattle.std.proofs.Math.Seq.{get_or-append_seam}
 use Rattle.std.proofs.lemmas.List.{length-append}
 use Rattle.dioid.specs.declared.dates.Date.{Date}
-use Rattle.dioid.specs.declared.dates.Date.TheVariants.{Early}
-use Rattle.std.specs.Int.RustNames.{unsigned_abs}
 use Rattle.series_laws.specs.Forms.{Form, value_at, HasValues, IsCanonical}
 use Rattle.series_form.specs.declared.forms.SeriesRefused.{SeriesRefused}
 use Rattle.series_form.specs.declared.forms.SeriesRefused.TheVariants.{TooLong, TooGreat, OutOfMemory}
-use Rattle.series_form.specs.Bounds.{IsSmallDate, HasSmallNumbers, IsSeries}
-use Rattle.series_form.specs.Answer.{AnswersOf, IsFirstGreatValue, IsGreatStep}
+use Rattle.series_form.specs.Bounds.{IsSeries}
+use Rattle.series_form.proofs.Great.{no_great}
+use Rattle.series_form.specs.Answer.{AnswersOf}
 use Rattle.series_ops.specs.declared.gains.Gain.{Gain}
 use Rattle.series_ops.specs.Gains.{gain_zero}
 use Rattle.teg_net.specs.Nets.{NetLists}
@@ -42,18 +41,6 @@ walk_made net u t f n made result each h k =
     made_gain (value_at f) n made result (λ g. IsWalkSeries net u t g.series) h k (λ g s v. record { canonical = s.canonical; times = λ i. subst (IsGreatestWalkTime net u t (i + 1)) (sym (v i)) (each i) })
 
 -- ---- refusals
-
--- a form with small numbers has no great one
-no_great : (f : Form) (v : ℤ) → HasSmallNumbers f → (IsFirstGreatValue f v ⊎ IsGreatStep f v) → ⊥
-no_great f v h (inl g) =
-    let small : IsSmallDate (get_or f.values g.place Early) = h.values g.place in
-    let low : unsigned_abs v ≤ 1000000000000000000 = rw g.value at small in
-    let high : 1000000000000000000 < unsigned_abs v = g.great in
-    omega arith
-no_great f v h (inr g) =
-    let low : unsigned_abs v ≤ 1000000000000000000 = rw g.value at h.step in
-    let high : 1000000000000000000 < unsigned_abs v = g.great in
-    omega arith
 
 -- a list whose canonical form is a series is refused for want of memory alone
 fits_if_made : (s : ℕ → Date) (n : ℕ) (made : Result Form SeriesRefused) → n ≤ 20000 → ((f : Form) → IsCanonical f → HasValues f s → IsSeries f) → AnswersOf (λ f. HasValues f s) n n made → FitsIfMade made

@@ -1,7 +1,8 @@
 -- Working definitions of what the search for a late firing goes by.
-use Rattle.std.specs.Prelude.{ℕ, pos, ◌<◌, ◌≤◌, ◌≡◌, length}
+use Rattle.std.specs.Prelude.{ℕ, pos, ◌+◌, ◌<◌, ◌≤◌, ◌≡◌, length}
 use Rattle.dioid.specs.declared.dates.Date.{Date}
 use Rattle.dioid.specs.declared.dates.Date.TheVariants.{At}
+use Rattle.dioid.specs.Dates.{move}
 use Rattle.teg_net.specs.Nets.{NetLists}
 use Rattle.teg_model.specs.Bounds.{greatest_least_date}
 use Rattle.teg_model.specs.Datings.{IsLeastUnder}
@@ -28,6 +29,14 @@ pub record IsClimbing (f : SettledForm) (t : ℕ) : Type 0 where
   pub step : ℕ
   pub step_is : step_of f t ≡ pos step
   pub step_low : step ≤ greatest_least_date
+
+-- past the settling number the dates of the transition go on by its step in a period
+pub record GoesOnBySteps (f : SettledForm) (t : ℕ) : Type 0 where
+  pub again : (k : ℕ) → f.after < k → date_of f t (k + f.period) ≡ move (step_of f t) (date_of f t k)
+
+-- past the settling number the dates of the transition rise by so much in so many firings
+abbrev pub RisesIn : SettledForm → ℕ → ℕ → ℕ → Type 0
+RisesIn f t firings rise = (k : ℕ) → f.after < k → date_of f t (k + firings) ≡ move (pos rise) (date_of f t k)
 
 -- the least late number of the row, and how great it is
 pub record IsSoonLate (f : SettledForm) (r : EndlessRow) (k due least : ℕ) : Type 0 where

@@ -89,9 +89,11 @@ fn keep_dues(
 ///
 /// The order of the work, for n transitions and p places: first the least dating with all inputs at 0
 /// is settled; for a settling length l it takes rows of order l, each in time of order `n + p`. Each
-/// due row is held against it in time of order `1,000 l + 10,000`. Then for each input the walk times
-/// are settled likewise; for a settling length k each due row takes a residual of at most 20,000
-/// values, each in time of order k.
+/// due row is held against it as far as the dates of its transition take to repeat with it, at most
+/// in time of order `1,000 l + 10,000`; the divisors of the net's period are tried for the period of
+/// the transition's own, each mostly for a few numbers. Then for each input the walk times are settled
+/// likewise; for a settling length k each due row takes a residual of at most 20,000 values, each in
+/// time of order k, less the numbers at which no walk arrives yet.
 pub fn forever(
     alloc: Global,
     net: &Net,

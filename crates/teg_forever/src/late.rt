@@ -1,5 +1,5 @@
 //! The least late number of a row: the firing that comes later than due, whatever the inputs are.
-ghost use Rattle.std.specs.Prelude.{◌≡◌, ◌<◌, ◌≤◌, ◌+◌, ◌*◌, ◌%◌, ◌⊎◌, pos, IfOk, IfNone, IfSome};
+ghost use Rattle.std.specs.Prelude.{◌≡◌, ◌<◌, ◌≤◌, ◌+◌, ◌*◌, ◌%◌, ◌⊎◌, pos, IfOk, IfNone, IfSome, IsTrue};
 ghost use Rattle.dioid.specs.declared.dates.Date.TheVariants.{At};
 ghost use Rattle.teg_net.specs.Circuits.{IsLive};
 ghost use Rattle.teg_net.specs.Nets.{IsNet};
@@ -7,7 +7,7 @@ ghost use Rattle.settled_laws.specs.Forms.{date_of};
 ghost use Rattle.forever_laws.specs.Rows.{IsEndlessRow, row_due};
 ghost use Rattle.forever_laws.specs.Late.{IsLeastLate, NoneLate, NoneLateTo};
 ghost use Rattle.forever_laws.specs.Searches.{IsSoonest, IsTurnOf, turns_to};
-ghost use Rattle.teg_forever.specs.Searches.{IsClimbing, IsGoingRow, IsSoonLate, IsZeroForm};
+ghost use Rattle.teg_forever.specs.Searches.{GoesOnBySteps, IsClimbing, IsGoingRow, IsSoonLate, IsZeroForm, RisesIn};
 
 use dioid::Date;
 use forever_laws::{EndlessRow, late_is_soon, turns_tell_late};
@@ -23,6 +23,13 @@ pub(crate) struct LateFiring {
     pub number: u128,
     pub due: u128,
     pub least: u128,
+}
+
+/// So many firings on, the least dates of a transition have risen by so much.
+#[derive(Clone, Copy)]
+struct Cycle {
+    firings: u64,
+    rise: u128,
 }
 
 /// Past number `past` each turn of firings adds `rise` to the least dates and `fall` to the due dates.
@@ -153,18 +160,70 @@ fn fewest_turns(settled: &Settled, row: &EndlessRow, past: u64, last: u64, gain:
     best
 }
 
-// A number of periods, from 1 to `every`, that take a multiple of `every` firings.
-fn common_periods(period: u64, every: u64) -> u64
+// Whether past the settling number the least dates of a transition rise by so much in so many
+// firings.
+fn rises_in(settled: &Settled, transition: TransitionId, firings: u64, rise: u128) -> bool
+    requires climbing { IsClimbing settled.now transition.index }
+    requires steps { GoesOnBySteps settled.now transition.index }
+    requires firings { firings ≤ 1000000000000000 }
+    requires rise { rise ≤ 2000000000000000000000000000000 }
+    ensures { IsTrue result → RisesIn settled.now transition.index firings rise }
+{
+    let after = settled.after();
+    for number in after + 1..after + settled.period() + 1 {
+        let later = least_at(settled, transition, number + firings);
+        if later != least_at(settled, transition, number) + rise {
+            return false;
+        }
+    }
+    true
+}
+
+// What a part of a period takes of its step, where it divides the period.
+fn part_of(step: u128, period: u64, firings: u64) -> u128
+    requires some { 0 < firings }
+    requires within { firings ≤ period }
+    ensures { result ≤ step }
+{
+    step / (period / firings) as u128
+}
+
+// A period of a transition's own past the settling number, no longer than that of the form, which all
+// transitions keep together.
+fn own_cycle(settled: &Settled, transition: TransitionId) -> Cycle
+    requires climbing { IsClimbing settled.now transition.index }
+    requires steps { GoesOnBySteps settled.now transition.index }
+    ensures rises { RisesIn settled.now transition.index result.firings result.rise }
+    ensures some { 1 ≤ result.firings }
+    ensures firings { result.firings ≤ 1000000000000000 }
+    ensures rise { result.rise ≤ 2000000000000000000000000000000 }
+{
+    let period = settled.period();
+    let step = settled.step(transition) as u128;
+    for firings in 1..period / 2 + 1 {
+        let rise = part_of(step, period, firings);
+        if period % firings == 0 && rises_in(settled, transition, firings, rise) {
+            return Cycle { firings, rise };
+        }
+    }
+    Cycle {
+        firings: period,
+        rise: step,
+    }
+}
+
+// A number of cycles of so many firings, from 1 to `every`, that take a multiple of `every` firings.
+fn common_cycles(firings: u64, every: u64) -> u64
     requires some { 1 ≤ every }
     requires every { every ≤ 1000 }
-    requires period { period ≤ 1000000000000000 }
+    requires firings { firings ≤ 1000000000000000 }
     ensures from_one { 1 ≤ result }
     ensures within { result ≤ every }
-    ensures common { result * period % every ≡ 0 }
+    ensures common { result * firings % every ≡ 0 }
 {
-    for periods in 1..every {
-        if periods * period % every == 0 {
-            return periods;
+    for cycles in 1..every {
+        if cycles * firings % every == 0 {
+            return cycles;
         }
     }
     every
@@ -179,24 +238,25 @@ fn greater(first: u64, second: u64) -> u64
     if first < second { second } else { first }
 }
 
-// From which number on, and after how many firings, dates and due dates repeat together.
+// From which number on, and after how many firings, the dates of the row's transition and its due
+// dates repeat together.
 fn turn_of(settled: &Settled, row: &EndlessRow) -> Turn
     requires climbing { IsClimbing settled.now row.now.transition.index }
+    requires steps { GoesOnBySteps settled.now row.now.transition.index }
     requires row { IsGoingRow row.now }
-    ensures turn { IsTurnOf settled.now row.now result.past result.firings result.rise result.fall }
+    ensures turn { IsTurnOf (date_of settled.now) row.now result.past result.firings result.rise result.fall }
     ensures past { result.past ≤ 1000000000010000 }
     ensures firings { result.firings ≤ 1000000000000000000 }
 {
     let every = row.every as u64;
     let past_list = row.dates.as_slice().len() as u64 - every;
-    let after = settled.after();
-    let period = settled.period();
-    let periods = common_periods(period, every);
-    let firings = periods * period;
+    let cycle = own_cycle(settled, row.transition);
+    let cycles = common_cycles(cycle.firings, every);
+    let firings = cycles * cycle.firings;
     Turn {
-        past: greater(after, past_list),
+        past: greater(settled.after(), past_list),
         firings,
-        rise: periods as u128 * settled.step(row.transition) as u128,
+        rise: cycles as u128 * cycle.rise,
         fall: (firings / every) as u128 * row.gap as u128,
     }
 }
@@ -208,7 +268,7 @@ fn late_by_turns(net: &Net, settled: &Settled, row: &EndlessRow, turn: Turn) -> 
     requires form { IsZeroForm net.now settled.now }
     requires climbing { IsClimbing settled.now row.now.transition.index }
     requires row { IsEndlessRow net.now row.now }
-    requires turn { IsTurnOf settled.now row.now turn.past turn.firings turn.rise turn.fall }
+    requires turn { IsTurnOf (date_of settled.now) row.now turn.past turn.firings turn.rise turn.fall }
     requires last { turn.past + turn.firings ≤ 1000000000000000000 }
     requires steep { turn.fall < turn.rise }
     requires in_time { NoneLateTo (date_of settled.now) row.now (turn.past + turn.firings) }

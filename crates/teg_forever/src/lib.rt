@@ -9,6 +9,7 @@
 //! holds of them, on `teg_settle` for settled forms of dates and of walk times, on `series_form`,
 //! `series_ops` and `dioid_matrix` for residuals of series, on `csv_records` and `teg_due` for rows,
 //! and on `teg_text` for texts.
+//! Its examples stand in `worked_examples`.
 #![tactic(auto)]
 
 mod answers;
@@ -19,8 +20,6 @@ mod numbers;
 mod reading;
 mod releases;
 mod rows;
-#[cfg(test)]
-mod tests;
 mod texts;
 
 pub use answers::forever;
