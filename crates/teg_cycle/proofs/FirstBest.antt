@@ -67,20 +67,6 @@ module _ (answers : List PartAnswer) (i : ℕ) where
         first = λ j q l s. less j q l s;
       }
 
-pub best_all : (answers : List PartAnswer) (n k : ℕ) (r : Fraction) → length answers ≤ n → IsFirstBelow answers n k r → IsFirstGreatest answers (Some k)
-best_all answers n k r l h = (r, record { here = h.here; greatest = λ j q s. h.greatest j q (let m = told_in answers j q s in omega arith) s; first = h.first })
-
-cases_told : (o : Option Fraction) → (o ≡ None) ⊎ ((q : Fraction) × (o ≡ Some q))
-cases_told None = inl refl
-cases_told (Some q) = inr (q, refl)
-
-pub none_all : (answers : List PartAnswer) (n : ℕ) → length answers ≤ n → IsBestBelow answers n None → IsFirstGreatest answers None
-none_all answers n l h = λ j.
-    ⊎_elim
-    (λ (e : ratio_at answers j ≡ None). e)
-    (λ (e : (q : Fraction) × (ratio_at answers j ≡ Some q)). h j (let m = told_in answers j e.0 e.1 in omega arith))
-    (cases_told (ratio_at answers j))
-
 -- the first part of greatest ratio is one
 pub one_first : (answers : List PartAnswer) (a b : Option ℕ) → IsFirstGreatest answers a → IsFirstGreatest answers b → a ≡ b
 one_first answers None None h k = refl

@@ -4,3 +4,4 @@ pub mod Certified
 pub mod Deciding
 pub mod Short
 pub mod Fitting
+pub mod Gathering

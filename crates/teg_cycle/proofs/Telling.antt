@@ -23,7 +23,6 @@ use Rattle.teg_net.specs.declared.rounds.Round.{Round}
 use Rattle.teg_net.specs.GreatestRatios.{ratio_in}
 use Rattle.teg_net.specs.PartAnswers.{ArePartAnswers}
 use Rattle.teg_howard.specs.Rounds.{IsPolicyRun}
-use Rattle.teg_cycle.specs.LastRounds.{IsLastOfRun}
 use Rattle.teg_cycle.specs.BestParts.{HaveTokens}
 use Rattle.teg_cycle.proofs.FirstBest.{told_in}
 use Rattle.teg_howard.specs.Runs.{KeepsLimits, IsAnswerOfLast}
@@ -66,14 +65,14 @@ sums_are_potentials net part_of part r c vs h p inside =
 pub answer_certifies : (net : NetLists) (part_of : List ℕ) (part : ℕ) (answer : PartAnswer) → IsPartAnswer net part_of part answer → KeepsLimits answer → answer ≢ NoCircuit → IsPartCertificate net part_of part answer
 answer_certifies net part_of part NoCircuit h k n = absurd (n refl)
 answer_certifies net part_of part (Best ratio circuit potentials) h k n = record {
-  time_in = k.0;
-  tokens_in = k.1;
+  time_in = let l = k.0 in omega arith;
+  tokens_in = let l = k.1 in omega arith;
   terms = h.terms;
   circuit = h.circuit;
   inside = h.inside;
   attains = h.attains;
   members = h.members;
-  within = k.2;
+  within = λ i d l. let w = k.2 i d l in let low = w.low in let high = w.high in record { low = omega (arith, ints); high = omega (arith, ints) };
   potentials = sums_are_potentials net part_of part ratio circuit.places.items potentials.items h;
 }
 
@@ -86,10 +85,6 @@ pub run_tells : (net : NetLists) (part_of : List ℕ) (part : ℕ) (rounds : Lis
 run_tells net part_of part [] answer run is = absurd (omega (arith, run.run.some))
 run_tells net part_of part (r ∷ rs) NoCircuit run is = absurd (is r)
 run_tells net part_of part (r ∷ rs) (Best ratio circuit potentials) run is = λ e. cc
-
-pub last_of_run : (net : NetLists) (part_of : List ℕ) (part : ℕ) (rounds : List Round) (answer : PartAnswer) → IsPolicyRun net part_of part rounds → IsAnswerOfLast rounds answer → IsLastOfRun net part_of part answer
-last_of_run net part_of part rounds NoCircuit run is = tt
-last_of_run net part_of part rounds (Best ratio circuit potentials) run is = (rounds, run, is)
 
 -- what holds of each answer, and of one more at the end, holds of each
 pub each_push : (P : ℕ → PartAnswer → Type 0) (xs : List PartAnswer) (x : PartAnswer) → ((k : ℕ) → k < length xs → P k (get_or xs k NoCircuit)) → P (length xs) x → (k : ℕ) → k < length (xs ++ x ∷ []) → P k (get_or (xs ++ x ∷ []) k NoCircuit)

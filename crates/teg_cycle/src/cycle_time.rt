@@ -1,18 +1,21 @@
-//! The cycle time of a net and of its parts, as one call.
-ghost use Rattle.std.specs.Prelude.{◌≡◌, ◌<◌, ◌++◌, ◌∷◌, [], length, IfOk, OnOk};
+//! The cycle time of a net and of its parts: the answer alone, or with the rounds that led to it.
+ghost use Rattle.std.specs.Prelude.{◌≡◌, ◌<◌, ◌≤◌, ◌++◌, ◌∷◌, [], length, IfOk, OnOk};
+ghost use Rattle.teg_net.specs.Limits.{most_transitions};
 ghost use Rattle.teg_net.specs.Nets.{IsNet};
 ghost use Rattle.teg_net.specs.PartAnswers.{IsPartAnswer, ArePartAnswers};
 ghost use Rattle.teg_net.specs.GreatestRatios.{IsFirstGreatest, IsCycleTime};
 ghost use Rattle.teg_net.specs.Certificates.{IsCertificate, IsPartCertificate};
 ghost use Rattle.teg_check.specs.Ranks.{IsRanking};
 ghost use Rattle.teg_parts.specs.Partitions.{AreParts};
-ghost use Rattle.teg_cycle.specs.LastRounds.{IsLastOfRun, AreLastOfRuns};
+ghost use Rattle.std.specs.Option.{option_map};
+ghost use Rattle.teg_cycle.specs.Checks.{ArePartCertificates};
+ghost use Rattle.teg_cycle.specs.LastRounds.{IsLastOfRun, AreLastOfRuns, IsRunOf, AreRunsFrom, rounds_in, some_run};
 
 use crate::best_parts::best_number;
 use std::alloc::{AllocError, Global};
 use teg_check::Live;
-use teg_howard::howard;
-use teg_net::{CycleAnswer, Net, OutOfMemory, PartAnswer, TransitionId};
+use teg_howard::{howard, last_round};
+use teg_net::{CycleAnswer, Net, OutOfMemory, PartAnswer, Round, TransitionId};
 use teg_parts::Parts;
 
 /// The answer of one part.
@@ -33,8 +36,30 @@ fn part_answer(
     if !parts.has_circuit(part) {
         return Ok(PartAnswer::NoCircuit);
     }
-    let (answer, _rounds) = howard(alloc, net, live, parts, part)?;
+    let answer = last_round(alloc, net, live, parts, part)?;
     Ok(answer)
+}
+
+/// The answer of one part, and the rounds that led to it where a circuit lies there.
+fn part_run(
+    alloc: Global,
+    net: &Net,
+    live: &Live,
+    parts: &Parts,
+    part: u32,
+) -> Result<(PartAnswer, Option<Vec<Round>>), OutOfMemory>
+    requires live { IsRanking net.now live.now }
+    requires parts { AreParts net.now parts.now }
+    requires part { part < length parts.now.inner }
+    ensures answer { IfOk result (λ w. IsPartAnswer net.now parts.now.part_of part w.0) }
+    ensures certificate { IfOk result (λ w. IsPartCertificate net.now parts.now.part_of part w.0) }
+    ensures run { IfOk result (λ w. IsRunOf net.now parts.now.part_of part w.0 (option_map (λ r. r.items) w.1)) }
+{
+    if !parts.has_circuit(part) {
+        return Ok((PartAnswer::NoCircuit, None));
+    }
+    let (answer, rounds) = howard(alloc, net, live, parts, part)?;
+    Ok((answer, Some(rounds)))
 }
 
 /// Puts the answer at the end of the list.
@@ -42,6 +67,16 @@ fn keep(answers: &mut Vec<PartAnswer>, answer: PartAnswer) -> Result<(), AllocEr
     ensures { OnOk result (answers.new.items ≡ answers.old.items ++ answer ∷ []) }
 {
     answers.push(answer)?;
+    Ok(())
+}
+
+/// Puts the rounds of a part, if it has some, at the end of the list.
+fn keep_run(runs: &mut Vec<Vec<Round>>, rounds: Option<Vec<Round>>) -> Result<(), AllocError>
+    ensures { OnOk result (rounds_in runs.new.items ≡ rounds_in runs.old.items ++ some_run (option_map (λ r. r.items) rounds)) }
+{
+    if let Some(rounds) = rounds {
+        runs.push(rounds)?;
+    }
     Ok(())
 }
 
@@ -58,6 +93,39 @@ fn part_numbers(alloc: Global, net: &Net, parts: &Parts) -> Result<Vec<u32>, All
         }))?;
     }
     Ok(numbers)
+}
+
+/// The answer on the net that has these answers of its parts.
+fn gathered(
+    net: &Net,
+    live: &Live,
+    parts: &Parts,
+    part_of: Vec<u32>,
+    answers: Vec<PartAnswer>,
+) -> CycleAnswer
+    requires rules { IsNet net.now }
+    requires live { IsRanking net.now live.now }
+    requires parts { AreParts net.now parts.now }
+    requires numbers { part_of.items ≡ parts.now.part_of }
+    requires count { length answers.items ≡ length parts.now.inner }
+    requires few { length answers.items ≤ most_transitions }
+    requires answers { ArePartAnswers net.now parts.now.part_of answers.items }
+    requires certificates { ArePartCertificates net.now parts.now.part_of answers.items }
+    ensures part_of { result.part_of.items ≡ part_of.items }
+    ensures parts { result.parts.items ≡ answers.items }
+    ensures best { IsFirstGreatest result.parts.items result.best }
+    ensures net { IsCycleTime net.now result.parts.items result.best }
+    ensures certificate { IsCertificate net.now result }
+{
+    let _net = net;
+    let _ranks = live;
+    let _parts = parts;
+    let best = best_number(&answers);
+    CycleAnswer {
+        part_of,
+        parts: answers,
+        best,
+    }
 }
 
 /// The greatest ratio of holding time to tokens over the circuits of each part and of the net
@@ -92,10 +160,36 @@ pub fn cycle(
         let answer = part_answer(alloc, net, live, parts, part)?;
         keep(&mut answers, answer)?;
     }
-    let best = best_number(&answers);
-    Ok(CycleAnswer {
-        part_of,
-        parts: answers,
-        best,
-    })
+    Ok(gathered(net, live, parts, part_of, answers))
+}
+
+/// The cycle times as `cycle` gives them (chapters 2 and 3), and of each part with a circuit, in
+/// order, the rounds of policy iteration that end in its answer.
+///
+/// Policy iteration runs once. It answers `OutOfMemory` only where no memory is found.
+pub fn cycle_with_runs(
+    alloc: Global,
+    net: &Net,
+    live: &Live,
+    parts: &Parts,
+) -> Result<(CycleAnswer, Vec<Vec<Round>>), OutOfMemory>
+    requires live { IsRanking net.now live.now }
+    requires parts { AreParts net.now parts.now }
+    ensures part_of { IfOk result (λ w. w.0.part_of.items ≡ parts.now.part_of) }
+    ensures count { IfOk result (λ w. length w.0.parts.items ≡ length parts.now.inner) }
+    ensures parts { IfOk result (λ w. ArePartAnswers net.now parts.now.part_of w.0.parts.items) }
+    ensures best { IfOk result (λ w. IsFirstGreatest w.0.parts.items w.0.best) }
+    ensures net { IfOk result (λ w. IsCycleTime net.now w.0.parts.items w.0.best) }
+    ensures certificate { IfOk result (λ w. IsCertificate net.now w.0) }
+    ensures runs { IfOk result (λ w. AreRunsFrom net.now parts.now.part_of 0 w.0.parts.items (rounds_in w.1.items)) }
+{
+    let part_of = part_numbers(alloc, net, parts)?;
+    let mut answers = Vec::new(alloc);
+    let mut runs = Vec::new(alloc);
+    for part in 0..parts.count() {
+        let (answer, rounds) = part_run(alloc, net, live, parts, part)?;
+        keep(&mut answers, answer)?;
+        keep_run(&mut runs, rounds)?;
+    }
+    Ok((gathered(net, live, parts, part_of, answers), runs))
 }

@@ -10,6 +10,7 @@ use Rattle.teg_net.specs.Parts.{IsMember, IsPlaceOfPart, to_of}
 use Rattle.teg_howard.specs.Policies.{Policy, IsPolicy, IsPolicyCircuit, step_back, first_id}
 use Rattle.teg_net.specs.PartAnswers.{first_transition_of}
 use Rattle.teg_howard.specs.FoundCircuits.{IsFoundAt, IsMarked, IsAbove, IsBestFound}
+use Rattle.teg_howard.specs.CircuitStarts.{IsLowestOnCircuit, AreStarts}
 use Rattle.teg_howard.proofs.Back.{trail_inside, get_or-trail}
 use Rattle.teg_howard.proofs.Sums.{own_trail}
 use Rattle.teg_howard.proofs.Turns.{circuit_trail, root_member}
@@ -77,9 +78,6 @@ module _ (net : NetLists) (parts : List ℕ) (part : ℕ) (π : Policy) (marked 
         lowest = λ d c p l. h.lowest d c p (below d c p l);
       }
 
-  pub skip_outside : (i : ℕ) → (IsMember parts part i → ⊥) → (d : List PlaceId) → IsPolicyCircuit net parts part π d → Counts net marked d → first_transition_of net d ≡ i → ⊥
-  skip_outside i out d c p e = out (subst (IsMember parts part) e (root_member net parts part π d c))
-
   -- a transition that the policy leads back to is none of the circuit's, or not below the first
   low_back : (d : List PlaceId) → IsPolicyCircuit net parts part π d → Low net d → (j : ℕ) → j < length d → first_transition_of net d ≤ step_back net π j (first_transition_of net d)
   low_back d c low zero l = omega arith
@@ -92,6 +90,14 @@ module _ (net : NetLists) (parts : List ℕ) (part : ℕ) (π : Policy) (marked 
       let read : get_or d k first_id ≡ π (step_back net π (n - suc k) root) = ap (λ z. get_or z k first_id) t.0 ∙ get_or-trail net π n root k first_id (omega arith) in
       let begins : from_of net (get_or d k first_id) ≡ step_back net π (suc j) root = ap (from_of net) read ∙ ap (λ x. from_of net (π (step_back net π x root))) back_is in
       subst (λ x. root ≤ x) begins (low k first_id (omega arith))
+
+  -- no circuit begins where none is marked to
+  pub skip_unmarked : (starts : List Bool) (i : ℕ) → AreStarts net parts part π starts → (IsMarked starts i → ⊥) → (d : List PlaceId) → IsPolicyCircuit net parts part π d → Counts net marked d → first_transition_of net d ≡ i → ⊥
+  skip_unmarked starts i h out d c p e =
+      let root : ℕ = first_transition_of net d in
+      let t = circuit_trail net parts part π d c in
+      let low : IsLowestOnCircuit net π root = record { steps = length d; some = c.circuit.not_empty; again = t.1; lowest = low_back d c p.0 } in
+      out (subst (IsMarked starts) e (h.all root (root_member net parts part π d c) low))
 
   pub skip_none : (i : ℕ) → ((k : ℕ) → 0 < k → k ≤ length net.transitions → step_back net π k i ≡ i → (j : ℕ) × (j < k) × (step_back net π j i < i)) → (d : List PlaceId) → IsPolicyCircuit net parts part π d → Counts net marked d → first_transition_of net d ≡ i → ⊥
   skip_none i none d c p e =

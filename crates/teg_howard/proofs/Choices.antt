@@ -1,15 +1,14 @@
 -- The loop of `round_of`: the choices of the members below i.
-use Rattle.std.proofs.Common.{ℕ, ◌+◌, ◌<◌, ◌≤◌, ◌≡◌, ◌≢◌, List, [], ◌∷◌, ◌++◌, Option, Some, None, true, false, eqb, length, refl, subst, ◌∙◌, arith, ⊎_elim}
+use Rattle.std.proofs.Common.{ℕ, ◌+◌, ◌<◌, ◌≤◌, ◌≡◌, ◌≢◌, List, [], ◌∷◌, ◌++◌, Option, Some, None, true, false, eqb, refl, subst, ◌∙◌, arith, ⊎_elim}
 use Rattle.std.specs.Prelude.{ℤ, All, AllPairs}
 use Rattle.std.proofs.lemmas.Bool.{cases_lt, cases_Bool, eq-eqb, ne_eqb}
 use Rattle.std.proofs.lemmas.List.Quantifiers.{all_pairs_push}
 use Rattle.std.proofs.lemmas.List.Elements.{All-push}
 use Rattle.teg_net.specs.declared.rounds.Choice.{Choice}
-use Rattle.teg_net.specs.declared.rounds.Round.{Round}
 use Rattle.teg_net.specs.Parts.{IsMember}
 use Rattle.teg_howard.specs.Policies.{Policy}
 use Rattle.teg_howard.specs.Rounds.{choice_in}
-use Rattle.teg_howard.specs.FoundCircuits.{value_of, value_or_zero, IsMade}
+use Rattle.teg_howard.specs.FoundCircuits.{value_of, value_or_zero}
 
 pub push_some : (cs : List Choice) (c x : Choice) (t : ℕ) → choice_in cs t ≡ Some x → choice_in (cs ++ c ∷ []) t ≡ Some x
 push_some [] c x t e = cc

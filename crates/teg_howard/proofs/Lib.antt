@@ -11,12 +11,15 @@ pub mod Walks
 pub mod First
 pub mod Best
 pub mod Values
+pub mod Passing
+pub mod Spreading
 pub mod Choices
 pub mod Improving
 pub mod Listing
 pub mod RoundStates
 pub mod Ending
 pub mod Runs
+pub mod Rising
 pub mod Exits
 pub mod Unique
 pub mod Lowest_terms

@@ -27,7 +27,7 @@ pub same_functions : {A B : Type 0} (f g : A → B) → ((x : A) → f x ≡ g x
 same_functions f g e = λ i. λ x. e x i
 
 -- the ratio of a circuit that gains at a / b, in lowest terms, is greater
-ratio_less : (a b c d time tokens : ℕ) → 0 < d → 0 < tokens → a * tokens < b * time → time * d ≡ c * tokens → a * d < c * b
+pub ratio_less : (a b c d time tokens : ℕ) → 0 < d → 0 < tokens → a * tokens < b * time → time * d ≡ c * tokens → a * d < c * b
 ratio_less a b c d time tokens pd pt up same =
     let m : (a * tokens + 1) * d ≤ (b * time) * d = mul-le-mul_right d (let l : a * tokens + 1 ≤ b * time = omega arith in l) in
     let e : b * (time * d) ≡ b * (c * tokens) = ap (λ x. b * x) same in

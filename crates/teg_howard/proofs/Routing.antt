@@ -1,7 +1,6 @@
 -- Routing to a circuit: afterwards every member leads step_back to it.
-use Rattle.std.proofs.Common.{ℕ, zero, suc, ◌+◌, ◌-◌, ◌<◌, ◌≤◌, ◌≡◌, ◌≢◌, List, length, get_or, take, refl, sym, ap, subst, ◌∙◌, arith, inl, ⊎_elim}
+use Rattle.std.proofs.Common.{ℕ, zero, suc, ◌+◌, ◌-◌, ◌<◌, ◌≤◌, ◌≡◌, List, length, get_or, take, refl, sym, ap, subst, ◌∙◌, arith, ⊎_elim}
 use Rattle.std.specs.Prelude.{Any}
-use Rattle.std.proofs.lemmas.Bool.{cases_eq}
 use Rattle.std.proofs.lemmas.List.{get_or_default, get_or-take, length-take-le}
 use Rattle.teg_net.specs.declared.entries.PlaceId.{PlaceId}
 use Rattle.teg_net.specs.Nets.{NetLists}
@@ -75,13 +74,3 @@ module _ (net : NetLists) (parts : List ℕ) (part : ℕ) (π : Policy) (ok : Is
         let home : LeadsBack net π (to_of net p) s = subst (λ x. LeadsBack net π (to_of net p) x) (sym e) (on_circuit net parts part π c is i d l) in
         r.kept (to_of net p) (is.inside i d l).to_member home ∙ is.own i d l;
   }
-
-  -- where every member leads step_back already, nothing is joined
-  pub none_joined : ((t : ℕ) → IsMember parts part t → LeadsBack net π t s) → length joins ≡ 0
-  none_joined home =
-      ⊎_elim
-      (λ (e : length joins ≡ 0). e)
-      (λ (ne : length joins ≢ 0).
-      let j : Joins net parts part π s (take 0 joins) (get_or joins 0 first_id) = (r.each 0 (omega arith)).joins_ in
-      absurd (j.to_unrouted (inl (home (to_of net (get_or joins 0 first_id)) j.inside.to_member))))
-      (cases_eq (length joins) 0)

@@ -14,15 +14,13 @@ use Rattle.teg_net.specs.PartAnswers.{first_transition_of}
 use Rattle.teg_howard.specs.Rounds.{IsFirstRound, Follows, IsRunTo, IsPolicyRun, last_of, potential}
 use Rattle.teg_howard.specs.FoundCircuits.{policy_of, potentials, AreLowest}
 use Rattle.teg_howard.specs.RoundStates.{IsRoundState, HasCircuit, IsLast, Rises}
-use Rattle.teg_howard.specs.Runs.{AllRise, IsAnswerOf, KeepsLimits, potential_of}
+use Rattle.teg_howard.specs.Runs.{AllRise, IsAnswerOf, KeepsLimits, greatest_scaled_potential, potential_of}
 use Rattle.std.specs.Prelude.{map}
-use Rattle.std.proofs.lemmas.Int.{ints}
 use Rattle.teg_net.specs.Ratios.{Fraction}
 use Rattle.teg_net.specs.declared.answers.Potential.{Potential}
 use Rattle.teg_net.specs.declared.answers.PartAnswer.{PartAnswer}
 use Rattle.teg_net.specs.declared.answers.PartAnswer.TheVariants.{NoCircuit, Best}
 use Rattle.teg_net.specs.Parts.{ListsMembers}
-use Rattle.teg_net.specs.Limits.{greatest_potential}
 use Rattle.teg_net.specs.ReducedTimes.{IsGreatestSum, IsWithin}
 use Rattle.teg_net.specs.PartAnswers.{IsBestOfPart, IsPartAnswer}
 use Rattle.teg_howard.proofs.Listing.{lists_members, begins_lowest, same_transitions, told_potentials, pair_rises}
@@ -157,9 +155,9 @@ last_keeps net parts part policy st (Best ratio circuit told) h is =
     let tokens : ratio.tokens ≡ st.round.ratio.tokens = ap (λ x. x.tokens) is.0 in (
       omega arith,
       omega arith,
-      subst (All (λ (v : Potential). IsWithin greatest_potential v.value)) (sym is.2)
-          (told_potentials (λ t z. IsWithin greatest_potential z) st.round parts part h.members
-          (λ t m. rw (h.potential_is t) (let w = h.within t in let low = w.low in let high = w.high in record { low = omega (arith, ints); high = omega (arith, ints) }))),
+      subst (All (λ (v : Potential). IsWithin greatest_scaled_potential v.value)) (sym is.2)
+          (told_potentials (λ t z. IsWithin greatest_scaled_potential z) st.round parts part h.members
+          (λ t m. rw (h.potential_is t) (h.within t))),
     )
 
 pub last_pushed : (net : NetLists) (parts : List ℕ) (part : ℕ) (P : Round → Type 0) (rs : List Round) (r d : Round) → P r → P (last_of (rs ++ r ∷ []) d)

@@ -1,5 +1,5 @@
 -- The two loops of `settle`: potentials given by following the policy, and then by routing.
-use Rattle.std.proofs.Common.{ℕ, zero, suc, ◌+◌, ◌*◌, ◌<◌, ◌≤◌, ◌≡◌, ◌≢◌, List, [], ◌∷◌, ◌++◌, Option, Some, None, is_some, cond, count_by, length, get_or, set, take, refl, sym, ap, subst, ◌∙◌, arith, inl, inr, ⊎_elim}
+use Rattle.std.proofs.Common.{ℕ, zero, suc, ◌+◌, ◌*◌, ◌<◌, ◌≤◌, ◌≡◌, ◌≢◌, List, [], ◌∷◌, ◌++◌, Option, Some, None, is_some, cond, length, get_or, set, take, refl, sym, ap, subst, ◌∙◌, arith, inl, inr, ⊎_elim}
 use Rattle.std.specs.Prelude.{ℤ, pos, ◌+ℤ◌, All, Any, ◌⊎◌}
 use Rattle.std.proofs.lemmas.Int.{ints, to_z-of_z}
 use mir.Val.{SFits, to_z, of_z}
@@ -20,13 +20,8 @@ use Rattle.teg_net.specs.Parts.{IsMember, IsPlaceOfPart, Reaches, to_of}
 use Rattle.teg_howard.specs.Policies.{Policy, IsPolicy, step_back, LeadsBack, first_id, IsRouted, Joins, JoinsNext, IsRouting, AreSums}
 use Rattle.teg_net.specs.ReducedTimes.{reduced_time, IsWithin}
 use Rattle.teg_howard.specs.FoundCircuits.{policy_of, value_or_zero, value_of, IsSmallRatio, IsFollower, IsJoin}
+use Rattle.teg_howard.specs.Following.{step_bound, filled, Valued, Followed}
 use Rattle.teg_howard.proofs.Back.{back_add}
-
-abbrev pub step_bound : ℕ
-step_bound = 400000000000000
-
-abbrev pub filled : List (Option ℤ) → ℕ
-filled vs = count_by is_some vs
 
 pub cases_option : (o : Option ℤ) → (o ≡ None) ⊎ ((z : ℤ) × (o ≡ Some z))
 cases_option None = inl refl
@@ -34,13 +29,6 @@ cases_option (Some z) = inr (z, refl)
 
 pub some_apart : (o : Option ℤ) (z : ℤ) → o ≡ Some z → o ≢ None
 some_apart o z e n = cc
-
-pub record Valued (net : NetLists) (parts : List ℕ) (part a b s : ℕ) (π : Policy) (vs : List (Option ℤ)) : Type 0 where
-  pub count : length vs ≡ length parts
-  pub start : value_of vs s ≡ Some (pos 0)
-  pub members : (t : ℕ) (z : ℤ) → value_of vs t ≡ Some z → IsMember parts part t
-  pub sums : (t : ℕ) (z : ℤ) → value_of vs t ≡ Some z → t ≢ s → (y : ℤ) × (value_of vs (from_of net (π t)) ≡ Some y) × (z ≡ (reduced_time net a b (π t) +ℤ y))
-  pub small : (t : ℕ) (z : ℤ) → value_of vs t ≡ Some z → IsWithin (filled vs * step_bound) z
 
 pub count_small : (net : NetLists) (r : Fraction) (p : PlaceId) → IsNet net → IsSmallRatio r → p.index < length net.places → IsWithin step_bound (reduced_time net r.time r.tokens p)
 count_small net r p kept small l =
@@ -109,10 +97,6 @@ valued_more net parts part a b s π σ vs t p y h m none starts mine same small 
     }
 
 -- ---- following the policy
-pub record Followed (net : NetLists) (parts : List ℕ) (part a b s : ℕ) (π : Policy) (vs : List (Option ℤ)) : Type 0 where
-  pub valued : Valued net parts part a b s π vs
-  pub home : (t : ℕ) (z : ℤ) → value_of vs t ≡ Some z → LeadsBack net π t s
-
 pub followed_more :
     (net : NetLists) (parts : List ℕ) (part a b s : ℕ) (π : Policy) (vs : List (Option ℤ)) (t : ℕ) (y : ℤ)
     → Followed net parts part a b s π vs → IsFollower net parts part π vs t → value_of vs (from_of net (π t)) ≡ Some y → IsWithin step_bound (reduced_time net a b (π t))

@@ -5,8 +5,10 @@ use Rattle.teg_net.specs.Nets.{NetLists, IsNet}
 use Rattle.teg_net.specs.Circuits.{IsLive}
 use Rattle.teg_howard.specs.Rounds.{chosen, potential, IsPolicyRun}
 
--- the rounds have the same places and potentials of each transition, the same circuit and the same ratio
+-- the rounds have the same choices, and so the same places and potentials of each transition, the same circuit and the
+-- same ratio
 pub record AreSameRounds (r q : Round) : Type 0 where
+  pub choices : r.choices.items ≡ q.choices.items
   pub places : (t : ℕ) → chosen r t ≡ chosen q t
   pub potentials : (t : ℕ) → potential r t ≡ potential q t
   pub circuit : r.circuit.places.items ≡ q.circuit.places.items

@@ -4,3 +4,5 @@ pub mod Runs
 pub mod Laws
 pub mod FoundCircuits
 pub mod RoundStates
+pub mod Following
+pub mod CircuitStarts

@@ -9,8 +9,9 @@ use Rattle.teg_net.specs.declared.entries.PlaceId.{PlaceId}
 use Rattle.teg_net.specs.Nets.{NetLists}
 use Rattle.teg_net.specs.Parts.{IsPlaceOfPart}
 use Rattle.teg_net.specs.ReducedTimes.{IsWithin}
-use Rattle.teg_net.specs.Limits.{most_transitions, greatest_ratio, greatest_potential}
-use Rattle.teg_howard.specs.Rounds.{potential, last_of}
+use Rattle.teg_net.specs.Limits.{most_transitions}
+use Rattle.teg_howard.specs.Policies.{Policy, IsImprovement, IsChanged}
+use Rattle.teg_howard.specs.Rounds.{chosen, potential, last_of, IsRoundOf, KeepsCircuit, IsPolicyRun}
 
 -- some place has both ends in the part; a strong part has a circuit exactly then
 abbrev pub HasInnerPlace : NetLists → List ℕ → ℕ → Type 0
@@ -38,6 +39,16 @@ PairRises r s = (r.ratio.time * s.ratio.tokens < s.ratio.time * r.ratio.tokens) 
 abbrev pub AllRise : List Round → Type 0
 AllRise rounds = (k : ℕ) (d : Round) → k + 1 < length rounds → PairRises (slice_index_or rounds k d) (slice_index_or rounds (k + 1) d)
 
+-- where a round follows by a better circuit the ratio rises; where the circuit is kept the sum of the potentials does
+pub record RisesByCase (net : NetLists) (parts : List ℕ) (part : ℕ) (r s : Round) : Type 0 where
+  pub anew : (better : Policy) → IsImprovement net parts part r.ratio.time r.ratio.tokens (chosen r) (potential r) better → IsRoundOf net parts part better (IsChanged parts part (chosen r) better) s
+      → r.ratio.time * s.ratio.tokens < s.ratio.time * r.ratio.tokens
+  pub kept : (better : Policy) → KeepsCircuit net parts part r s better → RisesInSum r s
+
+-- and so in each step
+abbrev pub RiseByCase : NetLists → List ℕ → ℕ → List Round → Type 0
+RiseByCase net parts part rounds = (k : ℕ) (d : Round) → k + 1 < length rounds → RisesByCase net parts part (slice_index_or rounds k d) (slice_index_or rounds (k + 1) d)
+
 -- the potential that a choice tells
 abbrev pub potential_of : Choice → Potential
 potential_of c = record { transition = c.transition; value = c.value }
@@ -51,8 +62,24 @@ IsAnswerOf r (Best ratio circuit potentials) = (ratio ≡ r.ratio) × (circuit.p
 abbrev pub IsAnswerOfLast : List Round → PartAnswer → Type 0
 IsAnswerOfLast rounds answer = (d : Round) → IsAnswerOf (last_of rounds d) answer
 
--- ratio and potentials keep the limits of answers
+-- a policy run of the part ends in the answer
+abbrev pub EndsRun : NetLists → List ℕ → ℕ → PartAnswer → Type 0
+EndsRun net parts part answer = (rounds : List Round) × IsPolicyRun net parts part rounds × IsAnswerOfLast rounds answer
+
+-- the time of a circuit, which passes each transition once at most
+abbrev pub greatest_circuit_time : ℕ
+greatest_circuit_time = 400000000000
+
+-- the tokens of a circuit
+abbrev pub most_circuit_tokens : ℕ
+most_circuit_tokens = 400000
+
+-- the magnitude of a potential at the ratio of a circuit
+abbrev pub greatest_scaled_potential : ℕ
+greatest_scaled_potential = 400000000000000000
+
+-- ratio and potentials keep the limits of circuits and of sums along them
 abbrev pub KeepsLimits : PartAnswer → Type 0
 KeepsLimits NoCircuit = ⊤
 KeepsLimits (Best ratio circuit potentials) =
-    (ratio.time ≤ greatest_ratio) × (ratio.tokens ≤ greatest_ratio) × All (λ v. IsWithin greatest_potential v.value) potentials.items
+    (ratio.time ≤ greatest_circuit_time) × (ratio.tokens ≤ most_circuit_tokens) × All (λ v. IsWithin greatest_scaled_potential v.value) potentials.items

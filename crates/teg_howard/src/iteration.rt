@@ -2,7 +2,7 @@
 ghost use Rattle.std.specs.Prelude.{◌≡◌, IfOk, IfSome, IfNone, map};
 ghost use Rattle.teg_net.specs.PartAnswers.{IsPartAnswer};
 ghost use Rattle.teg_howard.specs.Rounds.{IsFirstRound, IsPolicyRun};
-ghost use Rattle.teg_howard.specs.Runs.{potential_of, IsAnswerOf, IsAnswerOfLast, KeepsLimits, AllRise};
+ghost use Rattle.teg_howard.specs.Runs.{potential_of, IsAnswerOf, IsAnswerOfLast, EndsRun, KeepsLimits, AllRise, RiseByCase};
 ghost use Rattle.teg_howard.specs.FoundCircuits.{AreLowest};
 ghost use Rattle.teg_howard.specs.RoundStates.{IsRoundState, HasCircuit, GoesOn, IsLast};
 
@@ -110,6 +110,7 @@ pub(crate) fn policy_run(
     ensures answer { IfOk result (λ w. IsAnswerOfLast w.1.items w.0) }
     ensures limits { IfOk result (λ w. KeepsLimits w.0) }
     ensures rises { IfOk result (λ w. AllRise w.1.items) }
+    ensures cases { IfOk result (λ w. RiseByCase net.now parts.now part w.1.items) }
 {
     let mut policy = lowest_places(alloc, net, parts, part)?;
     let mut state = first_state(alloc, net, parts, part, &mut policy)?;
@@ -129,4 +130,25 @@ pub(crate) fn policy_run(
     let answer = answer_of(alloc, &round)?;
     rounds.push(round)?;
     Ok((answer, rounds))
+}
+
+/// The answer that the last round of a part's policy run gives. One round is kept.
+pub(crate) fn last_answer(
+    alloc: Global,
+    net: &Net,
+    parts: &[u32],
+    part: u32,
+) -> Result<PartAnswer, AllocError>
+    requires { HasCircuit net.now parts.now part }
+    ensures best { IfOk result (λ answer. IsPartAnswer net.now parts.now part answer) }
+    ensures run { IfOk result (λ answer. EndsRun net.now parts.now part answer) }
+    ensures limits { IfOk result (λ answer. KeepsLimits answer) }
+{
+    let mut policy = lowest_places(alloc, net, parts, part)?;
+    let mut state = first_state(alloc, net, parts, part, &mut policy)?;
+    'rounds: while let Some(next) = next_state(alloc, net, parts, part, &state, &mut policy)? {
+        state = next;
+    }
+    let answer = answer_of(alloc, &state.round)?;
+    Ok(answer)
 }

@@ -3,9 +3,13 @@
 //! [`howard`] gives the rounds of the part and the answer of the last: its greatest ratio of
 //! holding time to tokens, a circuit that has it, and potentials. The rounds are a policy run
 //! (`IsPolicyRun`), and the answer tells what `IsPartAnswer` says of circuits and paths alone.
+//! [`last_round`] gives the answer alone, and keeps one round at a time.
 //! The crate stands on `teg_net`, `teg_check` and `teg_parts`.
+//! Its examples stand in `worked_examples`.
 #![tactic(auto)]
 
+mod circuit_starts;
+mod following;
 mod inside;
 mod iteration;
 mod laws;
@@ -15,4 +19,4 @@ mod policy_circuits;
 mod settling;
 
 pub use laws::policy_runs_are_one;
-pub use part_answers::howard;
+pub use part_answers::{howard, last_round};

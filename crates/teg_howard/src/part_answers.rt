@@ -1,13 +1,13 @@
-//! Policy iteration on one part of a net, as one call.
+//! Policy iteration on one part of a net: its answer alone, or with the rounds that led to it.
 ghost use Rattle.std.specs.Prelude.{IfOk};
 ghost use Rattle.teg_net.specs.PartAnswers.{IsPartAnswer};
 ghost use Rattle.teg_check.specs.Ranks.{IsRanking};
 ghost use Rattle.teg_parts.specs.Partitions.{AreParts};
 ghost use Rattle.teg_howard.specs.Rounds.{IsPolicyRun};
-ghost use Rattle.teg_howard.specs.Runs.{HasInnerPlace, IsAnswerOfLast, KeepsLimits, AllRise};
+ghost use Rattle.teg_howard.specs.Runs.{HasInnerPlace, IsAnswerOfLast, EndsRun, KeepsLimits, AllRise, RiseByCase};
 
 use crate::inside::part_numbers;
-use crate::iteration::policy_run;
+use crate::iteration::{last_answer, policy_run};
 use std::alloc::Global;
 use teg_check::Live;
 use teg_net::{Net, OutOfMemory, PartAnswer, Round};
@@ -17,8 +17,8 @@ use teg_parts::Parts;
 /// algorithm), and the rounds that led to it.
 ///
 /// The rounds are the policy run of the part: each follows from the one before, no place improves
-/// the last, and in each step the pair of ratio and sum of potentials rises. A part has one policy
-/// run only. The answer has the last round's ratio, circuit and potentials. Values stand for the
+/// the last, and in each step the pair of ratio and sum of potentials rises: the ratio where a better
+/// circuit is found, and else the sum. A part has one policy run only. The answer has the last round's ratio, circuit and potentials. Values stand for the
 /// net. It answers `OutOfMemory` only where no memory is found.
 pub fn howard(
     alloc: Global,
@@ -35,9 +35,33 @@ pub fn howard(
     ensures answer { IfOk result (λ w. IsAnswerOfLast w.1.items w.0) }
     ensures limits { IfOk result (λ w. KeepsLimits w.0) }
     ensures rises { IfOk result (λ w. AllRise w.1.items) }
+    ensures cases { IfOk result (λ w. RiseByCase net.now parts.now.part_of part w.1.items) }
 {
     let _ranks = live;
     let part_of = part_numbers(alloc, net, parts)?;
     let run = policy_run(alloc, net, &part_of, part)?;
     Ok(run)
+}
+
+/// The greatest ratio of a part that has a circuit, as `howard` gives it (chapter 3). One round is kept
+/// at a time: the answer is that of the last of the part's policy run. It answers `OutOfMemory` only
+/// where no memory is found.
+pub fn last_round(
+    alloc: Global,
+    net: &Net,
+    live: &Live,
+    parts: &Parts,
+    part: u32,
+) -> Result<PartAnswer, OutOfMemory>
+    requires live { IsRanking net.now live.now }
+    requires parts { AreParts net.now parts.now }
+    requires circuit { HasInnerPlace net.now parts.now.part_of part }
+    ensures best { IfOk result (λ answer. IsPartAnswer net.now parts.now.part_of part answer) }
+    ensures run { IfOk result (λ answer. EndsRun net.now parts.now.part_of part answer) }
+    ensures limits { IfOk result (λ answer. KeepsLimits answer) }
+{
+    let _ranks = live;
+    let part_of = part_numbers(alloc, net, parts)?;
+    let answer = last_answer(alloc, net, &part_of, part)?;
+    Ok(answer)
 }

@@ -7,6 +7,7 @@ ghost use Rattle.teg_howard.specs.Policies.{IsPolicy, IsPolicyCircuit};
 ghost use Rattle.teg_net.specs.declared.entries.PlaceId.{PlaceId};
 ghost use Rattle.teg_howard.specs.FoundCircuits.{policy_of, IsOnPolicy, IsFoundAt, IsMarked, IsAbove, AreSmall, IsBestFound, GoesBelow};
 
+use crate::circuit_starts::circuit_starts;
 use std::alloc::{AllocError, Global};
 use teg_net::{Net, PlaceId};
 
@@ -107,9 +108,10 @@ pub(crate) fn best_circuit(
     ensures some { IfOk result (λ found. IfSome found (λ f. IsBestFound net.now parts.now part (policy_of policy.now) marked.now f)) }
     ensures none { IfOk result (λ found. IfNone found ((d : List PlaceId) → IsPolicyCircuit net.now parts.now part (policy_of policy.now) d → Any (λ p. IsMarked marked.now (to_of net.now p)) d → ⊥)) }
 {
+    let starts = circuit_starts(alloc, net, parts, part, policy)?;
     let mut best = None;
     for start in 0..parts.len() {
-        if parts[start] == part {
+        if starts[start] {
             if let Some(circuit) = circuit_through(alloc, net, policy, start)? {
                 if passes(net, &circuit.places, marked) && is_greater(&circuit, &best) {
                     best = Some(circuit);

@@ -2,8 +2,9 @@
 ghost use Rattle.std.specs.Prelude.{◌≡◌, ◌≢◌, ◌*◌, ◌<◌, ◌≤◌, ◌+ℤ◌, ◌-ℤ◌, pos, ℕ, ℤ, length, All, IfOk, IfSome, IfNone, None};
 ghost use Rattle.teg_net.specs.Parts.{IsMember};
 ghost use Rattle.teg_net.specs.ReducedTimes.{IsWithin};
-ghost use Rattle.teg_howard.specs.FoundCircuits.{policy_of, value_of, IsSmallRatio, IsFollower, IsJoin, IsMade, CanSettle, IsSettled};
+ghost use Rattle.teg_howard.specs.FoundCircuits.{policy_of, value_of, IsSmallRatio, IsJoin, IsMade, CanSettle, IsSettled};
 
+use crate::following::follow;
 use crate::inside::is_inside;
 use std::alloc::{AllocError, Global};
 use teg_net::{Choice, Circuit, Net, Place, PlaceId, Ratio, Round, TransitionId};
@@ -26,33 +27,6 @@ pub(crate) fn offer(ratio: Ratio, place: &Place, value: i128) -> i128
     let gain = ratio.tokens() * place.hold;
     let loss = ratio.time() * place.tokens as u64;
     gain as i128 - loss as i128 + value
-}
-
-/// A member without a value whose place starts at a transition with one.
-fn next_follower(
-    net: &Net,
-    parts: &[u32],
-    part: u32,
-    policy: &[PlaceId],
-    values: &[Option<i128>],
-) -> Option<usize>
-    requires parts { length parts.now ≡ length net.now.transitions }
-    requires count { length policy.now ≡ length parts.now }
-    requires values { length values.now ≡ length parts.now }
-    requires in_range { All (λ p. p.index < length net.now.places) policy.now }
-    ensures some { IfSome result (λ t. IsFollower net.now parts.now part (policy_of policy.now) values.now t) }
-    ensures none { IfNone result ((t : ℕ) → IsFollower net.now parts.now part (policy_of policy.now) values.now t → ⊥) }
-{
-    let places = net.places();
-    for member in 0..parts.len() {
-        if parts[member] == part && values[member].is_none() {
-            let place = &places[policy[member].index as usize];
-            if values[place.from.index as usize].is_some() {
-                return Some(member);
-            }
-        }
-    }
-    None
 }
 
 /// The lowest numbered place in the part from a transition with a value to one without.
@@ -127,13 +101,7 @@ pub(crate) fn settle(
     let places = net.places();
     let first = circuit[0];
     let root = places[first.index as usize].from.index as usize;
-    let mut values = vec![in alloc; None; parts.len()]?;
-    values[root] = Some(0);
-    'follow: while let Some(member) = next_follower(net, parts, part, policy, &values) {
-        let place = &places[policy[member].index as usize];
-        let value = values[place.from.index as usize].unwrap();
-        values[member] = Some(offer(ratio, place, value));
-    }
+    let mut values = follow(alloc, net, parts, part, policy, ratio, root)?;
     'route: while let Some(index) = next_join(net, parts, part, &values) {
         let place = &places[index];
         let member = place.to.index as usize;

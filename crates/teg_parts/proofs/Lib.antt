@@ -7,3 +7,4 @@ pub mod Components
 pub mod Ordering
 pub mod NumberingSteps
 pub mod Inside
+pub mod OneParts

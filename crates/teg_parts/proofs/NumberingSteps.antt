@@ -45,13 +45,6 @@ pub record BlockedTo (net : NetLists) (components : List ℕ) (numbers : List (O
   pub complete : (c : ℕ) (p : PlaceId) → p.index < i → Blocks net components numbers c p → get_or blocked c false ≡ true
 
 module _ (net : NetLists) (components : List ℕ) (numbers : List (Option ℕ)) where
-  pub blocked_none : (blocked : List Bool) → blocked ≡ replicate (length components) false → BlockedTo net components numbers blocked 0
-  blocked_none blocked e = record {
-    count = ap length e ∙ length-replicate (length components) false;
-    sound = λ c t. absurd (false_not_true (get_or blocked c false) (ap (λ x. get_or x c false) e ∙ flag_past (length components) c) t);
-    complete = λ c p l b. absurd (omega arith);
-  }
-
   pub blocked_more : (blocked : List Bool) (p : PlaceId) → BlockedTo net components numbers blocked p.index → component_at components (to_of net p) < length components → Blocks net components numbers (component_at components (to_of net p)) p
       → BlockedTo net components numbers (set blocked (component_at components (to_of net p)) true) (p.index + 1)
   blocked_more blocked p h l b =
@@ -88,9 +81,6 @@ module _ (net : NetLists) (components : List ℕ) (numbers : List (Option ℕ)) 
         (cases_lt q.index p.index);
   }
 
-  pub blocked_all : (blocked : List Bool) (n : ℕ) → length net.places ≤ n → BlockedTo net components numbers blocked n → AreBlocked net components numbers blocked
-  blocked_all blocked n l h = record { count = h.count; sound = h.sound; complete = λ c p b. let i = b.in_range in h.complete c p (omega arith) b }
-
   -- a transition is open for a number exactly where it is free
   pub open_is_free : (blocked : List Bool) (t : ℕ) → AreBlocked net components numbers blocked → IsOpenFor components numbers blocked t → IsFree net components numbers t
   open_is_free blocked t h o = record { in_range = o.in_range; unnumbered = o.unnumbered; unblocked = λ p b. false_not_true (get_or blocked (component_at components t) false) o.unmarked (h.complete (component_at components t) p b) }
@@ -106,9 +96,6 @@ module _ (net : NetLists) (components : List ℕ) (numbers : List (Option ℕ)) 
         (cases_Bool (get_or blocked (component_at components t) false));
   }
 
-  pub first_is_free : (blocked : List Bool) (t : ℕ) → AreBlocked net components numbers blocked → IsFirstOpen components numbers blocked t → IsFirstFree net components numbers t
-  first_is_free blocked t h o = record { free = open_is_free blocked t h o.is_open; first = λ u l f. o.first u l (free_is_open blocked u h f) }
-
 -- ---- a number is given
 pub record GivenTo (components : List ℕ) (old now : List (Option ℕ)) (component number i : ℕ) : Type 0 where
   pub count : length now ≡ length components
@@ -118,44 +105,6 @@ pub record GivenTo (components : List ℕ) (old now : List (Option ℕ)) (compon
   pub no_more : without now ≤ without old
   pub fewer : (t : ℕ) → t < i → component_at components t ≡ component → number_of old t ≡ None → without now + 1 ≤ without old
 
-pub given_none : (components : List ℕ) (old : List (Option ℕ)) (component number : ℕ) → length old ≡ length components → GivenTo components old old component number 0
-given_none components old component number e = record {
-  count = e;
-  given = λ t l s. absurd (omega arith);
-  kept = λ t n. refl;
-  waiting = λ t l. refl;
-  no_more = omega arith;
-  fewer = λ t l s n. absurd (omega arith);
-}
-
-pub given_more : (components : List ℕ) (old now : List (Option ℕ)) (component number i : ℕ) → GivenTo components old now component number i → i < length components → component_at components i ≡ component
-    → GivenTo components old (set now i (Some number)) component number (i + 1)
-given_more components old now component number i h l e =
-    let in' : i < length now = let c = h.count in omega arith in
-    let here : number_of (set now i (Some number)) i ≡ Some number = get_or-set_same now i (Some number) None in' in
-    let there = λ (t : ℕ) (n : t ≢ i). get_or-set_other now i t (Some number) None n in
-    let s = sum_by-set (λ (o : Option ℕ). cond (is_none o) 1 0) now i (Some number) None in' in
-    record {
-      count = length-set now i (Some number) ∙ h.count;
-      given = λ t m q.
-          ⊎_elim
-          (λ (z : t ≡ i). ap (number_of (set now i (Some number))) z ∙ here)
-          (λ (z : t ≢ i). there t z ∙ h.given t (omega arith) q)
-          (cases_eq t i);
-      kept = λ t n. let z : t ≢ i = λ (q : t ≡ i). n (ap (component_at components) q ∙ e) in there t z ∙ h.kept t n;
-      waiting = λ t m. let z : t ≢ i = omega arith in there t z ∙ h.waiting t (omega arith);
-      no_more = let m = h.no_more in omega (arith, s);
-      fewer = λ t m q n.
-          ⊎_elim
-          (λ (z : t ≡ i).
-          let at : number_of now i ≡ None = h.waiting i (omega arith) ∙ (ap (number_of old) (sym z) ∙ n) in
-          let one : cond (is_none (number_of now i)) 1 0 ≡ 1 = ap (λ (x : Option ℕ). let r : ℕ = cond (is_none x) 1 0 in r) at in
-          let m = h.no_more in
-          omega (arith, s, one))
-          (λ (z : t ≢ i). let f = h.fewer t (omega arith) q n in omega (arith, s))
-          (cases_eq t i);
-    }
-
 -- ---- the marks of the parts
 pub record MarkedTo (net : NetLists) (part_of : List ℕ) (count : ℕ) (inner : List Bool) (i : ℕ) : Type 0 where
   pub long : length inner ≡ count
@@ -163,13 +112,6 @@ pub record MarkedTo (net : NetLists) (part_of : List ℕ) (count : ℕ) (inner :
   pub complete : (k : ℕ) (q : PlaceId) → q.index < i → IsPlaceOfPart net part_of k q → get_or inner k false ≡ true
 
 module _ (net : NetLists) (part_of : List ℕ) (count : ℕ) where
-  pub marked_none : (inner : List Bool) → inner ≡ replicate count false → MarkedTo net part_of count inner 0
-  marked_none inner e = record {
-    long = ap length e ∙ length-replicate count false;
-    sound = λ k t. absurd (false_not_true (get_or inner k false) (ap (λ x. get_or x k false) e ∙ flag_past count k) t);
-    complete = λ k q l b. absurd (omega arith);
-  }
-
   pub marked_more : (inner : List Bool) (p : PlaceId) (part : ℕ) → MarkedTo net part_of count inner p.index → part < count → IsPlaceOfPart net part_of part p → MarkedTo net part_of count (set inner part true) (p.index + 1)
   marked_more inner p part h l b =
       let in' : part < length inner = let c = h.long in omega arith in
@@ -202,6 +144,3 @@ module _ (net : NetLists) (part_of : List ℕ) (count : ℕ) where
         absurd (n (ap (λ x. get_or part_of (from_of net x) 0) (sym same) ∙ (i.from_member.here ∙ (sym i.to_member.here ∙ ap (λ x. get_or part_of (to_of net x) 0) same)))))
         (cases_lt q.index p.index);
   }
-
-  pub marked_all : (inner : List Bool) (n : ℕ) → length net.places ≤ n → MarkedTo net part_of count inner n → AreInnerMarks net part_of inner
-  marked_all inner n l h = record { sound = h.sound; complete = λ k q i. let r = i.in_range in h.complete k q (omega arith) i }

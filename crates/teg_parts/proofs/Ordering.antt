@@ -40,20 +40,6 @@ module _ (net : NetLists) (kept : IsNet net) (components : List ℕ) (comps : Ar
   to_in : (p : PlaceId) → p.index < length net.places → to_of net p < length components
   to_in p l = let c = comps.count in let f = (kept.each_place p.index no_place l).to_in in omega arith
 
-  pub numbered_none : (numbers : List (Option ℕ)) → numbers ≡ replicate (length components) None → AreNumbered net components numbers 0
-  numbered_none numbers e =
-      let long : length numbers ≡ length components = ap length e ∙ length-replicate (length components) None in
-      let none = λ (t : ℕ) (l : t < length components). let r : number_of numbers t ≡ None = ap (λ x. get_or x t None) e ∙ get_or-replicate (length components) t None None l in r in
-      let no_some = λ (t j : ℕ) (s : number_of numbers t ≡ Some j). let r : ⊥ = none_not_some (number_of numbers t) j (none t (let l = number_in numbers t j s in omega arith)) s in r in
-      record {
-        count = long;
-        same = λ t u l m s. none t l ∙ sym (none u m);
-        apart = λ t u j s r. absurd (no_some t j s);
-        below = λ t j s. absurd (no_some t j s);
-        taken = λ j l. absurd (omega arith);
-        upstream = λ p j l s. absurd (no_some (to_of net p) j s);
-      }
-
   module _ (ns ns' : List (Option ℕ)) (k f : ℕ) (h : AreNumbered net components ns k) (first : IsFirstFree net components ns f) (count : length ns' ≡ length ns) (g : IsGiven components ns ns' (component_at components f) k) where
     new_is : (t : ℕ) → t < length components → comp t ≡ comp f → number_of ns' t ≡ Some k
     new_is t l e = g.given t l e

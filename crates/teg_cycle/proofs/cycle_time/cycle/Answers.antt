@@ -1,13 +1,9 @@
-use Rattle.std.proofs.Common.{◌≡◌, ◌<◌, length, sym, ap, subst, ◌∙◌, arith}
-use Rattle.std.specs.Prelude.{All}
-use Rattle.teg_net.specs.GreatestRatios.{IsFirstGreatest}
+use Rattle.std.proofs.Common.{◌≡◌, length, sym, subst, arith}
 use Rattle.std.proofs.lemmas.List.{length_push}
-use Rattle.teg_check.proofs.Liveness.{ranking_is_live}
 use Rattle.teg_net.specs.PartAnswers.{IsPartAnswer}
-use Rattle.teg_net.specs.Certificates.{IsPartCertificate, IsCertificate}
+use Rattle.teg_net.specs.Certificates.{IsPartCertificate}
 use Rattle.teg_cycle.specs.LastRounds.{IsLastOfRun}
-use Rattle.teg_cycle.proofs.Telling.{each_push, have_tokens}
-use Rattle.teg_cycle.proofs.Certified.{tell_of_nets}
+use Rattle.teg_cycle.proofs.Telling.{each_push}
 use Rattle.teg_cycle.proofs.cycle_time.cycle.Goals as goal
 
 pub loop-part-preserved : goal.loop-part-preserved
@@ -29,43 +25,8 @@ loop-part-preserved c =
       certificates = each_push (IsPartCertificate net part_of) old x h.certificates (subst (λ k. IsPartCertificate net part_of k x) at e.certificate);
     })
 
-pub best_number-best-requires-clause-tokens : goal.best_number-best-requires-clause-tokens
-best_number-best-requires-clause-tokens c = rw c.deref.ensures.value (have_tokens c.args.net.now c.args.parts.now.part_of c.loop-part.answers.items c.loop-part.invariant.are)
+pub gathered-requires-clause-count : goal.gathered-requires-clause-count
+gathered-requires-clause-count c = omega (arith, c.loop-part.invariant.count, c.loop-part-test.false, c.loop-part.auto.part-end, c.count-part-end.ensures.value)
 
-pub returns-clause-net : goal.returns-clause-net
-returns-clause-net c =
-    let net = c.args.net.now in
-    let p = c.args.parts.now in
-    let h = c.loop-part.invariant in
-    let answers = c.loop-part.answers.items in
-    let value : c.in_ok-part_of.part_of.items ≡ p.part_of = c.in_ok-part_of.ensures.value in
-    let all : length answers ≡ length p.inner = omega (arith, h.count, c.loop-part-test.false, c.loop-part.auto.part-end, c.count-part-end.ensures.value) in
-    let below : All (λ k. k < length answers) p.part_of = λ i d l. let b = c.requires.parts.below i d l in omega arith in
-    let best : IsFirstGreatest answers c.best_number-best.result = rw c.deref.ensures.value at c.best_number-best.ensures in
-    let cert : IsCertificate net (record { part_of = c.in_ok-part_of.part_of; parts = c.loop-part.answers; best = c.best_number-best.result }) = record {
-      count = ap length value ∙ c.requires.parts.strong.count;
-      below = rw value below;
-      rises = rw value c.requires.parts.rises;
-      parts = rw value h.certificates;
-      best = best;
-    } in
-    tell_of_nets net _ c.in_ok-part_of.ensures.rules (ranking_is_live net c.args.live.now c.requires.live) cert
-
-pub returns-clause-certificate : goal.returns-clause-certificate
-returns-clause-certificate c =
-    let net = c.args.net.now in
-    let p = c.args.parts.now in
-    let h = c.loop-part.invariant in
-    let answers = c.loop-part.answers.items in
-    let value : c.in_ok-part_of.part_of.items ≡ p.part_of = c.in_ok-part_of.ensures.value in
-    let all : length answers ≡ length p.inner = omega (arith, h.count, c.loop-part-test.false, c.loop-part.auto.part-end, c.count-part-end.ensures.value) in
-    let below : All (λ k. k < length answers) p.part_of = λ i d l. let b = c.requires.parts.below i d l in omega arith in
-    let best : IsFirstGreatest answers c.best_number-best.result = rw c.deref.ensures.value at c.best_number-best.ensures in
-    let cert : IsCertificate net (record { part_of = c.in_ok-part_of.part_of; parts = c.loop-part.answers; best = c.best_number-best.result }) = record {
-      count = ap length value ∙ c.requires.parts.strong.count;
-      below = rw value below;
-      rises = rw value c.requires.parts.rises;
-      parts = rw value h.certificates;
-      best = best;
-    } in
-    cert
+pub gathered-requires-clause-few : goal.gathered-requires-clause-few
+gathered-requires-clause-few c = omega (arith, c.loop-part.invariant.count, c.loop-part-test.false, c.loop-part.auto.part-end, c.count-part-end.ensures.value, c.count-part-end.ensures.few)

@@ -1,9 +1,10 @@
 use Rattle.std.proofs.Common.{◌≡◌, true, false, get_or, sym, ◌∙◌}
-use Rattle.teg_cycle.proofs.Telling.{no_place_no_circuit, answer_certifies, run_tells, last_of_run}
+use Rattle.teg_cycle.proofs.Telling.{no_place_no_circuit, answer_certifies, run_tells}
+use Rattle.teg_cycle.proofs.Gathering.{run_ends}
 use Rattle.teg_cycle.proofs.cycle_time.part_answer.Goals as goal
 
-pub howard-requires-clause-circuit : goal.howard-requires-clause-circuit
-howard-requires-clause-circuit c =
+pub last_round-requires-clause-circuit : goal.last_round-requires-clause-circuit
+last_round-requires-clause-circuit c =
     let p = c.args.parts.now in
     let mark : get_or p.inner c.args.part false ≡ true = sym c.has_circuit.ensures ∙ c.if-not-has_circuit.false in
     (c.requires.parts.inner c.args.part c.requires.part).0 mark
@@ -18,11 +19,9 @@ returns-then-not-has_circuit-clause-answer c =
 pub returns-clause-certificate : goal.returns-clause-certificate
 returns-clause-certificate c =
     let p = c.args.parts.now in
+    let a = c.in_ok-answer.answer in
     let e = c.in_ok-answer.ensures in
-    answer_certifies c.args.net.now p.part_of c.args.part c.in_ok-answer.answer e.best e.limits (run_tells c.args.net.now p.part_of c.args.part c.in_ok-answer._rounds.items c.in_ok-answer.answer e.run e.answer)
+    answer_certifies c.args.net.now p.part_of c.args.part a e.best e.limits (run_tells c.args.net.now p.part_of c.args.part e.run.0 a e.run.1 e.run.2)
 
 pub returns-clause-run : goal.returns-clause-run
-returns-clause-run c =
-    let p = c.args.parts.now in
-    let e = c.in_ok-answer.ensures in
-    last_of_run c.args.net.now p.part_of c.args.part c.in_ok-answer._rounds.items c.in_ok-answer.answer e.run e.answer
+returns-clause-run c = run_ends c.args.net.now c.args.parts.now.part_of c.args.part c.in_ok-answer.answer c.in_ok-answer.ensures.run

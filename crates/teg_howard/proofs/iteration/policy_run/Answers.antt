@@ -1,7 +1,8 @@
-use Rattle.std.proofs.Common.{◌≡◌, length, ap, arith}
+use Rattle.std.proofs.Common.{◌≡◌, ◌++◌, ◌∷◌, [], length, ap, arith}
 use Rattle.teg_howard.specs.RoundStates.{GoesOn, IsLast}
 use Rattle.teg_howard.specs.Runs.{IsAnswerOf}
 use Rattle.teg_howard.proofs.Runs.{run_more, run_all, rise_more, last_answers, last_keeps, last_pushed}
+use Rattle.teg_howard.proofs.Rising.{rise_by_case}
 use Rattle.teg_howard.proofs.Ending.{falls}
 use Rattle.teg_howard.proofs.Exits.{written_back}
 use Rattle.teg_howard.proofs.iteration.policy_run.Goals as goal
@@ -45,3 +46,8 @@ returns-clause-answer c =
 
 pub returns-clause-rises : goal.returns-clause-rises
 returns-clause-rises c = rw c.in_ok-push-2.ensures.items c.rounds.invariant.rises
+
+pub returns-clause-cases : goal.returns-clause-cases
+returns-clause-cases c =
+    rw c.in_ok-push-2.ensures.items
+    (rise_by_case c.args.net.now c.args.parts.now c.args.part c.requires.live (c.rounds.rounds.items ++ c.rounds.state.round ∷ []) c.rounds.invariant.run c.rounds.invariant.rises)

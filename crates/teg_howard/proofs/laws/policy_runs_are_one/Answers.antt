@@ -1,16 +1,20 @@
-use Rattle.std.proofs.Common.{ℕ, ◌≡◌, List, [], ◌∷◌, length, ap, arith}
+use Rattle.std.proofs.Common.{ℕ, ◌≡◌, List, [], ◌∷◌, length, get_or, ap, arith}
 use Rattle.std.specs.Prelude.{ℤ}
 use Rattle.teg_net.specs.declared.rounds.Round.{Round}
 use Rattle.teg_net.specs.Nets.{NetLists, IsNet}
 use Rattle.teg_net.specs.Circuits.{IsLive}
 use Rattle.teg_howard.specs.Policies.{Policy}
-use Rattle.teg_howard.specs.Rounds.{IsPolicyRun}
+use Rattle.teg_net.specs.Parts.{ListsMembers}
+use Rattle.teg_howard.specs.Rounds.{chosen_for, IsPolicyRun}
 use Rattle.teg_howard.specs.Laws.{AreSameRounds}
+use Rattle.teg_howard.proofs.Listing.{same_choices}
+use Rattle.teg_howard.proofs.Rising.{each_round}
 use Rattle.teg_howard.proofs.OneRun.{Equal, one_run}
 use Rattle.teg_howard.proofs.laws.policy_runs_are_one.Goals as goal
 
-same_rounds : (r q : Round) → Equal r q → AreSameRounds r q
-same_rounds r q e = record {
+same_rounds : (part_of : List ℕ) (part : ℕ) (r q : Round) → ListsMembers part_of part (chosen_for r.choices.items) → ListsMembers part_of part (chosen_for q.choices.items) → Equal r q → AreSameRounds r q
+same_rounds part_of part r q h k e = record {
+  choices = same_choices part_of part r q h k e.choices e.values;
   places = λ t. ap (λ (f : Policy). f t) e.choices;
   potentials = λ t. ap (λ (f : ℕ → ℤ). f t) e.values;
   circuit = e.circuit;
@@ -25,5 +29,7 @@ pub returns : goal.returns
 returns c = λ net part_of part rs qs kept live h k.
     record {
       count = same_count net part_of part live kept rs qs h k;
-      rounds = λ i d l. same_rounds _ _ ((one_run net part_of part live kept rs qs d h k).1 i l);
+      rounds = λ i d l.
+          let one = one_run net part_of part live kept rs qs d h k in
+          same_rounds part_of part (get_or rs i d) (get_or qs i d) (each_round net part_of part rs h.run i d l).members (each_round net part_of part qs k.run i d (omega (arith, l, one.0))).members (one.1 i l);
     }

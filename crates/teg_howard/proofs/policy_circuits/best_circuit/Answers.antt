@@ -1,4 +1,5 @@
-use Rattle.std.proofs.Common.{ℕ, List, Option, Some, None, ◌≡◌, ◌≤◌, Bool, length, arith}
+use Rattle.std.proofs.Common.{ℕ, List, Option, Some, None, ◌≡◌, ◌<◌, ◌≤◌, Bool, false, length, get_or, sym, ◌∙◌, arith}
+use Rattle.std.proofs.lemmas.List.{get_or_read}
 use Rattle.std.specs.Prelude.{IfSome, IfNone}
 use Rattle.teg_net.specs.declared.entries.PlaceId.{PlaceId}
 use Rattle.std.proofs.lemmas.Bool.{iff_false}
@@ -8,8 +9,8 @@ use Rattle.teg_howard.specs.Policies.{IsPolicy, IsPolicyCircuit, Policy}
 use Rattle.teg_howard.specs.FoundCircuits.{policy_of, IsFoundAt, IsBestFound}
 use Rattle.teg_net.specs.Nets.{NetLists, IsNet}
 use Rattle.teg_net.specs.Circuits.{IsLive}
-use Rattle.teg_howard.proofs.Best.{Passes, BestTo, best_skip, skip_outside, skip_none, skip_other, best_stay, best_take, best_all, none_all, found_circuit}
-use Rattle.teg_howard.proofs.policy_circuits.best_circuit.Goals.{then-parts-start+in_ok-circuit+in-Some+then-passes+then-is_greater, then-parts-start+in_ok-circuit+in-Some+else-passes, else-passes-via-then-passes+else-is_greater, else-passes-via-else-passes, then-parts-start+in_ok-circuit+in_default, else-parts-start}
+use Rattle.teg_howard.proofs.Best.{Passes, BestTo, best_skip, skip_unmarked, skip_none, skip_other, best_stay, best_take, best_all, none_all, found_circuit}
+use Rattle.teg_howard.proofs.policy_circuits.best_circuit.Goals.{then-index+in_ok-circuit+in-Some+then-passes+then-is_greater, then-index+in_ok-circuit+in-Some+else-passes, else-passes-via-then-passes+else-is_greater, else-passes-via-else-passes, then-index+in_ok-circuit+in_default, else-index}
 use Rattle.teg_howard.proofs.policy_circuits.best_circuit.Goals as goal
 
 pub loop-start-preserved : goal.loop-start-preserved
@@ -22,16 +23,19 @@ loop-start-preserved c =
     let i = c.loop-start.start in
     let r = c.requires in
     let h : BestTo net parts part π marked i c.loop-start.best = c.loop-start.invariant in
-    elim c.if-parts-start.branch [
-      | then-parts-start+in_ok-circuit+in-Some+then-passes+then-is_greater w ↦
+    let starts = c.in_ok-starts.starts.items in
+    let i_in : i < length starts = omega (arith, c.loop-start-test.true, c.in_ok-starts.ensures.count) in
+    let read : c.index.result.now ≡ get_or starts i false = get_or_read starts i c.index.result.now i_in c.index.ensures false in
+    elim c.if-index.branch [
+      | then-index+in_ok-circuit+in-Some+then-passes+then-is_greater w ↦
           let f = w.in-Some.circuit in
-          let member : IsMember parts part i = record { in_range = c.loop-start-test.true; here = w.if-parts-start.true } in
+          let member : IsMember parts part i = c.in_ok-starts.ensures.only i (sym read ∙ w.if-index.true) in
           let found : IsFoundAt net π i f = rw w.in-Some.is at w.in_ok-circuit.ensures.some in
           let through : Passes net marked f.places.items = rw w.deref.ensures.value at (w.passes.ensures.0 w.if-passes.true) in
           rw w.best-is (best_take net parts part π marked r.policy r.kept r.live r.parts i f c.loop-start.best member found through h (w.is_greater.ensures.0 w.if-is_greater.true))
-      | then-parts-start+in_ok-circuit+in-Some+else-passes w ↦
+      | then-index+in_ok-circuit+in-Some+else-passes w ↦
           let f = w.in-Some.circuit in
-          let member : IsMember parts part i = record { in_range = c.loop-start-test.true; here = w.if-parts-start.true } in
+          let member : IsMember parts part i = c.in_ok-starts.ensures.only i (sym read ∙ w.if-index.true) in
           let found : IsFoundAt net π i f = rw w.in-Some.is at w.in_ok-circuit.ensures.some in
           rw w.best-is
           (elim w.else-passes.branch [
@@ -41,21 +45,28 @@ loop-start-preserved c =
                 best_skip net parts part π marked r.policy r.kept r.live r.parts i c.loop-start.best h
                 (skip_other net parts part π marked r.policy r.kept r.live r.parts i f member found (rw w.deref.ensures.value at (iff_false w.passes.ensures v.if-passes.false)))
           ])
-      | then-parts-start+in_ok-circuit+in_default w ↦
+      | then-index+in_ok-circuit+in_default w ↦
           let none = rw w.in_default.is at w.in_ok-circuit.ensures.none in
           rw w.best-is
           (best_skip net parts part π marked r.policy r.kept r.live r.parts i c.loop-start.best h
           (skip_none net parts part π marked r.policy r.kept r.live r.parts i (λ k l m. none k l (omega (arith, r.parts, r.count)))))
-      | else-parts-start w ↦
+      | else-index w ↦
           rw w.best-is
           (best_skip net parts part π marked r.policy r.kept r.live r.parts i c.loop-start.best h
-          (skip_outside net parts part π marked r.policy r.kept r.live r.parts i (λ m. w.if-parts-start.false m.here)))
+          (skip_unmarked net parts part π marked r.policy r.kept r.live r.parts starts i c.in_ok-starts.ensures
+          (λ y.
+          let z = w.if-index.false in
+          let f : ⊥ = cc in
+          f)))
     ]
 
 pub passes-requires-clause-in_range : goal.passes-requires-clause-in_range
 passes-requires-clause-in_range c =
     let net = c.args.net.now in
-    let member : IsMember c.args.parts.now c.args.part c.loop-start.start = record { in_range = c.loop-start-test.true; here = c.if-parts-start.true } in
+    let starts = c.in_ok-starts.starts.items in
+    let i = c.loop-start.start in
+    let read : c.index.result.now ≡ get_or starts i false = get_or_read starts i c.index.result.now (omega (arith, c.loop-start-test.true, c.in_ok-starts.ensures.count)) c.index.ensures false in
+    let member : IsMember c.args.parts.now c.args.part i = c.in_ok-starts.ensures.only i (sym read ∙ c.if-index.true) in
     let r = c.requires in
     let found : IsFoundAt net (policy_of c.args.policy.now) c.loop-start.start c.in-Some.circuit = rw c.in-Some.is at c.in_ok-circuit.ensures.some in
     rw c.deref.ensures.value

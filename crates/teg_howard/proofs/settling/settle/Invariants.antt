@@ -3,14 +3,8 @@ use Rattle.std.specs.Prelude.{All}
 use Rattle.teg_net.specs.declared.entries.PlaceId.{PlaceId}
 use Rattle.teg_net.specs.PartAnswers.{first_transition_of}
 use Rattle.teg_howard.specs.FoundCircuits.{policy_of}
-use Rattle.teg_howard.proofs.Values.{Followed, Routed}
+use Rattle.teg_howard.proofs.Values.{Routed}
 use Rattle.teg_howard.proofs.settling.settle.Given as goal
-
-abbrev pub invariant-follow : goal.invariant-follow
-invariant-follow l = Followed l.net l.parts l.part l.ratio.time l.ratio.tokens (first_transition_of l.net l.circuit.items) (policy_of l.policy) l.values.items
-
-abbrev pub decreases-follow : goal.decreases-follow
-decreases-follow l = count_by is_none l.values.items
 
 abbrev pub invariant-route : goal.invariant-route
 invariant-route l = record {

@@ -1,0 +1,35 @@
+use Rattle.std.proofs.Common.{◌≡◌, ◌++◌, ◌∷◌, [], length, sym, subst, arith}
+use Rattle.std.specs.Option.{option_map}
+use Rattle.std.proofs.lemmas.List.{length_push}
+use Rattle.teg_net.specs.PartAnswers.{IsPartAnswer}
+use Rattle.teg_net.specs.Certificates.{IsPartCertificate}
+use Rattle.teg_cycle.specs.LastRounds.{IsRunOf, AreRunsFrom, rounds_in}
+use Rattle.teg_cycle.proofs.Telling.{each_push}
+use Rattle.teg_cycle.proofs.Gathering.{one_more}
+use Rattle.teg_cycle.proofs.cycle_time.cycle_with_runs.Goals as goal
+
+pub loop-part-preserved : goal.loop-part-preserved
+loop-part-preserved c =
+    let net = c.args.net.now in
+    let part_of = c.args.parts.now.part_of in
+    let h = c.loop-part.invariant in
+    let old = c.loop-part.answers.items in
+    let x = c.in_ok-answer.answer in
+    let e = c.in_ok-answer.ensures in
+    let count = h.count in
+    let at : c.loop-part.part ≡ length old = sym count in
+    let push = length_push old x in
+    let runs = one_more net part_of old x (rounds_in c.loop-part.runs.items) (option_map (λ r. r.items) c.in_ok-answer.rounds) h.runs (subst (λ k. IsRunOf net part_of k x (option_map (λ r. r.items) c.in_ok-answer.rounds)) at e.run) in
+    rw c.in_ok-keep.ensures
+    (record {
+      count = omega arith;
+      are = each_push (IsPartAnswer net part_of) old x h.are (subst (λ k. IsPartAnswer net part_of k x) at e.answer);
+      certificates = each_push (IsPartCertificate net part_of) old x h.certificates (subst (λ k. IsPartCertificate net part_of k x) at e.certificate);
+      runs = subst (AreRunsFrom net part_of 0 (old ++ x ∷ [])) (sym c.in_ok-keep_run.ensures) runs;
+    })
+
+pub gathered-requires-clause-count : goal.gathered-requires-clause-count
+gathered-requires-clause-count c = omega (arith, c.loop-part.invariant.count, c.loop-part-test.false, c.loop-part.auto.part-end, c.count-part-end.ensures.value)
+
+pub gathered-requires-clause-few : goal.gathered-requires-clause-few
+gathered-requires-clause-few c = omega (arith, c.loop-part.invariant.count, c.loop-part-test.false, c.loop-part.auto.part-end, c.count-part-end.ensures.value, c.count-part-end.ensures.few)

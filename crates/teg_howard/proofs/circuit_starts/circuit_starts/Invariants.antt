@@ -1,0 +1,6 @@
+use Rattle.teg_howard.specs.FoundCircuits.{policy_of}
+use Rattle.teg_howard.proofs.Passing.{Started}
+use Rattle.teg_howard.proofs.circuit_starts.circuit_starts.Given as goal
+
+abbrev pub invariant-loop-start : goal.invariant-loop-start
+invariant-loop-start l = Started l.net (policy_of l.policy) l.parts l.part l.starts.items l.passed.items l.start

@@ -1,0 +1,10 @@
+use Rattle.std.proofs.Common.{count_by, is_none}
+use Rattle.teg_howard.specs.FoundCircuits.{policy_of}
+use Rattle.teg_howard.proofs.Passing.{Passing}
+use Rattle.teg_howard.proofs.circuit_starts.pass.Given as goal
+
+abbrev pub invariant-back : goal.invariant-back
+invariant-back l = Passing l.net (policy_of l.policy) l.start l.fn.passed l.passed l.at
+
+abbrev pub decreases-back : goal.decreases-back
+decreases-back l = count_by is_none l.passed

@@ -1,0 +1,6 @@
+use Rattle.teg_howard.specs.FoundCircuits.{policy_of}
+use Rattle.teg_howard.proofs.Spreading.{LinkedTo}
+use Rattle.teg_howard.proofs.following.link_followers.Given as goal
+
+abbrev pub invariant-loop-member : goal.invariant-loop-member
+invariant-loop-member l = LinkedTo l.net l.parts l.part (policy_of l.policy) l.root l.highest.items l.lower.items l.member

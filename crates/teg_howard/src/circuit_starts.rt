@@ -1,0 +1,88 @@
+//! Where the circuits of a policy begin, by one walk that marks what it has passed.
+ghost use Rattle.std.specs.Prelude.{◌≡◌, ◌↔◌, ◌<◌, length, All, IsTrue, IfOk, Some};
+ghost use Rattle.teg_net.specs.Nets.{IsNet};
+ghost use Rattle.teg_howard.specs.Policies.{IsPolicy};
+ghost use Rattle.teg_howard.specs.FoundCircuits.{policy_of, IsOnPolicy};
+ghost use Rattle.teg_howard.specs.CircuitStarts.{ComesAgain, IsLowestBack, IsPassed, AreStarts};
+
+use std::alloc::{AllocError, Global};
+use teg_net::{Net, PlaceId};
+
+/// Follows the policy backwards from `start` to a transition that was passed before, and notes of
+/// each on the way that this walk was the first there. It gives where the walk ends.
+fn pass(net: &Net, policy: &[PlaceId], start: usize, passed: &mut [Option<usize>]) -> usize
+    requires count { length policy.now ≡ length net.now.transitions }
+    requires count_passed { length passed.old ≡ length policy.now }
+    requires on_policy { IsOnPolicy net.now (policy_of policy.now) start }
+    requires in_range { All (λ p. p.index < length net.now.places) policy.now }
+    ensures { IsPassed net.now (policy_of policy.now) start passed.old passed.new result }
+{
+    let places = net.places();
+    let mut at = start;
+    'back: while passed[at].is_none() {
+        passed[at] = Some(start);
+        at = places[policy[at].index as usize].from.index as usize;
+    }
+    at
+}
+
+/// The lowest numbered transition of the policy's circuit that passes `start`.
+fn lowest_back(net: &Net, policy: &[PlaceId], start: usize) -> usize
+    requires count { length policy.now ≡ length net.now.transitions }
+    requires on_policy { IsOnPolicy net.now (policy_of policy.now) start }
+    requires in_range { All (λ p. p.index < length net.now.places) policy.now }
+    requires again { ComesAgain net.now (policy_of policy.now) (length policy.now) start }
+    ensures { IsLowestBack net.now (policy_of policy.now) start result }
+{
+    let places = net.places();
+    let mut lowest = start;
+    let mut at = start;
+    'walk: for _step in 0..policy.len() {
+        at = places[policy[at].index as usize].from.index as usize;
+        if at == start {
+            return lowest;
+        }
+        if at < lowest {
+            lowest = at;
+        }
+    }
+    lowest
+}
+
+/// Whether the walk from `start` was the first to pass a transition.
+fn is_own(first: Option<usize>, start: usize) -> bool
+    ensures { IsTrue result ↔ (first ≡ Some start) }
+{
+    match first {
+        None => false,
+        Some(first) => first == start,
+    }
+}
+
+/// For each transition whether it is the lowest numbered one of a circuit of the policy.
+pub(crate) fn circuit_starts(
+    alloc: Global,
+    net: &Net,
+    parts: &[u32],
+    part: u32,
+    policy: &[PlaceId],
+) -> Result<Vec<bool>, AllocError>
+    requires kept { IsNet net.now }
+    requires parts { length parts.now ≡ length net.now.transitions }
+    requires count { length policy.now ≡ length parts.now }
+    requires policy { IsPolicy net.now parts.now part (policy_of policy.now) }
+    requires in_range { All (λ p. p.index < length net.now.places) policy.now }
+    ensures { IfOk result (λ starts. AreStarts net.now parts.now part (policy_of policy.now) starts.items) }
+{
+    let mut starts = vec![in alloc; false; parts.len()]?;
+    let mut passed = vec![in alloc; None; parts.len()]?;
+    for start in 0..parts.len() {
+        if parts[start] == part {
+            let end = pass(net, policy, start, &mut passed);
+            if is_own(passed[end], start) {
+                starts[lowest_back(net, policy, end)] = true;
+            }
+        }
+    }
+    Ok(starts)
+}
