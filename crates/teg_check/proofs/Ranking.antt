@@ -1,5 +1,5 @@
 -- The loop of `check`: ranks given so far, from the highest down.
-use Rattle.std.proofs.Common.{ℕ, zero, suc, ◌+◌, ◌<◌, ◌≤◌, ◌≡◌, ◌≢◌, List, [], ◌∷◌, Bool, true, false, length, get_or, set, Option, None, refl, sym, ap, ◌∙◌, arith, ⊎_elim, cond}
+use Rattle.std.proofs.Common.{ℕ, zero, suc, ◌+◌, ◌<◌, ◌≤◌, ◌≡◌, ◌≢◌, List, [], ◌∷◌, Bool, true, false, length, get_or, set, refl, sym, ap, ◌∙◌, arith, ⊎_elim, cond}
 use Rattle.std.specs.Prelude.{All, count_by}
 use Rattle.std.proofs.lemmas.Bool.{cases_eq, cases_lt, cases_Bool}
 use Rattle.std.proofs.lemmas.List.{length-set, get_or-set_same, get_or-set_other, get_or_default, get_or_past}
@@ -7,9 +7,9 @@ use Rattle.std.proofs.lemmas.List.Sums.{sum_by-set, sum_by-cons, count_by-le-len
 use Rattle.std.proofs.lemmas.List.Elements.{All-set}
 use Rattle.teg_net.specs.declared.entries.PlaceId.{PlaceId}
 use Rattle.teg_net.specs.Nets.{NetLists, IsNet}
-use Rattle.teg_net.specs.Circuits.{no_place, place_at}
+use Rattle.teg_net.specs.Circuits.{no_place}
 use Rattle.teg_check.specs.Ranks.{IsRanking}
-use Rattle.teg_check.specs.Exits.{IsUnranked, IsExit, AreExits, EachUnrankedHasExit, ExitsGoOn}
+use Rattle.teg_check.specs.Exits.{IsUnranked, IsExit}
 
 abbrev pub IsDone : List Bool → ℕ → Type 0
 IsDone ranked t = get_or ranked t true ≡ true
@@ -46,10 +46,10 @@ more_done ranked t f =
     omega (arith, s, z)
 
 pub ranked_more :
-    (net : NetLists) (ranks : List ℕ) (ranked : List Bool) (exits : List (Option PlaceId)) (rank t : ℕ)
-    → IsNet net → Ranked net ranks ranked (rank + 1) → AreExits net ranked exits → IsUnranked ranked t → get_or exits t None ≡ None
+    (net : NetLists) (ranks : List ℕ) (ranked : List Bool) (rank t : ℕ)
+    → IsNet net → Ranked net ranks ranked (rank + 1) → IsUnranked ranked t → ((id : PlaceId) → IsExit net ranked t id → ⊥)
     → Ranked net (set ranks t rank) (set ranked t true) rank
-ranked_more net ranks ranked exits rank t ok h w unranked stop =
+ranked_more net ranks ranked rank t ok h unranked no_exit =
     let in_ranked : t < length ranked = unranked_in ranked t unranked in
     let in_ranks : t < length ranks = omega (arith, h.count_ranks, h.count_ranked) in
     let kept = λ (u : ℕ) (d : IsDone ranked u). get_or-set_other ranked t u true true (apart ranked t u unranked d) ∙ d in
@@ -64,7 +64,7 @@ ranked_more net ranks ranked exits rank t ok h w unranked stop =
           let to_in : to < length ranks = omega (arith, (ok.each_place k no_place l).to_in, h.count_ranks) in
           ⊎_elim
           (λ (q : from ≡ t).
-          let to_done : IsDone ranked to = not_unranked ranked to (λ f. w.complete (record { index = k }) (record { in_range = l; begins = refl; no_tokens = z; ends_unranked = f }) (ap (λ x. get_or exits x None) q ∙ stop)) in
+          let to_done : IsDone ranked to = not_unranked ranked to (λ f. no_exit (record { index = k }) (record { leaves = record { in_range = l; begins = q; no_tokens = z }; ends_unranked = f })) in
           let high = h.above to to_in to_done in
           let a : get_or (set ranks t rank) from 0 ≡ rank = ap (λ x. get_or (set ranks t rank) x 0) q ∙ mine in
           (kept to to_done, omega (arith, a, same_rank to to_done, high)))
@@ -111,8 +111,3 @@ all_count (x ∷ xs) h =
 -- while not all are marked, one is unranked
 pub some_unranked : (ranked : List Bool) → done_count ranked < length ranked → (((t : ℕ) → IsUnranked ranked t → ⊥) → ⊥)
 some_unranked ranked l h = absurd (omega (arith, all_count ranked (λ t. not_unranked ranked t (h t))))
-
-pub exits_go_on : (net : NetLists) (ranked : List Bool) (exits : List (Option PlaceId)) → AreExits net ranked exits → EachUnrankedHasExit ranked exits → ExitsGoOn net exits
-exits_go_on net ranked exits w on t id e =
-    let s : IsExit net ranked t id = w.sound t id e in
-    record { in_range = s.in_range; begins = s.begins; no_tokens = s.no_tokens; goes_on = on (place_at net id).to.index s.ends_unranked }

@@ -37,14 +37,14 @@ trail_more net exits start left trail at exit on h in' none is =
     record {
       count = length-set left at mark ∙ h.count;
       goes_on = w.goes_on;
-      leads = IsPathBetween-append net trail (exit ∷ []) start at (place_at net exit).to.index h.leads (w.in_range, w.begins, refl);
-      no_tokens = omega (arith, sum_by_push (λ p. (place_at net p).tokens) trail exit, h.no_tokens, w.no_tokens);
+      leads = IsPathBetween-append net trail (exit ∷ []) start at (place_at net exit).to.index h.leads (w.leaves.in_range, w.leaves.begins, refl);
+      no_tokens = omega (arith, sum_by_push (λ p. (place_at net p).tokens) trail exit, h.no_tokens, w.leaves.no_tokens);
       marks = λ t k e.
           ⊎_elim
           (λ (q : t ≡ at).
           let k_is : length trail ≡ k = cc in
           let there : get_or longer k first_id ≡ exit = subst (λ x. get_or longer x first_id ≡ exit) k_is last in
-          (omega (arith, length_push trail exit), ap (from_of net) there ∙ (w.begins ∙ sym q)))
+          (omega (arith, length_push trail exit), ap (from_of net) there ∙ (w.leaves.begins ∙ sym q)))
           (λ (q : t ≢ at).
           let old = h.marks t k (sym (get_or-set_other left at t mark None q) ∙ e) in
           (omega (arith, length_push trail exit, old.0), ap (from_of net) (get_or_append_left trail (exit ∷ []) first_id k old.0) ∙ old.1))
@@ -60,11 +60,11 @@ trail_more net exits start left trail at exit on h in' none is =
           (cases_eq (from_of net (get_or trail k first_id)) at))
           (λ (q : length trail ≤ k).
           let k_is : k ≡ length trail = omega (arith, length_push trail exit) in
-          rw (k_is, last, w.begins) some)
+          rw (k_is, last, w.leaves.begins) some)
           (cases_lt k (length trail));
       distinct = all_pairs_push (λ p q. from_of net p ≢ from_of net q) trail exit h.distinct (λ k d l e.
           let read : get_or trail k d ≡ get_or trail k first_id = get_or_default trail k d first_id l in
-          h.marked k l (ap (λ x. get_or left x None) (ap (from_of net) (sym read) ∙ (e ∙ w.begins)) ∙ none));
+          h.marked k l (ap (λ x. get_or left x None) (ap (from_of net) (sym read) ∙ (e ∙ w.leaves.begins)) ∙ none));
     }
 
 begins_as : (net : NetLists) (x : PlaceId) (xs ys : List PlaceId) (a b : ℕ) → xs ≡ x ∷ ys → IsPathBetween net a xs b → from_of net x ≡ a

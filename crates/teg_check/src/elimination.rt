@@ -6,7 +6,7 @@ ghost use Rattle.teg_check.specs.Ranks.{IsRanking};
 ghost use Rattle.teg_check.specs.Refusals.{IsRightRefusal};
 ghost use Rattle.teg_check.specs.Exits.{IsUnranked};
 
-use crate::exits::{circuit_from, exits_to_unranked, first_sink};
+use crate::exits::{Exits, circuit_from};
 use crate::live::Live;
 use crate::refusal::CheckRefusal;
 use std::alloc::Global;
@@ -29,7 +29,7 @@ fn first_unranked(ranked: &[bool]) -> Option<usize>
 ///
 /// `TokenFree` comes exactly where some circuit has no tokens, and names one, beginning with the
 /// place that leaves its lowest numbered transition. `OutOfMemory` comes only where no memory is
-/// found. It takes time of order n (n + p) for n transitions and p places.
+/// found. It takes time of order n^2 + p for n transitions and p places.
 pub fn check(alloc: Global, net: &Net) -> Result<Live, CheckRefusal>
     ensures ranks { IfOk result (λ live. IsRanking net.now live) }
     ensures live { IfOk result (λ _. IsLive net.now) }
@@ -38,14 +38,14 @@ pub fn check(alloc: Global, net: &Net) -> Result<Live, CheckRefusal>
     let count = net.transitions().len();
     let mut ranks = vec![in alloc; 0u32; count]?;
     let mut ranked = vec![in alloc; false; count]?;
+    let mut exits = Exits::new(alloc, net)?;
     for rank in (0..count).rev() {
-        let exits = exits_to_unranked(alloc, net, &ranked)?;
-        if let Some(sink) = first_sink(&exits, &ranked) {
+        if let Some(sink) = exits.first_sink(net, &ranked) {
             ranks[sink] = rank as u32;
             ranked[sink] = true;
         } else {
             let start = first_unranked(&ranked).unwrap();
-            let places = circuit_from(alloc, net, &exits, start)?;
+            let places = circuit_from(alloc, net, &exits.last, start)?;
             let mut circuit = Circuit { places };
             circuit.begin_lowest(net);
             return Err(CheckRefusal::TokenFree { circuit });

@@ -4,14 +4,13 @@
 //! is live, and otherwise names a circuit without tokens. A [`Live`] is seen by contracts as its
 //! list of ranks; it stands for a net where `IsRanking` ties the two, which is what calls above ask.
 //! The crate stands on `teg_net` alone.
+//! Its examples stand in `worked_examples`.
 #![tactic(auto)]
 
 mod elimination;
 mod exits;
 mod live;
 mod refusal;
-#[cfg(test)]
-mod tests;
 
 pub use elimination::check;
 pub use live::{Live, ranked_nets_are_live};

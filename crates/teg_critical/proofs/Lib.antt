@@ -5,6 +5,7 @@ pub mod Certified
 pub mod Rounds
 pub mod Searching
 pub mod Settling
+pub mod Queueing
 pub mod Stepping
 pub mod Listed
 pub mod LossFacts

@@ -16,7 +16,7 @@ use Rattle.teg_net.specs.GreatestRatios.{IsGreatestRatio, IsAnyPlace}
 use Rattle.teg_net.specs.Certificates.{potential_at, IsCertificate}
 use Rattle.teg_critical.proofs.Certified.{reduced_is, closed_inside}
 use Rattle.teg_critical.specs.declared.losses.Loss.{Loss}
-use Rattle.teg_critical.specs.Losses.{ratio_of, potentials_of, IsLossOf, IsLossIn, part_at, part_of, loss_at, AreLosses}
+use Rattle.teg_critical.specs.Losses.{ratio_of, potentials_of, IsLossOf, IsLossIn, part_at, loss_at, AreLosses}
 use Rattle.teg_critical.specs.Searches.{amount_in, loss_of, IsWay}
 use Rattle.teg_critical.proofs.GapLaws.{any_places}
 

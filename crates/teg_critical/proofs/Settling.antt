@@ -1,5 +1,5 @@
 -- One step of the search: the nearest transition is settled, and its steps are taken.
-use Rattle.std.proofs.Common.{ℕ, zero, suc, ◌+◌, ◌*◌, ◌<◌, ◌≤◌, ◌≡◌, ◌≢◌, Bool, true, false, List, [], ◌∷◌, ◌++◌, length, set, Option, Some, refl, sym, ap, subst, ◌∙◌, arith, ⊎_elim, ◌⊎◌}
+use Rattle.std.proofs.Common.{ℕ, zero, suc, ◌+◌, ◌*◌, ◌<◌, ◌≤◌, ◌≡◌, ◌≢◌, Bool, true, false, List, [], ◌∷◌, ◌++◌, length, set, Option, Some, refl, sym, ap, subst, ◌∙◌, arith, ⊎_elim}
 use Rattle.std.specs.Prelude.{All, Any, IsSome, if◌then◌else◌}
 use Rattle.std.proofs.lemmas.Bool.{cases_eq}
 use Rattle.std.proofs.lemmas.List.{length-set, get_or-set_same, get_or-set_other}
@@ -12,7 +12,6 @@ use Rattle.teg_net.specs.Parts.{to_of}
 use Rattle.teg_net.proofs.PathLaws.{IsPathBetween-append}
 use Rattle.teg_critical.specs.declared.losses.Loss.{Loss}
 use Rattle.teg_critical.specs.declared.searches.Step.{Step}
-use Rattle.teg_critical.specs.declared.searches.Near.{Near}
 use Rattle.teg_critical.specs.Losses.{most_loss, loss_at}
 use Rattle.teg_critical.specs.Searches.{amount_in, loss_of, IsWay, told_at, IsStepBy, AreStepsFrom, IsWithin, unsettled, is_settled, IsSearching, IsNearest, IsRelaxed}
 use Rattle.teg_critical.proofs.Searching.{within_more, within_some, IsTold, within_told}
@@ -20,19 +19,20 @@ use Rattle.teg_critical.proofs.Searching.{within_more, within_some, IsTold, with
 true_false : (b : Bool) → b ≡ true → b ≡ false → ⊥
 true_false b e f = cc
 
+-- where a transition is settled one fewer is open
+pub one_settled : (settled : List Bool) (at : ℕ) → at < length settled → is_settled settled at ≡ false → unsettled (set settled at true) + 1 ≡ unsettled settled
+one_settled settled at l opened =
+    open_one (is_settled settled at) (unsettled (set settled at true)) (unsettled settled) opened (sum_by-set (λ (z : Bool). if z then 0 else 1) settled at true true l) where
+      open_one : (b : Bool) (u m : ℕ) → b ≡ false → u + (if b then 0 else 1) ≡ m + 0 → u + 1 ≡ m
+      open_one true u m e f = absurd (true_false true refl e)
+      open_one false u m e f = omega arith
+
 one_more : (p : PlaceId) → (P : PlaceId → Type 0) → P p → All P (p ∷ [])
 one_more p P h zero d l = h
 one_more p P h (suc i) d l = absurd (omega arith)
 
 module _ (net : NetLists) (losses : List (Option Loss)) (start : ℕ) (least : List (Option ℕ)) (settled : List Bool) (s : IsSearching net losses start least settled)
-    (nearest : Near) (near : IsNearest least settled nearest)
-    (steps : List Step) (from : AreStepsFrom net losses nearest.at steps) (new : List (Option ℕ)) (relaxed : IsRelaxed steps nearest.loss least new) where
-  abbrev at : ℕ
-  at = nearest.at
-
-  abbrev base : ℕ
-  base = nearest.loss
-
+    (at base : ℕ) (near : IsNearest least settled at base) (steps : List Step) (from : AreStepsFrom net losses at steps) (new : List (Option ℕ)) (relaxed : IsRelaxed steps base least new) where
   told : told_at least at ≡ Some base
   told = near.told
 
@@ -134,11 +134,8 @@ module _ (net : NetLists) (losses : List (Option Loss)) (start : ℕ) (least : L
       (cases_eq (from_of net p) at)
 
   -- one transition fewer is open
-  pub fewer : unsettled marks + 1 ≡ unsettled settled
-  fewer = open_one (is_settled settled at) (unsettled marks) (unsettled settled) near.open_ (sum_by-set (λ (z : Bool). if z then 0 else 1) settled at true true near.in_range) where
-    open_one : (b : Bool) (u m : ℕ) → b ≡ false → u + (if b then 0 else 1) ≡ m + 0 → u + 1 ≡ m
-    open_one true u m e f = absurd (true_false true refl e)
-    open_one false u m e f = omega arith
+  fewer : unsettled marks + 1 ≡ unsettled settled
+  fewer = one_settled settled at near.in_range near.open_
 
   pub small : (t d : ℕ) → told_at new t ≡ Some d → d + unsettled marks * most_loss ≤ length marks * most_loss
   small t d e =

@@ -14,7 +14,7 @@ use Rattle.teg_loops.proofs.Straight.{straight_short}
 use Rattle.teg_loops.proofs.Taking.{sum_most}
 use Rattle.teg_loops.proofs.Splitting.{split}
 use Rattle.teg_loops.proofs.Through.{IsThrough, through, closes}
-use Rattle.teg_critical.proofs.Certified.{parts_rise, path_inside}
+use Rattle.teg_critical.proofs.Certified.{path_inside}
 use Rattle.teg_critical.specs.declared.losses.Loss.{Loss}
 use Rattle.teg_critical.specs.declared.slacks.Slack.{Slack}
 use Rattle.teg_critical.specs.declared.slacks.Slack.TheVariants.{NoCircuit, Critical, Rise}
@@ -44,17 +44,10 @@ module _ (net : NetLists) (ok : IsNet net) (r : Fraction) (losses : List (Option
   abbrev own_part : ℕ
   own_part = part_of can.answer (from_of net p)
 
-  -- where a path leads back, both ends are in one part
-  ends_same : (ps : List PlaceId) → IsPathBetween net (to_of net p) ps (from_of net p) → part_of can.answer (to_of net p) ≡ own_part
-  ends_same ps path =
-      let up : part_of can.answer (from_of net p) ≤ part_of can.answer (to_of net p) = can.certificate.rises p.index no_place l in
-      let down = parts_rise net ok can.answer can.certificate ps (to_of net p) (from_of net p) path in
-      omega arith
-
   back_path : (ps : List PlaceId) → IsPathBetween net (to_of net p) ps (from_of net p) → IsPathBetween net (from_of net p) (p ∷ ps) (from_of net p)
   back_path ps path = (l, refl, path)
 
-  -- and so is the whole round
+  -- the whole round lies in one part
   round_inside : (ps : List PlaceId) → IsPathBetween net (to_of net p) ps (from_of net p) → All (IsPlaceOfPart net can.answer.part_of.items own_part) (p ∷ ps)
   round_inside ps path = path_inside net ok can.answer can.certificate own_part (p ∷ ps) (from_of net p) (from_of net p) refl refl (back_path ps path)
 

@@ -1,6 +1,10 @@
 -- Working definitions of least sums of losses along paths, from one transition on, and of their search (Dijkstra's
 -- algorithm).
-use Rattle.std.specs.Prelude.{ℕ, ◌+◌, ◌*◌, ◌<◌, ◌≤◌, ◌≡◌, ◌⊎◌, Bool, true, false, List, [], length, All, Any, IsSome, Option, Some, None, sum_by, slice_index_or, nat_lt, if◌then◌else◌}
+use Rattle.std.specs.Prelude.{ℕ, ◌+◌, ◌*◌, ◌<◌, ◌≤◌, ◌≡◌, ◌⊎◌, Bool, true, false, List, [], length, All, Any, Contains, IsSome, Option, Some, None, sum_by, slice_index_or, if◌then◌else◌}
+use Rattle.std.specs.BinaryHeap.{IsHeap}
+use Rattle.std.specs.Ordering.{nat_cmp, ordering_then}
+use Rattle.std.specs.declared.cmp.Ordering.{Ordering}
+use Rattle.std.specs.declared.cmp.Reverse.{Reverse}
 use Rattle.teg_net.specs.declared.entries.PlaceId.{PlaceId}
 use Rattle.teg_net.specs.declared.entries.Place.{Place}
 use Rattle.teg_net.specs.Limits.{most_transitions}
@@ -9,7 +13,6 @@ use Rattle.teg_net.specs.Circuits.{from_of, IsPathBetween}
 use Rattle.teg_net.specs.Parts.{to_of}
 use Rattle.teg_critical.specs.declared.losses.Loss.{Loss}
 use Rattle.teg_critical.specs.declared.searches.Step.{Step}
-use Rattle.teg_critical.specs.declared.searches.Near.{Near}
 use Rattle.teg_critical.specs.Losses.{most_loss, loss_at}
 
 -- the amount of a loss, 0 where there is none
@@ -97,18 +100,12 @@ pub record IsSearching (net : NetLists) (losses : List (Option Loss)) (start : �
       → IsWithin (told_at least (to_of net p)) (d + amount_in (loss_at losses p))
   pub small : (t d : ℕ) → told_at least t ≡ Some d → d + unsettled settled * most_loss ≤ length settled * most_loss
 
--- the nearer of two, where the second is told a loss
-abbrev pub nearer_of : Option Near → ℕ → Option ℕ → Option Near
-nearer_of nearest at None = nearest
-nearer_of None at (Some d) = Some (record { at = at; loss = d })
-nearer_of (Some near) at (Some d) = if nat_lt d near.loss then Some (record { at = at; loss = d }) else Some near
-
 -- the unsettled transition of least loss
-pub record IsNearest (least : List (Option ℕ)) (settled : List Bool) (near : Near) : Type 0 where
-  pub in_range : near.at < length settled
-  pub open_ : is_settled settled near.at ≡ false
-  pub told : told_at least near.at ≡ Some near.loss
-  pub no_nearer : (u d : ℕ) → is_settled settled u ≡ false → told_at least u ≡ Some d → near.loss ≤ d
+pub record IsNearest (least : List (Option ℕ)) (settled : List Bool) (at loss : ℕ) : Type 0 where
+  pub in_range : at < length settled
+  pub open_ : is_settled settled at ≡ false
+  pub told : told_at least at ≡ Some loss
+  pub no_nearer : (u d : ℕ) → is_settled settled u ≡ false → told_at least u ≡ Some d → loss ≤ d
 
 -- no unsettled transition is told a loss
 abbrev pub IsOver : List (Option ℕ) → List Bool → Type 0
@@ -120,3 +117,27 @@ pub record IsRelaxed (steps : List Step) (base : ℕ) (old new : List (Option �
   pub offered : All (λ s. IsWithin (told_at new s.to) (base + s.loss)) steps
   pub lowered : (t x : ℕ) → IsWithin (told_at old t) x → IsWithin (told_at new t) x
   pub by_step : (t d : ℕ) → told_at new t ≡ Some d → (told_at old t ≡ Some d) ⊎ Any (λ s. (s.to ≡ t) × (base + s.loss ≡ d)) steps
+
+-- ---- the queue
+
+-- the loss of a path to a transition, and the transition
+abbrev pub entry : ℕ → ℕ → Reverse (ℕ × ℕ)
+entry loss at = record { 0 = (loss, at) }
+
+-- the lesser loss comes first
+abbrev pub nearest_first : Reverse (ℕ × ℕ) → Reverse (ℕ × ℕ) → Ordering
+nearest_first x y = ordering_then (nat_cmp y.0.0 x.0.0) (nat_cmp y.0.1 x.0.1)
+
+-- what is told anew is queued, and each new entry is of a loss that is told or of a greater one
+pub record AreQueued (old new : List (Option ℕ)) (before after : List (Reverse (ℕ × ℕ))) : Type 0 where
+  pub kept : (e : Reverse (ℕ × ℕ)) → Contains before e → Contains after e
+  pub told : (t d : ℕ) → told_at new t ≡ Some d → (told_at old t ≡ Some d) ⊎ Contains after (entry d t)
+  pub sound : (e : Reverse (ℕ × ℕ)) → Contains after e → Contains before e ⊎ IsWithin (told_at new e.0.1) e.0.0
+  pub heap : IsHeap nearest_first before → IsHeap nearest_first after
+
+-- each loss told of an unsettled transition is in the queue, and the queue has no lesser ones
+pub record IsQueueing (net : NetLists) (losses : List (Option Loss)) (start : ℕ) (least : List (Option ℕ)) (settled : List Bool) (queue : List (Reverse (ℕ × ℕ))) : Type 0 where
+  pub searching : IsSearching net losses start least settled
+  pub heap : IsHeap nearest_first queue
+  pub sound : (e : Reverse (ℕ × ℕ)) → Contains queue e → IsWithin (told_at least e.0.1) e.0.0
+  pub waits : (u d : ℕ) → is_settled settled u ≡ false → told_at least u ≡ Some d → Contains queue (entry d u)

@@ -136,7 +136,7 @@ fn best_ratio(net: &Net, answer: &CycleAnswer) -> Option<Ratio>
 /// exactly where no circuit does, and otherwise the greatest rise of its hold after which the net
 /// has the same greatest ratio, whatever the limit on holds. In a net without circuits each place
 /// is told `NoCircuit`. `OutOfMemory` comes only where no memory is found. It takes time of order
-/// n (n^2 + p) for n transitions and p places.
+/// n p log p for n transitions and p places.
 pub fn critical(alloc: Global, net: &Net, answer: &CycleAnswer) -> Result<Slacks, OutOfMemory>
     requires certificate { IsCertificate net.now answer.now }
     requires live { IsLive net.now }

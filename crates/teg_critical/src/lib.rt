@@ -7,6 +7,7 @@
 //! answer on cycle times that `check_cycle` accepts; its potentials turn the search for the best
 //! paths back into a search for shortest paths. The crate stands on `teg_net`, and on `teg_loops`
 //! for the laws of paths and circuits.
+//! Its examples stand in `worked_examples`.
 #![tactic(auto)]
 
 mod each_place;

@@ -1,12 +1,15 @@
 //! The least that paths lose from one transition on, to each transition (Dijkstra's algorithm): of
 //! the transitions that are not settled the nearest is settled, and its steps are taken.
-ghost use Rattle.std.specs.Prelude.{◌≡◌, ◌≤◌, ◌<◌, ◌*◌, ℕ, length, All, IfOk, IfNone, IfSome, IsTrue, None, Some, false};
+ghost use Rattle.std.specs.Prelude.{◌≡◌, ◌≤◌, ◌<◌, ◌+◌, ◌*◌, ◌++◌, ◌∷◌, [], ℕ, length, replicate, All, IfOk, IfNone, IfSome, IsTrue, None, Some, false, is_ok, if◌then◌else◌};
+ghost use Rattle.std.specs.BinaryHeap.{heap_items, heap_len};
 ghost use Rattle.teg_net.specs.Limits.{most_transitions};
 ghost use Rattle.teg_critical.specs.Losses.{most_loss, AreKeptSmall};
-ghost use Rattle.teg_critical.specs.Searches.{IsStepOf, AreStepsFrom, AreSteps, nearer_of, IsNearest, IsOver, IsWithin, IsRelaxed, AreLeastLosses};
+ghost use Rattle.teg_critical.specs.Searches.{IsStepOf, AreSteps, IsWithin, IsRelaxed, AreQueued, AreLeastLosses};
 
 use crate::losses::Loss;
 use std::alloc::{AllocError, Global};
+use std::cmp::Reverse;
+use std::collections::BinaryHeap;
 use std::marker::Model;
 use teg_net::{Net, Place};
 
@@ -14,13 +17,6 @@ use teg_net::{Net, Place};
 #[derive(Clone, Copy, Debug, PartialEq, Eq)]
 pub(crate) struct Step {
     pub(crate) to: usize,
-    pub(crate) loss: u128,
-}
-
-/// A transition, and what is told of it.
-#[derive(Clone, Copy, Debug, PartialEq, Eq)]
-pub(crate) struct Near {
-    pub(crate) at: usize,
     pub(crate) loss: u128,
 }
 
@@ -40,11 +36,13 @@ impl Model for Steps {
 }
 
 impl Steps {
-    /// These steps.
-    fn new(steps: Vec<Step>) -> Steps
-        ensures { result ≡ steps.items }
+    /// No steps.
+    fn new(alloc: Global) -> Steps
+        ensures { result ≡ [] }
     {
-        Steps { steps }
+        Steps {
+            steps: Vec::new(alloc),
+        }
     }
 
     /// The steps as a list.
@@ -53,44 +51,40 @@ impl Steps {
     {
         &self.steps
     }
+
+    /// Appends a step, or changes nothing.
+    fn push(&mut self, step: Step) -> Result<(), AllocError>
+        ensures { self.new ≡ (if is_ok result then self.old ++ step ∷ [] else self.old) }
+    {
+        self.steps.push(step)?;
+        Ok(())
+    }
 }
 
-/// The step that a place is from this transition, if it leaves it and is told a loss.
-fn step_by(place: &Place, told: Option<Loss>, from: usize) -> Option<Step>
-    ensures none { IfNone result (place.now.from.index ≡ from → told ≡ None) }
-    ensures step { IfSome result (IsStepOf place.now told from) }
+/// So many lists without steps.
+fn no_steps(alloc: Global, count: usize) -> Result<Vec<Steps>, AllocError>
+    ensures { IfOk result (λ all. all.items ≡ replicate count []) }
+{
+    let mut all = Vec::new(alloc);
+    for _index in 0..count {
+        all.push(Steps::new(alloc))?;
+    }
+    Ok(all)
+}
+
+/// The step that a place is, if it is told a loss.
+fn step_by(place: &Place, told: Option<Loss>) -> Option<Step>
+    ensures none { IfNone result (told ≡ None) }
+    ensures step { IfSome result (IsStepOf place.now told place.now.from.index) }
 {
     let loss = told?;
-    if place.from.index as usize != from {
-        return None;
-    }
     Some(Step {
         to: place.to.index as usize,
         loss: loss.amount,
     })
 }
 
-/// The steps from a transition: the places that leave it and are told a loss.
-fn steps_from(
-    alloc: Global,
-    net: &Net,
-    losses: &[Option<Loss>],
-    from: usize,
-) -> Result<Vec<Step>, AllocError>
-    requires count { length losses.now ≡ length net.now.places }
-    requires small { AreKeptSmall losses.now }
-    ensures { IfOk result (λ steps. AreStepsFrom net.now losses.now from steps.items) }
-{
-    let mut steps = Vec::new(alloc);
-    for (index, place) in net.places().iter().enumerate() {
-        if let Some(step) = step_by(place, losses[index], from) {
-            steps.push(step)?;
-        }
-    }
-    Ok(steps)
-}
-
-/// The steps from each transition.
+/// The steps from each transition: the places that leave it and are told a loss.
 pub(crate) fn all_steps(
     alloc: Global,
     net: &Net,
@@ -100,44 +94,13 @@ pub(crate) fn all_steps(
     requires small { AreKeptSmall losses.now }
     ensures { IfOk result (λ steps. AreSteps net.now losses.now steps.items) }
 {
-    let mut all = Vec::new(alloc);
-    for from in 0..net.transitions().len() {
-        let steps = steps_from(alloc, net, losses, from)?;
-        all.push(Steps::new(steps))?;
+    let mut all = no_steps(alloc, net.transitions().len())?;
+    for (index, place) in net.places().iter().enumerate() {
+        if let Some(step) = step_by(place, losses[index]) {
+            all[place.from.index as usize].push(step)?;
+        }
     }
     Ok(all)
-}
-
-/// The nearer of the nearest so far and a further transition, if that is told a loss.
-fn nearer(nearest: Option<Near>, at: usize, told: Option<u128>) -> Option<Near>
-    ensures { result ≡ nearer_of nearest at told }
-{
-    match (nearest, told) {
-        (_, None) => nearest,
-        (None, Some(loss)) => Some(Near { at, loss }),
-        (Some(near), Some(loss)) => {
-            if loss < near.loss {
-                Some(Near { at, loss })
-            } else {
-                Some(near)
-            }
-        }
-    }
-}
-
-/// The unsettled transition of least loss.
-fn nearest(least: &[Option<u128>], settled: &[bool]) -> Option<Near>
-    requires { length least.now ≡ length settled.now }
-    ensures over { IfNone result (IsOver least.now settled.now) }
-    ensures nearest { IfSome result (IsNearest least.now settled.now) }
-{
-    let mut nearest = None;
-    for (at, is_settled) in settled.iter().enumerate() {
-        if !*is_settled {
-            nearest = nearer(nearest, at, least[at]);
-        }
-    }
-    nearest
 }
 
 /// Whether nothing is told yet, or more than is offered.
@@ -151,22 +114,32 @@ fn is_less(offered: u128, told: Option<u128>) -> bool
     }
 }
 
-/// Takes the steps from this loss on: what they offer is told where it is less.
-fn relax(steps: &[Step], base: u128, least: &mut [Option<u128>])
+/// Takes the steps from this loss on: what they offer is told where it is less, and queued.
+fn relax(
+    steps: &[Step],
+    base: u128,
+    least: &mut [Option<u128>],
+    queue: &mut BinaryHeap<Reverse<(u128, usize)>>,
+) -> Result<(), AllocError>
     requires ends { All (λ s. s.to < length least.old) steps.now }
     requires small { All (λ s. s.loss ≤ most_loss) steps.now }
     requires base { base ≤ most_transitions * most_loss }
-    ensures { IsRelaxed steps.now base least.old least.new }
+    ensures relaxed { IfOk result (λ _. IsRelaxed steps.now base least.old least.new) }
+    ensures queued { IfOk result (λ _. AreQueued least.old least.new (heap_items queue.old) (heap_items queue.new)) }
+    ensures few { IfOk result (λ _. heap_len queue.new ≤ heap_len queue.old + length steps.now) }
 {
     for step in steps {
         let offered = base + step.loss;
         if is_less(offered, least[step.to]) {
             least[step.to] = Some(offered);
+            queue.push(Reverse((offered, step.to)))?;
         }
     }
+    Ok(())
 }
 
-/// The least that paths from this transition lose, to each.
+/// The least that paths from this transition lose, to each. What is told of a transition waits in a
+/// queue until the transition is settled; an entry of a settled transition is passed over.
 pub(crate) fn least_losses(
     alloc: Global,
     net: &Net,
@@ -182,10 +155,14 @@ pub(crate) fn least_losses(
     let count = net.transitions().len();
     let mut least = vec![in alloc; None; count]?;
     let mut settled = vec![in alloc; false; count]?;
+    let mut queue = BinaryHeap::new(alloc);
     least[start] = Some(0);
-    'search: while let Some(near) = nearest(&least, &settled) {
-        settled[near.at] = true;
-        relax(steps[near.at].as_slice(), near.loss, &mut least);
+    queue.push(Reverse((0, start)))?;
+    'search: while let Some(Reverse((loss, at))) = queue.pop() {
+        if !settled[at] {
+            settled[at] = true;
+            relax(steps[at].as_slice(), loss, &mut least, &mut queue)?;
+        }
     }
     Ok(least)
 }

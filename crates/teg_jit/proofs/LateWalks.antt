@@ -1,10 +1,10 @@
 -- The walk of a late row: by the plan for this one row at its least date, from a firing whose latest date is its start.
-use Rattle.std.proofs.Common.{ℕ, zero, suc, ◌+◌, ◌<◌, ◌≤◌, ◌≡◌, ◌≢◌, List, [], ◌∷◌, length, get_or, refl, sym, ap, ◌∙◌, arith, ⊎_elim}
+use Rattle.std.proofs.Common.{ℕ, zero, suc, ◌+◌, ◌<◌, ◌≤◌, ◌≡◌, List, [], ◌∷◌, length, get_or, refl, sym, ap, ◌∙◌, arith, ⊎_elim}
 use Rattle.std.specs.Prelude.{pos, Some, None, Option, IfNone, IfOk, Result, Ok, Err}
 use Rattle.std.specs.Option.{IsSome}
 use Rattle.std.proofs.lemmas.Int.{ints}
 use Rattle.dioid.specs.declared.dates.Date.{Date}
-use Rattle.dioid.specs.declared.dates.Date.TheVariants.{Early, At as on_date, Never}
+use Rattle.dioid.specs.declared.dates.Date.TheVariants.{Early, At as on_date}
 use Rattle.dioid.specs.Dates.{IsAtMostDate, delayed}
 use Rattle.dioid.proofs.DateOrder.{at_most_is, at_most_trans, same_by_at_most, later_is_left}
 use Rattle.teg_net.specs.declared.walks.Step.{Step}
@@ -21,28 +21,15 @@ use Rattle.due_laws.specs.Dues.{KeepsDues, InputsMeet, inputs_at_zero}
 use Rattle.due_laws.specs.LatestDates.{IsDateToDue, IsTightWalk, IsLateWalk}
 use Rattle.due_laws.proofs.LatestDates.{kept_below}
 use Rattle.teg_due.specs.declared.rows.DueRow.{DueRow}
-use Rattle.teg_jit.specs.declared.answers.LatestDate.{LatestDate}
-use Rattle.teg_jit.specs.declared.answers.LatestDate.TheVariants.{Free}
-use Rattle.teg_jit.specs.DueDates.{due_in, IsGreatestNumber, NamesFiring, NameFirings}
-use Rattle.teg_jit.specs.Plans.{date_or_never, dates_of, PlanDates, KeepsSizes, IsPlanFor}
+use Rattle.teg_jit.specs.DueDates.{due_in, NamesFiring}
+use Rattle.teg_jit.specs.Plans.{dates_of, PlanDates, KeepsSizes, IsPlanFor}
 use Rattle.teg_jit.specs.FirstLate.{HasDateAtStart, StartsAreKept}
 use Rattle.teg_jit.proofs.Begun.{no_row}
 use Rattle.teg_jit.proofs.DueRows.{row_of_due, due_of_row}
-use Rattle.teg_jit.proofs.NetRanks.{rank_bound, rank_in, ranks_in}
+use Rattle.teg_model.proofs.LiveRanks.{rank_bound, rank_in, ranks_in}
 use Rattle.teg_jit.proofs.Walking.{in_numbers}
 
 -- ---- one row
-
-one_each : (net : NetLists) (r : DueRow) → NamesFiring net r → (i : ℕ) (d : DueRow) → i < length (r ∷ []) → NamesFiring net (get_or (r ∷ []) i d)
-one_each net r h zero d l = h
-one_each net r h (suc i) d l = absurd (omega arith)
-
-one_most : (r : DueRow) (i : ℕ) (d : DueRow) → i < length (r ∷ []) → (get_or (r ∷ []) i d).number ≤ r.number
-one_most r zero d l = omega arith
-one_most r (suc i) d l = absurd (omega arith)
-
-pub one_greatest : (r : DueRow) → IsGreatestNumber (r ∷ []) r.number
-one_greatest r = record { most = one_most r; named = λ no. (0, r, omega arith, refl, refl) }
 
 pub one_due : (r : DueRow) → due_in (r ∷ []) r.transition.index r.number ≡ Some r.date
 one_due r = due_of_row (r ∷ []) 0 r (λ i j d l m. absurd (omega arith)) (omega arith) refl

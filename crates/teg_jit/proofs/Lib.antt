@@ -6,7 +6,6 @@ mod Back
 mod Passing
 mod Begun
 mod Tight
-mod NetRanks
 mod Walking
 mod Starting
 mod LateWalks

@@ -19,7 +19,7 @@ use Rattle.teg_due.specs.Rules.{IsDueOf}
 use Rattle.teg_jit.specs.Laws.{IsLate, MeetOrLate}
 use Rattle.teg_jit.specs.Refusals.{KeepsRow}
 use Rattle.teg_jit.proofs.Begun.{no_row}
-use Rattle.teg_jit.proofs.NetRanks.{rank_bound, rank_in, ranks_in}
+use Rattle.teg_model.proofs.LiveRanks.{rank_bound, rank_in, ranks_in}
 use Rattle.teg_jit.proofs.LateWalks.{Reached, reached}
 use Rattle.teg_jit.proofs.LateRows.{all_kept, first_late_is}
 

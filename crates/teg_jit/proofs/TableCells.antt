@@ -1,32 +1,12 @@
 -- Where the dates of firings stand in a list with one row a number.
-use Rattle.std.proofs.Common.{ℕ, ◌+◌, ◌-◌, ◌*◌, ◌<◌, ◌≤◌, ◌≡◌, ◌≢◌, List, length, set, sym, ap, ◌∙◌, arith, ⊎_elim}
+use Rattle.std.proofs.Common.{ℕ, ◌-◌, ◌*◌, ◌<◌, ◌≤◌, ◌≡◌, ◌≢◌, List, length, set, ap, arith, ⊎_elim}
 use Rattle.std.proofs.lemmas.Bool.{cases_lt}
 use Rattle.std.proofs.lemmas.List.{get_or_past, get_or-set_same, get_or-set_other}
 use Rattle.teg_dates.specs.Tables.{cell_of}
+use Rattle.teg_dates.proofs.Cells.{rows_below, cell_within}
 use Rattle.teg_jit.specs.declared.answers.LatestDate.{LatestDate}
 use Rattle.teg_jit.specs.declared.answers.LatestDate.TheVariants.{Free}
 use Rattle.teg_jit.specs.Plans.{latest_in}
-
--- the rows before k are k - 1
-pub rows_before : (w k : ℕ) → 1 ≤ k → k * w ≡ (k - 1) * w + w
-rows_before w k o =
-    let is : k ≡ (k - 1) + 1 = omega arith in
-    let product : ((k - 1) + 1) * w ≡ (k - 1) * w + w = grind arith in
-    ap (λ z. z * w) is ∙ product
-
-rows_more : (w j d : ℕ) → (j + d) * w ≡ j * w + d * w
-rows_more w j d = grind arith
-
--- fewer rows take no more room
-pub rows_below : (w j k : ℕ) → j ≤ k → j * w ≤ k * w
-rows_below w j k l =
-    let is : j + (k - j) ≡ k = omega arith in
-    let product : k * w ≡ j * w + (k - j) * w = ap (λ z. z * w) (sym is) ∙ rows_more w j (k - j) in
-    omega (arith, product)
-
--- a cell of number k stands in the first k rows
-pub cell_within : (w t k : ℕ) → t < w → 1 ≤ k → cell_of w t k < k * w
-cell_within w t k l o = omega (arith, rows_before w k o)
 
 pub cell_in : (w t k n : ℕ) → t < w → 1 ≤ k → k ≤ n → cell_of w t k < n * w
 cell_in w t k n l o m = omega (arith, cell_within w t k l o, rows_below w k n m)

@@ -27,7 +27,7 @@ use Rattle.teg_jit.specs.FirstSteps.{IsFirstStep, step_of}
 use Rattle.teg_jit.specs.Laws.{PlansLead}
 use Rattle.teg_jit.specs.Plans.{date_or_never, dates_of, latest_at, HasOnward, PlanDates, KeepsSizes, IsPlanFor, FollowsPlan}
 use Rattle.teg_jit.proofs.TableCells.{past_last}
-use Rattle.teg_jit.proofs.NetRanks.{rank_bound, rank_in, ranks_in}
+use Rattle.teg_model.proofs.LiveRanks.{rank_bound, rank_in, ranks_in}
 use Rattle.teg_jit.proofs.Tight.{distance, nearer, number_there}
 
 -- the steps so far lead from firing k of transition t to a firing that is not free, and the dates at both ends are as far apart as their time

@@ -47,12 +47,26 @@ pub(crate) fn plan_for(
 
 /// The latest date of each firing up to the greatest number that is due, each with the first step of
 /// a walk by which it is attained; at the inputs these are the latest inputs that meet every due date
-/// (chapter 5). The input lists of the net play no part, since the inputs are to be found, nor does
-/// the standard form. `Late` comes exactly where the least dating with all inputs at 0 exceeds a due
-/// date: it names the first such row, its date there, and a walk that ends at its firing and whose
-/// start plus time is that date. `OutOfMemory` comes only where no memory is found. It takes time of
-/// order `N (n + p)` for N numbers, n transitions and p places, and memory for one date for each of
-/// `N n` firings.
+/// (chapter 5). The input lists of the net play no part, since the inputs are to be found. `Late`
+/// comes exactly where the least dating with all inputs at 0 exceeds a due date: it names the first
+/// such row, its date there, and a walk that ends at its firing and whose start plus time is that
+/// date. `OutOfMemory` comes only where no memory is found. It takes time of order `N (n + p)` for N
+/// numbers, n transitions and p places, and memory for one date for each of `N n` firings.
+pub fn latest_inputs(alloc: Global, net: &Net, live: &Live, due: &Due) -> Result<Plan, JitRefusal>
+    requires stands { IsRanking net.now live.now }
+    requires due { IsDueOf net.now due.now.rows.items }
+    ensures numbers { IfOk result (λ plan. IsGreatestNumber due.now.rows.items plan.numbers) }
+    ensures plan { IfOk result (λ plan. IsPlanFor net.now (due_in due.now.rows.items) plan) }
+    ensures inputs { IfOk result (λ plan. AreLatestInputs net.now (due_in due.now.rows.items) (dates_of plan)) }
+    ensures in_time { IfOk result (λ _. InputsMeet net.now (due_in due.now.rows.items) inputs_at_zero) }
+    ensures late { IfErr result (LateIsRight net.now due.now.rows.items) }
+{
+    let last = greatest_number(&due.rows);
+    keep_dues(alloc, net, live, &due.rows, last)?;
+    Ok(plan_for(alloc, net, live, &due.rows, last)?)
+}
+
+/// The same for a caller that has the standard form, which plays no part: it is [`latest_inputs`].
 pub fn latest(
     alloc: Global,
     net: &Net,
@@ -69,7 +83,5 @@ pub fn latest(
     ensures in_time { IfOk result (λ _. InputsMeet net.now (due_in due.now.rows.items) inputs_at_zero) }
     ensures late { IfErr result (LateIsRight net.now due.now.rows.items) }
 {
-    let last = greatest_number(&due.rows);
-    keep_dues(alloc, net, live, &due.rows, last)?;
-    Ok(plan_for(alloc, net, live, &due.rows, last)?)
+    latest_inputs(alloc, net, live, due)
 }

@@ -20,13 +20,6 @@ pub record LatestUpTo (net : NetLists) (run : List Fired) (f : Fired) (k : ℕ) 
   pub first : (other : ℕ) → HasTokensBy net run f.transition.index k other → latest ≤ other
   pub by : latest ≤ f.date
 
-pub latest_begins : (net : NetLists) (run : List Fired) (f : Fired) (k : ℕ) (ids : List PlaceId) → LatestUpTo net run f k ids 0 0
-latest_begins net run f k ids = record {
-  enough = λ j d l. absurd (omega arith);
-  first = λ other h. omega arith;
-  by = omega arith;
-}
-
 -- what all places into the transition have, place i of the list has
 at_id : (net : NetLists) (run : List Fired) (t k date : ℕ) (ids : List PlaceId) (i : ℕ) (d : PlaceId) → AreInto net t ids → i < length ids
     → HasTokensBy net run t k date → IsThereBy date (token_date run (place_at net (get_or ids i d)) k)

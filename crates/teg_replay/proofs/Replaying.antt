@@ -19,9 +19,6 @@ use Rattle.run_laws.proofs.Prefixes.{legal_begins, legal_push}
 abbrev pub no_row : LogRow
 no_row = record { row = 0; transition = record { index = 0 }; date = 0 }
 
-abbrev pub no_firing : Firing
-no_firing = record { transition = 0; number = 0; date = 0; earliest = 0; tokens = 0 }
-
 pub firings_begin : (net : NetLists) (rows : List LogRow) → AreFiringsOf net rows []
 firings_begin net rows = record {
   within = omega arith;

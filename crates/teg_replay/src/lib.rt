@@ -8,6 +8,7 @@
 //! The crate stands on `run_laws` for runs and what holds of them, on `teg_net` for nets, on
 //! `teg_due` for the rows of a log, on `teg_outside` for monitors, and on `teg_model` and `dioid` for
 //! the least dating.
+//! Its examples stand in `worked_examples`.
 #![tactic(auto)]
 
 mod column;
@@ -18,8 +19,6 @@ mod judge;
 mod play;
 mod refusal;
 mod replayed;
-#[cfg(test)]
-mod tests;
 mod waits;
 mod watching;
 

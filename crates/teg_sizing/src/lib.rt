@@ -8,14 +8,13 @@
 //! paths are found in rounds over the places, with no regard to the limit on tokens. The crate
 //! stands on `teg_net`, on `teg_check` for nets that are live, on `teg_loops` for the laws of paths
 //! and circuits, and on `teg_text` for texts.
+//! Its examples stand in `worked_examples`.
 #![tactic(auto)]
 
 mod loops;
 mod rounds;
 mod sizing;
 mod surpluses;
-#[cfg(test)]
-mod tests;
 mod texts;
 mod tracing;
 

@@ -21,10 +21,10 @@ some_read exits left at o x g e r s =
     sym (get_or_read left at o in' r None) ∙ s
 
 pub bounds-places-exit : goal.bounds-places-exit
-bounds-places-exit c = rw c.places-places.ensures.value (c.requires.goes_on c.walk.at c.unwrap-exit.result c.unwrap-exit.ensures).in_range
+bounds-places-exit c = rw c.places-places.ensures.value (c.requires.goes_on c.walk.at c.unwrap-exit.result c.unwrap-exit.ensures).leaves.in_range
 
 pub bounds-places-exit-in_ok-push : goal.bounds-places-exit-in_ok-push
-bounds-places-exit-in_ok-push c = rw c.places-places.ensures.value (c.requires.goes_on c.walk.at c.unwrap-exit.result c.unwrap-exit.ensures).in_range
+bounds-places-exit-in_ok-push c = rw c.places-places.ensures.value (c.requires.goes_on c.walk.at c.unwrap-exit.result c.unwrap-exit.ensures).leaves.in_range
 
 pub walk-preserved : goal.walk-preserved
 walk-preserved c =
@@ -33,7 +33,7 @@ walk-preserved c =
     let none = none_read c.walk.left.items c.walk.at c.index.result.now c.is_none.result in' c.index.ensures c.is_none.ensures c.walk-test.true in
     let long : c.len.result ≡ length c.walk.trail.items = omega (arith, c.len.ensures, c.walk.trail.ok.0) in
     let exit = c.requires.goes_on c.walk.at c.unwrap-exit.result c.unwrap-exit.ensures in
-    let read = get_or_default c.args.net.now.places c.unwrap-exit.result.index c.index-places-exit.result no_place exit.in_range in
+    let read = get_or_default c.args.net.now.places c.unwrap-exit.result.index c.index-places-exit.result no_place exit.leaves.in_range in
     rw (c.in_ok-push.ensures.items, c.places-places.ensures.value, read, long)
     (trail_more c.args.net.now c.args.exits.now c.args.start c.walk.left.items c.walk.trail.items c.walk.at c.unwrap-exit.result c.requires.goes_on h in' none c.unwrap-exit.ensures)
 

@@ -1,54 +1,154 @@
-use Rattle.std.proofs.Common.{ℕ, Bool, Option, List, ◌≡◌, length, get_or, sym, subst, arith}
+use Rattle.std.proofs.Common.{ℕ, Bool, true, false, Option, None, List, [], ◌∷◌, ◌≡◌, ◌<◌, ◌≤◌, ◌+◌, ◌*◌, length, get_or, set, replicate, refl, sym, ap, subst, ◌∙◌, arith, rules}
+use Rattle.std.specs.Prelude.{IsPermutation}
+use Rattle.std.specs.BinaryHeap.{heap_items, heap_len, IsHeap, IsUpperBound}
+use Rattle.std.specs.declared.cmp.Reverse.{Reverse}
+use Rattle.std.proofs.lemmas.List.{get_or_default, get_or_read}
 use Rattle.teg_net.specs.Nets.{NetLists, IsNet, IsPlaceOf}
 use Rattle.teg_net.specs.Circuits.{no_place, place_at}
 use Rattle.teg_critical.specs.declared.losses.Loss.{Loss}
-use Rattle.teg_critical.specs.declared.searches.Near.{Near}
-use Rattle.teg_critical.specs.declared.searches.Step.{Step}
-use Rattle.teg_critical.specs.Searches.{AreSteps, AreStepsFrom, IsSearching, IsNearest, IsOver, IsRelaxed}
+use Rattle.teg_critical.specs.Losses.{most_loss}
+use Rattle.teg_critical.specs.Searches.{AreStepsFrom, IsQueueing, IsNearest, IsRelaxed, IsOver, AreQueued, is_settled, unsettled, nearest_first}
 use Rattle.teg_critical.proofs.Reading.{written_back}
 use Rattle.teg_critical.proofs.Stepping.{own_steps}
-use Rattle.teg_critical.proofs.Settling.{settles}
+use Rattle.teg_critical.proofs.Settling.{settles, one_settled}
 use Rattle.teg_critical.proofs.Searching.{searched}
+use Rattle.teg_critical.proofs.Queueing.{search_begins, queue_begins, first_in, passed_over, is_nearest, goes_on, queue_over, less_left}
 use Rattle.teg_critical.proofs.searches.least_losses.Goals as goal
 
--- the steps of the transition that is settled
-taken : (net : NetLists) (losses : List (Option Loss)) (start : ℕ) (least : List (Option ℕ)) (settled : List Bool) (near : Near) (steps : List (List Step)) (own read : List Step) → IsSearching net losses start least settled
-    → IsNearest least settled near → AreSteps net losses steps → read ≡ get_or steps near.at read → own ≡ read → AreStepsFrom net losses near.at own
-taken net losses start least settled near steps own read s n h is same =
-    let marks = s.marks in
-    let low = n.in_range in
-    subst (AreStepsFrom net losses near.at) (sym same) (own_steps net losses steps near.at read h (omega arith) is)
+pub search-init : goal.search-init
+search-init c =
+    let filled : c.in_ok-least.least.items ≡ replicate (length c.transitions-count.result.now) None = c.in_ok-least.ensures.items_if_clones_equal (search rules) in
+    let all_open : c.in_ok-settled.settled.items ≡ replicate (length c.transitions-count.result.now) false = c.in_ok-settled.ensures.items_if_clones_equal (search rules) in
+    let start_in : c.args.start < length c.transitions-count.result.now = rw c.transitions-count.ensures.value c.requires.start in
+    let searching = search_begins c.args.net.now c.args.losses.now c.args.start c.in_ok-least.least.items c.in_ok-settled.settled.items (length c.transitions-count.result.now) filled all_open (ap length c.transitions-count.ensures.value) start_in in
+    queue_begins c.args.net.now c.args.losses.now c.args.start c.in_ok-least.least.items c.in_ok-settled.settled.items (length c.transitions-count.result.now) (heap_items c.new-queue.result) (heap_items c.push.new.self) searching filled start_in
+    c.new-queue.ensures.items c.in_ok-push.ensures.permutation (c.in_ok-push.ensures.heap_order c.new-queue.ensures.heap_order)
+
+pub index-requires : goal.index-requires
+index-requires c =
+    let h = c.search.invariant in
+    let l = first_in c.args.net.now c.args.losses.now c.args.start c.search.least.items c.search.settled.items c.in-Some.field-0 (heap_items c.search.queue) (heap_items c.pop.new.self) h c.in-Some.ensures.permutation in
+    let marks = h.searching.marks in
+    let ok = c.search.settled.ok in
+    omega (arith, ok.0)
+
+pub index_mut-requires-then-not-index : goal.index_mut-requires-then-not-index
+index_mut-requires-then-not-index c =
+    let h = c.search.invariant in
+    let l = first_in c.args.net.now c.args.losses.now c.args.start c.search.least.items c.search.settled.items c.in-Some.field-0 (heap_items c.search.queue) (heap_items c.pop.new.self) h c.in-Some.ensures.permutation in
+    let marks = h.searching.marks in
+    let ok = c.search.settled.ok in
+    omega (arith, ok.0)
+
+pub offset_bounds-steps-at : goal.offset_bounds-steps-at
+offset_bounds-steps-at c =
+    let h = c.search.invariant in
+    let l = first_in c.args.net.now c.args.losses.now c.args.start c.search.least.items c.search.settled.items c.in-Some.field-0 (heap_items c.search.queue) (heap_items c.pop.new.self) h c.in-Some.ensures.permutation in
+    let few = c.transitions-count.ensures.rules.few_transitions in
+    omega arith
+
+pub bounds-steps-at : goal.bounds-steps-at
+bounds-steps-at c =
+    let h = c.search.invariant in
+    let l = first_in c.args.net.now c.args.losses.now c.args.start c.search.least.items c.search.settled.items c.in-Some.field-0 (heap_items c.search.queue) (heap_items c.pop.new.self) h c.in-Some.ensures.permutation in
+    let count = c.requires.steps.count in
+    omega arith
 
 pub relax-requires-clause-ends : goal.relax-requires-clause-ends
 relax-requires-clause-ends c =
-    let net = c.args.net.now in
-    let near : IsNearest c.search.least.items c.search.settled.items c.in-Some.near = rw (c.deref.ensures.value, c.deref-in-search.ensures.value) at c.in-Some.ensures.nearest in
-    let own = taken net c.args.losses.now c.args.start c.search.least.items c.search.settled.items c.in-Some.near c.args.steps.now c.as_slice.result.now c.index-steps-near.result c.search.invariant near c.requires.steps c.index-steps-near.is c.as_slice.ensures in
-    let count = c.search.invariant.count in
-    λ k d l. rw c.deref_mut.ensures.value (omega (arith, own.ends k d l, count))
+    let h = c.search.invariant in
+    let l = first_in c.args.net.now c.args.losses.now c.args.start c.search.least.items c.search.settled.items c.in-Some.field-0 (heap_items c.search.queue) (heap_items c.pop.new.self) h c.in-Some.ensures.permutation in
+    let own : AreStepsFrom c.args.net.now c.args.losses.now c.in-Some.field-0.0.1 c.as_slice.result.now =
+    subst (AreStepsFrom c.args.net.now c.args.losses.now c.in-Some.field-0.0.1) (sym c.as_slice.ensures) (own_steps c.args.net.now c.args.losses.now c.args.steps.now c.in-Some.field-0.0.1 c.index-steps-at.result c.requires.steps l c.index-steps-at.is) in
+    let count = h.searching.count in
+    λ k d m. rw c.deref_mut.ensures.value (omega (arith, own.ends k d m))
 
 pub relax-requires-clause-small : goal.relax-requires-clause-small
 relax-requires-clause-small c =
-    let net = c.args.net.now in
-    let near : IsNearest c.search.least.items c.search.settled.items c.in-Some.near = rw (c.deref.ensures.value, c.deref-in-search.ensures.value) at c.in-Some.ensures.nearest in
-    let own = taken net c.args.losses.now c.args.start c.search.least.items c.search.settled.items c.in-Some.near c.args.steps.now c.as_slice.result.now c.index-steps-near.result c.search.invariant near c.requires.steps c.index-steps-near.is c.as_slice.ensures in
-    λ k d l. own.small k d l
+    let h = c.search.invariant in
+    let l = first_in c.args.net.now c.args.losses.now c.args.start c.search.least.items c.search.settled.items c.in-Some.field-0 (heap_items c.search.queue) (heap_items c.pop.new.self) h c.in-Some.ensures.permutation in
+    let own : AreStepsFrom c.args.net.now c.args.losses.now c.in-Some.field-0.0.1 c.as_slice.result.now =
+    subst (AreStepsFrom c.args.net.now c.args.losses.now c.in-Some.field-0.0.1) (sym c.as_slice.ensures) (own_steps c.args.net.now c.args.losses.now c.args.steps.now c.in-Some.field-0.0.1 c.index-steps-at.result c.requires.steps l c.index-steps-at.is) in
+    λ k d m. own.small k d m
 
-pub search-preserved : goal.search-preserved
-search-preserved c =
+-- the entry of an unsettled transition is the nearest
+near_of : (net : NetLists) (losses : List (Option Loss)) (start : ℕ) (least : List (Option ℕ)) (settled : List Bool) (first : Reverse (ℕ × ℕ)) (queue rest : List (Reverse (ℕ × ℕ))) (read : Bool) → IsQueueing net losses start least settled queue
+    → IsPermutation queue (first ∷ rest) → (IsHeap nearest_first queue → IsUpperBound nearest_first first rest) → read ≡ get_or settled first.0.1 read → read ≡ false → IsNearest least settled first.0.1 first.0.0
+near_of net losses start least settled first queue rest read h moved top is not_yet =
+    let l = first_in net losses start least settled first queue rest h moved in
+    let marks = h.searching.marks in
+    let low : first.0.1 < length settled = omega arith in
+    is_nearest net losses start least settled first queue rest h moved (sym (is ∙ get_or_default settled first.0.1 read true low) ∙ not_yet) low (top h.heap)
+
+most_of : (loss n u : ℕ) → loss + u * most_loss ≤ n * most_loss → n ≤ 400 → loss ≤ 4000000000000000000000000000000000
+most_of loss n u h few = omega arith
+
+fewer_of : (least : List (Option ℕ)) (settled : List Bool) (at loss : ℕ) → IsNearest least settled at loss → unsettled (set settled at true) + 1 ≡ unsettled settled
+fewer_of least settled at loss near = one_settled settled at near.in_range near.open_
+
+empty_of : {X : Type 0} (xs : List X) → length xs ≡ 0 → xs ≡ []
+empty_of [] e = refl
+empty_of (x ∷ xs) e = absurd (omega arith)
+
+pub relax-requires-clause-base : goal.relax-requires-clause-base
+relax-requires-clause-base c =
+    let h = c.search.invariant in
+    let near = near_of c.args.net.now c.args.losses.now c.args.start c.search.least.items c.search.settled.items c.in-Some.field-0 (heap_items c.search.queue) (heap_items c.pop.new.self) c.index.result.now h c.in-Some.ensures.permutation c.in-Some.ensures.below_top
+    c.index.ensures c.if-not-index.true in
+    let small = h.searching.small c.in-Some.field-0.0.1 c.in-Some.field-0.0.0 near.told in
+    let few = c.transitions-count.ensures.rules.few_transitions in
+    let marks = h.searching.marks in
+    most_of c.in-Some.field-0.0.0 (length c.search.settled.items) (unsettled c.search.settled.items) small (omega arith)
+
+pub search-smaller-in-Continue-branch-4 : goal.search-smaller-in-Continue-branch-4
+search-smaller-in-Continue-branch-4 c =
+    let h = c.search.invariant in
+    let first = c.in-Some.field-0 in
+    let l = first_in c.args.net.now c.args.losses.now c.args.start c.search.least.items c.search.settled.items first (heap_items c.search.queue) (heap_items c.pop.new.self) h c.in-Some.ensures.permutation in
+    let count = c.requires.steps.count in
+    let near = near_of c.args.net.now c.args.losses.now c.args.start c.search.least.items c.search.settled.items first (heap_items c.search.queue) (heap_items c.pop.new.self) c.index.result.now h c.in-Some.ensures.permutation c.in-Some.ensures.below_top
+    c.index.ensures c.if-not-index.true in
+    let own : c.as_slice.result.now ≡ get_or c.args.steps.now first.0.1 [] = c.as_slice.ensures ∙ get_or_read c.args.steps.now first.0.1 c.index-steps-at.result (omega arith) c.index-steps-at.is [] in
+    less_left c.search.settled.items (set c.search.settled.items first.0.1 true) c.args.steps.now c.as_slice.result.now first.0.1 (heap_len c.search.queue) (heap_len c.pop.new.self) (heap_len c.relax.new.queue) (omega arith) own
+    (fewer_of c.search.least.items c.search.settled.items first.0.1 first.0.0 near) c.in-Some.ensures.len c.in_ok-relax.ensures.few
+
+pub search-preserved-in-Continue-branch-4 : goal.search-preserved-in-Continue-branch-4
+search-preserved-in-Continue-branch-4 c =
     let net : NetLists = c.args.net.now in
+    let losses = c.args.losses.now in
     let ok : IsNet net = c.transitions-count.ensures.rules in
-    let near : IsNearest c.search.least.items c.search.settled.items c.in-Some.near = rw (c.deref.ensures.value, c.deref-in-search.ensures.value) at c.in-Some.ensures.nearest in
-    let own = taken net c.args.losses.now c.args.start c.search.least.items c.search.settled.items c.in-Some.near c.args.steps.now c.as_slice.result.now c.index-steps-near.result c.search.invariant near c.requires.steps c.index-steps-near.is c.as_slice.ensures in
-    let relaxed : IsRelaxed c.as_slice.result.now c.in-Some.near.loss c.search.least.items c.relax.new.least = rw c.deref_mut.ensures.value at c.relax.ensures in
+    let h = c.search.invariant in
+    let first = c.in-Some.field-0 in
+    let l = first_in net losses c.args.start c.search.least.items c.search.settled.items first (heap_items c.search.queue) (heap_items c.pop.new.self) h c.in-Some.ensures.permutation in
+    let near = near_of net losses c.args.start c.search.least.items c.search.settled.items first (heap_items c.search.queue) (heap_items c.pop.new.self) c.index.result.now h c.in-Some.ensures.permutation c.in-Some.ensures.below_top
+    c.index.ensures c.if-not-index.true in
+    let own : AreStepsFrom net losses first.0.1 c.as_slice.result.now =
+    subst (AreStepsFrom net losses first.0.1) (sym c.as_slice.ensures) (own_steps net losses c.args.steps.now first.0.1 c.index-steps-at.result c.requires.steps l c.index-steps-at.is) in
+    let relaxed : IsRelaxed c.as_slice.result.now first.0.0 c.search.least.items c.relax.new.least = rw c.deref_mut.ensures.value at c.in_ok-relax.ensures.relaxed in
+    let queued : AreQueued c.search.least.items c.relax.new.least (heap_items c.pop.new.self) (heap_items c.relax.new.queue) = rw c.deref_mut.ensures.value at c.in_ok-relax.ensures.queued in
     let vec = c.search.least.ok in
     let long : length c.relax.new.least ≡ c.search.least.len = omega (arith, relaxed.count, vec.0) in
     let whole = written_back c.relax.new.least c.search.least.items c.search.least.len long in
-    let marks = c.search.invariant.marks in
-    rw whole (settles net c.args.losses.now c.args.start c.search.least.items c.search.settled.items c.search.invariant c.in-Some.near near c.as_slice.result.now own c.relax.new.least relaxed
-    (λ p l. (let rules : IsPlaceOf net (place_at net p) = ok.each_place p.index no_place l in let low = rules.from_in in omega arith)))
+    let marks = h.searching.marks in
+    let rest = c.in-Some.ensures.heap_order h.heap in
+    let searching = settles net losses c.args.start c.search.least.items c.search.settled.items h.searching first.0.1 first.0.0 near c.as_slice.result.now own c.relax.new.least relaxed
+    (λ p m. (let rules : IsPlaceOf net (place_at net p) = ok.each_place p.index no_place m in let low = rules.from_in in omega arith)) in
+    rw whole (goes_on net losses c.args.start c.search.least.items c.search.settled.items first (heap_items c.search.queue) (heap_items c.pop.new.self) h c.in-Some.ensures.permutation
+    c.as_slice.result.now c.relax.new.least (heap_items c.relax.new.queue) near.in_range relaxed queued rest.0 searching)
+
+pub search-preserved : goal.search-preserved
+search-preserved c =
+    let h = c.search.invariant in
+    let first = c.in-Some.field-0 in
+    let l = first_in c.args.net.now c.args.losses.now c.args.start c.search.least.items c.search.settled.items first (heap_items c.search.queue) (heap_items c.pop.new.self) h c.in-Some.ensures.permutation in
+    let marks = h.searching.marks in
+    let done : is_settled c.search.settled.items first.0.1 ≡ true = sym (c.index.ensures ∙ get_or_default c.search.settled.items first.0.1 c.index.result.now true (omega arith)) ∙ c.if-not-index.false in
+    let rest = c.in-Some.ensures.heap_order h.heap in
+    passed_over c.args.net.now c.args.losses.now c.args.start c.search.least.items c.search.settled.items first (heap_items c.search.queue) (heap_items c.pop.new.self) h c.in-Some.ensures.permutation done rest.0
 
 pub returns : goal.returns
 returns c =
-    let over : IsOver c.search.least.items c.search.settled.items = rw (c.deref.ensures.value, c.deref-in-search.ensures.value) at c.in_default.ensures.over in
-    searched c.args.net.now c.args.losses.now c.args.start c.search.least.items c.search.settled.items c.search.invariant over c.transitions-count.ensures.rules
+    let h = c.search.invariant in
+    let nothing : heap_items c.search.queue ≡ [] = empty_of (heap_items c.search.queue) (search rules) in
+    let over : IsOver c.search.least.items c.search.settled.items = queue_over c.args.net.now c.args.losses.now c.args.start c.search.least.items c.search.settled.items (subst (IsQueueing c.args.net.now c.args.losses.now c.args.start c.search.least.items c.search.settled.items) nothing h) in
+    searched c.args.net.now c.args.losses.now c.args.start c.search.least.items c.search.settled.items h.searching over c.transitions-count.ensures.rules

@@ -1,7 +1,7 @@
 use Rattle.due_laws.proofs.LatestInputs.{latest_dates_are_inputs}
 use Rattle.teg_jit.specs.DueDates.{due_in}
 use Rattle.teg_jit.specs.Plans.{dates_of}
-use Rattle.teg_jit.proofs.planning.latest.Goals as goal
+use Rattle.teg_jit.proofs.planning.latest_inputs.Goals as goal
 
 pub returns-clause-inputs : goal.returns-clause-inputs
 returns-clause-inputs c =
