@@ -3,9 +3,7 @@ use Rattle.std.proofs.Common.{◌≡◌, ℕ, suc, ◌+◌, ◌<◌, List, [], �
 use Rattle.std.proofs.lemmas.List.{get_or-map, length-map, length-take-le}
 use Rattle.std.proofs.lemmas.List.Elements.{All-cons, All-map}
 use Rattle.std.proofs.lemmas.Simd.{map-map}
-use Rattle.std.proofs.Math.Seq.{take-suc}
 use Rattle.std.specs.Global.{Vec}
-use native.Mathlib.Numerals.{unary_clauses}
 use Rattle.teg_net.specs.declared.answers.CycleAnswer.{CycleAnswer}
 use Rattle.teg_net.specs.declared.answers.PartAnswer.{PartAnswer}
 use Rattle.teg_net.specs.declared.answers.PartAnswer.TheVariants.{NoCircuit, Best}
@@ -17,22 +15,19 @@ use Rattle.teg_net.specs.declared.circuits.Circuit.{Circuit}
 use Rattle.teg_net.specs.GreatestRatios.{IsAnyPlace, IsCycleTime, IsFirstGreatest, HasNoCircuit}
 use Rattle.teg_net.specs.Nets.{NetLists, IsNet}
 use Rattle.teg_net.specs.Parts.{IsMember}
-use Rattle.teg_net.specs.Circuits.{IsLive}
 use Rattle.teg_net.specs.PartAnswers.{ArePartAnswers, IsPartAnswer}
 use Rattle.teg_parts.specs.Partitions.{AreParts, PartLists}
-use Rattle.teg_cycle.specs.LastRounds.{IsLastOfRun}
+use Rattle.teg_cycle.specs.LastRounds.{AreRunsFrom, rounds_in}
 use Rattle.teg_net.specs.Ratios.{Fraction}
-use Rattle.teg_howard.specs.Laws.{PolicyRunsAreOne}
 use Rattle.teg_howard.specs.Rounds.{IsRound, IsPolicyRun, choice_in, place_in}
-use Rattle.teg_howard.specs.Runs.{HasInnerPlace}
 use Rattle.teg_report.specs.Meanings.{part_lists, round_lists, runs_lists}
 use Rattle.teg_report.specs.Reports.{text_of}
 use Rattle.teg_report.specs.Rounds.{RoundLists, IsRoundIn, IsRunIn, AreRunsTold}
-use Rattle.teg_commands.specs.CycleTimes.{IsCycleAnswer, AreRunsFrom, IsRunOf}
-use Rattle.teg_commands.specs.CycleTimes.{rounds_in}
+use Rattle.teg_commands.specs.CycleTimes.{IsCycleAnswer}
 use Rattle.teg_commands.specs.Texts.{cycle_told, cycle_text, no_circuit_text}
 use Rattle.teg_commands.proofs.Paths.{path_in_range}
-use Rattle.teg_commands.proofs.Rounds.{choice_at, each_round, ends_in}
+use Rattle.teg_howard.proofs.Rising.{each_round}
+use Rattle.teg_commands.proofs.Rounds.{choice_at}
 
 -- a net without a circuit
 
@@ -53,56 +48,6 @@ cycle_answer net parts answer strong same count answers first of_net = record {
   first = first;
   of_net = of_net;
 }
-
--- a part with a circuit has a place in it
-pub inner_place : (net : NetLists) (part_of : List ℕ) (part : ℕ) (answer : PartAnswer) (ratio : Fraction) (circuit : Circuit) (potentials : Vec Potential) → answer ≡ Best ratio circuit potentials →
-    IsPartAnswer net part_of part answer → HasInnerPlace net part_of part
-inner_place net part_of part answer ratio circuit potentials is h =
-    let best = subst (IsPartAnswer net part_of part) is h in
-    (slice_index_or circuit.places.items 0 (record { index = 0 }), best.inside 0 (record { index = 0 }) best.circuit.not_empty)
-
--- a policy run of a part ends in the answer of the part
-pub run_of : (net : NetLists) (part_of : List ℕ) (part : ℕ) (rounds : List Round) (answer : PartAnswer) (ratio : Fraction) (circuit : Circuit) (potentials : Vec Potential) → PolicyRunsAreOne → IsNet net → IsLive net →
-    answer ≡ Best ratio circuit potentials → IsLastOfRun net part_of part answer → IsPolicyRun net part_of part rounds → IsRunOf net part_of part answer (Some rounds)
-run_of net part_of part rounds answer ratio circuit potentials one rules live is last run =
-    let known = subst (IsLastOfRun net part_of part) is last in
-    subst (λ (a : PartAnswer). IsRunOf net part_of part a (Some rounds)) (sym is)
-    (run, ends_in net part_of part known.0 rounds (Best ratio circuit potentials) known.1 run (one net part_of part known.0 rounds rules live known.1 run) known.2)
-
--- rounds part by part
-
-runs_append : (net : NetLists) (part_of : List ℕ) (k : ℕ) (ps qs : List PartAnswer) (runs more : List (List Round)) → AreRunsFrom net part_of k ps runs → AreRunsFrom net part_of (k + length ps) qs more →
-    AreRunsFrom net part_of k (ps ++ qs) (runs ++ more)
-runs_append net part_of k [] qs runs more h m =
-    let here : k + 0 ≡ k = omega arith in
-    subst (λ (l : List (List Round)). AreRunsFrom net part_of k qs (l ++ more)) (sym h) (subst (λ (j : ℕ). AreRunsFrom net part_of j qs more) here m)
-runs_append net part_of k (NoCircuit ∷ ps) qs runs more h m =
-    let here : k + suc (length ps) ≡ k + 1 + length ps = omega arith in
-    runs_append net part_of (k + 1) ps qs runs more h (subst (λ (j : ℕ). AreRunsFrom net part_of j qs more) here m)
-runs_append net part_of k (Best ratio circuit potentials ∷ ps) qs [] more h m = absurd h
-runs_append net part_of k (Best ratio circuit potentials ∷ ps) qs (rounds ∷ runs) more h m =
-    let here : k + suc (length ps) ≡ k + 1 + length ps = omega arith in
-    (h.0, h.1, runs_append net part_of (k + 1) ps qs runs more h.2 (subst (λ (j : ℕ). AreRunsFrom net part_of j qs more) here m))
-
--- the rounds of one part, as a list of at most one run
-abbrev pub some_run : Option (List Round) → List (List Round)
-some_run None = []
-some_run (Some rounds) = rounds ∷ []
-
-one_part : (net : NetLists) (part_of : List ℕ) (k : ℕ) (answer : PartAnswer) (rounds : Option (List Round)) → IsRunOf net part_of k answer rounds → AreRunsFrom net part_of k (answer ∷ []) (some_run rounds)
-one_part net part_of k NoCircuit rounds h = ap some_run h
-one_part net part_of k (Best ratio circuit potentials) None h = absurd h
-one_part net part_of k (Best ratio circuit potentials) (Some rounds) h = (h.0, h.1, refl)
-
--- the rounds of one part more
-pub one_more : (net : NetLists) (part_of : List ℕ) (answers : List PartAnswer) (i : ℕ) (runs : List (List Round)) (rounds : Option (List Round)) → i < length answers →
-    AreRunsFrom net part_of 0 (take i answers) runs → IsRunOf net part_of i (get_or answers i NoCircuit) rounds → AreRunsFrom net part_of 0 (take (i + 1) answers) (runs ++ some_run rounds)
-one_more net part_of answers i runs rounds l h found =
-    let taken : take (i + 1) answers ≡ take i answers ++ get_or answers i NoCircuit ∷ [] = simp unary_clauses (take-suc answers i NoCircuit l) in
-    let here : i ≡ 0 + length (take i answers) = omega (arith, length-take-le i answers (omega (arith, l))) in
-    subst (λ (ps : List PartAnswer). AreRunsFrom net part_of 0 ps (runs ++ some_run rounds)) (sym taken)
-    (runs_append net part_of 0 (take i answers) (get_or answers i NoCircuit ∷ []) runs (some_run rounds) h
-    (subst (λ (j : ℕ). AreRunsFrom net part_of j (get_or answers i NoCircuit ∷ []) (some_run rounds)) here (one_part net part_of i (get_or answers i NoCircuit) rounds found)))
 
 -- rounds of a policy run can be told
 

@@ -1,5 +1,5 @@
 -- What a plan and a late row come to.
-use Rattle.std.proofs.Common.{◌≢◌, ◌<◌, ℕ, List, [], ◌∷◌, length, refl, arith}
+use Rattle.std.proofs.Common.{◌≢◌, List, refl}
 use Rattle.due_laws.specs.Dues.{AreLatestInputs, InputsMeet, inputs_at_zero}
 use Rattle.due_laws.specs.Laws.{ZeroInputsMeet}
 use Rattle.teg_due.specs.declared.rows.DueRow.{DueRow}
@@ -10,14 +10,8 @@ use Rattle.teg_jit.specs.DueDates.{due_in, IsGreatestNumber}
 use Rattle.teg_jit.specs.Laws.{LateExcludesMeet, PlansLead}
 use Rattle.teg_jit.specs.Plans.{IsPlanFor, KeepsSizes, PlanDates, dates_of}
 use Rattle.teg_jit.specs.Refusals.{LateIsRight}
-use Rattle.teg_net.specs.declared.walks.Step.{Step}
-use Rattle.teg_net.specs.declared.walks.Step.TheVariants.{By, Next}
-use Rattle.teg_net.specs.Circuits.{IsLive, no_place, place_at}
+use Rattle.teg_net.specs.Circuits.{IsLive}
 use Rattle.teg_net.specs.Nets.{NetLists, IsNet}
-use Rattle.teg_net.specs.Walks.{Walks}
-use Rattle.teg_report.specs.Meanings.{late_lists}
-use Rattle.teg_report.specs.Plans.{IsLateTold}
-use Rattle.teg_report.proofs.Told.{path_told}
 use Rattle.teg_commands.specs.Inputs.{IsPlanOf, NoInputsMeet}
 
 pub plan_of : (net : NetLists) (rows : List DueRow) (plan : PlanDates) → IsNet net → PlansLead → KeepsSizes plan → IsGreatestNumber rows plan.numbers → IsPlanFor net (due_in rows) plan →
@@ -34,19 +28,3 @@ pub none_meet : (net : NetLists) (rows : List DueRow) (refusal : JitRefusal) →
     NoInputsMeet net (due_in rows)
 none_meet net rows refusal ok live of zero excludes other late =
     λ v meets. none_where_late net rows refusal of excludes other late (zero net ok live (due_in rows) v meets)
-
--- a walk that starts at a transition of the net ends at one
-walk_stays : (net : NetLists) → IsNet net → (steps : List Step) (a s b k : ℕ) → a < length net.transitions → Walks net a s steps b k → b < length net.transitions
-walk_stays net ok [] a s b k h walk = omega (arith, h, walk.0)
-walk_stays net ok (By p ∷ steps) a s b k h walk =
-    walk_stays net ok steps (place_at net p).to.index _ b k (ok.each_place p.index no_place walk.0).to_in walk.2
-walk_stays net ok (Next ∷ steps) a s b k h walk = walk_stays net ok steps a _ b k h walk
-
--- a late row can be told
-pub late_told : (net : NetLists) (rows : List DueRow) (refusal : JitRefusal) → IsNet net → refusal ≢ OutOfMemory → LateIsRight net rows refusal → IsLateTold net (late_lists refusal)
-late_told net rows (Late t number due least start walk) ok other late =
-    record {
-      transition = walk_stays net ok walk.steps.items walk.start.index walk.number t.index number late.1.is_walk.start_in late.1.ends;
-      path = path_told net walk late.1.is_walk;
-    }
-late_told net rows OutOfMemory ok other late = absurd (other refl)

@@ -11,7 +11,7 @@ use Rattle.teg_dates.specs.Tables.{TableDates, HasLeastDates, date_at}
 use Rattle.teg_net.specs.declared.entries.Place.{Place}
 use Rattle.teg_net.specs.declared.entries.PlaceId.{PlaceId}
 use Rattle.teg_net.specs.Circuits.{IsCircuit, IsLive}
-use Rattle.teg_net.specs.GreatestRatios.{HasNoCircuit, IsAnyPlace, IsGreatestRatio}
+use Rattle.teg_net.specs.GreatestRatios.{HasNoCircuit, IsAnyPlace}
 use Rattle.teg_net.specs.Nets.{NetLists}
 use Rattle.teg_net.specs.Ratios.{Fraction}
 use Rattle.teg_report.specs.Answers.{Trial}
@@ -56,7 +56,7 @@ trial_has_circuit machines some none = none first_place (own_circuit machines so
 -- ---- what is told of the line
 
 pub trial_said : (machines : ℕ) (net : NetLists) (r : Fraction) (slacks : List Slack) (table : TableDates) (places critical : ℕ) (last : Date) (text : List ℕ) → 1 ≤ machines → net ≡ trial machines →
-    IsBestRatio net r → ((q : Fraction) → IsGreatestRatio net IsAnyPlace q → AreSlacks net q slacks) → HasLeastDates net table → table.count ≡ trial_number →
+    IsBestRatio net r → AreSlacks net r slacks → HasLeastDates net table → table.count ≡ trial_number →
     places ≡ length net.places → critical ≡ critical_count slacks → last ≡ date_at table (machines - 1) trial_number →
     text ≡ text_of None (Trial machines places r critical last) → SaysTrial machines VerdictDone text
 trial_said machines net r slacks table places critical last text some e best each least count p q d t =
@@ -73,7 +73,7 @@ trial_said machines net r slacks table places critical last text some e best eac
         slacks,
         least_here.0,
         subst (λ (n : NetLists). IsBestRatio n r) e best,
-        subst (λ (n : NetLists). AreSlacks n r slacks) e (each r best.greatest),
+        subst (λ (n : NetLists). AreSlacks n r slacks) e each,
         least_here.1,
         told,
       ),

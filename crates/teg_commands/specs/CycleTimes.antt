@@ -1,12 +1,7 @@
 -- What is said of the circuits of a net: its parts, the greatest ratio of each and of the net, and the rounds that led to them.
-use Rattle.std.specs.Prelude.{ℕ, ◌+◌, ◌≡◌, Bool, List, [], ◌∷◌, Option, Some, None, length, map}
-use Rattle.std.specs.Global.{Vec}
-use Rattle.teg_cycle.specs.LastRounds.{AreLastOfRuns}
-use Rattle.teg_howard.specs.Rounds.{IsPolicyRun}
-use Rattle.teg_howard.specs.Runs.{IsAnswerOfLast}
+use Rattle.std.specs.Prelude.{ℕ, ◌≡◌, Bool, List, None, length}
+use Rattle.teg_cycle.specs.LastRounds.{AreLastOfRuns, AreRunsFrom}
 use Rattle.teg_net.specs.declared.answers.CycleAnswer.{CycleAnswer}
-use Rattle.teg_net.specs.declared.answers.PartAnswer.{PartAnswer}
-use Rattle.teg_net.specs.declared.answers.PartAnswer.TheVariants.{NoCircuit, Best}
 use Rattle.teg_net.specs.declared.rounds.Round.{Round}
 use Rattle.teg_net.specs.GreatestRatios.{IsCycleTime, IsFirstGreatest}
 use Rattle.teg_net.specs.Nets.{NetLists}
@@ -29,27 +24,9 @@ pub record IsCycleAnswer (net : NetLists) (answer : CycleAnswer) : Type 0 where
   pub first : IsFirstGreatest answer.parts.items answer.best
   pub of_net : IsCycleTime net answer.parts.items answer.best
 
--- a policy run of the part that ends in this answer, and none where no circuit lies in it
-abbrev pub IsRunOf : NetLists → List ℕ → ℕ → PartAnswer → Option (List Round) → Type 0
-IsRunOf net part_of k NoCircuit rounds = rounds ≡ None
-IsRunOf net part_of k (Best ratio circuit potentials) None = ⊥
-IsRunOf net part_of k (Best ratio circuit potentials) (Some rounds) = IsPolicyRun net part_of k rounds × IsAnswerOfLast rounds (Best ratio circuit potentials)
-
--- of each part with a circuit a policy run that ends in its answer, in order, where the parts from number k on have these answers
-abbrev pub AreRunsFrom : NetLists → List ℕ → ℕ → List PartAnswer → List (List Round) → Type 0
-AreRunsFrom net part_of k [] runs = runs ≡ []
-AreRunsFrom net part_of k (NoCircuit ∷ answers) runs = AreRunsFrom net part_of (k + 1) answers runs
-AreRunsFrom net part_of k (Best ratio circuit potentials ∷ answers) [] = ⊥
-AreRunsFrom net part_of k (Best ratio circuit potentials ∷ answers) (rounds ∷ runs) =
-    IsPolicyRun net part_of k rounds × IsAnswerOfLast rounds (Best ratio circuit potentials) × AreRunsFrom net part_of (k + 1) answers runs
-
 -- of each part with a circuit a policy run that ends in its answer, in order
 abbrev pub AreRuns : NetLists → CycleAnswer → List (List Round) → Type 0
 AreRuns net answer runs = AreRunsFrom net answer.part_of.items 0 answer.parts.items runs
-
--- rounds as the code holds them, a list for each part
-abbrev pub rounds_in : List (Vec Round) → List (List Round)
-rounds_in runs = map (λ run. run.items) runs
 
 -- of each part with a circuit the answer is that of the last round of its policy run
 abbrev pub IsOfLastRounds : NetLists → CycleAnswer → Type 0

@@ -2,6 +2,7 @@ pub mod Bounds
 pub mod CycleTimes
 pub mod EndlessInputs
 pub mod Inputs
+pub mod Laws
 pub mod Limits
 pub mod Migrations
 pub mod Outcomes

@@ -4,12 +4,14 @@
 //! definition of what it says of them: `Tells (SaysX ..) (outcome_of result)`. Words, files, faults
 //! and writing are none of its business; `teg_run` puts them before it and behind it.
 //! It stands on the crates that answer, and on `teg_report` for the texts.
+//! Its examples stand in `worked_examples`.
 #![tactic(auto)]
 
 mod bound;
 mod cycle_times;
 mod endless_inputs;
 mod inputs;
+mod laws;
 mod live_net;
 mod migrated;
 mod outcome;
@@ -27,6 +29,7 @@ pub use bound::tell_bound;
 pub use cycle_times::{tell_cycle, tell_rounds};
 pub use endless_inputs::tell_forever;
 pub use inputs::tell_jit;
+pub use laws::no_circuit_is_told;
 pub use live_net::LiveNet;
 pub use migrated::tell_migrated;
 pub use outcome::{Outcome, Verdict};

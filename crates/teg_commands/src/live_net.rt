@@ -7,15 +7,13 @@ ghost use Rattle.teg_dates.specs.Tables.{most_numbers, HasLeastDates};
 ghost use Rattle.forever_laws.specs.Rows.{IsEndlessOf};
 ghost use Rattle.teg_forever.specs.Releases.{AreReleases, ForeverRefused};
 ghost use Rattle.teg_form.specs.Forms.{IsFormOf};
-ghost use Rattle.std.specs.Option.{option_map};
-ghost use Rattle.teg_cycle.specs.LastRounds.{AreLastOfRuns, IsLastOfRun};
+ghost use Rattle.teg_cycle.specs.LastRounds.{AreLastOfRuns, rounds_in};
 ghost use Rattle.teg_critical.specs.declared.slacks.Slack.TheVariants.{NoCircuit};
 ghost use Rattle.teg_critical.specs.Slacks.{AreSlacks};
 ghost use Rattle.teg_net.specs.Certificates.{IsCertificate};
 ghost use Rattle.teg_net.specs.GreatestRatios.{HasNoCircuit, IsAnyPlace, IsGreatestRatio};
 ghost use Rattle.teg_net.specs.Nets.{IsInput};
 ghost use Rattle.teg_net.specs.Ratios.{Fraction};
-ghost use Rattle.teg_net.specs.PartAnswers.{IsPartAnswer};
 ghost use Rattle.teg_parts.specs.Partitions.{AreParts};
 ghost use Rattle.teg_report.specs.Forms.{IsFormWithin};
 ghost use Rattle.settled_laws.specs.Forms.{IsSettledFormOf, settled_length};
@@ -33,21 +31,20 @@ ghost use Rattle.teg_timetable.specs.Spreads.{greatest_period};
 ghost use Rattle.teg_sizing.specs.Rounds.{IsTarget};
 ghost use Rattle.teg_sizing.specs.Sizings.{IsSizing};
 ghost use Rattle.teg_commands.specs.Settled.{IsWithinLimit, ExceedsLimit};
-ghost use Rattle.teg_commands.specs.CycleTimes.{IsCycleAnswer, IsRunOf};
+ghost use Rattle.teg_commands.specs.CycleTimes.{AreRuns, IsCycleAnswer};
 
 use std::alloc::Global;
 use std::marker::Model;
 use teg_bound::{BoundAnswer, settling_bound};
 use teg_check::{Live, ranked_nets_are_live};
 use teg_critical::{Slacks, critical};
-use teg_cycle::cycle;
+use teg_cycle::{cycle, cycle_with_runs};
 use teg_dates::{FirstRows, Table, first_dates};
 use teg_due::Due;
 use teg_forever::{EndlessRow, ForeverRefusal, Release, forever};
 use teg_form::{Form, standard_form};
-use teg_howard::{howard, policy_runs_are_one};
-use teg_jit::{JitRefusal, Plan, latest};
-use teg_net::{CycleAnswer, Net, OutOfMemory, PartAnswer, PlaceId, Ratio, Round, TransitionId};
+use teg_jit::{JitRefusal, Plan, latest_inputs};
+use teg_net::{CycleAnswer, Net, OutOfMemory, PlaceId, Ratio, Round, TransitionId};
 use teg_parts::{Parts, split};
 use teg_settle::{SettleRefusal, Settled, settle, settle_within, transfer};
 use teg_sizing::{Sizing, size};
@@ -173,10 +170,8 @@ impl LiveNet {
         ensures late { IfErr result (LateIsRight self.now due.now.rows.items) }
         ensures live { IsLive self.now }
     {
-        let net = &self.net;
         ranked_nets_are_live();
-        let form = self.standard_form(alloc)?;
-        latest(alloc, net, &self.live, &form, due)
+        latest_inputs(alloc, &self.net, &self.live, due)
     }
 
     /// The latest releases of the inputs by which endless due dates are met.
@@ -245,6 +240,22 @@ impl LiveNet {
         Ok(answer)
     }
 
+    /// The cycle times of the net and of these parts of it, and of each part with a circuit the rounds
+    /// of policy iteration that end in its answer.
+    pub fn cycle_with_runs(
+        &self,
+        alloc: Global,
+        parts: &Parts,
+    ) -> Result<(CycleAnswer, Vec<Vec<Round>>), OutOfMemory>
+        requires { AreParts self.now parts.now }
+        ensures answer { IfOk result (λ w. IsCycleAnswer self.now w.0) }
+        ensures runs { IfOk result (λ w. AreRuns self.now w.0 (rounds_in w.1.items)) }
+        ensures certificate { IfOk result (λ w. IsCertificate self.now w.0) }
+    {
+        let (answer, runs) = cycle_with_runs(alloc, &self.net, &self.live, parts)?;
+        Ok((answer, runs))
+    }
+
     /// The slack of each place, by an answer on the cycle times of the net.
     pub fn slacks(&self, alloc: Global, answer: &CycleAnswer) -> Result<Slacks, OutOfMemory>
         requires { IsCertificate self.now answer.now }
@@ -253,31 +264,5 @@ impl LiveNet {
         ensures none { IfOk result (λ slacks. HasNoCircuit self.now IsAnyPlace → All (λ s. s ≡ NoCircuit) slacks) }
     {
         critical(alloc, &self.net, answer)
-    }
-
-    /// The rounds of policy iteration that end in this answer of a part; none where no circuit lies
-    /// in the part.
-    pub fn rounds(
-        &self,
-        alloc: Global,
-        parts: &Parts,
-        part: u32,
-        answer: &PartAnswer,
-    ) -> Result<Option<Vec<Round>>, OutOfMemory>
-        requires strong { AreParts self.now parts.now }
-        requires answer { IsPartAnswer self.now parts.now.part_of part answer.now }
-        requires last { IsLastOfRun self.now parts.now.part_of part answer.now }
-        ensures { IfOk result (λ rounds. IsRunOf self.now parts.now.part_of part answer.now (option_map (λ r. r.items) rounds)) }
-    {
-        match answer {
-            PartAnswer::NoCircuit => Ok(None),
-            PartAnswer::Best { .. } => {
-                // A live net has one policy run a part, so this one ends in the answer.
-                let _transitions = self.net.transitions();
-                policy_runs_are_one();
-                let (_answer, rounds) = howard(alloc, &self.net, &self.live, parts, part)?;
-                Ok(Some(rounds))
-            }
-        }
     }
 }

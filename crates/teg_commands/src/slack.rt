@@ -47,7 +47,7 @@ fn tell_slacks(
 }
 
 /// The slack of each place of a live net, or that the net has no circuit. It takes time of order
-/// n (n^2 + p) for n transitions and p places, and that of the cycle times.
+/// n p log p for n transitions and p places, and that of the cycle times.
 pub fn tell_slack(alloc: Global, net: &LiveNet) -> Result<Outcome, OutOfMemory>
     ensures { Tells (SaysSlack net.now) (outcome_of result) }
 {

@@ -1,7 +1,11 @@
 //! The line of machines, and what is told of it.
 ghost use Rattle.std.specs.Prelude.{◌≡◌, ◌≤◌, IfOk, length};
 ghost use Rattle.teg_commands.specs.Outcomes.{Tells, outcome_of};
-ghost use Rattle.teg_commands.specs.Slacks.{SaysTrial, critical_count};
+ghost use Rattle.teg_commands.specs.CycleTimes.{IsCycleAnswer};
+ghost use Rattle.teg_commands.specs.Slacks.{IsBestRatio, SaysTrial, critical_count};
+ghost use Rattle.teg_critical.specs.Slacks.{AreSlacks};
+ghost use Rattle.teg_net.specs.Certificates.{IsCertificate};
+ghost use Rattle.trial_net.specs.Trials.{trial};
 ghost use Rattle.teg_net.specs.Circuits.{IsLive};
 ghost use Rattle.teg_net.specs.Limits.{most_places};
 
@@ -11,7 +15,7 @@ use crate::slack::best_ratio;
 use std::alloc::Global;
 use teg_check::{CheckRefusal, check};
 use teg_critical::{Slack, Slacks};
-use teg_net::{Net, OutOfMemory, PlaceId, TransitionId};
+use teg_net::{CycleAnswer, Net, OutOfMemory, PlaceId, Ratio, TransitionId};
 use teg_report::{Answer, report};
 use trial_net::make_trial;
 
@@ -45,20 +49,22 @@ fn with_ranks(alloc: Global, net: Net) -> Result<LiveNet, OutOfMemory>
     }
 }
 
-/// The cycle time of the line of so many machines, how many of its places are critical, and the date
-/// of the 1,000th firing of its last machine.
-pub fn tell_trial(alloc: Global, machines: u32) -> Result<Outcome, OutOfMemory>
+// What is told of the line with these slacks and this greatest ratio.
+fn tell_line(
+    alloc: Global,
+    machines: u32,
+    net: &LiveNet,
+    ratio: &Ratio,
+    slacks: &Slacks,
+) -> Result<Outcome, OutOfMemory>
     requires some { 1 ≤ machines }
     requires few { machines ≤ 400 }
+    requires net { net.now ≡ trial machines }
+    requires ratio { IsBestRatio net.now ratio.now }
+    requires slacks { AreSlacks net.now ratio.now slacks.now }
+    requires each { length slacks.now ≡ length net.now.places }
     ensures { Tells (SaysTrial machines) (outcome_of result) }
 {
-    let net = with_ranks(alloc, make_trial(alloc, machines)?)?;
-    let parts = net.parts(alloc)?;
-    let answer = net.cycle(alloc, &parts)?;
-    let Some(ratio) = best_ratio(&net, &answer) else {
-        unreachable!()
-    };
-    let slacks = net.slacks(alloc, &answer)?;
     let table = net.first_dates(alloc, NUMBER)?;
     let last = TransitionId {
         index: machines - 1,
@@ -67,11 +73,63 @@ pub fn tell_trial(alloc: Global, machines: u32) -> Result<Outcome, OutOfMemory>
     let answer = Answer::Trial {
         machines,
         places,
-        ratio: &ratio,
-        critical: critical_count(&slacks, places),
+        ratio,
+        critical: critical_count(slacks, places),
         last: table.date(last, u64::from(NUMBER)),
     };
     let text = report(alloc, None, &answer)?;
     let verdict = Verdict::Done;
     Ok(Outcome { verdict, text })
+}
+
+// What is told of the line by the cycle times of its net.
+fn tell_answer(
+    alloc: Global,
+    machines: u32,
+    net: &LiveNet,
+    answer: &CycleAnswer,
+) -> Result<Outcome, OutOfMemory>
+    requires some { 1 ≤ machines }
+    requires few { machines ≤ 400 }
+    requires net { net.now ≡ trial machines }
+    requires answer { IsCycleAnswer net.now answer.now }
+    requires certificate { IsCertificate net.now answer.now }
+    ensures { Tells (SaysTrial machines) (outcome_of result) }
+{
+    let Some(ratio) = best_ratio(net, answer) else {
+        unreachable!()
+    };
+    let slacks = net.slacks(alloc, answer)?;
+    tell_line(alloc, machines, net, &ratio, &slacks)
+}
+
+// The cycle times of a net.
+fn answer_of(alloc: Global, net: &LiveNet) -> Result<CycleAnswer, OutOfMemory>
+    ensures answer { IfOk result (λ answer. IsCycleAnswer net.now answer) }
+    ensures certificate { IfOk result (λ answer. IsCertificate net.now answer) }
+{
+    let parts = net.parts(alloc)?;
+    net.cycle(alloc, &parts)
+}
+
+// What is told of the line, by its net.
+fn tell_net(alloc: Global, machines: u32, net: &LiveNet) -> Result<Outcome, OutOfMemory>
+    requires some { 1 ≤ machines }
+    requires few { machines ≤ 400 }
+    requires net { net.now ≡ trial machines }
+    ensures { Tells (SaysTrial machines) (outcome_of result) }
+{
+    let answer = answer_of(alloc, net)?;
+    tell_answer(alloc, machines, net, &answer)
+}
+
+/// The cycle time of the line of so many machines, how many of its places are critical, and the date
+/// of the 1,000th firing of its last machine.
+pub fn tell_trial(alloc: Global, machines: u32) -> Result<Outcome, OutOfMemory>
+    requires some { 1 ≤ machines }
+    requires few { machines ≤ 400 }
+    ensures { Tells (SaysTrial machines) (outcome_of result) }
+{
+    let net = with_ranks(alloc, make_trial(alloc, machines)?)?;
+    tell_net(alloc, machines, &net)
 }

@@ -7,10 +7,11 @@ use Rattle.teg_outside.proofs.Growth.{reads_grow_then}
 use Rattle.teg_report.specs.declared.answer.Which.{Which}
 use Rattle.teg_run.specs.declared.status.Status.{Status}
 use Rattle.teg_run.specs.declared.status.Status.TheVariants.{Text, Net, ReadFault}
-use Rattle.teg_run.specs.Headline.{IsAccepted, IsNoText, IsNoNet, HasFault, as_told}
+use Rattle.teg_run.specs.Calls.{Call}
+use Rattle.teg_run.specs.Headline.{IsAccepted, IsNoText, IsNoNet, CountsAsNoText, HasFault, as_told}
 use Rattle.teg_commands.specs.Texts.{too_large_text, fault_text}
 use Rattle.teg_run.specs.Statuses.{IsOwn}
-use Rattle.teg_run.proofs.Refusals.{Refusal, told_file, accepted_told, accepted_not_refused, no_text_not_accepted, no_net_not_accepted, no_text_told, no_net_told, no_text_gives, no_net_gives, refusal_is_said, overlong_told, fault_told}
+use Rattle.teg_run.proofs.Refusals.{Refusal, told_file, accepted_told, accepted_not_refused, no_text_not_accepted, no_net_not_accepted, no_text_counted, no_text_told, no_net_told, no_text_gives, no_net_gives, refusal_is_said, overlong_told, fault_told}
 use Rattle.teg_run.proofs.Verdicts.{IsSaid, own_is_said}
 use Rattle.teg_run.proofs.Ways.{Taken, Way}
 
@@ -50,6 +51,21 @@ comes_only wanted fault is files old new (file ∷ named) status text told calm 
     (λ (on : _). inr (
       taken_accepted files old on.0 file.0 file.1 told on.1,
       comes_only wanted fault is files on.0 new named status text (on.1.read.files ∙ told) (λ t. still_calm old on.0 new file.0 file.1 on.1 (calm t)) e on.2,
+    )) way
+
+-- the status Text comes only from a file that is no text, or from one that counted as too long
+pub counted_only : (files : List (List ℕ × List ℕ)) (call : Call) (old new : ShelfState) (named : List (Which × List ℕ)) (status : Status) (text : List ℕ) → old.files ≡ Some files →
+    (Rose old.overlong new.overlong → Rose call.shelf_before.overlong call.shelf_after.overlong) → status ≡ Text → Way old new named status text →
+    HasFault (CountsAsNoText call) files named text
+counted_only files call old new [] status text told rise e way = absurd (subst IsOwn e way)
+counted_only files call old new (file ∷ named) status text told rise e way =
+    ⊎_elim
+    (λ (refusal : _). inl (⊎_elim (λ (is : IsNoText files file.0 file.1 text). inl is) (λ (counted : _). inr (counted.0, rise counted.1))
+    (no_text_counted files old new file.0 file.1 status text told e refusal)))
+    (λ (on : _). inr (
+      taken_accepted files old on.0 file.0 file.1 told on.1,
+      counted_only files call on.0 new named status text (on.1.read.files ∙ told)
+          (λ rose. rise (rose_then old.overlong on.0.overlong new.overlong on.1.read.overlong rose)) e on.2,
     )) way
 
 -- a fault leads to its status

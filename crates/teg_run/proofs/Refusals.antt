@@ -114,56 +114,41 @@ file_faults_differ files TimetableFile name text said no_text refused = refused
 
 -- ---- which fault a refusal tells
 
--- a refusal with the status Text is of a file that is no text
+-- a file that is too long is no text
+long_is_no_text : (files : List (List ℕ × List ℕ)) (which : Which) (name text : List ℕ) → IsTooLong files name → text ≡ too_large_text which → IsNoText files which name text
+long_is_no_text files NetFile name text long said = inl (long, said)
+long_is_no_text files DueFile name text long said = (long, said)
+long_is_no_text files LogFile name text long said = (long, said)
+long_is_no_text files TimetableFile name text long said = (long, said)
+
+-- a refusal with the status Text is of a file that is no text, or of one that counted as too long, which it is where no read failed
+pub no_text_counted : (files : List (List ℕ × List ℕ)) (old new : ShelfState) (which : Which) (name : List ℕ) (status : Status) (text : List ℕ) →
+    old.files ≡ Some files → status ≡ Text → Refusal old new which name status text →
+    IsNoText files which name text ⊎ ((text ≡ too_large_text which) × Rose old.overlong new.overlong × (Rested old.faults new.faults → IsTooLong files name))
+no_text_counted files old new which name status text told e (Unread is said rose grew) = absurd (let bad : ⊥ = cc in bad)
+no_text_counted files old new which name status text told e (Overlong is said rose long) = inr (said, rose, λ rested. told_long files old.files name told (long rested))
+no_text_counted files old new which name status text told e (NoToml of_net is said bytes file short reads_as) =
+    inl (subst (λ (w : Which). IsNoText files w name text) (sym of_net) (inr (bytes, (told_file files old.files name bytes told file, short), reads_as, said)))
+no_text_counted files old new which name status text told e (NoNet of_net is refusal said bytes file short reads_as other) = absurd (let bad : ⊥ = cc in bad)
+no_text_counted files old new which name status text told e (NotLive of_net is net circuit said bytes file short reads_as free) = absurd (let bad : ⊥ = cc in bad)
+
+-- where no read failed, it is of a file that is no text
 pub no_text_told : (files : List (List ℕ × List ℕ)) (old new : ShelfState) (which : Which) (name : List ℕ) (status : Status) (text : List ℕ) →
     old.files ≡ Some files → (status ≡ Text → Rested old.faults new.faults) → status ≡ Text → Refusal old new which name status text → IsNoText files which name text
-no_text_told files old new NetFile name status text told calm e (Unread is said rose grew) = absurd (let bad : ⊥ = cc in bad)
-no_text_told files old new NetFile name status text told calm e (Overlong is said rose long) = inl (told_long files old.files name told (long (calm e)), said)
-no_text_told files old new NetFile name status text told calm e (NoToml of_net is said bytes file short reads_as) =
-    inr (bytes, (told_file files old.files name bytes told file, short), reads_as, said)
-no_text_told files old new NetFile name status text told calm e (NoNet of_net is refusal said bytes file short reads_as other) = absurd (let bad : ⊥ = cc in bad)
-no_text_told files old new NetFile name status text told calm e (NotLive of_net is net circuit said bytes file short reads_as free) = absurd (let bad : ⊥ = cc in bad)
-no_text_told files old new DueFile name status text told calm e (Unread is said rose grew) = absurd (let bad : ⊥ = cc in bad)
-no_text_told files old new DueFile name status text told calm e (Overlong is said rose long) = (told_long files old.files name told (long (calm e)), said)
-no_text_told files old new DueFile name status text told calm e (NoToml of_net is said bytes file short reads_as) = absurd (let bad : ⊥ = cc in bad)
-no_text_told files old new DueFile name status text told calm e (NoNet of_net is refusal said bytes file short reads_as other) = absurd (let bad : ⊥ = cc in bad)
-no_text_told files old new DueFile name status text told calm e (NotLive of_net is net circuit said bytes file short reads_as free) = absurd (let bad : ⊥ = cc in bad)
-no_text_told files old new LogFile name status text told calm e (Unread is said rose grew) = absurd (let bad : ⊥ = cc in bad)
-no_text_told files old new LogFile name status text told calm e (Overlong is said rose long) = (told_long files old.files name told (long (calm e)), said)
-no_text_told files old new LogFile name status text told calm e (NoToml of_net is said bytes file short reads_as) = absurd (let bad : ⊥ = cc in bad)
-no_text_told files old new LogFile name status text told calm e (NoNet of_net is refusal said bytes file short reads_as other) = absurd (let bad : ⊥ = cc in bad)
-no_text_told files old new LogFile name status text told calm e (NotLive of_net is net circuit said bytes file short reads_as free) = absurd (let bad : ⊥ = cc in bad)
-no_text_told files old new TimetableFile name status text told calm e (Unread is said rose grew) = absurd (let bad : ⊥ = cc in bad)
-no_text_told files old new TimetableFile name status text told calm e (Overlong is said rose long) = (told_long files old.files name told (long (calm e)), said)
-no_text_told files old new TimetableFile name status text told calm e (NoToml of_net is said bytes file short reads_as) = absurd (let bad : ⊥ = cc in bad)
-no_text_told files old new TimetableFile name status text told calm e (NoNet of_net is refusal said bytes file short reads_as other) = absurd (let bad : ⊥ = cc in bad)
-no_text_told files old new TimetableFile name status text told calm e (NotLive of_net is net circuit said bytes file short reads_as free) = absurd (let bad : ⊥ = cc in bad)
+no_text_told files old new which name status text told calm e refusal =
+    ⊎_elim (λ (is : IsNoText files which name text). is) (λ (counted : _). long_is_no_text files which name text (counted.2 (calm e)) counted.0)
+    (no_text_counted files old new which name status text told e refusal)
 
 -- a refusal with the status Net is of a file that says no live net
 pub no_net_told : (files : List (List ℕ × List ℕ)) (old new : ShelfState) (which : Which) (name : List ℕ) (status : Status) (text : List ℕ) →
     old.files ≡ Some files → (status ≡ Text → Rested old.faults new.faults) → status ≡ Net → Refusal old new which name status text → IsNoNet files which name text
-no_net_told files old new NetFile name status text told calm e (Unread is said rose grew) = absurd (let bad : ⊥ = cc in bad)
-no_net_told files old new NetFile name status text told calm e (Overlong is said rose long) = absurd (let bad : ⊥ = cc in bad)
-no_net_told files old new NetFile name status text told calm e (NoToml of_net is said bytes file short reads_as) = absurd (let bad : ⊥ = cc in bad)
-no_net_told files old new NetFile name status text told calm e (NoNet of_net is refusal said bytes file short reads_as other) =
-    inl (bytes, refusal, (told_file files old.files name bytes told file, short), reads_as, other, said)
-no_net_told files old new NetFile name status text told calm e (NotLive of_net is net circuit said bytes file short reads_as free) =
-    inr (bytes, net, circuit, (told_file files old.files name bytes told file, short), reads_as, free, said)
-no_net_told files old new DueFile name status text told calm e (Unread is said rose grew) = absurd (let bad : ⊥ = cc in bad)
-no_net_told files old new DueFile name status text told calm e (Overlong is said rose long) = absurd (let bad : ⊥ = cc in bad)
-no_net_told files old new DueFile name status text told calm e (NoToml of_net is said bytes file short reads_as) = absurd (let bad : ⊥ = cc in bad)
-no_net_told files old new DueFile name status text told calm e (NoNet of_net is refusal said bytes file short reads_as other) = absurd (let bad : ⊥ = cc in bad)
-no_net_told files old new DueFile name status text told calm e (NotLive of_net is net circuit said bytes file short reads_as free) = absurd (let bad : ⊥ = cc in bad)
-no_net_told files old new LogFile name status text told calm e (Unread is said rose grew) = absurd (let bad : ⊥ = cc in bad)
-no_net_told files old new LogFile name status text told calm e (Overlong is said rose long) = absurd (let bad : ⊥ = cc in bad)
-no_net_told files old new LogFile name status text told calm e (NoToml of_net is said bytes file short reads_as) = absurd (let bad : ⊥ = cc in bad)
-no_net_told files old new LogFile name status text told calm e (NoNet of_net is refusal said bytes file short reads_as other) = absurd (let bad : ⊥ = cc in bad)
-no_net_told files old new LogFile name status text told calm e (NotLive of_net is net circuit said bytes file short reads_as free) = absurd (let bad : ⊥ = cc in bad)
-no_net_told files old new TimetableFile name status text told calm e (Unread is said rose grew) = absurd (let bad : ⊥ = cc in bad)
-no_net_told files old new TimetableFile name status text told calm e (Overlong is said rose long) = absurd (let bad : ⊥ = cc in bad)
-no_net_told files old new TimetableFile name status text told calm e (NoToml of_net is said bytes file short reads_as) = absurd (let bad : ⊥ = cc in bad)
-no_net_told files old new TimetableFile name status text told calm e (NoNet of_net is refusal said bytes file short reads_as other) = absurd (let bad : ⊥ = cc in bad)
-no_net_told files old new TimetableFile name status text told calm e (NotLive of_net is net circuit said bytes file short reads_as free) = absurd (let bad : ⊥ = cc in bad)
+no_net_told files old new which name status text told calm e (Unread is said rose grew) = absurd (let bad : ⊥ = cc in bad)
+no_net_told files old new which name status text told calm e (Overlong is said rose long) = absurd (let bad : ⊥ = cc in bad)
+no_net_told files old new which name status text told calm e (NoToml of_net is said bytes file short reads_as) = absurd (let bad : ⊥ = cc in bad)
+no_net_told files old new which name status text told calm e (NoNet of_net is refusal said bytes file short reads_as other) =
+    subst (λ (w : Which). IsNoNet files w name text) (sym of_net) (inl (bytes, refusal, (told_file files old.files name bytes told file, short), reads_as, other, said))
+no_net_told files old new which name status text told calm e (NotLive of_net is net circuit said bytes file short reads_as free) =
+    subst (λ (w : Which). IsNoNet files w name text) (sym of_net) (inr (bytes, net, circuit, (told_file files old.files name bytes told file, short), reads_as, free, said))
 
 -- where no read failed, a refusal has the status Text or Net
 pub status_told : (files : List (List ℕ × List ℕ)) (old new : ShelfState) (which : Which) (name : List ℕ) (status : Status) (text : List ℕ) →

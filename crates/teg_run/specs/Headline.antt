@@ -1,20 +1,6 @@
 -- What the whole call promises its caller, one promise at a time.
-use Rattle.std.specs.Prelude.{ℕ, ◌≡◌, ◌≢◌, ◌≤◌, ◌<◌, ◌-◌, ◌⊎◌, All, Option, Bool, true, false, List, [], ◌∷◌, ◌++◌, length, take, map, Some, None, Ok, Err, Result, ⊤}
-use Rattle.dioid.specs.declared.dates.Date.{Date}
-use Rattle.series_form.specs.declared.forms.SeriesRefused.{SeriesRefused}
-use Rattle.series_form.specs.declared.forms.SeriesRefused.TheVariants.{OutOfMemory as NoRoom}
-use Rattle.series_laws.specs.Forms.{Form}
-use Rattle.teg_calc.specs.declared.refusals.ParseRefused.{ParseRefused}
-use Rattle.teg_calc.specs.declared.refusals.ParseRefused.TheVariants.{OutOfMemory as NoText}
-use Rattle.teg_calc.specs.Meaning.{Evaluates}
-use Rattle.teg_calc.specs.Reading.{IsParsed, IsParseOf}
-use Rattle.teg_calc.specs.Trees.{Tree}
-use Rattle.teg_form.specs.Forms.{FormLists, IsFormOf}
-use Rattle.teg_model.specs.Datings.{IsLeastDating}
-use Rattle.teg_net.specs.declared.answers.CycleAnswer.{CycleAnswer}
+use Rattle.std.specs.Prelude.{ℕ, ◌≡◌, ◌≢◌, ◌≤◌, ◌<◌, ◌⊎◌, List, [], ◌∷◌, ◌++◌, length, take, map, Some, None, Ok, Err, Result, ⊤}
 use Rattle.teg_net.specs.declared.entries.PlaceId.{PlaceId}
-use Rattle.teg_net.specs.declared.rounds.Round.{Round}
-use Rattle.teg_net.specs.GreatestRatios.{IsAnyPlace, HasNoCircuit}
 use Rattle.teg_net.specs.Nets.{NetLists}
 use Rattle.teg_net.specs.Circuits.{IsLive, IsTokenFree}
 use Rattle.teg_reader.specs.declared.refusals.ReadRefusal.{ReadRefusal}
@@ -27,76 +13,20 @@ use Rattle.teg_outside.specs.Sinks.{BytesGrow, PrefixGrows}
 use Rattle.teg_report.specs.declared.answer.Which.{Which}
 use Rattle.teg_report.specs.declared.answer.Which.TheVariants.{Net as NetFile, Due as DueFile, Log as LogFile, Timetable as TimetableFile}
 use Rattle.teg_run.specs.declared.status.Status.{Status}
-use Rattle.teg_run.specs.declared.status.Status.TheVariants.{Done, Words, Text, Net, Schedule, Late, TooLong, Log, Calc, Name, ReadFault, WriteFault, NoMemory}
+use Rattle.teg_run.specs.declared.status.Status.TheVariants.{Words, Text, Net, ReadFault, WriteFault, NoMemory}
 use Rattle.teg_commands.specs.declared.outcome.Verdict.{Verdict}
-use Rattle.teg_commands.specs.declared.outcome.Verdict.TheVariants.{Done as VerdictDone, TooLong as VerdictTooLong, Name as VerdictName, Schedule as VerdictSchedule, Late as VerdictLate, Log as VerdictLog}
 use Rattle.teg_run.specs.Calls.{Call}
-use Rattle.teg_commands.specs.Bounds.{bound_text, no_bound_text}
-use Rattle.teg_commands.specs.CycleTimes.{IsCycleAnswer, IsOfLastRounds, AreRuns}
-use Rattle.teg_commands.specs.EndlessInputs.{endless_text, forever_text, unreleased_text}
-use Rattle.teg_commands.specs.Migrations.{IsWrittenNet}
-use Rattle.teg_commands.specs.Sizings.{HasPlaceName, no_place_text, sizing_text}
-use Rattle.teg_bound.specs.declared.bound.BoundAnswer.{BoundAnswer}
-use Rattle.teg_bound.specs.Bounds.{IsBoundOf, IsRightBound}
-use Rattle.teg_bound.specs.Texts.{IsCause}
-use Rattle.forever_laws.specs.declared.rows.EndlessRow.{EndlessRow}
-use Rattle.teg_forever.specs.declared.releases.ForeverRefusal.{ForeverRefusal}
-use Rattle.teg_forever.specs.declared.releases.ForeverRefusal.TheVariants.{Late as ComesLate, TooLong as IsLong, TooWide as IsWide, OutOfMemory as NoReleases}
-use Rattle.teg_forever.specs.declared.releases.Release.{Release}
-use Rattle.teg_forever.specs.declared.rows.EndlessRefusal.{EndlessRefusal}
-use Rattle.teg_forever.specs.declared.rows.EndlessRefusal.TheVariants.{OutOfMemory as NoEndless}
-use Rattle.teg_forever.specs.Releases.{AreReleases, ForeverRefused}
-use Rattle.teg_forever.specs.Rows.{endless_of}
-use Rattle.delay_laws.specs.declared.table.Timetable.{Timetable}
-use Rattle.delay_laws.specs.Tables.{IsTableOf}
-use Rattle.teg_timetable.specs.declared.refusals.DelayRefusal.{DelayRefusal}
-use Rattle.teg_timetable.specs.declared.refusals.DelayRefusal.TheVariants.{TooLarge as IsLarge, Unworkable as DoesNotFit, TooLong as SettlesLate, OutOfMemory as NoSpread}
-use Rattle.teg_timetable.specs.declared.refusals.TableRefusal.{TableRefusal}
-use Rattle.teg_timetable.specs.Answers.{IsDelayRefusal, IsSpread}
-use Rattle.teg_timetable.specs.Spreads.{Spread}
-use Rattle.teg_timetable.specs.Tables.{lists_of_table, timetable_of}
-use Rattle.teg_timetable.specs.Texts.{Told, TooLargeTold, UnworkableTold, TooLongTold, spread_told, table_told}
-use Rattle.teg_sizing.specs.declared.sizing.Sizing.{Sizing}
-use Rattle.teg_sizing.specs.Sizings.{IsSizing}
 use Rattle.teg_run.specs.Endings.{Whole, Lost}
 use Rattle.teg_run.specs.Limits.{most_bytes}
 use Rattle.teg_run.specs.Reads.{ReadsAll}
-use Rattle.teg_run.specs.Requests.{NetCommand, CheckNet, ListNet, FormNet, CycleNet, SlackNet, DatesNet, DateNet, TransferNet, MigrateNet, SizeNet, BoundNet, FileCommand, JitNet, ReplayNet, ForeverNet, TimetableNet, Request, OfNet, OfFiles, ValueOf, TrialOf, request_of, files_of, asked_files}
+use Rattle.teg_run.specs.Requests.{NetCommand, FileCommand, Request, OfNet, OfFiles, ValueOf, TrialOf, request_of, files_of, asked_files}
 use Rattle.teg_run.specs.Runs.{Finished, Runs}
-use Rattle.teg_run.specs.Says.{Asked, SaysFiles, SaysNet}
+use Rattle.teg_run.specs.Says.{Asked, Says, SaysFiles, SaysNet}
 use Rattle.teg_run.specs.Statuses.{IsOwn, status_of}
-use Rattle.settled_laws.specs.Forms.{SettledForm, IsSettledFormOf, NetSettlesPast}
-use Rattle.teg_critical.specs.declared.slacks.Slack.{Slack}
-use Rattle.teg_critical.specs.Slacks.{AreSlacks}
-use Rattle.teg_due.specs.declared.rows.DueRefusal.{DueRefusal}
-use Rattle.teg_due.specs.declared.rows.DueRefusal.TheVariants.{OutOfMemory as NoDue}
-use Rattle.teg_due.specs.declared.rows.DueRow.{DueRow}
-use Rattle.teg_due.specs.declared.rows.LogRefusal.{LogRefusal}
-use Rattle.teg_due.specs.declared.rows.LogRow.{LogRow}
-use Rattle.teg_due.specs.Dues.{due_of}
-use Rattle.teg_due.specs.Logs.{log_of}
-use Rattle.teg_jit.specs.declared.answers.JitRefusal.{JitRefusal}
-use Rattle.teg_jit.specs.declared.answers.JitRefusal.TheVariants.{OutOfMemory as NoPlan}
-use Rattle.teg_jit.specs.DueDates.{due_in}
-use Rattle.teg_jit.specs.Plans.{PlanDates}
-use Rattle.teg_jit.specs.Refusals.{LateIsRight}
-use Rattle.teg_net.specs.declared.entries.TransitionId.{TransitionId}
-use Rattle.teg_net.specs.Ratios.{Fraction, IsRatioOf}
-use Rattle.teg_report.specs.declared.answer.Failure.{Failure}
-use Rattle.teg_replay.specs.Replays.{IsReplayOf}
-use Rattle.teg_replay.specs.declared.replayed.Replayed.{Replayed}
-use Rattle.teg_replay.specs.declared.replayed.Refused.{Refused}
 use Rattle.teg_outside.specs.declared.monitor.Firing.{Firing}
-use Rattle.teg_report.specs.SettledTexts.{TimesFrom}
-use Rattle.trial_net.specs.Trials.{trial}
-use Rattle.teg_commands.specs.Inputs.{IsPlanOf, NoInputsMeet}
-use Rattle.teg_commands.specs.Recorded.{IsToldAs}
-use Rattle.teg_commands.specs.Settled.{IsWithinLimit, SettlesWithin, HasName}
-use Rattle.teg_commands.specs.Slacks.{SaysTrial, IsBestRatio, critical_count, trial_number}
-use Rattle.teg_commands.specs.Timetables.{timetable_text}
-use Rattle.teg_commands.specs.Transfers.{AreTimesFrom, TimesSettlePast}
-use Rattle.teg_commands.specs.Values.{IsSeriesOf, SaysValue}
-use Rattle.teg_commands.specs.Texts.{usage, slack_text, settled_text, date_text, transfer_text, too_long_text, no_transition_text, due_text, jit_text, late_text, log_text, replayed_text, refused_text, trial_text, read_text, live_text, list_text, form_text, cycle_text, no_circuit_text, runs_text, series_text, parse_text, series_refused_text, token_free_text, too_large_text, fault_text}
+use Rattle.teg_commands.specs.Slacks.{SaysTrial}
+use Rattle.teg_commands.specs.Values.{SaysValue}
+use Rattle.teg_commands.specs.Texts.{usage, read_text, token_free_text, too_large_text, fault_text}
 
 -- ---- how a call ended
 
@@ -195,6 +125,11 @@ ComesOnly fault wanted call =
     (request : Request) × (text : List ℕ) × (request_of call.words ≡ Some request) × HasFault fault files (files_of request) text
     × BytesGrow call.sink_before.bytes call.sink_after.bytes text
 
+-- the file is no text of such a file, or it counted as too long, and this text says so
+abbrev pub CountsAsNoText : Call → List (List ℕ × List ℕ) → Which → List ℕ → List ℕ → Type 0
+CountsAsNoText call files which name text =
+    IsNoText files which name text ⊎ ((text ≡ too_large_text which) × Rose call.shelf_before.overlong call.shelf_after.overlong)
+
 -- for every shelf, a text that says that a file is too long comes only where the count of over-long files rose
 abbrev pub OverlongRose : Call → Type 0
 OverlongRose call =
@@ -251,11 +186,6 @@ AcceptsFiles files (OfFiles command name second) = ((net : NetLists) × Opens fi
 AcceptsFiles files (ValueOf text) = ⊤
 AcceptsFiles files (TrialOf machines) = ⊤
 
--- how a command on settled forms may end: with TooLong only where there is a limit
-abbrev pub AllowsLimit : Option ℕ → Verdict → Type 0
-AllowsLimit None verdict = verdict ≡ VerdictDone
-AllowsLimit (Some limit) verdict = (verdict ≡ VerdictDone) ⊎ (verdict ≡ VerdictTooLong)
-
 -- this status and text is what the request says of accepted files
 abbrev pub IsSaidOf : List (List ℕ × List ℕ) → (List Firing → List (List ℕ)) → Request → Status → List ℕ → Type 0
 IsSaidOf files lines (OfNet command name) status text =
@@ -273,44 +203,12 @@ OwnOnly call =
     (request : Request) × (text : List ℕ) × (request_of call.words ≡ Some request) × IsSaidOf files call.lines request call.status text
     × BytesGrow call.sink_before.bytes call.sink_after.bytes text
 
--- how a command on a net may end, once its files are accepted
-abbrev pub AllowsNet : NetCommand → Verdict → Type 0
-AllowsNet CheckNet verdict = verdict ≡ VerdictDone
-AllowsNet (ListNet count) verdict = verdict ≡ VerdictDone
-AllowsNet FormNet verdict = verdict ≡ VerdictDone
-AllowsNet (CycleNet rounds) verdict = verdict ≡ VerdictDone
-AllowsNet SlackNet verdict = verdict ≡ VerdictDone
-AllowsNet (DatesNet limit) verdict = AllowsLimit limit verdict
-AllowsNet (DateNet word number limit) verdict = (verdict ≡ VerdictName) ⊎ AllowsLimit limit verdict
-AllowsNet (TransferNet limit) verdict = AllowsLimit (Some limit) verdict
-AllowsNet MigrateNet verdict = verdict ≡ VerdictDone
-AllowsNet (SizeNet word time tokens) verdict = (verdict ≡ VerdictName) ⊎ (verdict ≡ VerdictDone)
-AllowsNet BoundNet verdict = verdict ≡ VerdictDone
-
--- how an expression may end: with a refusal only where it has one
-abbrev pub AllowsValue : List ℕ → Verdict → Type 0
-AllowsValue text verdict = (told : List ℕ) × SaysValue text verdict told
-
--- how a command on a net and a second file may end, once its net is accepted and the bytes of the second file are there
-abbrev pub AllowsFiles : FileCommand → Verdict → Type 0
-AllowsFiles JitNet verdict = (verdict ≡ VerdictDone) ⊎ ((verdict ≡ VerdictSchedule) ⊎ (verdict ≡ VerdictLate))
-AllowsFiles ReplayNet verdict = (verdict ≡ VerdictDone) ⊎ (verdict ≡ VerdictLog)
-AllowsFiles ForeverNet verdict = (verdict ≡ VerdictDone) ⊎ ((verdict ≡ VerdictSchedule) ⊎ ((verdict ≡ VerdictLate) ⊎ (verdict ≡ VerdictTooLong)))
-AllowsFiles (TimetableNet period limit) verdict = (verdict ≡ VerdictSchedule) ⊎ AllowsLimit limit verdict
-
--- how a request may end, once its files are accepted
-abbrev pub Allows : Request → Verdict → Type 0
-Allows (OfNet command name) verdict = AllowsNet command verdict
-Allows (OfFiles command name second) verdict = AllowsFiles command verdict
-Allows (ValueOf text) verdict = AllowsValue text verdict
-Allows (TrialOf machines) verdict = verdict ≡ VerdictDone
-
--- over told files, accepted words and files and no fault lead to an ending of the command itself, or to want of memory
-abbrev pub EndsAsAllowed : Call → Type 0
-EndsAsAllowed call =
+-- over told files, where words and files are accepted and nothing failed, the call ends with what the request says of them, or for want of memory
+abbrev pub EndsAsSaid : Call → Type 0
+EndsAsSaid call =
     (files : List (List ℕ × List ℕ)) (request : Request) → request_of call.words ≡ Some request → call.shelf_before.files ≡ Some files →
     ReadsAreCalm call → WritesAreCalm call → AcceptsFiles files request →
-    (call.status ≡ NoMemory) ⊎ ((verdict : Verdict) × (call.status ≡ status_of verdict) × Allows request verdict)
+    (call.status ≡ NoMemory) ⊎ ((text : List ℕ) × IsSaidOf files call.lines request call.status text)
 
 -- the words ask for this command on a net, whose told file says this live net, and no read failed
 pub record Concerns (call : Call) (command : NetCommand) (net : NetLists) : Type 0 where
@@ -344,202 +242,11 @@ SaysOfBoth call =
     (command : FileCommand) (net : NetLists) (bytes : List ℕ) → ConcernsBoth call command net bytes →
     ((verdict : Verdict) × (text : List ℕ) × SaysFiles command call.lines net bytes verdict text × Ends call (status_of verdict) text) ⊎ EndsLost call
 
--- a live net that is checked is told with its size
-abbrev pub SaysLive : Call → Type 0
-SaysLive call = (net : NetLists) → Concerns call CheckNet net → Ends call Done (live_text net)
-
--- a live net that is listed has a least dating and is told with its first dates, unless memory ran out
-abbrev pub SaysLeastDates : Call → Type 0
-SaysLeastDates call =
-    (count : ℕ) (net : NetLists) → Concerns call (ListNet count) net →
-    ((x : ℕ → ℕ → Date) × IsLeastDating net x × Ends call Done (list_text net x count)) ⊎ EndsLost call
-
--- a live net is told with its standard form, unless memory ran out
-abbrev pub SaysStandardForm : Call → Type 0
-SaysStandardForm call =
-    (net : NetLists) → Concerns call FormNet net →
-    ((form : FormLists) × IsFormOf net form × Ends call Done (form_text net form)) ⊎ EndsLost call
-
--- a live net is told with its cycle times, each attained by the circuit of the last round of its part, unless memory ran out
-abbrev pub SaysCycleTimes : Call → Type 0
-SaysCycleTimes call =
-    (net : NetLists) → Concerns call (CycleNet false) net →
-    ((answer : CycleAnswer) × IsCycleAnswer net answer × IsOfLastRounds net answer × Ends call Done (cycle_text net answer None)) ⊎ EndsLost call
-
--- a live net is told with its cycle times and the policy runs that end in them, unless memory ran out
-abbrev pub SaysPolicyRuns : Call → Type 0
-SaysPolicyRuns call =
-    (net : NetLists) → Concerns call (CycleNet true) net →
-    ((answer : CycleAnswer) × (runs : List (List Round)) × IsCycleAnswer net answer × AreRuns net answer runs
-    × Ends call Done (runs_text net answer runs))
-    ⊎ EndsLost call
-
--- that a live net has no circuit is told exactly where it has none, unless memory ran out
-abbrev pub SaysNoCircuit : Call → Type 0
-SaysNoCircuit call =
-    (rounds : Bool) (net : NetLists) → Concerns call (CycleNet rounds) net → HasNoCircuit net IsAnyPlace → Ends call Done no_circuit_text
-
--- a live net is told with its greatest ratio and the slack of each place, or that it has no circuit, unless memory ran out
-abbrev pub SaysSlackOfPlaces : Call → Type 0
-SaysSlackOfPlaces call =
-    (net : NetLists) → Concerns call SlackNet net →
-    ((r : Fraction) × (slacks : List Slack) × IsBestRatio net r × AreSlacks net r slacks × Ends call Done (slack_text net r slacks))
-    ⊎ ((HasNoCircuit net IsAnyPlace × Ends call Done no_circuit_text) ⊎ EndsLost call)
-
--- there is a limit, which is exceeded, and this is told
-abbrev pub EndsTooLong : Call → (ℕ → Type 0) → Option ℕ → Type 0
-EndsTooLong call exceeds limit = (most : ℕ) × (limit ≡ Some most) × exceeds most × Ends call TooLong (too_long_text most)
-
--- a live net is told with the shortest settled form of its least dating, within the limit where there is one; or that each form is longer
--- than the limit; unless memory ran out
-abbrev pub SaysSettledDates : Call → Type 0
-SaysSettledDates call =
-    (limit : Option ℕ) (net : NetLists) → Concerns call (DatesNet limit) net →
-    ((f : SettledForm) × IsSettledFormOf net f × IsWithinLimit limit f × Ends call Done (settled_text net f))
-    ⊎ (EndsTooLong call (NetSettlesPast net) limit ⊎ EndsLost call)
-
--- the least date of this firing is told, and the least dating has a settled form within the limit
-abbrev pub IsDated : Call → List ℕ → ℕ → Option ℕ → NetLists → Type 0
-IsDated call word number limit net =
-    (t : TransitionId) × (x : ℕ → ℕ → Date) × HasName net t word × IsLeastDating net x × SettlesWithin limit net
-    × Ends call Done (date_text net t number (x t.index number))
-
--- of a live net the least date of one firing is told; or that each settled form is longer than the limit; or that no transition has the
--- name; unless memory ran out
-abbrev pub SaysOneDate : Call → Type 0
-SaysOneDate call =
-    (word : List ℕ) (number : ℕ) (limit : Option ℕ) (net : NetLists) → Concerns call (DateNet word number limit) net →
-    IsDated call word number limit net
-    ⊎ (((t : TransitionId) × HasName net t word × EndsTooLong call (NetSettlesPast net) limit)
-    ⊎ ((All (λ t. t.name ≢ word) net.transitions × Ends call Name (no_transition_text word)) ⊎ EndsLost call))
-
--- a live net is told with the times from each input to each output, or that those of an input settle past the limit, unless memory ran out
-abbrev pub SaysTimes : Call → Type 0
-SaysTimes call =
-    (limit : ℕ) (net : NetLists) → Concerns call (TransferNet limit) net →
-    ((times : List TimesFrom) × AreTimesFrom net limit times × Ends call Done (transfer_text net times))
-    ⊎ ((TimesSettlePast net limit × Ends call TooLong (too_long_text limit)) ⊎ EndsLost call)
-
--- a live net is told as a file of the second version, in the layout of `toml`, which says that net, unless memory ran out
-abbrev pub SaysMigration : Call → Type 0
-SaysMigration call =
-    (net : NetLists) → Concerns call MigrateNet net → ((text : List ℕ) × IsWrittenNet net text × Ends call Done text) ⊎ EndsLost call
-
--- the fewest further tokens of the place of this name are told, for the ratio of this time to these tokens in lowest terms
-abbrev pub IsSized : Call → List ℕ → ℕ → ℕ → NetLists → Type 0
-IsSized call word time tokens net =
-    (p : PlaceId) × (r : Fraction) × (sizing : Sizing) × HasPlaceName net p word × IsRatioOf time tokens r × IsSizing net r p sizing
-    × Ends call Done (sizing_text net p r sizing)
-
--- of a live net the fewest further tokens of a place are told; or that no place has the name; unless memory ran out
-abbrev pub SaysFewestTokens : Call → Type 0
-SaysFewestTokens call =
-    (word : List ℕ) (time tokens : ℕ) (net : NetLists) → Concerns call (SizeNet word time tokens) net →
-    IsSized call word time tokens net
-    ⊎ ((All (λ p. p.name ≢ word) net.places × Ends call Name (no_place_text word)) ⊎ EndsLost call)
-
--- a number past which the dates of a live net are periodic is told, with the number and the period of the shortest settled form of its
--- least dating, and that number is no greater; or why there is no such bound; unless memory ran out
-abbrev pub SaysSettlingBound : Call → Type 0
-SaysSettlingBound call =
-    (net : NetLists) → Concerns call BoundNet net →
-    ((number : ℕ) × (f : SettledForm) × IsBoundOf net number × IsSettledFormOf net f × (f.after ≤ number) × Ends call Done (bound_text number f))
-    ⊎ (((answer : BoundAnswer) × IsCause answer × IsRightBound net answer × Ends call Done (no_bound_text answer)) ⊎ EndsLost call)
-
--- of a live net and a due file the latest dates are told, which at the inputs are the latest inputs that meet every due date; or the
--- first row that comes late whatever the inputs are; or the first fault of the file; unless memory ran out
-abbrev pub SaysLatestInputs : Call → Type 0
-SaysLatestInputs call =
-    (net : NetLists) (bytes : List ℕ) → ConcernsBoth call JitNet net bytes →
-    ((rows : List DueRow) × (plan : PlanDates) × (due_of net bytes ≡ Ok rows) × IsPlanOf net rows plan × Ends call Done (jit_text net plan))
-    ⊎ (((rows : List DueRow) × (refusal : JitRefusal) × (due_of net bytes ≡ Ok rows) × (refusal ≢ NoPlan) × LateIsRight net rows refusal
-    × NoInputsMeet net (due_in rows) × Ends call Late (late_text net refusal))
-    ⊎ (((refusal : DueRefusal) × (due_of net bytes ≡ Err refusal) × (refusal ≢ NoDue) × Ends call Schedule (due_text refusal)) ⊎ EndsLost call))
-
--- a replay ends so: with the number of its firings, or with the first row that is refused and why; then the lines of the monitors
-abbrev pub EndsReplay : Call → NetLists → Option Refused → ℕ → List (List ℕ) → Type 0
-EndsReplay call net None accepted lines = Ends call Done (replayed_text accepted lines)
-EndsReplay call net (Some refused) accepted lines =
-    (failure : Failure) × IsToldAs refused.why failure × Ends call Log (refused_text net refused.row failure lines)
-
--- a log is told with its first fault, or with how it was replayed: the lines of the monitors are those after just the firings that were
--- accepted before the first refused row, in order, each once, unless memory ran out
-abbrev pub SaysReplayed : Call → Type 0
-SaysReplayed call =
-    (net : NetLists) (bytes : List ℕ) → ConcernsBoth call ReplayNet net bytes →
-    ((refusal : LogRefusal) × (log_of net bytes ≡ Err refusal) × Ends call Log (log_text refusal))
-    ⊎ (((rows : List LogRow) × (firings : List Firing) × (replayed : Replayed) × (log_of net bytes ≡ Ok rows) × IsReplayOf net rows firings replayed
-    × EndsReplay call net replayed.refused replayed.accepted (call.lines firings))
-    ⊎ EndsLost call)
-
--- the call ends so where the releases are not told: a firing comes late, or the series of an input are too long; want of memory is no such cause
-abbrev pub EndsUnreleased : Call → NetLists → ForeverRefusal → Type 0
-EndsUnreleased call net (ComesLate transition number due least) = Ends call Late (unreleased_text net (ComesLate transition number due least))
-EndsUnreleased call net (IsLong input) = Ends call TooLong (unreleased_text net (IsLong input))
-EndsUnreleased call net (IsWide input row) = Ends call TooLong (unreleased_text net (IsWide input row))
-EndsUnreleased call net NoReleases = ⊥
-
--- of a live net and a file of due dates without end the latest inputs that meet them are told for ever; or the first row that comes late
--- whatever the inputs are, with its least late number; or the first input whose series are too long; or the first fault of the file; unless
--- memory ran out
-abbrev pub SaysEndlessInputs : Call → Type 0
-SaysEndlessInputs call =
-    (net : NetLists) (bytes : List ℕ) → ConcernsBoth call ForeverNet net bytes →
-    ((rows : List EndlessRow) × (releases : List Release) × (endless_of net bytes ≡ Ok rows) × AreReleases net rows releases × Ends call Done (forever_text net releases))
-    ⊎ (((rows : List EndlessRow) × (refusal : ForeverRefusal) × (endless_of net bytes ≡ Ok rows) × ForeverRefused net rows refusal × EndsUnreleased call net refusal)
-    ⊎ (((fault : EndlessRefusal) × (endless_of net bytes ≡ Err fault) × (fault ≢ NoEndless) × Ends call Schedule (endless_text net fault)) ⊎ EndsLost call))
-
--- the call ends so where a file says no timetable; nothing is told of want of memory
-abbrev pub EndsUntabled : Call → NetLists → Option Told → Type 0
-EndsUntabled call net None = ⊥
-EndsUntabled call net (Some told) = Ends call Schedule (timetable_text net told)
-
--- the call ends so where it is not told how delays spread: the net is too large, the timetable does not fit a place, or a limit is exceeded;
--- want of memory is no such cause
-abbrev pub EndsUnspread : Call → NetLists → DelayRefusal → Type 0
-EndsUnspread call net (IsLarge transitions places) = Ends call Schedule (timetable_text net (TooLargeTold transitions places))
-EndsUnspread call net (DoesNotFit place) = Ends call Schedule (timetable_text net (UnworkableTold place))
-EndsUnspread call net (SettlesLate limit) = Ends call TooLong (timetable_text net (TooLongTold limit))
-EndsUnspread call net NoSpread = ⊥
-
--- of a live net and a timetable of this period it is told how its delays spread, with the delays left of each transition; or that the net is
--- too large, that the timetable does not fit a place, or that each settled form is longer than the limit; or the first fault of the file;
--- unless memory ran out
-abbrev pub SaysSpreadDelays : Call → Type 0
-SaysSpreadDelays call =
-    (period : ℕ) (limit : Option ℕ) (net : NetLists) (bytes : List ℕ) → ConcernsBoth call (TimetableNet period limit) net bytes →
-    ((table : Timetable) × (spread : Spread) × (timetable_of net bytes ≡ Ok (lists_of_table table)) × IsTableOf net table
-    × IsSpread net period table limit spread × Ends call Done (timetable_text net (spread_told spread)))
-    ⊎ (((table : Timetable) × (refusal : DelayRefusal) × (timetable_of net bytes ≡ Ok (lists_of_table table)) × IsTableOf net table
-    × IsDelayRefusal net period table limit refusal × EndsUnspread call net refusal)
-    ⊎ (((fault : TableRefusal) × (timetable_of net bytes ≡ Err fault) × EndsUntabled call net (table_told fault)) ⊎ EndsLost call))
-
--- the line of so many machines is told with its greatest ratio, how many places are critical, and a late date, unless memory ran out
-abbrev pub SaysMachines : Call → Type 0
-SaysMachines call =
-    (machines : ℕ) → request_of call.words ≡ Some (TrialOf machines) →
-    ((r : Fraction) × (slacks : List Slack) × (x : ℕ → ℕ → Date) × IsBestRatio (trial machines) r × AreSlacks (trial machines) r slacks
-    × IsLeastDating (trial machines) x × Ends call Done (trial_text machines r (critical_count slacks) (x (machines - 1) trial_number)))
-    ⊎ EndsLost call
-
--- the canonical form of what an expression means is told
-abbrev pub IsValued : Call → List ℕ → Type 0
-IsValued call text = (tree : Tree) × (form : Form) × IsParsed text tree × IsSeriesOf tree form × Ends call Done (series_text form)
-
--- the first refusal of the operations of an expression is told
-abbrev pub IsUnvalued : Call → List ℕ → Type 0
-IsUnvalued call text =
-    (tree : Tree) × (refusal : SeriesRefused) × IsParsed text tree × Evaluates tree (Err refusal) × (refusal ≢ NoRoom)
-    × Ends call Calc (series_refused_text refusal)
-
--- where the text is no expression, or too deep, is told
-abbrev pub IsUnread : Call → List ℕ → Type 0
-IsUnread call text = (refusal : ParseRefused) × IsParseOf text (Err refusal) × (refusal ≢ NoText) × Ends call Calc (parse_text refusal)
-
--- an expression is told with the canonical form of what it means, or with its refusal, unless memory ran out
-abbrev pub SaysValues : Call → Type 0
-SaysValues call =
-    (text : List ℕ) → request_of call.words ≡ Some (ValueOf text) → IsValued call text ⊎ (IsUnvalued call text ⊎ (IsUnread call text ⊎ EndsLost call))
+-- a request that names no file ends with what it says, or for want of memory
+abbrev pub SaysOfWords : Call → Type 0
+SaysOfWords call =
+    (request : Request) → request_of call.words ≡ Some request → files_of request ≡ [] →
+    ((status : Status) × (text : List ℕ) × Says request call.lines [] status text × Ends call status text) ⊎ EndsLost call
 
 -- ---- the promises
 
@@ -553,36 +260,18 @@ pub record KeepsPromises (call : Call) : Type 0 where
   -- A file that is too long, or a net file that is no TOML: exactly then, where files are told.
   pub text : Follows IsNoText Text call
   pub text_only : ReadsAreCalm call → ComesOnly IsNoText Text call
+  pub text_counted : ComesOnly (CountsAsNoText call) Text call
   pub overlong : call.status ≡ Text → OverlongRose call
   -- A net file that says no net, or one with a token-free circuit: exactly then, where files are told.
   pub net : Follows IsNoNet Net call
   pub net_only : ComesOnly IsNoNet Net call
   -- A status of a command comes only where it says so of accepted files.
   pub own_only : OwnOnly call
-  -- A command on a live net: what it says of that net is written.
+  -- A command on a live net, and on a second file: what it says of them is written.
   pub of_net : SaysOfNet call
   pub of_both : SaysOfBoth call
-  pub check : SaysLive call
-  pub list : SaysLeastDates call
-  pub form : SaysStandardForm call
-  pub cycle : SaysCycleTimes call
-  pub cycle_rounds : SaysPolicyRuns call
-  pub no_circuit : SaysNoCircuit call
-  pub slack : SaysSlackOfPlaces call
-  pub dates : SaysSettledDates call
-  pub date : SaysOneDate call
-  pub transfer : SaysTimes call
-  pub migrate : SaysMigration call
-  pub size : SaysFewestTokens call
-  pub bound : SaysSettlingBound call
-  -- A command on a live net and a second file.
-  pub jit : SaysLatestInputs call
-  pub replay : SaysReplayed call
-  pub forever : SaysEndlessInputs call
-  pub timetable : SaysSpreadDelays call
-  -- Commands without a file: the value of an expression, and the line of machines.
-  pub calc : SaysValues call
-  pub trial : SaysMachines call
+  -- A request without a file: the value of an expression, and the line of machines.
+  pub of_words : SaysOfWords call
   -- What was written: the whole text, a first part before a fault, nothing for want of memory.
   pub written : call.status ≢ WriteFault → call.status ≢ NoMemory → WroteWhole call
   pub cut_off : call.status ≡ WriteFault → WrotePrefix call
@@ -594,4 +283,4 @@ pub record KeepsPromises (call : Call) : Type 0 where
   pub fault_named : call.status ≡ ReadFault → NamesLastRead call (asked_files (request_of call.words))
   pub write_fault : call.status ≡ WriteFault → Rose call.sink_before.faults call.sink_after.faults
   -- Accepted words and files, and no fault: no other ending than the command's own, or want of memory.
-  pub complete : EndsAsAllowed call
+  pub complete : EndsAsSaid call

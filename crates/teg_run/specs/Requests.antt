@@ -42,25 +42,20 @@ pub data Request : Type 0 where
   ValueOf : (text : List ℕ) → Request
   TrialOf : (machines : ℕ) → Request
 
--- `check NET`
-abbrev pub check_asked : List (List ℕ) → Option (List ℕ) → Bool → Option Request
-check_asked (net ∷ []) None false = Some (OfNet CheckNet net)
-check_asked rest limit rounds = None
+-- this command on the net of the one word that is given, and no option: as `check NET`
+abbrev pub only_net : NetCommand → List (List ℕ) → Option (List ℕ) → Bool → Option Request
+only_net command (net ∷ []) None false = Some (OfNet command net)
+only_net command rest limit rounds = None
+
+-- this command on the net and the second file of the two words that are given, and no option: as `jit NET DUE`
+abbrev pub net_and_file : FileCommand → List (List ℕ) → Option (List ℕ) → Bool → Option Request
+net_and_file command (net ∷ second ∷ []) None false = Some (OfFiles command net second)
+net_and_file command rest limit rounds = None
 
 -- `list NET K`, with K from 1 to the most numbers of a table
 abbrev pub list_asked : List (List ℕ) → Option (List ℕ) → Bool → Option Request
 list_asked (net ∷ word ∷ []) None false = option_map (λ count. OfNet (ListNet count) net) (number_of 1 most_numbers word)
 list_asked rest limit rounds = None
-
--- `form NET`
-abbrev pub form_asked : List (List ℕ) → Option (List ℕ) → Bool → Option Request
-form_asked (net ∷ []) None false = Some (OfNet FormNet net)
-form_asked rest limit rounds = None
-
--- `cycle NET`, and perhaps `--rounds`
-abbrev pub cycle_asked : List (List ℕ) → Option (List ℕ) → Bool → Option Request
-cycle_asked (net ∷ []) None rounds = Some (OfNet (CycleNet rounds) net)
-cycle_asked rest limit rounds = None
 
 -- the limit of a settled form: a number, or the usual one
 abbrev pub number_limit : Option (List ℕ) → Option ℕ
@@ -71,11 +66,6 @@ number_limit (Some word) = number_of 1 greatest_limit word
 abbrev pub limit_asked : Option (List ℕ) → Option (Option ℕ)
 limit_asked None = Some (Some usual_limit)
 limit_asked (Some word) = if bytes_eq word (codes "none") then Some None else option_map (λ limit. Some limit) (number_of 1 greatest_limit word)
-
--- `slack NET`
-abbrev pub slack_asked : List (List ℕ) → Option (List ℕ) → Bool → Option Request
-slack_asked (net ∷ []) None false = Some (OfNet SlackNet net)
-slack_asked rest limit rounds = None
 
 -- `dates NET`, and perhaps `--limit N` or `--limit none`
 abbrev pub dates_asked : List (List ℕ) → Option (List ℕ) → Bool → Option Request
@@ -93,21 +83,6 @@ abbrev pub transfer_asked : List (List ℕ) → Option (List ℕ) → Bool → O
 transfer_asked (net ∷ []) limit false = option_map (λ most. OfNet (TransferNet most) net) (number_limit limit)
 transfer_asked rest limit rounds = None
 
--- `jit NET DUE`
-abbrev pub jit_asked : List (List ℕ) → Option (List ℕ) → Bool → Option Request
-jit_asked (net ∷ due ∷ []) None false = Some (OfFiles JitNet net due)
-jit_asked rest limit rounds = None
-
--- `replay NET LOG`
-abbrev pub replay_asked : List (List ℕ) → Option (List ℕ) → Bool → Option Request
-replay_asked (net ∷ log ∷ []) None false = Some (OfFiles ReplayNet net log)
-replay_asked rest limit rounds = None
-
--- `forever NET DUE`
-abbrev pub forever_asked : List (List ℕ) → Option (List ℕ) → Bool → Option Request
-forever_asked (net ∷ due ∷ []) None false = Some (OfFiles ForeverNet net due)
-forever_asked rest limit rounds = None
-
 -- `timetable NET A FILE`, with A from 1 to 10^6, and perhaps `--limit N` or `--limit none`
 abbrev pub timetable_asked : List (List ℕ) → Option (List ℕ) → Bool → Option Request
 timetable_asked (net ∷ word ∷ table ∷ []) limit false =
@@ -118,11 +93,6 @@ timetable_asked rest limit rounds = None
 abbrev pub trial_asked : List (List ℕ) → Option (List ℕ) → Bool → Option Request
 trial_asked (count ∷ []) None false = option_map (λ machines. TrialOf machines) (number_of 1 most_machines count)
 trial_asked rest limit rounds = None
-
--- `migrate NET`
-abbrev pub migrate_asked : List (List ℕ) → Option (List ℕ) → Bool → Option Request
-migrate_asked (net ∷ []) None false = Some (OfNet MigrateNet net)
-migrate_asked rest limit rounds = None
 
 -- whether a byte is `/`
 abbrev pub is_slash : ℕ → Bool
@@ -139,11 +109,6 @@ abbrev pub size_asked : List (List ℕ) → Option (List ℕ) → Bool → Optio
 size_asked (net ∷ word ∷ target ∷ []) None false = option_map (λ ratio. OfNet (SizeNet word ratio.0 ratio.1) net) (target_asked target)
 size_asked rest limit rounds = None
 
--- `bound NET`
-abbrev pub bound_asked : List (List ℕ) → Option (List ℕ) → Bool → Option Request
-bound_asked (net ∷ []) None false = Some (OfNet BoundNet net)
-bound_asked rest limit rounds = None
-
 -- `calc EXPR`, with an expression of at most 4,096 bytes
 abbrev pub calc_asked : List (List ℕ) → Option (List ℕ) → Bool → Option Request
 calc_asked (text ∷ []) None false = if nat_le (length text) most_expression then Some (ValueOf text) else None
@@ -152,22 +117,22 @@ calc_asked rest limit rounds = None
 -- the request of a command with what is given to it: nothing for a word that is no command
 abbrev pub asked_for : Given → Option Request
 asked_for given =
-    if bytes_eq given.command (codes "check") then check_asked given.rest given.limit given.rounds
+    if bytes_eq given.command (codes "check") then only_net CheckNet given.rest given.limit given.rounds
     else (if bytes_eq given.command (codes "list") then list_asked given.rest given.limit given.rounds
-    else (if bytes_eq given.command (codes "form") then form_asked given.rest given.limit given.rounds
-    else (if bytes_eq given.command (codes "cycle") then cycle_asked given.rest given.limit given.rounds
+    else (if bytes_eq given.command (codes "form") then only_net FormNet given.rest given.limit given.rounds
+    else (if bytes_eq given.command (codes "cycle") then only_net (CycleNet given.rounds) given.rest given.limit false
     else (if bytes_eq given.command (codes "dates") then dates_asked given.rest given.limit given.rounds
     else (if bytes_eq given.command (codes "date") then date_asked given.rest given.limit given.rounds
-    else (if bytes_eq given.command (codes "jit") then jit_asked given.rest given.limit given.rounds
+    else (if bytes_eq given.command (codes "jit") then net_and_file JitNet given.rest given.limit given.rounds
     else (if bytes_eq given.command (codes "calc") then calc_asked given.rest given.limit given.rounds
-    else (if bytes_eq given.command (codes "replay") then replay_asked given.rest given.limit given.rounds
-    else (if bytes_eq given.command (codes "slack") then slack_asked given.rest given.limit given.rounds
+    else (if bytes_eq given.command (codes "replay") then net_and_file ReplayNet given.rest given.limit given.rounds
+    else (if bytes_eq given.command (codes "slack") then only_net SlackNet given.rest given.limit given.rounds
     else (if bytes_eq given.command (codes "transfer") then transfer_asked given.rest given.limit given.rounds
     else (if bytes_eq given.command (codes "trial") then trial_asked given.rest given.limit given.rounds
-    else (if bytes_eq given.command (codes "migrate") then migrate_asked given.rest given.limit given.rounds
+    else (if bytes_eq given.command (codes "migrate") then only_net MigrateNet given.rest given.limit given.rounds
     else (if bytes_eq given.command (codes "size") then size_asked given.rest given.limit given.rounds
-    else (if bytes_eq given.command (codes "bound") then bound_asked given.rest given.limit given.rounds
-    else (if bytes_eq given.command (codes "forever") then forever_asked given.rest given.limit given.rounds
+    else (if bytes_eq given.command (codes "bound") then only_net BoundNet given.rest given.limit given.rounds
+    else (if bytes_eq given.command (codes "forever") then net_and_file ForeverNet given.rest given.limit given.rounds
     else (if bytes_eq given.command (codes "timetable") then timetable_asked given.rest given.limit given.rounds
     else None))))))))))))))))
 

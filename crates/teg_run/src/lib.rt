@@ -7,6 +7,7 @@
 //! The other fields say what follows from it, one promise each.
 //! It stands on `teg_commands` for what each command comes to, on `teg_words`, `teg_reader` and
 //! `teg_check` for what is accepted, on `teg_report` for the texts, and on `teg_outside`.
+//! Its examples stand in `worked_examples`.
 #![tactic(auto)]
 
 mod call;
@@ -21,8 +22,10 @@ mod opening;
 mod request;
 mod second_file;
 mod status;
+mod watched;
 mod writing;
 
 pub use call::workbench;
 pub use status::Status;
 pub use trial_net::make_trial;
+pub use watched::run_watched;

@@ -8,9 +8,9 @@ ghost use Rattle.teg_net.specs.Limits.{greatest_number};
 ghost use Rattle.teg_settle.specs.Refusals.{greatest_limit};
 ghost use Rattle.teg_timetable.specs.Spreads.{greatest_period};
 ghost use Rattle.teg_run.specs.Limits.{most_machines};
-ghost use Rattle.teg_run.specs.Requests.{asked_for, bound_asked, calc_asked, check_asked, cycle_asked, date_asked, dates_asked, forever_asked, form_asked, jit_asked, limit_asked, list_asked, migrate_asked, number_limit, replay_asked, request_of, size_asked, slack_asked, target_asked, timetable_asked, transfer_asked, trial_asked};
-ghost use Rattle.teg_run.specs.Meanings.{asked};
-ghost use Rattle.teg_run.specs.Ranges.{IsFiringNumber, IsLimit, IsMachines, IsPeriod, IsRequestInRange, IsTargetInRange};
+ghost use Rattle.teg_run.specs.Requests.{asked_for, calc_asked, date_asked, dates_asked, limit_asked, list_asked, net_and_file, number_limit, only_net, request_of, size_asked, target_asked, timetable_asked, transfer_asked, trial_asked};
+ghost use Rattle.teg_run.specs.Meanings.{asked, command_asked, file_command_asked};
+ghost use Rattle.teg_run.specs.Ranges.{IsFilesInRange, IsFiringNumber, IsInRange, IsLimit, IsMachines, IsPeriod, IsRequestInRange, IsTargetInRange};
 
 use std::alloc::Global;
 use teg_net::OutOfMemory;
@@ -127,15 +127,40 @@ pub enum Request<'a> {
     },
 }
 
-// `check NET`
-fn check_asked<'a>(rest: &[&'a str], limit: Option<&'a str>, rounds: bool) -> Option<Request<'a>>
-    ensures value { option_map asked result ≡ check_asked (texts rest.now) (option_copied limit.entry) rounds }
+// This command on the net of the one word that is given, and no option: as `check NET`.
+fn only_net<'a>(
+    command: NetCommand<'a>,
+    rest: &[&'a str],
+    limit: Option<&'a str>,
+    rounds: bool,
+) -> Option<Request<'a>>
+    requires { IsInRange (command_asked command) }
+    ensures value { option_map asked result ≡ only_net (command_asked command.entry) (texts rest.now) (option_copied limit.entry) rounds }
     ensures in_range { IfSome (option_map asked result) IsRequestInRange }
 {
     match (rest, limit, rounds) {
-        ([net], None, false) => Some(Request::OfNet {
-            command: NetCommand::Check,
+        ([net], None, false) => Some(Request::OfNet { command, net }),
+        _ => None,
+    }
+}
+
+// This command on the net and the second file of the two words that are given, and no option: as
+// `jit NET DUE`.
+fn net_and_file<'a>(
+    command: FileCommand,
+    rest: &[&'a str],
+    limit: Option<&'a str>,
+    rounds: bool,
+) -> Option<Request<'a>>
+    requires { IsFilesInRange (file_command_asked command) }
+    ensures value { option_map asked result ≡ net_and_file (file_command_asked command) (texts rest.now) (option_copied limit.entry) rounds }
+    ensures in_range { IfSome (option_map asked result) IsRequestInRange }
+{
+    match (rest, limit, rounds) {
+        ([net, second], None, false) => Some(Request::OfFiles {
+            command,
             net,
+            second,
         }),
         _ => None,
     }
@@ -160,34 +185,6 @@ fn list_asked<'a>(rest: &[&'a str], limit: Option<&'a str>, rounds: bool) -> Opt
             let count = count(word)?;
             Some(Request::ListOf { count, net })
         }
-        _ => None,
-    }
-}
-
-// `form NET`
-fn form_asked<'a>(rest: &[&'a str], limit: Option<&'a str>, rounds: bool) -> Option<Request<'a>>
-    ensures value { option_map asked result ≡ form_asked (texts rest.now) (option_copied limit.entry) rounds }
-    ensures in_range { IfSome (option_map asked result) IsRequestInRange }
-{
-    match (rest, limit, rounds) {
-        ([net], None, false) => Some(Request::OfNet {
-            command: NetCommand::Form,
-            net,
-        }),
-        _ => None,
-    }
-}
-
-// `cycle NET`, and perhaps `--rounds`
-fn cycle_asked<'a>(rest: &[&'a str], limit: Option<&'a str>, rounds: bool) -> Option<Request<'a>>
-    ensures value { option_map asked result ≡ cycle_asked (texts rest.now) (option_copied limit.entry) rounds }
-    ensures in_range { IfSome (option_map asked result) IsRequestInRange }
-{
-    match (rest, limit) {
-        ([net], None) => Some(Request::OfNet {
-            command: NetCommand::Cycle { rounds },
-            net,
-        }),
         _ => None,
     }
 }
@@ -243,20 +240,6 @@ fn machines(word: &str) -> Option<u32>
 {
     let machines = number(word, 1, MOST_MACHINES)?;
     Some(machines as u32)
-}
-
-// `slack NET`
-fn slack_asked<'a>(rest: &[&'a str], limit: Option<&'a str>, rounds: bool) -> Option<Request<'a>>
-    ensures value { option_map asked result ≡ slack_asked (texts rest.now) (option_copied limit.entry) rounds }
-    ensures in_range { IfSome (option_map asked result) IsRequestInRange }
-{
-    match (rest, limit, rounds) {
-        ([net], None, false) => Some(Request::OfNet {
-            command: NetCommand::Slack,
-            net,
-        }),
-        _ => None,
-    }
 }
 
 // `dates NET`, and perhaps `--limit N` or `--limit none`
@@ -315,51 +298,6 @@ fn transfer_asked<'a>(rest: &[&'a str], limit: Option<&'a str>, rounds: bool) ->
     }
 }
 
-// `jit NET DUE`
-fn jit_asked<'a>(rest: &[&'a str], limit: Option<&'a str>, rounds: bool) -> Option<Request<'a>>
-    ensures value { option_map asked result ≡ jit_asked (texts rest.now) (option_copied limit.entry) rounds }
-    ensures in_range { IfSome (option_map asked result) IsRequestInRange }
-{
-    match (rest, limit, rounds) {
-        ([net, second], None, false) => Some(Request::OfFiles {
-            command: FileCommand::Jit,
-            net,
-            second,
-        }),
-        _ => None,
-    }
-}
-
-// `replay NET LOG`
-fn replay_asked<'a>(rest: &[&'a str], limit: Option<&'a str>, rounds: bool) -> Option<Request<'a>>
-    ensures value { option_map asked result ≡ replay_asked (texts rest.now) (option_copied limit.entry) rounds }
-    ensures in_range { IfSome (option_map asked result) IsRequestInRange }
-{
-    match (rest, limit, rounds) {
-        ([net, second], None, false) => Some(Request::OfFiles {
-            command: FileCommand::Replay,
-            net,
-            second,
-        }),
-        _ => None,
-    }
-}
-
-// `forever NET DUE`
-fn forever_asked<'a>(rest: &[&'a str], limit: Option<&'a str>, rounds: bool) -> Option<Request<'a>>
-    ensures value { option_map asked result ≡ forever_asked (texts rest.now) (option_copied limit.entry) rounds }
-    ensures in_range { IfSome (option_map asked result) IsRequestInRange }
-{
-    match (rest, limit, rounds) {
-        ([net, second], None, false) => Some(Request::OfFiles {
-            command: FileCommand::Forever,
-            net,
-            second,
-        }),
-        _ => None,
-    }
-}
-
 // `timetable NET A FILE`, and perhaps `--limit N` or `--limit none`
 fn timetable_asked<'a>(
     rest: &[&'a str],
@@ -397,20 +335,6 @@ fn trial_asked<'a>(rest: &[&'a str], limit: Option<&'a str>, rounds: bool) -> Op
     }
 }
 
-// `migrate NET`
-fn migrate_asked<'a>(rest: &[&'a str], limit: Option<&'a str>, rounds: bool) -> Option<Request<'a>>
-    ensures value { option_map asked result ≡ migrate_asked (texts rest.now) (option_copied limit.entry) rounds }
-    ensures in_range { IfSome (option_map asked result) IsRequestInRange }
-{
-    match (rest, limit, rounds) {
-        ([net], None, false) => Some(Request::OfNet {
-            command: NetCommand::Migrate,
-            net,
-        }),
-        _ => None,
-    }
-}
-
 // The time and the tokens of a target ratio, apart at the first `/`.
 fn target(word: &str) -> Option<(u64, u64)>
     ensures value { result ≡ target_asked word.now }
@@ -439,20 +363,6 @@ fn size_asked<'a>(rest: &[&'a str], limit: Option<&'a str>, rounds: bool) -> Opt
     }
 }
 
-// `bound NET`
-fn bound_asked<'a>(rest: &[&'a str], limit: Option<&'a str>, rounds: bool) -> Option<Request<'a>>
-    ensures value { option_map asked result ≡ bound_asked (texts rest.now) (option_copied limit.entry) rounds }
-    ensures in_range { IfSome (option_map asked result) IsRequestInRange }
-{
-    match (rest, limit, rounds) {
-        ([net], None, false) => Some(Request::OfNet {
-            command: NetCommand::Bound,
-            net,
-        }),
-        _ => None,
-    }
-}
-
 // `calc EXPR`
 fn calc_asked<'a>(rest: &[&'a str], limit: Option<&'a str>, rounds: bool) -> Option<Request<'a>>
     ensures value { option_map asked result ≡ calc_asked (texts rest.now) (option_copied limit.entry) rounds }
@@ -477,22 +387,25 @@ fn asked_for<'a>(given: &GivenWords<'a>) -> Option<Request<'a>>
 {
     let rest = given.rest.as_slice();
     match given.command {
-        "check" => check_asked(rest, given.limit, given.rounds),
+        "check" => only_net(NetCommand::Check, rest, given.limit, given.rounds),
         "list" => list_asked(rest, given.limit, given.rounds),
-        "form" => form_asked(rest, given.limit, given.rounds),
-        "cycle" => cycle_asked(rest, given.limit, given.rounds),
+        "form" => only_net(NetCommand::Form, rest, given.limit, given.rounds),
+        "cycle" => {
+            let rounds = given.rounds;
+            only_net(NetCommand::Cycle { rounds }, rest, given.limit, false)
+        },
         "dates" => dates_asked(rest, given.limit, given.rounds),
         "date" => date_asked(rest, given.limit, given.rounds),
-        "jit" => jit_asked(rest, given.limit, given.rounds),
+        "jit" => net_and_file(FileCommand::Jit, rest, given.limit, given.rounds),
         "calc" => calc_asked(rest, given.limit, given.rounds),
-        "replay" => replay_asked(rest, given.limit, given.rounds),
-        "slack" => slack_asked(rest, given.limit, given.rounds),
+        "replay" => net_and_file(FileCommand::Replay, rest, given.limit, given.rounds),
+        "slack" => only_net(NetCommand::Slack, rest, given.limit, given.rounds),
         "transfer" => transfer_asked(rest, given.limit, given.rounds),
         "trial" => trial_asked(rest, given.limit, given.rounds),
-        "migrate" => migrate_asked(rest, given.limit, given.rounds),
+        "migrate" => only_net(NetCommand::Migrate, rest, given.limit, given.rounds),
         "size" => size_asked(rest, given.limit, given.rounds),
-        "bound" => bound_asked(rest, given.limit, given.rounds),
-        "forever" => forever_asked(rest, given.limit, given.rounds),
+        "bound" => only_net(NetCommand::Bound, rest, given.limit, given.rounds),
+        "forever" => net_and_file(FileCommand::Forever, rest, given.limit, given.rounds),
         "timetable" => timetable_asked(rest, given.limit, given.rounds),
         _ => None,
     }

@@ -1,0 +1,16 @@
+use Rattle.std.proofs.Common.{List, length, ap, ◌∙◌, arith}
+use Rattle.teg_net.specs.declared.entries.Place.{Place}
+use Rattle.teg_net.specs.Nets.{NetLists}
+use Rattle.trial_net.proofs.TrialNets.{width}
+use Rattle.teg_commands.proofs.TrialLaws.{trial_said}
+use Rattle.teg_commands.proofs.trial.tell_line.Goals as goal
+
+pub date-requires-clause-transition : goal.date-requires-clause-transition
+date-requires-clause-transition c =
+    omega (arith, c.requires.some, c.in_ok-table.ensures.width, ap (λ (n : NetLists). length n.transitions) c.requires.net, width c.args.machines)
+
+pub returns : goal.returns
+returns c =
+    trial_said c.args.machines c.args.net.now c.args.ratio.now c.args.slacks.now c.in_ok-table.table _ _ _ _ c.requires.some c.requires.net
+    c.requires.ratio c.requires.slacks c.in_ok-table.ensures.least c.in_ok-table.ensures.count
+    (ap (λ (ps : List Place). length ps) (c.places.ensures.value ∙ ap (λ (n : NetLists). n.places) c.net.ensures)) c.critical_count.ensures (rw c.from.ensures at c.date.ensures) c.in_ok-text.ensures.text
