@@ -1,5 +1,7 @@
-//! Reads and writes that fail, each in turn: a call of the loop's net and its log.
-use crate::bench::{call, sink_of, two_files};
+//! Reads and writes that fail, each in turn.
+ghost use Rattle.std.specs.Prelude.{◌<◌};
+
+use crate::bench::{call, shelf_of, sink_of};
 use crate::nets::{DEAD_LOOP, LOOP};
 use std::alloc::Global;
 use std::test::Fail;
@@ -8,26 +10,16 @@ use teg_run::Status;
 
 const LOG: &str = "a,0\nb,3\na,5\n";
 
-const LIVE: &str = "live\ntransitions 2\nplaces 2\n";
-
 const NO_NET: &str = "fault: cannot read the net\n";
 
 /// A case: the words, the net, how the call ends where nothing fails, and what it then writes.
 type Whole<'a> = (&'a [&'a str], &'a str, Status, &'a str);
 
 /// Words, which of their reads fails, how the call ends, and what it writes.
-const READS: [(&[&str], u64, Status, &str); 8] = [
+const READS: [(&[&str], u64, Status, &str); 5] = [
     (&["check", "net"], 1, Status::ReadFault, NO_NET),
-    (&["check", "net"], 2, Status::Done, LIVE),
     (&["list", "net", "3"], 1, Status::ReadFault, NO_NET),
     (&["jit", "net", "second"], 1, Status::ReadFault, NO_NET),
-    (
-        &["jit", "net", "second"],
-        2,
-        Status::ReadFault,
-        "fault: cannot read the due file\n",
-    ),
-    (&["replay", "net", "second"], 1, Status::ReadFault, NO_NET),
     (
         &["replay", "net", "second"],
         2,
@@ -42,10 +34,8 @@ const READS: [(&[&str], u64, Status, &str); 8] = [
     ),
 ];
 
-/// Texts of each kind that is whole before its first byte is written: an answer, a replay, a refusal,
-/// a fault.
-const WHOLE: [Whole<'static>; 4] = [
-    (&["check", "net"], LOOP, Status::Done, LIVE),
+/// A text of each kind that is whole before its first byte is written: an answer, a refusal, a fault.
+const WHOLE: [Whole<'static>; 3] = [
     (
         &["replay", "net", "second"],
         LOOP,
@@ -61,21 +51,32 @@ const WHOLE: [Whole<'static>; 4] = [
     (&["check", "other"], LOOP, Status::ReadFault, NO_NET),
 ];
 
-/// How many bytes the sinks take in a call.
-const SIZES: [usize; 6] = [1, 2, 4, 5, 8, 65536];
+/// A text that is written as it is made: its head, then its rows.
+const LISTED: Whole<'static> = (
+    &["list", "net", "3"],
+    LOOP,
+    Status::Done,
+    "dates of 3 firings\ntransition a b\n1 0 3\n2 5 8\n3 10 13\n",
+);
+
+/// Whether a call of which this read fails ends so and writes this.
+fn is_read(
+    alloc: Global,
+    words: &[&str],
+    failing: u64,
+    status: Status,
+    text: &str,
+) -> Result<bool, Fail> {
+    let mut shelf = shelf_of(alloc, LOOP.as_bytes(), LOG.as_bytes(), &[failing])?;
+    let mut out = sink_of(alloc, 65536)?;
+    let ended = call(alloc, words, &mut shelf, &mut out, Vec::new(alloc))?;
+    Ok(ended == status && out.contents() == text.as_bytes())
+}
 
 #[test]
 fn each_read_may_fail(rt: HostRuntime) -> Result<(), Fail> {
-    let alloc = rt.alloc();
-    for (words, read, status, text) in READS {
-        let mut shelf = two_files(alloc, LOOP, LOG, vec![in alloc; read]?)?;
-        let mut out = sink_of(alloc, 65536)?;
-        let ended = call(alloc, words, &mut shelf, &mut out, Vec::new(alloc))?;
-        assert_eq!(rt; ended, status, "{words:?} at read {read}");
-        assert!(rt;
-            out.contents() == text.as_bytes(),
-            "{words:?} at read {read}"
-        );
+    for (words, failing, status, text) in READS {
+        assert!(rt; is_read(rt.alloc(), words, failing, status, text)?);
     }
     Ok(())
 }
@@ -89,13 +90,10 @@ fn is_cut(
     room: usize,
 ) -> Result<bool, Fail> {
     let (words, net, status, text) = *whole;
-    let mut shelf = two_files(alloc, net, LOG, Vec::new(alloc))?;
+    let mut shelf = shelf_of(alloc, net.as_bytes(), LOG.as_bytes(), &[])?;
     let ended = call(alloc, words, &mut shelf, &mut out, Vec::new(alloc))?;
-    let wanted = if room < text.len() {
-        Status::WriteFault
-    } else {
-        status
-    };
+    let is_whole = text.len() <= room;
+    let wanted = if is_whole { status } else { Status::WriteFault };
     Ok(
         ended == wanted
             && out.contents().len() == room.min(text.len())
@@ -103,29 +101,33 @@ fn is_cut(
     )
 }
 
+/// Whether calls into sinks of so many bytes a call are cut at the call that fails, each in turn.
+fn are_cut(alloc: Global, whole: &Whole<'static>, size: usize) -> Result<bool, Fail>
+    requires { 0 < size }
+{
+    for failing in 0..40u64 {
+        let failed = Vec::from_slice(alloc, &[failing + 1])?;
+        let out = MemorySink::new(alloc, size, 65536, failed)?;
+        if !is_cut(alloc, whole, out, size.saturating_mul(failing as usize))? {
+            return Ok(false);
+        }
+    }
+    Ok(true)
+}
+
 #[test]
 fn each_write_may_fail(rt: HostRuntime) -> Result<(), Fail> {
-    let alloc = rt.alloc();
     for whole in &WHOLE {
-        for size in SIZES {
-            for failing in 0..70u64 {
-                let out = MemorySink::new(alloc, size, 65536, vec![in alloc; failing + 1]?)?;
-                let cut = is_cut(alloc, whole, out, size * failing as usize)?;
-                assert!(rt; cut, "{whole:?}: {size} bytes a call, {failing} calls");
-            }
-        }
+        assert!(rt; are_cut(rt.alloc(), whole, 1)? && are_cut(rt.alloc(), whole, 5)?);
     }
     Ok(())
 }
 
 #[test]
 fn room_may_end_anywhere(rt: HostRuntime) -> Result<(), Fail> {
-    let alloc = rt.alloc();
-    for whole in &WHOLE {
-        for room in 0..70usize {
-            let out = MemorySink::new(alloc, 7, room, Vec::new(alloc))?;
-            assert!(rt; is_cut(alloc, whole, out, room)?, "{whole:?}: {room} bytes");
-        }
+    for room in 0..70usize {
+        let out = MemorySink::new(rt.alloc(), 7, room, Vec::new(rt.alloc()))?;
+        assert!(rt; is_cut(rt.alloc(), &LISTED, out, room)?, "{room} bytes");
     }
     Ok(())
 }

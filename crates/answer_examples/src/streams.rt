@@ -1,0 +1,54 @@
+//! A small net whose dates are plain to see.
+ghost use Rattle.std.specs.Prelude.{◌≡◌, ◌+◌, ◌<◌, length};
+ghost use Rattle.teg_net.specs.Limits.{greatest_number};
+ghost use Rattle.teg_form.specs.Forms.{IsFormOf};
+ghost use Rattle.teg_dates.specs.Streams.{IsStreamOf};
+
+use dioid::Date;
+use std::alloc::Global;
+use std::test::Fail;
+use teg_check::check;
+use teg_dates::Stream;
+use teg_form::{Form, standard_form};
+use teg_net::Net;
+use teg_reader::read_net;
+
+/// Two transitions in a loop: a place from a to b with hold 3, and one back with hold 2 and a token.
+const LOOP: &[u8] =
+    b"transition = [{name = 'a'}, {name = 'b'}]\nplace = [{name = 'ab', from = 'a', to = 'b', hold = 3}, {name = 'ba', from = 'b', to = 'a', hold = 2, tokens = 1}]\n";
+
+/// The row that comes next, of two transitions.
+fn next_of(stream: &mut Stream, net: &Net, form: &Form) -> (Date, Date)
+    requires two { length net.now.transitions ≡ 2 }
+    requires stands { IsStreamOf net.now stream.old }
+    requires form { IsFormOf net.now form.now }
+    requires few { stream.old.last.number < greatest_number }
+    ensures stands { IsStreamOf net.now stream.new }
+    ensures number { stream.new.last.number ≡ stream.old.last.number + 1 }
+{
+    let mut row = [Date::Early; 2];
+    stream.next_row(net, form, &mut row);
+    (row[0], row[1])
+}
+
+/// The first two rows of a net of two transitions.
+fn two_rows(alloc: Global, net: &Net) -> Result<[(Date, Date); 2], Fail>
+    requires two { length net.now.transitions ≡ 2 }
+{
+    let live = check(alloc, net)?;
+    let form = standard_form(alloc, net, &live)?;
+    let mut stream = Stream::new(alloc, net, &form)?;
+    let first = next_of(&mut stream, net, &form);
+    let second = next_of(&mut stream, net, &form);
+    Ok([first, second])
+}
+
+#[test]
+fn a_stream_gives_row_after_row(rt: HostRuntime) -> Result<(), Fail> {
+    let net = read_net(rt.alloc(), LOOP)?;
+    assert!(rt; net.transitions().len() == 2);
+    let first = (Date::At(0), Date::At(3));
+    let second = (Date::At(5), Date::At(8));
+    assert!(rt; two_rows(rt.alloc(), &net)? == [first, second]);
+    Ok(())
+}

@@ -1,0 +1,42 @@
+//! Writers of std as sinks, which are flushed after each write.
+use std::io::{Cursor, Result as Written, Write};
+use teg_outside::{Sink, SinkFault, WriterSink};
+
+// A writer that takes all it is given, and counts its flushes.
+#[derive(Drop)]
+struct FlushCount {
+    flushes: u64,
+}
+
+impl Write for FlushCount {
+    fn write(&mut self, piece: &[u8]) -> Written<usize> {
+        Ok(piece.len())
+    }
+
+    fn flush(&mut self) -> Written<()> {
+        self.flushes = self.flushes.saturating_add(1);
+        Ok(())
+    }
+}
+
+// What the sink answers to this piece.
+fn written<W: Sink>(sink: &mut W, piece: &[u8]) -> Result<usize, SinkFault> {
+    sink.write(piece)
+}
+
+#[test]
+fn each_write_is_flushed(rt: HostRuntime) {
+    let mut writer = FlushCount { flushes: 0 };
+    let mut sink = WriterSink::new(&mut writer);
+    for (piece, answer) in [(b"abc".as_slice(), 3), (b"", 0), (b"d", 1)] {
+        assert!(rt; written(&mut sink, piece) == Ok(answer), "of {piece:?}");
+    }
+    assert!(rt; writer.flushes == 2);
+}
+
+#[test]
+fn a_full_writer_is_a_fault(rt: HostRuntime) {
+    let mut full = WriterSink::new(Cursor::new([0u8; 2]));
+    assert!(rt; written(&mut full, b"abc") == Ok(2));
+    assert!(rt; written(&mut full, b"c") == Err(SinkFault::Failed));
+}

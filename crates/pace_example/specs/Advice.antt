@@ -1,0 +1,46 @@
+-- What a planner is told of a net and of due dates, in the words of the library (chapters 2 and 5).
+use Rattle.std.specs.Prelude.{ℕ, ◌≡◌, ◌≢◌, ◌++◌, List, Option, Some, None, Ok, Err, codes, ⊤}
+use Rattle.teg_net.specs.Nets.{NetLists}
+use Rattle.teg_net.specs.Ratios.{Fraction}
+use Rattle.teg_net.specs.GreatestRatios.{IsGreatestRatio, HasNoCircuit, IsAnyPlace}
+use Rattle.teg_reader.specs.Documents.{document, Answers}
+use Rattle.teg_check.specs.Refusals.{IsRightRefusal}
+use Rattle.teg_text.specs.Words.{ratio_word}
+use Rattle.teg_due.specs.declared.rows.DueRow.{DueRow}
+use Rattle.teg_due.specs.declared.rows.DueRefusal.TheVariants.{OutOfMemory as no_memory}
+use Rattle.teg_due.specs.Dues.{due_of}
+use Rattle.due_laws.specs.Dues.{AreLatestInputs}
+use Rattle.teg_jit.specs.DueDates.{due_in}
+use Rattle.teg_jit.specs.Plans.{PlanDates, dates_of, IsPlanFor}
+use Rattle.teg_jit.specs.Refusals.{LateIsRight}
+use Rattle.pace_example.specs.declared.no_advice.NoAdvice.{NoAdvice}
+use Rattle.pace_example.specs.declared.no_advice.NoAdvice.TheVariants.{NoNet, NotLive, NoDue, Late, OutOfMemory}
+
+-- the greatest ratio of time to tokens over all circuits of the net, or none where it has no circuit
+abbrev pub IsPaceOf : NetLists → Option Fraction → Type 0
+IsPaceOf net None = HasNoCircuit net IsAnyPlace
+IsPaceOf net (Some r) = IsGreatestRatio net IsAnyPlace r
+
+-- the line of a pace
+abbrev pub pace_line : Option Fraction → List ℕ
+pace_line None = codes "no circuit"
+pace_line (Some r) = codes "pace " ++ ratio_word r.time r.tokens
+
+-- the bytes say this net and these due dates
+abbrev pub Say : List ℕ → List ℕ → NetLists → List DueRow → Type 0
+Say net due lists rows = (document net ≡ Ok lists) × (due_of lists due ≡ Ok rows)
+
+-- the line is that of the pace of the net that the bytes say, and the plan is one for its due dates and has at the inputs the latest dates that meet them
+abbrev pub IsAdvice : List ℕ → List ℕ → List ℕ → PlanDates → Type 0
+IsAdvice net due line plan =
+    (lists : NetLists) × (rows : List DueRow) × (ratio : Option Fraction) × Say net due lists rows
+    × IsPaceOf lists ratio × (line ≡ pace_line ratio)
+    × IsPlanFor lists (due_in rows) plan × AreLatestInputs lists (due_in rows) (dates_of plan)
+
+-- why there is no advice: the refusal tells its cause in the bytes, but for want of memory
+abbrev pub IsWhyNot : List ℕ → List ℕ → NoAdvice → Type 0
+IsWhyNot net due (NoNet refusal) = Answers (document net) (Err refusal)
+IsWhyNot net due (NotLive refusal) = (lists : NetLists) × (document net ≡ Ok lists) × IsRightRefusal lists refusal
+IsWhyNot net due (NoDue refusal) = (lists : NetLists) × (document net ≡ Ok lists) × (refusal ≢ no_memory → due_of lists due ≡ Err refusal)
+IsWhyNot net due (Late refusal) = (lists : NetLists) × (rows : List DueRow) × Say net due lists rows × LateIsRight lists rows refusal
+IsWhyNot net due OutOfMemory = ⊤

@@ -1,0 +1,70 @@
+//! The pace of a net, and the latest inputs that meet its due dates.
+ghost use Rattle.std.specs.Prelude.{IfErr, IfOk, string_bytes, ◌≡◌, ◌≤◌, length};
+ghost use Rattle.csv_records.specs.Records.{most_file_bytes};
+ghost use Rattle.teg_check.specs.Ranks.{IsRanking};
+ghost use Rattle.pace_example.specs.Advice.{IsAdvice, IsPaceOf, IsWhyNot, pace_line};
+
+use crate::no_advice::NoAdvice;
+use std::alloc::{AllocError, Global};
+use teg_check::{Live, check};
+use teg_cycle::cycle;
+use teg_due::read_due;
+use teg_jit::{Plan, latest_inputs};
+use teg_net::{Net, OutOfMemory, PartAnswer, Ratio};
+use teg_parts::split;
+use teg_reader::read_net;
+
+/// What a planner is told of a net and of due dates.
+#[derive(Drop)]
+pub struct Advice {
+    /// The line of the pace.
+    pub pace: String,
+    /// The latest dates of the firings.
+    pub plan: Plan,
+}
+
+/// The greatest ratio of time to tokens over the circuits of a live net, in the user's unit for a
+/// firing of each transition; none where it has no circuit (chapter 2). It answers `OutOfMemory` only
+/// where no memory is found.
+pub fn pace(alloc: Global, net: &Net, live: &Live) -> Result<Option<Ratio>, OutOfMemory>
+    requires { IsRanking net.now live.now }
+    ensures { IfOk result (IsPaceOf net.now) }
+{
+    let parts = split(alloc, net)?;
+    let answer = cycle(alloc, net, live, &parts)?;
+    let Some(part) = answer.best else {
+        return Ok(None);
+    };
+    match &answer.parts[part as usize] {
+        PartAnswer::NoCircuit => Ok(None),
+        PartAnswer::Best { ratio, .. } => Ok(Some(*ratio)),
+    }
+}
+
+// The line of a pace.
+fn line_of(alloc: Global, pace: Option<Ratio>) -> Result<String, AllocError>
+    ensures { IfOk result (λ line. string_bytes line ≡ pace_line pace) }
+{
+    match pace {
+        None => format!(in alloc; "no circuit"),
+        Some(ratio) => format!(in alloc; "pace {}/{}", ratio.time(), ratio.tokens()),
+    }
+}
+
+/// The line of the pace of the net that a net file says, and the latest inputs that meet the dates of
+/// a due file (chapters 2 and 5). It refuses with the refusal of the first call that refuses: the net
+/// file says no net, the net has a circuit without tokens, the due file says no due dates, or a firing
+/// comes later than it is due whatever the inputs do; or where no memory is found.
+pub fn advise(alloc: Global, net: &[u8], due: &[u8]) -> Result<Advice, NoAdvice>
+    requires { length due.now ≤ most_file_bytes }
+    ensures advice { IfOk result (λ advice. IsAdvice net.now due.now (string_bytes advice.pace) advice.plan) }
+    ensures refused { IfErr result (IsWhyNot net.now due.now) }
+{
+    let net = read_net(alloc, net)?;
+    let live = check(alloc, &net)?;
+    let due = read_due(alloc, &net, due)?;
+    let plan = latest_inputs(alloc, &net, &live, &due)?;
+    let pace = pace(alloc, &net, &live)?;
+    let pace = line_of(alloc, pace)?;
+    Ok(Advice { pace, plan })
+}

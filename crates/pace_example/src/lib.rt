@@ -1,0 +1,13 @@
+//! A small crate on the library, to begin one's own with: the pace of a net as a line of text, and the
+//! latest inputs that meet its due dates. It reads a net and a due file from bytes, and its one
+//! contract is that of [`advise`]: the number in the line is the greatest ratio of time to tokens over
+//! the circuits of the net, and the plan has the latest inputs; or each refusal has its cause. It has
+//! no proof file: the contracts of the calls that it makes tell all that it promises. Its example
+//! stands in `answer_examples`.
+#![tactic(auto)]
+
+mod advice;
+mod no_advice;
+
+pub use advice::{Advice, advise, pace};
+pub use no_advice::NoAdvice;

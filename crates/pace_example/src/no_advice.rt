@@ -1,0 +1,73 @@
+//! Why there is no advice.
+ghost use Rattle.std.specs.Prelude.{◌≡◌};
+ghost use Rattle.pace_example.specs.declared.no_advice.NoAdvice.TheVariants.{NoNet, NotLive, NoDue, Late, OutOfMemory};
+
+use std::alloc::AllocError;
+use teg_check::CheckRefusal;
+use teg_due::DueRefusal;
+use teg_jit::JitRefusal;
+use teg_net::OutOfMemory;
+use teg_reader::ReadRefusal;
+
+/// Why [`crate::advise`] gives no advice: the refusal of the first call that gave one.
+#[derive(Debug, Drop)]
+pub enum NoAdvice {
+    /// The net file says no net.
+    NoNet { refusal: ReadRefusal },
+    /// The net has a circuit without tokens.
+    NotLive { refusal: CheckRefusal },
+    /// The due file says no due dates.
+    NoDue { refusal: DueRefusal },
+    /// A firing comes later than it is due, whatever the inputs do.
+    Late { refusal: JitRefusal },
+    /// No memory was found.
+    OutOfMemory,
+}
+
+impl From<AllocError> for NoAdvice {
+    ghost from_gives = { λ _ e. e ≡ OutOfMemory };
+
+    fn from(_error: AllocError) -> NoAdvice {
+        NoAdvice::OutOfMemory
+    }
+}
+
+impl From<OutOfMemory> for NoAdvice {
+    ghost from_gives = { λ _ e. e ≡ OutOfMemory };
+
+    fn from(_error: OutOfMemory) -> NoAdvice {
+        NoAdvice::OutOfMemory
+    }
+}
+
+impl From<ReadRefusal> for NoAdvice {
+    ghost from_gives = { λ refusal e. e ≡ NoNet refusal };
+
+    fn from(refusal: ReadRefusal) -> NoAdvice {
+        NoAdvice::NoNet { refusal }
+    }
+}
+
+impl From<CheckRefusal> for NoAdvice {
+    ghost from_gives = { λ refusal e. e ≡ NotLive refusal };
+
+    fn from(refusal: CheckRefusal) -> NoAdvice {
+        NoAdvice::NotLive { refusal }
+    }
+}
+
+impl From<DueRefusal> for NoAdvice {
+    ghost from_gives = { λ refusal e. e ≡ NoDue refusal };
+
+    fn from(refusal: DueRefusal) -> NoAdvice {
+        NoAdvice::NoDue { refusal }
+    }
+}
+
+impl From<JitRefusal> for NoAdvice {
+    ghost from_gives = { λ refusal e. e ≡ Late refusal };
+
+    fn from(refusal: JitRefusal) -> NoAdvice {
+        NoAdvice::Late { refusal }
+    }
+}
