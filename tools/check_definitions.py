@@ -2,11 +2,16 @@
 """Tells whether docs/DEFINITIONS*.md list each definition that a public contract rests on, and no other.
 
     tools/check_definitions.py [--draft]
+    tools/check_definitions.py --below NAME
 
 Public are the calls, types and traits that a crate's src/lib.rt exports. Their clauses, the ghost members of
 their traits and impls, and the views of their types name definitions of specs/; these name others. Each that
 is reached so must have a row in the section of its crate, with its file. Each that lacks one is told, with the
 line that stands above it; --draft tells it as a row. Laws that proofs alone need are not definitions.
+
+With --below it tells instead what one definition rests on, itself first, then what it names, and so on: the
+file and line of each, its name, and how many lines it has; at the end how many they are. NAME is the name, as
+IsNet, or with its crate, as teg_net.IsNet. What is of std, or is a struct or an enum of the code, is left out.
 
 It reads by text, not by the grammar of Rattle: what it tells is to be looked at.
 """
@@ -36,14 +41,14 @@ class Specs:
     """The definitions of all crates, by crate, file and name: of each the line above it, and what it names."""
 
     def __init__(self):
-        self.words, self.body, self.imports, self.made_by = {}, {}, {}, {}
+        self.words, self.body, self.imports, self.made_by, self.lines = {}, {}, {}, {}, {}
         for path in sorted(TOP.glob("crates/*/specs/*.antt")):
             self.read(path.parts[-3], path.stem, path.read_text())
 
     def read(self, crate, file, text):
         self.imports[crate, file] = imports_of(text)
         above, at, is_data, block = [], None, False, None
-        for line in text.splitlines():
+        for number, line in enumerate(text.splitlines(), 1):
             bare = line.strip()
             if bare.startswith("-- ") and "----" not in bare:
                 above.append(bare[3:])
@@ -54,7 +59,7 @@ class Specs:
             law = LAW.match(line)
             if defined:
                 at, is_data = (crate, file, defined[2]), defined[1] == "data"
-                self.words[at], self.body[at] = " ".join(above) or block or "", defined[3]
+                self.words[at], self.body[at], self.lines[at] = " ".join(above) or block or "", defined[3], number
             elif law and not (at and line.startswith("  ") and (is_data or bare.startswith("pub "))):
                 at = None
             elif at:
@@ -75,15 +80,18 @@ class Specs:
                     break
         return found
 
+    def length(self, at):
+        """How many lines the definition has, without the words above it."""
+        return 1 + sum(bool(line.strip()) for line in self.body[at].split("\n")[1:])
+
     def below(self, roots):
-        """All that these definitions rest on, with them."""
-        reached, left = set(), list(roots)
-        while left:
-            at = left.pop()
-            if at not in reached:
-                reached.add(at)
-                left += self.named(self.body[at], self.imports[at[:2]], *at[:2])
-        return reached
+        """All that these definitions rest on, with them, level by level."""
+        reached, level = {}, sorted(roots)
+        while level:
+            reached.update(dict.fromkeys(level))
+            named = [self.named(self.body[at], self.imports[at[:2]], *at[:2]) for at in level]
+            level = list(dict.fromkeys(at for it in named for at in sorted(it) if at not in reached))
+        return list(reached)
 
 
 def exported(crate):
@@ -136,13 +144,39 @@ def listed():
     return found
 
 
-def main(is_draft):
-    specs, roots = Specs(), set()
+def definitions_named(specs, name):
+    """The definitions of this name, which may be CRATE.NAME."""
+    return [at for at in specs.words if name in (at[2], f"{at[0]}.{at[2]}")]
+
+
+def public_definitions(specs):
+    """The definitions that public contracts name."""
+    roots = set()
     for path in sorted(TOP.glob("crates/*/src/**/*.rt")):
         crate = path.relative_to(TOP).parts[1]
         for text, imports in public_text(crate, path.read_text()):
             roots |= specs.named(text, imports)
-    reached, rows = specs.below(roots), listed()
+    return roots
+
+
+def tell_below(name):
+    """Prints what the definitions of this name rest on."""
+    specs = Specs()
+    roots = definitions_named(specs, name)
+    if not roots:
+        print(f"no definition of specs/ is named {name}")
+        return 1
+    reached = specs.below(roots)
+    for at in reached:
+        print(f"crates/{at[0]}/specs/{at[1]}.antt:{specs.lines[at]} {at[2]} ({specs.length(at)} lines)")
+    crates = {at[0] for at in reached}
+    print(f"{len(reached)} definitions of {len(crates)} crates, {sum(map(specs.length, reached))} lines")
+    return 0
+
+
+def main(is_draft):
+    specs = Specs()
+    reached, rows = specs.below(public_definitions(specs)), listed()
     lacking = sorted(at for at in reached if at[1] not in rows.get((at[0], at[2]), ()))
     odd = sorted(at for at in rows if not any((it[0], it[2]) == at for it in reached))
     for crate, file, name in lacking:
@@ -155,4 +189,6 @@ def main(is_draft):
 
 
 if __name__ == "__main__":
+    if sys.argv[1:2] == ["--below"] and len(sys.argv) == 3:
+        sys.exit(tell_below(sys.argv[2]))
     sys.exit(main("--draft" in sys.argv[1:]))

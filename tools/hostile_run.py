@@ -1,26 +1,37 @@
 #!/usr/bin/env python3
 """Runs the built program on hostile files, words and outputs: each run ends in time, with the answer that is due.
 
-    tools/hostile_run.py [--teg PROGRAM] [--seconds S] [--only WORD]
+    tools/hostile_run.py [--teg PROGRAM] [--seconds S] [--only WORD] [--dear]
 
 PROGRAM is the built teg; where none is named it is the one that `rt ci` leaves. Files have 4,194,304 bytes,
 as many as a file may have, or nearly so, where nothing else is said. A case whose command the usage does not
-list is skipped, and a line says so. A case passes where its run ends within S seconds (5) with the status
-that is due, writes the text that is due, where that is fixed, and nothing to standard error. With --only
-just the cases whose line has the word. There is a line a case; the last line is 'N passed, M failed', and
-the exit status 0 where M is 0.
+list is skipped, and a line says so. A case passes where its run ends within S seconds (5) of processor time,
+whatever else the machine does, with the status that is due, writes the text that is due, where that is fixed,
+and nothing to standard error. A run that waits for ever is ended by the clock, after twenty times as long. With
+--only just the cases whose line has the word. There is a line a case, with its processor seconds and the most
+memory that it held, or that this script held as it began it. The last line is 'N passed, M failed', and the exit
+status 0 where some passed and none failed.
+
+Inputs that ask for much work stand in dear_cases.py. With --dear just those of them are run that are known to
+take longer than others may, and S is 60 where it is not given: what fails there is what is left to be done.
 """
 import argparse
+import math
 import os
 import random
+import resource
 import shutil
+import signal
 import subprocess
 import sys
 import tempfile
+import threading
 import time
 from pathlib import Path
 
-TOP = Path(__file__).resolve().parent.parent
+from built_program import BUILT, is_there, summed_up
+from dear_cases import answered_cases, dear_cases
+
 MOST = 4_194_304
 DONE, WORDS, TEXT, NET, SCHEDULE, LATE, LOG, CALC, NAME = 0, 2, 3, 4, 5, 6, 8, 9, 10
 READ_FAULT, WRITE_FAULT = 64, 65
@@ -78,7 +89,8 @@ WRAPPED = str(2**64 + 10)
 
 
 class Case:
-    """A run: its words, the files that it finds, the status that is due, and the text that is due, if that is fixed."""
+    """A run: its words, the files that it finds, the status that is due, and the text that is due, if that is fixed: as
+    it stands, or a call that makes it."""
 
     def __init__(self, label, words, files, status, text=None, output=None):
         self.label, self.words, self.files = label, words, files
@@ -433,26 +445,48 @@ def prepare(folder, files):
         os.chmod(folder / "locked", 0)
 
 
-def fault_of(case, program, folder, seconds):
-    """Runs a case: how long it took, and what is wrong, or nothing."""
-    prepare(folder, case.files)
+def run(case, program, folder, seconds):
+    """Runs a case: its exit status, None where the clock ended it, what it took, and its standard error."""
     output, first = output_of(case.output, folder)
-    begun = time.monotonic()
-    try:
-        ran = subprocess.run([program, *case.words], cwd=folder, stdin=subprocess.DEVNULL, stdout=output, stderr=subprocess.PIPE,
-                             timeout=seconds, preexec_fn=first)
-    except subprocess.TimeoutExpired:
-        return seconds, f"no end within {seconds} seconds"
-    finally:
+
+    def begin():
+        # (the limit is of whole seconds; what comes late within the last one is told by what it took)
+        resource.setrlimit(resource.RLIMIT_CPU, (math.ceil(seconds), math.ceil(seconds) + 1))
+        if first:
+            first()
+
+    with open(folder.parent / "errors", "w+b") as errors:
+        child = subprocess.Popen([program, *case.words], cwd=folder, stdin=subprocess.DEVNULL, stdout=output, stderr=errors,
+                                 preexec_fn=begin)
         os.close(output)
-    took = time.monotonic() - begun
-    if ran.returncode != case.status:
-        return took, f"status {ran.returncode} in place of {case.status}: {written(folder)[:80]!r}"
-    if ran.stderr:
-        return took, f"standard error: {ran.stderr[:80]!r}"
-    if not case.output and case.text is not None and written(folder) != case.text.encode():
-        return took, f"another text: {written(folder)[:80]!r}"
-    return took, None
+        begun, clock = time.monotonic(), threading.Timer(20 * seconds, child.kill)
+        clock.start()
+        _, ended, used = os.wait4(child.pid, 0)
+        in_time = time.monotonic() - begun < 20 * seconds
+        clock.cancel()
+        child.returncode = os.waitstatus_to_exitcode(ended)
+        errors.seek(0)
+        return child.returncode if in_time else None, used, errors.read()
+
+
+def fault_of(case, program, folder, seconds):
+    """Runs a case: what it took, and what is wrong, or nothing."""
+    prepare(folder, case.files)
+    status, used, errors = run(case, program, folder, seconds)
+    took = used.ru_utime + used.ru_stime
+    if status is None:
+        return used, f"no end within {20 * seconds:g} seconds by the clock"
+    if took > seconds or status in (-signal.SIGXCPU, -signal.SIGKILL):
+        return used, f"no end within {seconds:g} processor seconds"
+    if status != case.status:
+        return used, f"status {status} in place of {case.status}: {written(folder)[:80]!r}"
+    if errors:
+        return used, f"standard error: {errors[:80]!r}"
+    if not case.output and case.text is not None:
+        due = case.text() if callable(case.text) else case.text
+        if written(folder) != due.encode():
+            return used, f"another text: {written(folder)[:80]!r}"
+    return used, None
 
 
 def written(folder):
@@ -473,6 +507,7 @@ def cases(usage):
     for it in FORMATS:
         yield from rows_cases(it)
     yield from further_rows()
+    yield from (Case(*case) for case in answered_cases())
     yield from words_cases(usage)
     yield from file_cases()
     yield from output_cases()
@@ -480,33 +515,35 @@ def cases(usage):
 
 def main():
     reader = argparse.ArgumentParser()
-    reader.add_argument("--teg", default=str(TOP / "crates/teg/out/teg"))
-    reader.add_argument("--seconds", type=float, default=5)
+    reader.add_argument("--teg", default=BUILT)
+    reader.add_argument("--seconds", type=float)
     reader.add_argument("--only", default="")
+    reader.add_argument("--dear", action="store_true")
     given = reader.parse_args()
+    seconds = given.seconds or (60 if given.dear else 5)
     program = os.path.abspath(given.teg)
-    if not os.access(program, os.X_OK):
-        sys.exit(f"{program} is no program: build it, or name it by --teg")
+    if not is_there(program):
+        return 1
     usage = subprocess.run([program], stdin=subprocess.DEVNULL, stdout=subprocess.PIPE).stdout.decode()
     built = {line.split(" teg ")[1].split()[0] for line in usage.splitlines()}
     passed = failed = 0
     skipped = set()
     with tempfile.TemporaryDirectory() as top:
-        for case in cases(usage):
+        for case in (Case(*case) for case in dear_cases()) if given.dear else cases(usage):
             command = case.words[0] if case.words and case.status != WORDS else None
             if command in {"forever", "timetable"} - built:
                 skipped.add(command)
                 continue
             if given.only not in shown(case):
                 continue
-            took, fault = fault_of(case, program, Path(top) / "files", given.seconds)
+            used, fault = fault_of(case, program, Path(top) / "files", seconds)
             passed, failed = passed + (not fault), failed + bool(fault)
-            print(f"{'failed' if fault else 'passed'} {took:5.2f} s  {shown(case)}{': ' + fault if fault else ''}", flush=True)
+            took = f"{used.ru_utime + used.ru_stime:6.2f} s {used.ru_maxrss // 1024:5} MB"
+            print(f"{'failed' if fault else 'passed'} {took}  {shown(case)}{': ' + fault if fault else ''}", flush=True)
     for command in sorted(skipped):
         print(f"skipped: the files of {command}: the program has no such command")
-    print(f"{passed} passed, {failed} failed")
-    sys.exit(1 if failed else 0)
+    return summed_up(passed, failed)
 
 
 if __name__ == "__main__":
-    main()
+    sys.exit(main())

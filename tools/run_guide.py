@@ -1,28 +1,30 @@
 #!/usr/bin/env python3
-"""Runs the guide for planners: what docs/GUIDE*.md show is what the program prints.
+"""Runs the guide for planners and the other documents: what they show is what the program prints.
 
     tools/run_guide.py [PROGRAM]
 
-PROGRAM is the built teg; where none is named it is the one that `rt ci` leaves. The guide's commands
-are run by bash, file after file and in order, in a folder that has the program as ./teg and the nets as examples/:
+PROGRAM is the built teg; where none is named it is the one that `rt ci` leaves. The commands of README.md, of
+docs/GUIDE*.md and of the other files of docs/ are run by bash, file after file in this order, in a folder that has
+the program as ./teg and the nets as examples/:
 
 - In a fenced block, a line that begins with `$ ` is a command. The lines below it, up to the next
   command or the end of the block, are what it prints.
 - A fenced block of toml whose first line is `# NAME.toml` is a file of that name for the commands below.
+- A command that calls python3's reader of TOML is left out where this python3 has none (before version 3.11).
 
 Each file of examples/ is named by a command of the guide, and each command that takes a net alone, by the
 usage, answers for each net there: with status 0, or, where the net is refused, as `check` does.
 
 A difference is told. The last line is 'N passed, M failed', and the exit status 0 where M is 0.
 """
+import importlib.util
 import os
 import re
-import subprocess
 import sys
 import tempfile
 from pathlib import Path
 
-TOP = os.path.dirname(os.path.dirname(os.path.abspath(__file__)))
+from built_program import BUILT, TOP, is_there, run, summed_up
 
 
 def blocks_of(text):
@@ -50,28 +52,24 @@ def commands_of(block):
     return [(number, command, "".join(lines)) for number, command, lines in found]
 
 
-def run(words, folder):
-    """The status and the text of a run. What goes to standard error is told with the text, since nothing may."""
-    ran = subprocess.run(words, cwd=folder, stdin=subprocess.DEVNULL, stdout=subprocess.PIPE, stderr=subprocess.STDOUT)
-    return ran.returncode, ran.stdout.decode(errors="replace")
-
-
 def indented(text):
     return "".join(f"    {line}\n" for line in text.splitlines()) or "    (nothing)\n"
 
 
-def run_blocks(name, guide, folder):
-    """Runs the commands of a file of the guide, and tells for each whether it prints what the file shows."""
-    for block in blocks_of(guide):
+def run_blocks(name, text, folder):
+    """Runs the commands of a document, and tells for each whether it prints what the document shows."""
+    for block in blocks_of(text):
         net = re.fullmatch(r"# (\w+\.toml)", block[2][0]) if block[2] else None
         if block[1] == "toml" and net:
             with open(f"{folder}/{net[1]}", "w", encoding="utf-8") as file:
                 file.write("".join(f"{line}\n" for line in block[2]))
         for number, command, wanted in commands_of(block):
+            if "tomllib" in command and not importlib.util.find_spec("tomllib"):
+                continue
             printed = run(["bash", "-c", command], folder)[1]
             well = printed == wanted
             if not well:
-                print(f"docs/{name}:{number}: {command}\n  the guide shows\n{indented(wanted)}  it prints\n{indented(printed)}", end="")
+                print(f"{name}:{number}: {command}\n  it shows\n{indented(wanted)}  it prints\n{indented(printed)}", end="")
             yield well
 
 
@@ -97,21 +95,28 @@ def run_nets(guides, folder):
         yield not odd and f"examples/{name}" in shown
 
 
+def documents():
+    """The documents by name, in the order in which their commands are run."""
+    guide = sorted(Path(TOP, "docs").glob("GUIDE*.md"))
+    others = sorted(path for path in Path(TOP, "docs").glob("*.md") if path not in guide)
+    paths = [Path(TOP, "README.md"), *guide, *others]
+    return {str(path.relative_to(TOP)): path.read_text(encoding="utf-8") for path in paths}
+
+
 def main(program):
-    if not os.access(program, os.X_OK):
-        print(f"{program} is no program: `rt ci` or ./teg builds it\n0 passed, 1 failed")
-        return 1
-    guides = {path.name: path.read_text(encoding="utf-8") for path in sorted(Path(TOP, "docs").glob("GUIDE*.md"))}
+    if not is_there(program):
+        return summed_up(0, 1)
+    texts = documents()
+    guides = [text for name, text in texts.items() if name.startswith("docs/GUIDE")]
     with tempfile.TemporaryDirectory(prefix="teg-guide-") as folder:
         os.symlink(os.path.abspath(program), f"{folder}/teg")
         os.symlink(f"{TOP}/examples", f"{folder}/examples")
-        shown = [well for name, guide in guides.items() for well in run_blocks(name, guide, folder)]
-        nets = list(run_nets(guides.values(), folder))
+        shown = [well for name, text in texts.items() for well in run_blocks(name, text, folder)]
+        nets = list(run_nets(guides, folder))
     passed = shown.count(True) + nets.count(True)
-    failed = len(shown) + len(nets) - passed
-    print(f"the guide: {len(shown)} commands, and {len(nets)} files of examples/\n{passed} passed, {failed} failed")
-    return 1 if failed or not shown or not nets else 0
+    print(f"documents: {len(shown)} commands, and {len(nets)} files of examples/")
+    return summed_up(passed if shown and nets else 0, len(shown) + len(nets) - passed)
 
 
 if __name__ == "__main__":
-    sys.exit(main(sys.argv[1] if len(sys.argv) > 1 else f"{TOP}/crates/teg/out/teg"))
+    sys.exit(main(sys.argv[1] if len(sys.argv) > 1 else BUILT))

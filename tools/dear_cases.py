@@ -1,0 +1,475 @@
+"""Inputs within the limits that ask for much work, each with the answer that is due; hostile_run.py runs them.
+
+What is due is worked out here, by other ways than the program's: in closed form where the net has one, and
+otherwise by the definitions (circuits by raising a ratio, slacks by the shortest circuit through a place).
+"""
+import heapq
+import math
+from functools import partial
+
+from random_net import random_places
+
+DONE, NET, LATE, TOO_LONG, CALC = 0, 4, 6, 7, 9
+TOO_LONG_TEXT = "too long: no settled form within {}\n"
+
+
+class Net:
+    """Transitions by name, with roles; places of a name, two ends, a holding time and tokens; and input lists."""
+
+    def __init__(self, names, places, inputs=(), outputs=(), lists=""):
+        self.names, self.places, self.lists = list(names), list(places), lists
+        self.roles = {name: "input" for name in inputs} | {name: "output" for name in outputs}
+
+    def text(self):
+        roles = {name: f'role = "{role}"\n' for name, role in self.roles.items()}
+        return "".join(f'[[transition]]\nname = "{name}"\n{roles.get(name, "")}' for name in self.names) + "".join(
+            f'[[place]]\nname = "{name}"\nfrom = "{start}"\nto = "{end}"\nhold = {hold}\ntokens = {tokens}\n'
+            for name, start, end, hold, tokens in self.places) + self.lists
+
+
+# ---- nets
+
+def input_list(name, dates, every, gap):
+    return f'[[input]]\ntransition = "{name}"\ndates = [{",".join(map(str, dates))}]\nevery = {every}\ngap = {gap}\n'
+
+
+def hidden_gates(count, height, turned=False):
+    """Gates whose own places have slowly rising ratios. A place from one of two clocks hides each of them, which strike
+    later from round to round of policy iteration: it takes more than `count * height` rounds."""
+    gates, steps = [f"g{j}" for j in range(count)], [f"r{t}" for t in range(count + height)]
+    clocks, tick = ["c0", "c1"], 1000
+    begin, top = (len(steps) + 5) * tick, 4 * (len(steps) + 10) * tick
+    base = 100 * top
+    places = [("s0", "g0", "g0", base + 1, 1)]
+    places += [(f"gb{j}", gate, "b", 0, 0) for j, gate in enumerate(gates)]
+    places += [(f"i{t}", "b", step, 0, 0) for t, step in enumerate(steps)]
+    places += [("x0", "b", "c0", begin, 0), ("x1", "b", "c1", begin + tick, 0)]
+    places += [(f"cg{j}", "c0", gate, 0, 1) for j, gate in enumerate(gates)]
+    places += [("x2", "b", "c0", begin + 2 * tick, 0), ("j", "b", "r0", top, 0)]
+    places += [(f"ch{t}", steps[t - 1], steps[t], 0, 0) for t in range(1, len(steps))]
+    places += [(f"k{t}", steps[t - 1], clocks[t % 2], t * tick, 0) for t in range(1, height + 1)]
+    places += [(f"ci{j}", "c1", gate, 0, 1) for j, gate in enumerate(gates)]
+    for j, gate in enumerate(gates):
+        places += [(f"p{j}_{s}", steps[height + 1 + s], gate, (height + 2 + s) * tick, 1) for s in range(j)]
+    places += [(f"s{j}", gate, gate, base + 1 + j, 1) for j, gate in enumerate(gates) if j]
+    names = gates + ["b"] + clocks + steps
+    return Net(reversed(names) if turned else names, places), (base + count, 1)
+
+
+def machines(count):
+    """A line of machines, with room for three parts between each two."""
+    places = [(f"s{k}", f"m{k}", f"m{k}", 3 + k * 7 % 11, 1) for k in range(count)]
+    for k in range(count - 1):
+        places += [(f"f{k}", f"m{k}", f"m{k + 1}", 2, 0), (f"r{k}", f"m{k + 1}", f"m{k}", 0, 3)]
+    return Net([f"m{k}" for k in range(count)], places)
+
+
+def steady_inputs(count, jump, length=100_000):
+    """Inputs whose lists are zeros for ever, and one whose dates are 1 behind the jump: a list says nothing before."""
+    steady = [f"z{k}" for k in range(count)]
+    lists = "".join(input_list(name, [0] * length, 1, 0) for name in steady)
+    lists += input_list("u", [0] * jump + [1] * (length - jump), 1, 0)
+    return Net(steady + ["u", "a"], [("ua", "u", "a", 0, 0)], steady + ["u"], lists=lists)
+
+
+def own_places(count, tokens):
+    """Transitions that wait for nothing, and behind them one for each number of tokens in its own place, of hold 1."""
+    names = [f"c{k}" for k in range(count - len(tokens))] + [f"s{k}" for k in range(len(tokens))]
+    return Net(names, [(f"l{k}", f"s{k}", f"s{k}", 1, own) for k, own in enumerate(tokens)])
+
+
+def overtaken(inputs, lead, count=400, places=4000):
+    """From each input two ways to c: by a, which is slow to begin and does a firing in 10, and by d, in 11. The
+    second overtakes the first after `lead` firings. The other transitions and places are there to be gone through."""
+    inputs = [f"u{k}" for k in range(inputs)]
+    rest = [f"x{k}" for k in range(count - len(inputs) - 3)]
+    held = [(f"{name}{end}", name, end, 0, 0) for name in inputs for end in "ad"]
+    held += [("aa", "a", "a", 10, 1), ("dd", "d", "d", 11, 1), ("ac", "a", "c", lead, 0), ("dc", "d", "c", 0, 0)]
+    held += [(f"p{k}", rest[k % len(rest)], rest[(k * 7 + 1) % len(rest)], 0, 1) for k in range(len(held), places)]
+    return Net(inputs + ["a", "d", "c"] + rest, held, inputs, ["c"])
+
+
+def ring(count, tokens, hold):
+    return Net([f"t{k}" for k in range(count)],
+               [(f"p{k}", f"t{k}", f"t{(k + 1) % count}", hold, tokens) for k in range(count)])
+
+
+def joined_own_places(tokens):
+    """A ring without holding times whose transitions have own places of cycle time 1, of so many tokens."""
+    places = []
+    for k, own in enumerate(tokens):
+        places += [(f"l{k}", f"s{k}", f"s{k}", own, own), (f"n{k}", f"s{k}", f"s{(k + 1) % len(tokens)}", 0, 1000)]
+    return Net([f"s{k}" for k in range(len(tokens))], places)
+
+
+def fed_own_places(tokens):
+    """An input before transitions with own places of cycle time 1, of so many tokens."""
+    places = []
+    for k, own in enumerate(tokens):
+        places += [(f"ua{k}", "u", f"a{k}", 0, 0), (f"l{k}", f"a{k}", f"a{k}", own, own)]
+    return Net(["u"] + [f"a{k}" for k in range(len(tokens))], places, ["u"])
+
+
+def long_chain(inputs, ends):
+    """Inputs before a chain of 18 places of 1,000 tokens, and transitions behind it that take what comes."""
+    inputs, ends = [f"u{k}" for k in range(inputs)], [f"d{k}" for k in range(ends)]
+    places = [(f"{name}c", name, "c0", 0, 0) for name in inputs]
+    places += [(f"cc{k}", f"c{k}", f"c{k + 1}", 0, 1000) for k in range(18)]
+    places += [(f"c{name}", "c18", name, 0, 0) for name in ends]
+    return Net(inputs + [f"c{k}" for k in range(19)] + ends, places, inputs, ends)
+
+
+def braid(count, last):
+    """A ring of `count` places of hold 1, the last with one token, and beside each nine of hold 0; so many tokens are
+    in those beside the last one."""
+    places = []
+    for k in range(count):
+        ends, closing = (f"t{k}", f"t{(k + 1) % count}"), k == count - 1
+        places += [(f"p{k}", *ends, 1, int(closing))] + [(f"p{k}_{i}", *ends, 0, last * closing) for i in range(9)]
+    return Net([f"t{k}" for k in range(count)], places)
+
+
+def downhill(count, places):
+    """Places without tokens, each from a transition to one before it in the file: the order to fire in is the last first."""
+    gaps = [gap for gap in range(1, count) for _ in range(count - gap)][:places]
+    starts = [start for gap in range(1, count) for start in range(gap, count)][:places]
+    return Net([f"t{k}" for k in range(count)],
+               [(f"p{k}", f"t{start}", f"t{start - gap}", 1, 0) for k, (start, gap) in enumerate(zip(starts, gaps))])
+
+
+def drawn():
+    """The net that random_net.py draws."""
+    return Net([f"m{k}" for k in range(1, 401)], [(f"p{k}", f"m{start}", f"m{end}", hold, tokens)
+                                                  for k, (start, end, hold, tokens) in enumerate(random_places(400, 4000, 1), 1)])
+
+
+# ---- what is due
+
+def raised(net, ratio):
+    """For a ratio, the greatest sums of paths to each transition, each place with its time by the ratio's tokens, less its
+    tokens by the ratio's time; or a circuit of a greater ratio, if there is one."""
+    time, tokens = ratio
+    sums, last = dict.fromkeys(net.names, 0), {}
+    for _ in range(len(net.names) + 1):
+        changed = False
+        for place in net.places:
+            _, start, end, hold, own = place
+            if (most := sums[start] + tokens * hold - time * own) > sums[end]:
+                sums[end], last[end], changed = most, place, True
+        if not changed:
+            return sums, None
+        for name in net.names:
+            seen = {}
+            while name in last and name not in seen:
+                seen[name] = last[name]
+                name = last[name][1]
+            if name in seen:
+                circuit = [seen[name]]
+                while circuit[-1][1] != name:
+                    circuit.append(seen[circuit[-1][1]])
+                return None, circuit
+    raise AssertionError("sums rise past every path, and no circuit is met")
+
+
+def greatest_ratio(net):
+    """The greatest ratio of time to tokens of a circuit, in lowest terms: it is raised from circuit to circuit."""
+    time, tokens = 0, 1
+    while circuit := raised(net, (time, tokens))[1]:
+        time, tokens = sum(place[3] for place in circuit), sum(place[4] for place in circuit)
+        divisor = math.gcd(time, tokens)
+        time, tokens = time // divisor, tokens // divisor
+    return time, tokens
+
+
+def cycle_text(net, ratio, circuit, first):
+    """The text of `cycle` for a net of one part, by its greatest ratio, the circuit that is due, and where this begins."""
+    assert raised(net, ratio)[1] is None, "a circuit has a greater ratio"
+    time, tokens = ratio
+    sums, changed = {first: 0}, True
+    while changed:
+        changed = False
+        for _, start, end, hold, own in net.places:
+            if start in sums and (end not in sums or sums[start] + tokens * hold - time * own > sums[end]):
+                sums[end], changed = sums[start] + tokens * hold - time * own, True
+    head = f"{time}/{tokens}\ncircuit {' '.join(circuit)}\n"
+    return f"cycle time {head}part 1 ratio {head}" + "".join(f"potential {name} {sums[name]}\n" for name in net.names)
+
+
+def slack_text(net):
+    """The text of `slack`: a place may rise by what the least circuit through it loses against the greatest ratio."""
+    time, tokens = greatest_ratio(net)
+    sums, _ = raised(net, (time, tokens))
+    losses = [sums[end] - sums[start] - tokens * hold + time * own for _, start, end, hold, own in net.places]
+    leave = {name: [] for name in net.names}
+    for (_, start, end, _, _), loss in zip(net.places, losses):
+        leave[start].append((end, loss))
+    least = {name: least_losses(leave, name) for name in net.names}
+    lines = [f"cycle time {time}/{tokens}\n"]
+    for (name, start, end, _, _), loss in zip(net.places, losses):
+        back = least[end].get(start)
+        told = "no circuit" if back is None else "critical" if loss + back == 0 else f"slack {(loss + back) // tokens}"
+        lines.append(f"place {name} {told}\n")
+    return "".join(lines)
+
+
+def least_losses(leave, first):
+    """The least losses of paths from a transition, nearest first."""
+    found, waiting = {}, [(0, first)]
+    while waiting:
+        loss, name = heapq.heappop(waiting)
+        if name not in found:
+            found[name] = loss
+            for end, more in leave[name]:
+                if end not in found:
+                    heapq.heappush(waiting, (loss + more, end))
+    return found
+
+
+def row(values):
+    return " ".join(map(str, values))
+
+
+def overtaken_text(net, lead):
+    """The text of `dates` for a net in which c is overtaken."""
+    numbers = range(lead + 1)
+    lines = {"a": f"{row(10 * k for k in numbers)} step 10\n", "d": f"{row(11 * k for k in numbers)} step 11\n",
+             "c": f"{row(max(10 * k + lead, 11 * k) for k in numbers)} step 11\n"}
+    others = f"{row(0 for _ in numbers)} step 0\n"
+    return f"settled after {lead} period 1\n" + "".join(
+        f"transition {name} {lines.get(name, others)}" for name in net.names)
+
+
+def overtaken_times(inputs, lead):
+    """The text of `transfer` for the same: from each input alike."""
+    times = row(max(10 * k + lead, 11 * k) for k in range(lead + 1))
+    return f"transfer of {inputs} inputs to 1 outputs\n" + "".join(
+        f"from u{k} settled after {lead} period 1\nto c {times} step 11\n" for k in range(inputs))
+
+
+def steady_text(net, jump):
+    """The text of `dates` for inputs of which one jumps, and a follows it."""
+    zeros, jumping = row([0] * (jump + 1)), row([0] * jump + [1])
+    dates = {name: jumping if name in ("u", "a") else zeros for name in net.names}
+    return f"settled after {jump} period 1\n" + "".join(f"transition {name} {dates[name]} step 0\n" for name in net.names)
+
+
+def own_places_text(net, tokens):
+    """The text of `dates` for own places of two numbers of tokens without a common divisor."""
+    period = tokens[0] * tokens[1]
+    lines = [f"settled after 0 period {period}\n"]
+    for name in net.names:
+        own = tokens[int(name[1:])] if name[0] == "s" else period
+        lines.append(f"transition {name} {row(k // own for k in range(period))} step {period // own if name[0] == 's' else 0}\n")
+    return "".join(lines)
+
+
+def plan_text(count, numbers):
+    """The text of `jit` for a line of machines whose last one is due 1,000 apart: each other one waits for the next."""
+    last, date = count - 1, 10**10
+    lines = [f"latest inputs for {numbers} firings\n"]
+    for k in range(count):
+        ahead, by = 2 * (last - k), f"by f{k}" if k < last else "due"
+        lines += [f"latest m{k} {number} {date + 1000 * number - ahead} {by}\n" for number in range(1, numbers + 1)]
+    return "".join(lines)
+
+
+def late_ring_text(count):
+    """The text of `timetable` for a ring of places of 1,000 tokens: a delay of 50 goes round and round."""
+    names, period = [f"p{k}" for k in range(count)], 1000 * count
+    lines = [f"settled after 50 period {period}\nkept\ncircuit {' '.join(names)}\n"]
+    falling = list(range(50, 0, -1))
+    for k in range(count):
+        begun = [0] * (1000 * k) + falling
+        left = (begun + [0] * (period - len(begun)) + (falling if k == 0 else [0] * 50))
+        lines.append(f"delays t{k} {row(left)}\n")
+    return "".join(lines)
+
+
+# ---- series
+
+def stepped(stars, k):
+    """At shift k, the greatest of series that each rise by a step every so many shifts."""
+    return max(k // every * step for every, step in stars)
+
+
+def sum_of(stars, ahead=0):
+    """The expression of the greatest of them, which is so much ahead."""
+    return "(" + "+".join(f"g0d{ahead}.star(g{every}d{step})" for every, step in stars) + ")"
+
+
+def series(values, period=1, step=0):
+    return f"series {row(values)} period {period} step {step}\n"
+
+
+def repeated(expression, most=4096):
+    """An expression added to itself as often as an expression may be long: the same series."""
+    return "+".join([expression] * ((most + 1) // (len(expression) + 1)))
+
+
+SLOW, FAST = [(139, 139), (137, 137)], [(140, 280), (131, 262)]
+LESS, MORE = [(130, 70), (117, 63), (91, 49)], [(132, 72), (121, 66), (77, 42)]
+SLOW_SERIES = series([stepped(SLOW, k) for k in range(19043)], 19043, 19043)
+FAST_SERIES = series([stepped(FAST, k) for k in range(18340)], 18340, 36680)
+LESS_SERIES = series([stepped(LESS, k) for k in range(8190)], 8190, 4410)
+MORE_SERIES = series([200 + stepped(MORE, k) for k in range(10164)], 10164, 5544)
+DENSE = {
+    "residual": ("left(star(g1d1)+g19000d19500,star(g1d1)+g19000d19500)", series([0] * 501, 1, 1)),
+    "residual of lists that are flat but for a jump": ("left(e+g19041d1,e+g19041d1)", series([0])),
+    "product": ("g9999d0.g9999d0", series(["epsilon"] * 19998 + [0])),
+    "star": ("star(star(g1d1)+g19900d0.never)", series([*range(19900), "never"])),
+}
+
+
+def series_cases():
+    """Series of long periods and long lists. In a sum or a minimum one of the two is the greater at every shift; where
+    the one of the lesser slope leads at first, the need is past their common period, and the sum is refused."""
+    slow, fast, less, more = sum_of(SLOW), sum_of(FAST), sum_of(LESS), sum_of(MORE, 200)
+    table = [
+        ("a sum of long periods", f"{slow}+{fast}", DONE, FAST_SERIES),
+        ("sums of long periods", repeated(f"{slow}+{fast}"), DONE, FAST_SERIES),
+        ("a sum of long periods that is refused", f"{sum_of(SLOW, 200)}+{fast}", CALC, f"refused: series needs {19043 * 18340 + 18340}\n"),
+        ("a minimum of long periods", f"min({slow},{fast})", DONE, SLOW_SERIES),
+        ("minima of long periods", repeated(f"min({slow},{fast})"), DONE, SLOW_SERIES),
+        ("a sum of slopes that nearly agree", f"{less}+{more}", DONE, MORE_SERIES),
+        ("sums of slopes that nearly agree", repeated(f"{less}+{more}"), DONE, MORE_SERIES),
+        ("a sum of slopes that nearly agree, refused", f"{sum_of(LESS, 200)}+{sum_of(MORE)}", CALC, f"refused: series needs {1981980 + 10164}\n"),
+        ("a minimum of slopes that nearly agree", f"min({less},{more})", DONE, LESS_SERIES),
+        ("a residual of lists that are Early", "left(g19999d0,g19999d0)", DONE, series([0])),
+        ("residuals of lists that are Early", repeated("left(g19999d0,g19999d0)"), DONE, series([0])),
+    ]
+    table += [(f"a {kind}", words, DONE, text) for kind, (words, text) in DENSE.items()]
+    for label, words, status, text in table:
+        yield f"calc: {label}", ["calc", words], {}, status, text
+
+
+def dear_series():
+    for kind, (words, text) in DENSE.items():
+        yield f"calc: a {kind}, as often as an expression has room for it", ["calc", repeated(words)], {}, DONE, text
+
+
+# ---- nets and files of rows
+
+def cycle_cases():
+    """Cycle times, slacks, tokens and what else looks at circuits alone."""
+    for turned in False, True:
+        net, ratio = hidden_gates(70, 250, turned)
+        label = ", turned" if turned else ""
+        yield f"cycle: many rounds{label}", ["cycle", "net"], {"net": net.text()}, DONE, partial(cycle_text, net, ratio, ["s69"], "g69")
+        yield f"slack: many rounds{label}", ["slack", "net"], {"net": net.text()}, DONE, partial(slack_text, net)
+    line = machines(400)
+    yield "slack: 400 machines", ["slack", "net"], {"net": line.text()}, DONE, partial(slack_text, line)
+    random = drawn()
+    yield "slack: a random net", ["slack", "net"], {"net": random.text()}, DONE, partial(slack_text, random)
+    wide = braid(400, 1000)
+    round_trip = f"circuit {' '.join(f'p{k}' for k in range(400))}\n"
+    yield "size: a wide ring", ["size", "net", "p399", "1/1"], {"net": wide.text()}, DONE, f"size p399 1/1 extra 399\n{round_trip}"
+    yield "check: a wide ring", ["check", "net"], {"net": wide.text()}, DONE, "live\ntransitions 400\nplaces 4000\n"
+    yield "check: the last first", ["check", "net"], {"net": downhill(400, 4000).text()}, DONE, "live\ntransitions 400\nplaces 4000\n"
+    closed = downhill(400, 3999)
+    closed.places.append(("back", "t0", "t399", 0, 0))
+    # (a circuit without tokens leaves t0 by the place that closes it; which one goes on from t399 is free)
+    yield "check: the last first, closed", ["check", "net"], {"net": closed.text()}, NET, None
+
+
+def settled_cases():
+    """Settled forms."""
+    for count, limit in (1, 20_000), (19, 500), (19, 20_000):
+        words = ["dates", "net"] + (["--limit", str(limit)] if limit != 20_000 else [])
+        yield (f"dates: {count + 1} input lists of 100,000 dates, limit {limit}", words,
+               {"net": steady_inputs(count, 39_000).text()}, TOO_LONG, TOO_LONG_TEXT.format(limit))
+    steady = steady_inputs(19, 39_000)
+    yield ("dates: 20 input lists of 100,000 dates, limit 40000", ["dates", "net", "--limit", "40000"],
+           {"net": steady.text()}, DONE, partial(steady_text, steady, 39_000))
+    long, short = own_places(400, [1000, 999]), own_places(400, [97, 89])
+    yield "dates: own places of 1,000 and 999 tokens", ["dates", "net"], {"net": long.text()}, TOO_LONG, TOO_LONG_TEXT.format(20_000)
+    yield ("dates: own places of 1,000 and 999 tokens, limit 200000", ["dates", "net", "--limit", "200000"],
+           {"net": own_places(40, [1000, 999]).text()}, TOO_LONG, TOO_LONG_TEXT.format(200_000))
+    yield "dates: own places of 97 and 89 tokens", ["dates", "net"], {"net": short.text()}, DONE, partial(own_places_text, short, [97, 89])
+    yield ("date: own places of 97 and 89 tokens", ["date", "net", "s1", str(10**18)], {"net": short.text()}, DONE,
+           f"date s1 {10**18} {(10**18 - 1) // 89}\n")
+    late = overtaken(0, 19_990)
+    yield "dates: overtaken after 19,990", ["dates", "net"], {"net": late.text()}, DONE, partial(overtaken_text, late, 19_990)
+    yield "date: overtaken after 19,990", ["date", "net", "c", "1000000"], {"net": late.text()}, DONE, "date c 1000000 10999989\n"
+    yield ("date: overtaken after 199,000", ["date", "net", "c", "1000000", "--limit", "200000"],
+           {"net": overtaken(0, 199_000, 40, 200).text()}, DONE, "date c 1000000 10999989\n")
+    yield ("transfer: 20 inputs overtaken after 990", ["transfer", "net"], {"net": overtaken(20, 990).text()}, DONE,
+           partial(overtaken_times, 20, 990))
+    for tokens, bound in ([101, 103], 6_207_001), ([991, 997], 7_995_001):
+        yield (f"bound: own places of {tokens[0]} and {tokens[1]} tokens", ["bound", "net"], {"net": joined_own_places(tokens).text()},
+               DONE, f"bound {bound}\nsettled after 0 period {tokens[0] * tokens[1]}\n")
+
+
+def late_ring(count, limited=True):
+    """A delay on a ring of places of 1,000 tokens."""
+    files = {"net": ring(count, 1000, 1000).text(), "rows": "".join(f"t{k},0\n" for k in range(count)) + "t0,1,50\n"}
+    words, label = ["timetable", "net", "1", "rows"], f"timetable: a ring of {count} places of 1,000 tokens"
+    if limited:
+        return label, words, files, TOO_LONG, TOO_LONG_TEXT.format(20_000)
+    return f"{label}, without a limit", words + ["--limit", "none"], files, DONE, partial(late_ring_text, count)
+
+
+def chain_rows(ends):
+    """Due rows of 10,000 dates: 9,000 zeros, and then 9 more in each 1,000."""
+    dates = ",".join(map(str, [0] * 9000 + [j * 9 // 999 for j in range(1000)]))
+    return "".join(f"d{k},1000,9,{dates}\n" for k in range(ends))
+
+
+def chain_text(inputs):
+    """What is due at the end of the chain is due 18,000 numbers on: an input has its dates from number 18,001 on."""
+    dates = row(9 * (k // 1000) + k % 1000 * 9 // 999 for k in range(9000, 10_000))
+    return "latest inputs forever\n" + "".join(f"input u{k} {dates} period 1000 step 9\n" for k in range(inputs))
+
+
+def rows_cases():
+    """Files of rows."""
+    yield late_ring(50)
+    yield late_ring(20, limited=False)
+    line, due = machines(400), "".join(f"m399,{k},{10**10 + 1000 * k}\n" for k in range(1, 10_001))
+    yield "jit: 400 machines", ["jit", "net", "rows"], {"net": line.text(), "rows": due}, DONE, partial(plan_text, 400, 10_000)
+    yield ("jit: a random net", ["jit", "net", "rows"],
+           {"net": drawn().text(), "rows": "".join(f"m400,{k},{10**10 + 100_000 * k}\n" for k in range(1, 10_001))}, DONE, None)
+    loops = fed_own_places([997, 991]).text()
+    for label, every, gap, dates, status, text in [
+        ("that settles late", 999, 999, range(1000), TOO_LONG, "too long: input u\n"),
+        ("a row that is late", 999, 998, range(999), LATE, "late a0 1995 due 1993 least 1994\n"),
+        ("a row that is late at last", 1000, 999, range(10**6, 10**6 + 1000), LATE,
+         "late a0 1000001968 due 1000001966 least 1000001967\n"),
+    ]:
+        yield (f"forever: own places of 997 and 991 tokens, {label}", ["forever", "net", "rows"],
+               {"net": loops, "rows": f"a0,{every},{gap},{','.join(map(str, dates))}\n"}, status, text)
+    yield ("forever: an input and 10 rows of 10,000 dates behind a long chain", ["forever", "net", "rows"],
+           {"net": long_chain(1, 10).text(), "rows": chain_rows(10)}, DONE, partial(chain_text, 1))
+    yield wide_replay(100_000)
+
+
+def wide_replay(firings):
+    """A log of one transition with 4,000 places to itself: each firing asks all of them."""
+    net = Net(["a"], [(f"p{k}", "a", "a", 0, 1) for k in range(4000)])
+    return (f"replay: {firings:,} firings of a transition with 4,000 places", ["replay", "net", "rows"],
+            {"net": net.text(), "rows": "a,0\n" * firings}, DONE,
+            f"replayed {firings} firings\nfirings {firings}\nhigh water 4000\ngreatest lateness 0\n")
+
+
+def dear_transfers():
+    for inputs, lead in (200, 990), (20, 9_900), (200, 9_900):
+        yield (f"transfer: {inputs} inputs overtaken after {lead:,}", ["transfer", "net"], {"net": overtaken(inputs, lead).text()},
+               DONE, partial(overtaken_times, inputs, lead))
+
+
+def answered_cases():
+    """What is answered in time."""
+    yield from cycle_cases()
+    yield from settled_cases()
+    yield from rows_cases()
+    yield from series_cases()
+
+
+def dear_cases():
+    """What is known to take longer."""
+    yield from dear_transfers()
+    yield late_ring(200)
+    yield late_ring(50, limited=False)
+    yield from dear_series()
+    yield ("forever: 100 inputs and 209 rows of 10,000 dates behind a long chain", ["forever", "net", "rows"],
+           {"net": long_chain(100, 209).text(), "rows": chain_rows(209)}, DONE, partial(chain_text, 100))
+    yield wide_replay(1_048_576)
