@@ -18,7 +18,7 @@ times_product (suc m) x = let e : times m x ≡ pos m *ℤ x = times_product m x
 pub small_fits : (x : ℤ) → unsigned_abs x ≤ 1000000000000000000 → FitsSigned w128 x
 small_fits x h = fits_signed_from_abs w128 x (omega arith)
 
-abs_le : (x : ℤ) (n : ℕ) → unsigned_abs x ≤ n → (x ≤ℤ pos n) × ((pos 0 -ℤ pos n) ≤ℤ x)
+pub abs_le : (x : ℤ) (n : ℕ) → unsigned_abs x ≤ n → (x ≤ℤ pos n) × ((pos 0 -ℤ pos n) ≤ℤ x)
 abs_le (pos m) n h = (omega (arith, ints), omega (arith, ints))
 abs_le (negsuc m) n h = (omega (arith, ints), omega (arith, ints))
 

@@ -57,7 +57,8 @@ impl Series {
     pub fn monomial(alloc: Global, shift: u64, date: i128) -> Result<Series, SeriesRefused>
         requires shift { shift < 10000000000000000000 }
         requires date { unsigned_abs date < 10000000000000000000 }
-        ensures { AnswersOf (λ r. HasValues r (monomial_at shift date)) (shift + 1) (shift + 1) result }
+        ensures { AnswersOf (λ r. HasValues r (monomial_at shift date)) (shift + 1) (shift + 1)
+            result }
     {
         let need = shift as u128 + 1;
         if need > 20_000 {
@@ -83,7 +84,8 @@ impl Series {
         requires positive { 0 < period }
         requires fits { period ≤ length values.now }
         requires rising { Rising (value_at (form_with values.now period step)) }
-        ensures { AnswersOf (λ r. HasValues r (value_at (form_with values.now period step))) (length values.now) (length values.now) result }
+        ensures { AnswersOf (λ r. HasValues r (value_at (form_with values.now period step)))
+            (length values.now) (length values.now) result }
     {
         if values.len() > 20_000 {
             return Err(SeriesRefused::TooLong {
@@ -178,7 +180,7 @@ impl Series {
     }
 }
 
-/// The first values of a monomial, its own shift the last one.
+// The first values of a monomial, its own shift the last one.
 fn monomial_values(alloc: Global, shift: usize, date: i128) -> Result<Vec<Date>, AllocError>
     requires { shift < 20000 }
     ensures { IfOk result (λ values. values.items ≡ table (monomial_at shift date) (shift + 1)) }
@@ -191,14 +193,14 @@ fn monomial_values(alloc: Global, shift: usize, date: i128) -> Result<Vec<Date>,
     Ok(values)
 }
 
-/// The list once more.
+// The list once more.
 fn copied(alloc: Global, values: &[Date]) -> Result<Vec<Date>, AllocError>
     ensures { IfOk result (λ list. list.items ≡ values.now) }
 {
     values.iter().copied().collect(alloc)
 }
 
-/// A list of one date.
+// A list of one date.
 fn one_value(alloc: Global, date: Date) -> Result<Vec<Date>, AllocError>
     ensures { IfOk result (λ values. values.items ≡ date ∷ []) }
 {

@@ -4,11 +4,11 @@
 //! on one is the greatest of all. The leads at a place and whole periods of the first past it differ
 //! by the second's values and by the steps of the first: back along a cycle of such places the
 //! greatest of them is known from the place after it. Twice round each cycle meets all of them.
-ghost use Rattle.std.specs.Prelude.{◌≡◌, ◌≤◌, ◌<◌, ◌+◌, ◌-◌, ◌*◌, ◌/◌, ◌%◌, ◌-ℤ◌, ◌≤ℤ◌, ◌<ℤ◌, ℕ, pos, cond, ltb};
+ghost use Rattle.std.specs.Prelude.{◌≡◌, ◌≤◌, ◌<◌, ◌+◌, ◌-◌, ◌*◌, ◌/◌, ◌%◌, ◌-ℤ◌, ◌≤ℤ◌, ◌<ℤ◌, pos, cond, ltb};
 ghost use Rattle.std.specs.Int.{int_max};
 ghost use Rattle.std.specs.Int.RustNames.{unsigned_abs};
-ghost use Rattle.series_laws.specs.Forms.{value_at, gap};
-ghost use Rattle.series_laws.specs.Needs.{later_start, lead_of, turns_of, rise_of, fall_of};
+ghost use Rattle.series_laws.specs.Forms.{value_at};
+ghost use Rattle.series_laws.specs.Needs.{later_start, lead_of, rise_of, fall_of};
 ghost use Rattle.series_form.specs.Bounds.{IsSeries};
 ghost use Rattle.series_form.specs.Leads.{AreLedTo, AreNumbers, IsReach, climb_of, cover_of, gain_from_before, lead_past, number_of, place_before, width_of};
 
@@ -18,22 +18,22 @@ use crate::pointwise::common_start;
 use crate::values::gap_of;
 use dioid::Date;
 
-/// A place of the second series, in shifts past where both repeat, and the greatest of its numbers
-/// there and whole periods of the first later, less what the first gains till then.
+// A place of the second series, in shifts past where both repeat, and the greatest of its numbers
+// there and whole periods of the first later, less what the first gains till then.
 #[derive(Clone, Copy)]
 struct Reach {
     place: usize,
     height: i128,
 }
 
-/// The greater of two numbers.
+// The greater of two numbers.
 fn greater(first: i128, second: i128) -> i128
     ensures { result ≡ int_max first second }
 {
     if first < second { second } else { first }
 }
 
-/// The number of a series at a shift, 0 where it has none.
+// The number of a series at a shift, 0 where it has none.
 fn number_at(series: &Series, shift: usize) -> i128
     requires { shift ≤ 100000 }
     ensures value { result ≡ number_of (value_at series.now shift) }
@@ -46,7 +46,7 @@ fn number_at(series: &Series, shift: usize) -> i128
     }
 }
 
-/// The least number of periods of the second series that are no shorter than one of the first.
+// The least number of periods of the second series that are no shorter than one of the first.
 fn cover(first: &Series, second: &Series) -> usize
     ensures value { result ≡ cover_of first.now second.now }
     ensures bound { result ≤ 20000 }
@@ -56,7 +56,7 @@ fn cover(first: &Series, second: &Series) -> usize
     (first.period() + (second.period() - 1)) / second.period()
 }
 
-/// The shifts of these periods.
+// The shifts of these periods.
 fn width(first: &Series, second: &Series) -> usize
     ensures value { result ≡ width_of first.now second.now }
     ensures bound { result ≤ 40000 }
@@ -67,7 +67,7 @@ fn width(first: &Series, second: &Series) -> usize
     cover(first, second) * second.period()
 }
 
-/// What the second series gains in them.
+// What the second series gains in them.
 fn climb(first: &Series, second: &Series) -> i128
     ensures value { result ≡ climb_of first.now second.now }
     ensures bound { unsigned_abs result ≤ 400000000000000000000000000 }
@@ -75,7 +75,7 @@ fn climb(first: &Series, second: &Series) -> i128
     cover(first, second) as i128 * second.step()
 }
 
-/// The place a period of the first series before.
+// The place a period of the first series before.
 fn before(first: &Series, second: &Series, place: usize) -> usize
     requires { place < width_of first.now second.now }
     ensures value { result ≡ place_before first.now second.now place }
@@ -90,7 +90,7 @@ fn before(first: &Series, second: &Series, place: usize) -> usize
     place - period
 }
 
-/// What the second series gains on the first from there to the place.
+// What the second series gains on the first from there to the place.
 fn gain(first: &Series, second: &Series, place: usize) -> i128
     ensures value { result ≡ gain_from_before first.now second.now place }
     ensures bound { unsigned_abs result ≤ 1000000000000000000000000000 }
@@ -101,7 +101,7 @@ fn gain(first: &Series, second: &Series, place: usize) -> i128
     -first.step()
 }
 
-/// One place back.
+// One place back.
 fn step_back(first: &Series, second: &Series, reach: Reach, periods: usize) -> Reach
     requires numbers { AreNumbers first.now second.now }
     requires periods { periods ≤ 100000 }
@@ -120,11 +120,13 @@ fn step_back(first: &Series, second: &Series, reach: Reach, periods: usize) -> R
     }
 }
 
-/// The greater of a lead and the greatest one from a place.
+// The greater of a lead and the greatest one from a place.
 fn better(first: &Series, second: &Series, reach: Reach, best: i128) -> i128
     requires place { reach.place ≤ 40000 }
     requires bound { unsigned_abs reach.height ≤ 100000000000000000000000000000000 }
-    ensures { result ≡ cond (ltb reach.place first.now.period) (int_max best (reach.height -ℤ number_of (value_at first.now (later_start first.now second.now + reach.place)))) best }
+    ensures { result ≡ cond (ltb reach.place first.now.period)
+        (int_max best (reach.height -ℤ number_of
+        (value_at first.now (later_start first.now second.now + reach.place)))) best }
 {
     if reach.place < first.period() {
         let here = number_at(first, common_start(first, second) + reach.place);
@@ -133,7 +135,7 @@ fn better(first: &Series, second: &Series, reach: Reach, best: i128) -> i128
     best
 }
 
-/// The greatest of a known lead and those of a cycle, twice round it.
+// The greatest of a known lead and those of a cycle, twice round it.
 fn best_on_cycle(first: &Series, second: &Series, start: usize, turns: usize, known: i128) -> i128
     requires numbers { AreNumbers first.now second.now }
     requires gain { pos 0 <ℤ (rise_of first.now second.now -ℤ fall_of first.now second.now) }
@@ -156,7 +158,7 @@ fn best_on_cycle(first: &Series, second: &Series, start: usize, turns: usize, kn
     best
 }
 
-/// The lead of the second series over the first from where both repeat.
+// The lead of the second series over the first from where both repeat.
 fn first_lead(first: &Series, second: &Series) -> i128
     ensures value { result ≡ lead_past first.now second.now 0 }
 {
@@ -164,8 +166,8 @@ fn first_lead(first: &Series, second: &Series) -> i128
     gap_of(first.at(shift), second.at(shift))
 }
 
-/// The greatest lead of the second series over the first, of the greater slope, on the common period.
-/// The work is of the order of the two periods.
+// The greatest lead of the second series over the first, of the greater slope, on the common period.
+// The work is of the order of the two periods.
 pub(crate) fn greatest_lead(first: &Series, second: &Series) -> i128
     requires numbers { AreNumbers first.now second.now }
     requires gain { pos 0 <ℤ (rise_of first.now second.now -ℤ fall_of first.now second.now) }

@@ -10,7 +10,7 @@ use crate::forms::Series;
 use dioid::Date;
 use series_laws::Slopes;
 
-/// The least number of turns of the first, one or more, that the second divides.
+// The least number of turns of the first, one or more, that the second divides.
 pub(crate) fn turns_between(first: usize, second: usize) -> usize
     requires first { 0 < first }
     requires second { 0 < second }
@@ -28,7 +28,7 @@ pub(crate) fn turns_between(first: usize, second: usize) -> usize
     second
 }
 
-/// The least common multiple.
+// The least common multiple.
 fn common_multiple(first: usize, second: usize) -> usize
     requires first { 0 < first }
     requires second { 0 < second }
@@ -78,7 +78,7 @@ pub fn gain_over(series: &Series, shifts: usize) -> i128
     (shifts / series.period()) as i128 * series.step()
 }
 
-/// The greater slope by the sign of the difference of two gains.
+// The greater slope by the sign of the difference of two gains.
 fn sign_of(difference: i128) -> Slopes
     ensures { result ≡ by_sign difference }
 {

@@ -28,8 +28,8 @@ pub fn common_start(first: &Series, second: &Series) -> usize
     if first < second { second } else { first }
 }
 
-/// From where the first series, of the greater slope, has the greater values: past the starts of
-/// both, the common periods in which it makes up the greatest lead of the other.
+// From where the first series, of the greater slope, has the greater values: past the starts of
+// both, the common periods in which it makes up the greatest lead of the other.
 fn crossing_of(first: &Series, second: &Series) -> u128
     requires { slopes_of first.now second.now ≡ First }
     ensures value { result ≡ crossing first.now second.now }
@@ -42,11 +42,12 @@ fn crossing_of(first: &Series, second: &Series) -> u128
     }
 }
 
-/// The shifts in which the first series makes up the greatest lead of the second.
+// The shifts in which the first series makes up the greatest lead of the second.
 fn shifts_behind(first: &Series, second: &Series) -> u128
     requires numbers { AreNumbers first.now second.now }
     requires gain { pos 0 <ℤ (rise_of first.now second.now -ℤ fall_of first.now second.now) }
-    ensures value { result ≡ periods_behind first.now second.now * period_with first.now second.now }
+    ensures value { result ≡ periods_behind first.now second.now * period_with first.now
+        second.now }
     ensures bound { result ≤ 1000000000000000000000000000000000000 }
 {
     let shifts = common_period(first, second);
@@ -79,7 +80,7 @@ pub fn plan_of_sum(first: &Series, second: &Series) -> Plan
     }
 }
 
-/// From where the minimum repeats: as the sum, but by the period of the lesser slope.
+// From where the minimum repeats: as the sum, but by the period of the lesser slope.
 fn plan_of_least(first: &Series, second: &Series) -> Plan
     ensures value { result ≡ least_plan first.now second.now }
     ensures bound { result.from ≤ 10000000000000000000000000000000000000 }
@@ -110,7 +111,7 @@ pub fn later_at(first: &Series, second: &Series, shift: usize) -> Date
     first.at(shift as u64).later(second.at(shift as u64))
 }
 
-/// The lesser value at a shift.
+// The lesser value at a shift.
 fn earlier_at(first: &Series, second: &Series, shift: usize) -> Date
     requires { shift ≤ 20000 }
     ensures { result ≡ least_at (value_at first.now) (value_at second.now) shift }
@@ -126,7 +127,8 @@ pub fn sum_values(
     count: usize,
 ) -> Result<Vec<Date>, AllocError>
     requires { count ≤ 20000 }
-    ensures { IfOk result (λ values. values.items ≡ table (sum_at (value_at first.now) (value_at second.now)) count) }
+    ensures { IfOk result (λ values. values.items ≡ table
+        (sum_at (value_at first.now) (value_at second.now)) count) }
 {
     let mut values = Vec::new(alloc);
     for shift in 0..count {
@@ -135,7 +137,7 @@ pub fn sum_values(
     Ok(values)
 }
 
-/// The first values of the minimum.
+// The first values of the minimum.
 fn least_values(
     alloc: Global,
     first: &Series,
@@ -143,7 +145,8 @@ fn least_values(
     count: usize,
 ) -> Result<Vec<Date>, AllocError>
     requires { count ≤ 20000 }
-    ensures { IfOk result (λ values. values.items ≡ table (least_at (value_at first.now) (value_at second.now)) count) }
+    ensures { IfOk result (λ values. values.items ≡ table
+        (least_at (value_at first.now) (value_at second.now)) count) }
 {
     let mut values = Vec::new(alloc);
     for shift in 0..count {
@@ -158,8 +161,11 @@ fn least_values(
 /// greater slope. Where not, TooGreat exactly where a number of the result has a magnitude above
 /// 10^18. `OutOfMemory` comes only where no memory is found.
 pub fn sum(alloc: Global, first: &Series, second: &Series) -> Result<Series, SeriesRefused>
-    ensures answer { AnswersOf (λ r. HasValues r (sum_at (value_at first.now) (value_at second.now))) (need_of (sum_plan first.now second.now)) (need_of (sum_plan first.now second.now)) result }
-    ensures model { Answers (need_of (sum_plan first.now second.now)) (form_sum first.now second.now) result }
+    ensures answer { AnswersOf (λ r. HasValues r (sum_at (value_at first.now)
+        (value_at second.now))) (need_of (sum_plan first.now second.now))
+        (need_of (sum_plan first.now second.now)) result }
+    ensures model { Answers (need_of (sum_plan first.now second.now))
+        (form_sum first.now second.now) result }
     ensures left { IsSeries first.now }
     ensures right { IsSeries second.now }
 {
@@ -178,8 +184,11 @@ pub fn sum(alloc: Global, first: &Series, second: &Series) -> Result<Series, Ser
 /// as for the sum, with the period of the lesser slope. Where not, TooGreat exactly where a number
 /// of the result has a magnitude above 10^18. `OutOfMemory` comes only where no memory is found.
 pub fn least(alloc: Global, first: &Series, second: &Series) -> Result<Series, SeriesRefused>
-    ensures answer { AnswersOf (λ r. HasValues r (least_at (value_at first.now) (value_at second.now))) (need_of (least_plan first.now second.now)) (need_of (least_plan first.now second.now)) result }
-    ensures model { Answers (need_of (least_plan first.now second.now)) (form_least first.now second.now) result }
+    ensures answer { AnswersOf (λ r. HasValues r (least_at (value_at first.now)
+        (value_at second.now))) (need_of (least_plan first.now second.now))
+        (need_of (least_plan first.now second.now)) result }
+    ensures model { Answers (need_of (least_plan first.now second.now))
+        (form_least first.now second.now) result }
     ensures left { IsSeries first.now }
     ensures right { IsSeries second.now }
 {

@@ -12,8 +12,8 @@ use crate::forms::{Series, SeriesRefused};
 use crate::values::{gap_of, is_moved};
 use dioid::Date;
 
-/// Whether `turn` shifts move the value at a shift of the list by `jump`. A value past the list is
-/// one of the list, moved by the step, so that two values of the list are compared.
+// Whether `turn` shifts move the value at a shift of the list by `jump`. A value past the list is
+// one of the list, moved by the step, so that two values of the list are compared.
 fn moves_at(
     values: &[Date],
     period: usize,
@@ -37,7 +37,7 @@ fn moves_at(
     is_moved(values[there - period], values[shift], step - jump)
 }
 
-/// Whether `turn` shifts move the values at `from` and the next ones by `jump`.
+// Whether `turn` shifts move the values at `from` and the next ones by `jump`.
 pub(crate) fn repeats(
     values: &[Date],
     period: usize,
@@ -53,7 +53,8 @@ pub(crate) fn repeats(
     requires turn { turn ≤ period }
     requires rest { FitsSigned w128 (step -ℤ jump) }
     requires listed { from + count ≤ length values.now }
-    ensures { result ≡ repeats_test (value_at (form_with values.now period step)) turn jump from count }
+    ensures { result ≡ repeats_test (value_at (form_with values.now period step)) turn jump from
+        count }
 {
     for index in 0..count {
         if !moves_at(values, period, step, turn, jump, from + index) {
@@ -63,14 +64,15 @@ pub(crate) fn repeats(
     true
 }
 
-/// What the function gains over up to a period from where the list repeats; 0 for Never and Early.
+// What the function gains over up to a period from where the list repeats; 0 for Never and Early.
 fn gain_of(values: &[Date], period: usize, step: i128, turn: usize) -> i128
     requires positive { 0 < period }
     requires fits { period ≤ length values.now }
     requires short { length values.now ≤ 20000 }
     requires rising { Rising (value_at (form_with values.now period step)) }
     requires turn { turn ≤ period }
-    ensures gain { let f = value_at (form_with values.now period step) in result ≡ gap (f (length values.now - period)) (f (length values.now - period + turn)) }
+    ensures gain { let f = value_at (form_with values.now period step) in result
+        ≡ gap (f (length values.now - period)) (f (length values.now - period + turn)) }
     ensures rest { FitsSigned w128 (step -ℤ result) }
 {
     let start = values.len() - period;
@@ -83,28 +85,32 @@ fn gain_of(values: &[Date], period: usize, step: i128, turn: usize) -> i128
     }
 }
 
-/// The least period of the form's function.
+// The least period of the form's function. It divides every other, so only divisors of the period
+// are tried.
 pub(crate) fn least_period(values: &[Date], period: usize, step: i128, from: usize) -> usize
     requires positive { 0 < period }
     requires fits { period ≤ length values.now }
     requires short { length values.now ≤ 20000 }
     requires rising { Rising (value_at (form_with values.now period step)) }
     requires from { from ≡ length values.now - period }
-    ensures value { result ≡ least_period_of (value_at (form_with values.now period step)) from period }
+    ensures value { result ≡ least_period_of (value_at (form_with values.now period step)) from
+        period }
     ensures positive { 0 < result }
     ensures within { result ≤ period }
 {
     for turn in 1..period {
-        let jump = gain_of(values, period, step, turn);
-        if repeats(values, period, step, turn, jump, from, period) {
-            return turn;
+        if period % turn == 0 {
+            let jump = gain_of(values, period, step, turn);
+            if repeats(values, period, step, turn, jump, from, period) {
+                return turn;
+            }
         }
     }
     period
 }
 
-/// The first shift from which the function repeats by `turn` shifts and `jump`, looked for from
-/// `from` backwards.
+// The first shift from which the function repeats by `turn` shifts and `jump`, looked for from
+// `from` backwards.
 pub(crate) fn least_start(
     values: &[Date],
     period: usize,
@@ -119,7 +125,8 @@ pub(crate) fn least_start(
     requires from { from ≤ length values.now }
     requires turn { turn ≤ period }
     requires rest { FitsSigned w128 (step -ℤ jump) }
-    ensures value { result ≡ least_start_of (value_at (form_with values.now period step)) from turn jump }
+    ensures value { result ≡ least_start_of (value_at (form_with values.now period step)) from turn
+        jump }
     ensures within { result ≤ from }
 {
     for back in 0..from {
@@ -130,7 +137,7 @@ pub(crate) fn least_start(
     0
 }
 
-/// The first of the values that is too great.
+// The first of the values that is too great.
 fn first_great(values: &[Date], size: usize) -> Option<i128>
     requires { size ≤ length values.now }
     ensures { IsNumberCheck values.now size result }
@@ -145,9 +152,10 @@ fn first_great(values: &[Date], size: usize) -> Option<i128>
     None
 }
 
-/// Whether a number is too great.
+// Whether a number is too great.
 fn is_great(number: i128) -> bool
-    ensures { MatchBool result (1000000000000000000 < unsigned_abs number) (unsigned_abs number ≤ 1000000000000000000) }
+    ensures { MatchBool result (1000000000000000000 < unsigned_abs number)
+        (unsigned_abs number ≤ 1000000000000000000) }
 {
     number > 1_000_000_000_000_000_000 || number < -1_000_000_000_000_000_000
 }
@@ -160,7 +168,7 @@ pub struct Shape {
     pub step: i128,
 }
 
-/// The canonical form of the function of a form: its list is the first part of the list.
+// The canonical form of the function of a form: its list is the first part of the list.
 fn shape_of(values: &[Date], turn: usize, step: i128) -> Shape
     requires positive { 0 < turn }
     requires fits { turn ≤ length values.now }
@@ -178,7 +186,7 @@ fn shape_of(values: &[Date], turn: usize, step: i128) -> Shape
     }
 }
 
-/// The canonical form of the function of a form, or its first number that is too great.
+// The canonical form of the function of a form, or its first number that is too great.
 fn shorten(values: &[Date], turn: usize, step: i128) -> Result<Shape, i128>
     requires positive { 0 < turn }
     requires fits { turn ≤ length values.now }
@@ -205,7 +213,7 @@ pub fn canonical_part(values: &[Date], turn: usize, next: Date) -> Shape
     shape_of(values, turn, step_before(values, turn, next))
 }
 
-/// The series of the function of a form with numbers of any size.
+// The series of the function of a form with numbers of any size.
 pub(crate) fn finish(
     mut values: Vec<Date>,
     turn: usize,
@@ -242,7 +250,7 @@ pub fn shortest(values: Vec<Date>, turn: usize, next: Date) -> Result<Series, Se
     finish(values, turn, step)
 }
 
-/// What `next` is above the value that stands `turn` before it.
+// What `next` is above the value that stands `turn` before it.
 fn step_before(values: &[Date], turn: usize, next: Date) -> i128
     requires positive { 0 < turn }
     requires fits { turn ≤ length values.now }

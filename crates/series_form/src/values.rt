@@ -10,7 +10,7 @@ ghost use Rattle.series_laws.specs.Periodic.{times};
 
 use dioid::Date;
 
-/// Whether two forms are the same.
+// Whether two forms are the same.
 pub(crate) fn same_parts(
     values: &[Date],
     period: usize,
@@ -19,7 +19,8 @@ pub(crate) fn same_parts(
     other_period: usize,
     other_step: i128,
 ) -> bool
-    ensures { IsTrue result ↔ (form_with values.now period step ≡ form_with other_values.now other_period other_step) }
+    ensures { IsTrue result ↔ (form_with values.now period step
+        ≡ form_with other_values.now other_period other_step) }
 {
     if period != other_period {
         return false;
@@ -30,7 +31,7 @@ pub(crate) fn same_parts(
     same_values(values, other_values)
 }
 
-/// Whether two lists of dates are equal.
+// Whether two lists of dates are equal.
 fn same_values(values: &[Date], other: &[Date]) -> bool
     ensures { IsTrue result ↔ (values.now ≡ other.now) }
 {
@@ -45,7 +46,7 @@ fn same_values(values: &[Date], other: &[Date]) -> bool
     true
 }
 
-/// The value of the form at a shift.
+// The value of the form at a shift.
 pub(crate) fn value_of(values: &[Date], period: usize, step: i128, shift: u64) -> Date
     requires positive { 0 < period }
     requires fits { period ≤ length values.now }
@@ -64,7 +65,7 @@ pub(crate) fn value_of(values: &[Date], period: usize, step: i128, shift: u64) -
     later_by(values[start + (shift - start) % period], turns, step)
 }
 
-/// The date moved by a number of steps.
+// The date moved by a number of steps.
 fn later_by(date: Date, turns: usize, step: i128) -> Date
     requires date { IsModerateDate date }
     requires turns { turns ≤ 1000000000000000000 }
@@ -80,7 +81,7 @@ fn later_by(date: Date, turns: usize, step: i128) -> Date
     }
 }
 
-/// Whether the second date is the first, moved by `jump`.
+// Whether the second date is the first, moved by `jump`.
 pub(crate) fn is_moved(here: Date, there: Date, jump: i128) -> bool
     ensures { result ≡ date_eqb there (move jump here) }
 {
@@ -95,7 +96,7 @@ pub(crate) fn is_moved(here: Date, there: Date, jump: i128) -> bool
     }
 }
 
-/// What the second date is above the first, 0 unless both are numbers.
+// What the second date is above the first, 0 unless both are numbers.
 pub(crate) fn gap_of(first: Date, second: Date) -> i128
     requires { FitsSigned w128 (gap first second) }
     ensures { result ≡ gap first second }

@@ -1,9 +1,12 @@
+pub mod CellLaws
 pub mod FirstValues
-pub mod LeftBegun
 pub mod LeftParts
+pub mod LeftSplits
 pub mod LeftValues
 pub mod Many
 pub mod ProductPlans
 pub mod Refusing
+pub mod ScaleLaws
+pub mod ShortLaws
 pub mod SplitLaws
 pub mod StarValues

@@ -1,8 +1,8 @@
 -- The plan of a product, as the code computes it.
-use Rattle.std.proofs.Common.{◌≡◌, ap, arith, ℕ, ℤ, pos, ◌+◌, ◌*◌, ◌-◌, ◌/◌, ◌%◌, ◌≤◌, ◌<◌, sym, ◌∙◌, subst, List}
+use Rattle.std.proofs.Common.{◌≡◌, ap, arith, ℕ, ℤ, pos, ◌+◌, ◌*◌, ◌≤◌, ◌<◌, sym, ◌∙◌, subst, List}
 use Rattle.std.specs.Int.RustNames.{unsigned_abs}
 use Rattle.std.proofs.lemmas.Int.{unsigned_abs-mul}
-use Rattle.std.proofs.lemmas.Nat.{mul-le, div-add-mod'}
+use Rattle.std.proofs.lemmas.Nat.{mul-le}
 use Rattle.std.proofs.Math.Nat.{le-mul_of_pos_right}
 use Rattle.dioid.specs.declared.dates.Date.{Date}
 use Rattle.series_laws.specs.declared.plans.Plan.{Plan}

@@ -25,12 +25,12 @@ use Rattle.series_ops.proofs.FirstValues.{table_same, product_same, listed_is, a
 
 -- ---- the greatest of some places
 
-later_early : (a : Date) → later_of a Early ≡ a
+pub later_early : (a : Date) → later_of a Early ≡ a
 later_early Early = refl
 later_early (At t) = refl
 later_early Never = refl
 
-greatest_same : (f g : ℕ → Date) (p q m : ℕ) → ((j : ℕ) → j < m → f (p + j) ≡ g (q + j)) → greatest_from f p m ≡ greatest_from g q m
+pub greatest_same : (f g : ℕ → Date) (p q m : ℕ) → ((j : ℕ) → j < m → f (p + j) ≡ g (q + j)) → greatest_from f p m ≡ greatest_from g q m
 greatest_same f g p q zero h = refl
 greatest_same f g p q (suc m) h =
     ap (λ (z : Date). later_of z (f (p + m))) (greatest_same f g p q m (λ j w. h j (omega arith))) ∙ ap (later_of (greatest_from g q m)) (h m (omega arith))
@@ -41,7 +41,7 @@ greatest_moved f g p q (suc m) x h =
     ap (λ (z : Date). later_of z (f (p + m))) (greatest_moved f g p q m x (λ j w. h j (omega arith)))
     ∙ ap (later_of (move x (greatest_from g q m))) (h m (omega arith)) ∙ later_move x (greatest_from g q m) (g (q + m))
 
-greatest_joined : (f : ℕ → Date) (p m n : ℕ) → greatest_from f p (m + n) ≡ later_of (greatest_from f p m) (greatest_from f (p + m) n)
+pub greatest_joined : (f : ℕ → Date) (p m n : ℕ) → greatest_from f p (m + n) ≡ later_of (greatest_from f p m) (greatest_from f (p + m) n)
 greatest_joined f p m zero = let e : m + 0 ≡ m = omega arith in ap (greatest_from f p) e ∙ sym (later_early (greatest_from f p m))
 greatest_joined f p m (suc n) =
     let e : m + suc n ≡ suc (m + n) = omega arith in
@@ -50,7 +50,7 @@ greatest_joined f p m (suc n) =
     ∙ ap (λ (z : ℕ). later_of (later_of (greatest_from f p m) (greatest_from f (p + m) n)) (f z)) g
     ∙ later_assoc (greatest_from f p m) (greatest_from f (p + m) n) (f ((p + m) + n))
 
-greatest_whole : (f : ℕ → Date) (k : ℕ) → greatest f k ≡ greatest_from f 0 (suc k)
+pub greatest_whole : (f : ℕ → Date) (k : ℕ) → greatest f k ≡ greatest_from f 0 (suc k)
 greatest_whole f zero = refl
 greatest_whole f (suc k) =
     let e : suc k ≡ 0 + suc k = omega arith in
@@ -128,7 +128,7 @@ tail_carried f t k l pos_n fits e w =
 
 -- ---- the form of a series, as the code passes it
 
-stepped : (f : Form) (x : ℤ) → IsSeries f → x ≡ f.step → to_z w128 (of_z w128 x) ≡ f.step
+pub stepped : (f : Form) (x : ℤ) → IsSeries f → x ≡ f.step → to_z w128 (of_z w128 x) ≡ f.step
 stepped f x h e = ap (λ (z : ℤ). to_z w128 (of_z w128 z)) e ∙ to_z-of_z w128 f.step (moderate_fits f.step (let w : unsigned_abs f.step ≤ 1000000000000000000 = h.small.step in omega arith))
 
 pub passed_form : (f : Form) (l : List Date) (n : ℕ) (x : ℤ) → IsSeries f → n ≡ f.period → x ≡ f.step → form_with l n (to_z w128 (of_z w128 x)) ≡ form_with l f.period f.step

@@ -54,7 +54,7 @@ star_up_to f h (suc n) (suc j) w u = subst (λ (z : Date). IsUpTo (suc j * 20001
     (added_up_to 20001000000000000000000 ((j - c) * 20001000000000000000000) (value_at f (suc c)) (parts_star (value_at f) (j - c))
     (listed_up_to f h (suc c) (omega arith)) (star_up_to f h n (j - c) (omega arith) (omega arith))))))
 
-star_moderate : (f : Form) → IsSeries f → (k : ℕ) → k ≤ 20000 → IsUpTo 500000000000000000000000000 (parts_star (value_at f) k)
+pub star_moderate : (f : Form) → IsSeries f → (k : ℕ) → k ≤ 20000 → IsUpTo 500000000000000000000000000 (parts_star (value_at f) k)
 star_moderate f h k w = up_to_more (k * 20001000000000000000000) 500000000000000000000000000 (parts_star (value_at f) k) (omega arith) (star_up_to f h k k (omega arith) w)
 
 pub stars_up_to : (f : Form) → IsSeries f → (n : ℕ) (l : List Date) → n ≤ 20001 → l ≡ table (parts_star (value_at f)) n → AreUpTo 500000000000000000000000000 l

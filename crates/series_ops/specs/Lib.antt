@@ -1,3 +1,4 @@
+pub mod Cells
 pub mod Gains
 pub mod Listed
 pub mod Proved

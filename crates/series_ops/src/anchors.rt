@@ -1,6 +1,5 @@
 //! The anchor of a star: the part of the greatest ratio, and from where a star repeats by it.
 ghost use Rattle.std.specs.Prelude.{◌≡◌, ◌≤◌, ◌<◌, ◌+◌, ◌-◌, int_lt, length};
-ghost use Rattle.std.specs.Int.{int_max};
 ghost use Rattle.std.specs.Int.RustNames.{unsigned_abs};
 ghost use Rattle.dioid.specs.declared.dates.Date.TheVariants.{At, Never};
 ghost use Rattle.series_laws.specs.Periodic.{times};
@@ -10,11 +9,12 @@ ghost use Rattle.series_laws.specs.Needs.{greatest_int};
 ghost use Rattle.series_laws.specs.ProductNeeds.{beats, anchor_step, anchor_of, loss_of, natural_of, own_plan, anchored_plan};
 ghost use Rattle.series_ops.specs.Listed.{AreUpTo, IsModest};
 
+use crate::cells::greater;
 use dioid::Date;
 use series_form::Plan;
 use series_laws::Anchor;
 
-/// A number many times over.
+// A number many times over.
 fn many(count: usize, number: i128) -> i128
     requires count { count ≤ 20000 }
     requires number { unsigned_abs number ≤ 200000000000000000000000 }
@@ -24,7 +24,7 @@ fn many(count: usize, number: i128) -> i128
     count as i128 * number
 }
 
-/// Whether a part has the greater ratio than the anchor. The first may have an equal one.
+// Whether a part has the greater ratio than the anchor. The first may have an equal one.
 fn is_better(anchor: Anchor, shift: usize, value: i128) -> bool
     requires anchor { IsModest anchor }
     requires shift { shift ≤ 20000 }
@@ -40,14 +40,14 @@ fn is_better(anchor: Anchor, shift: usize, value: i128) -> bool
     }
 }
 
-/// Whether the first number is less.
+// Whether the first number is less.
 fn is_less(first: i128, second: i128) -> bool
     ensures { result ≡ int_lt first second }
 {
     first < second
 }
 
-/// The anchor after one more part.
+// The anchor after one more part.
 fn next_anchor(anchor: Anchor, shift: usize, date: Date) -> Anchor
     requires anchor { IsModest anchor }
     requires shift { shift ≤ 20000 }
@@ -71,7 +71,7 @@ fn next_anchor(anchor: Anchor, shift: usize, date: Date) -> Anchor
     }
 }
 
-/// The anchor among the shifts of the list from 1 on.
+// The anchor among the shifts of the list from 1 on.
 fn best_anchor(values: &[Date], period: usize, step: i128) -> Anchor
     requires some { 0 < length values.now }
     requires short { length values.now ≤ 20000 }
@@ -92,7 +92,7 @@ fn best_anchor(values: &[Date], period: usize, step: i128) -> Anchor
     anchor
 }
 
-/// What a part of the list loses against steps.
+// What a part of the list loses against steps.
 fn loss(values: &[Date], period: usize, step: i128, place: usize) -> i128
     requires place { place < length values.now }
     requires short { length values.now ≤ 20000 }
@@ -108,21 +108,15 @@ fn loss(values: &[Date], period: usize, step: i128, place: usize) -> i128
     }
 }
 
-/// The greater of two numbers.
-fn greater(first: i128, second: i128) -> i128
-    ensures { result ≡ int_max first second }
-{
-    if first < second { second } else { first }
-}
-
-/// The greatest loss of one part that stands in the tail.
+// The greatest loss of one part that stands in the tail.
 fn greatest_loss(values: &[Date], period: usize, step: i128) -> i128
     requires positive { 0 < period }
     requires short { length values.now ≤ 20000 }
     requires period { period ≤ length values.now }
     requires step { unsigned_abs step ≤ 200000000000000000000000 }
     requires values { AreUpTo 200000000000000000000000 values.now }
-    ensures value { result ≡ greatest_int (λ i. loss_of (form_with values.now period step) (start_of (form_with values.now period step) + i)) (period - 1) }
+    ensures value { result ≡ greatest_int (λ i. loss_of (form_with values.now period step)
+        (start_of (form_with values.now period step) + i)) (period - 1) }
     ensures bound { unsigned_abs result ≤ 8000000000000000000000000000 }
 {
     let start = values.len() - period;
@@ -133,7 +127,7 @@ fn greatest_loss(values: &[Date], period: usize, step: i128) -> i128
     worst
 }
 
-/// A number, 0 where it is below.
+// A number, 0 where it is below.
 fn at_least_zero(number: i128) -> u128
     requires { unsigned_abs number ≤ 8000000000000000000000000000 }
     ensures value { result ≡ natural_of number }
@@ -142,15 +136,16 @@ fn at_least_zero(number: i128) -> u128
     if number < 0 { 0 } else { number as u128 }
 }
 
-/// From where the star repeats where the tail is a number: by the anchor if there is one, else
-/// past the greatest loss by the period.
+// From where the star repeats where the tail is a number: by the anchor if there is one, else
+// past the greatest loss by the period.
 fn plan_of_number(values: &[Date], period: usize, step: i128) -> Plan
     requires positive { 0 < period }
     requires short { length values.now ≤ 20000 }
     requires period { period ≤ length values.now }
     requires step { unsigned_abs step ≤ 200000000000000000000000 }
     requires values { AreUpTo 200000000000000000000000 values.now }
-    ensures value { result ≡ anchored_plan (anchor_of (form_with values.now period step)) (form_with values.now period step) }
+    ensures value { result ≡ anchored_plan (anchor_of (form_with values.now period step))
+        (form_with values.now period step) }
     ensures bound { result.from ≤ 1000000000000000000000000000000000 }
 {
     let anchor = best_anchor(values, period, step);
@@ -169,7 +164,7 @@ fn plan_of_number(values: &[Date], period: usize, step: i128) -> Plan
     }
 }
 
-/// From where the star of a form repeats, the form at least 0 from shift 1 on.
+// From where the star of a form repeats, the form at least 0 from shift 1 on.
 pub(crate) fn plan_of_parts(values: &[Date], period: usize, step: i128) -> Plan
     requires positive { 0 < period }
     requires short { length values.now ≤ 20000 }

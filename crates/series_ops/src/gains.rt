@@ -18,7 +18,7 @@ pub struct Gain {
 
 ghost use Rattle.series_ops.specs.Refusals.{IsRefusal};
 
-/// TooLong and TooGreat become Range, want of memory stays itself.
+// TooLong and TooGreat become Range, want of memory stays itself.
 fn refused(why: SeriesRefused) -> Refused
     ensures { IsRefusal why result }
 {

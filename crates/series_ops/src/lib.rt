@@ -6,6 +6,7 @@
 #![tactic(auto)]
 
 mod anchors;
+mod cells;
 mod gains;
 mod products;
 mod residuals;

@@ -13,6 +13,7 @@ ghost use Rattle.series_ops.specs.Splits.{tail_product};
 ghost use Rattle.series_laws.specs.ProductNeeds.{lifts_of, waits_of, product_first, product_by_slopes, product_plan, form_product};
 ghost use Rattle.series_ops.specs.Listed.{IsNumber, listed, AreUpTo};
 
+use crate::cells::{Cells, collected};
 use crate::splits::{tail_value, value_with_tail};
 use crate::tables::{ended, first_values};
 use dioid::Date;
@@ -22,7 +23,7 @@ use series_form::{
 };
 use std::alloc::{AllocError, Global};
 
-/// The common periods that cover the list of the first series.
+// The common periods that cover the list of the first series.
 fn lifts(first: &Series, second: &Series) -> usize
     ensures value { result ≡ lifts_of first.now second.now }
     ensures bound { result ≤ 20000 }
@@ -32,7 +33,7 @@ fn lifts(first: &Series, second: &Series) -> usize
     (first.values().len() + (shifts - 1)) / shifts
 }
 
-/// What the second series gains on the lifts.
+// What the second series gains on the lifts.
 fn gain_on_lifts(first: &Series, second: &Series) -> i128
     ensures value { result ≡ times (lifts_of first.now second.now) (fall_of first.now second.now) }
     ensures bound { unsigned_abs result ≤ 1000000000000000000000000000 }
@@ -42,8 +43,8 @@ fn gain_on_lifts(first: &Series, second: &Series) -> i128
     lifts as i128 * gain
 }
 
-/// The common periods after which the first series, of the greater slope, has gained what the
-/// second gains on them and on the lifts.
+// The common periods after which the first series, of the greater slope, has gained what the
+// second gains on them and on the lifts.
 fn waits(first: &Series, second: &Series) -> u128
     requires { pos 0 <ℤ (rise_of first.now second.now -ℤ fall_of first.now second.now) }
     ensures value { result ≡ waits_of first.now second.now }
@@ -52,7 +53,7 @@ fn waits(first: &Series, second: &Series) -> u128
     gains_for(gain_on_lifts(first, second), lead_gain(first, second))
 }
 
-/// From where the product repeats where both tails are numbers and the first slope is greater.
+// From where the product repeats where both tails are numbers and the first slope is greater.
 fn plan_of_numbers(first: &Series, second: &Series) -> Plan
     requires gain { pos 0 <ℤ (rise_of first.now second.now -ℤ fall_of first.now second.now) }
     requires number { IsNumber (tail_of first.now) }
@@ -67,7 +68,7 @@ fn plan_of_numbers(first: &Series, second: &Series) -> Plan
     }
 }
 
-/// From where the product repeats where the first tail is Never and the second one a number.
+// From where the product repeats where the first tail is Never and the second one a number.
 fn plan_of_never(first: &Series, second: &Series) -> Plan
     requires never { tail_of first.now ≡ Never }
     requires number { IsNumber (tail_of second.now) }
@@ -81,7 +82,7 @@ fn plan_of_never(first: &Series, second: &Series) -> Plan
     }
 }
 
-/// From where the product repeats where the first slope is greater and the second tail not Early.
+// From where the product repeats where the first slope is greater and the second tail not Early.
 fn plan_of_steeper(first: &Series, second: &Series) -> Plan
     requires slopes { slopes_of first.now second.now ≡ First }
     requires tail { tail_of second.now ≡ Early → ⊥ }
@@ -95,11 +96,12 @@ fn plan_of_steeper(first: &Series, second: &Series) -> Plan
     }
 }
 
-/// From where the product repeats where no factor is Early everywhere.
+// From where the product repeats where no factor is Early everywhere.
 fn plan_by_slopes(first: &Series, second: &Series) -> Plan
     requires left { tail_of first.now ≡ Early → ⊥ }
     requires right { tail_of second.now ≡ Early → ⊥ }
-    ensures value { result ≡ product_by_slopes (slopes_of first.now second.now) first.now second.now }
+    ensures value { result ≡ product_by_slopes (slopes_of first.now second.now) first.now
+        second.now }
     ensures bound { result.from ≤ 10000000000000000000000000000000000000 }
 {
     match compare_slopes(first, second) {
@@ -115,7 +117,7 @@ fn plan_by_slopes(first: &Series, second: &Series) -> Plan
     }
 }
 
-/// From where the product repeats, and by how many shifts.
+// From where the product repeats, and by how many shifts.
 fn plan_of_product(first: &Series, second: &Series) -> Plan
     ensures value { result ≡ product_plan first.now second.now }
     ensures bound { result.from ≤ 10000000000000000000000000000000000000 }
@@ -128,51 +130,55 @@ fn plan_of_product(first: &Series, second: &Series) -> Plan
     }
 }
 
-/// The greatest sums whose first part is in the tail of the first series, at the first shifts.
+// The greatest sums whose first part is in the tail of the first series, at the first shifts.
 fn tail_list(
     alloc: Global,
     first: &Series,
-    second: &[Date],
+    parts: &Cells,
+    second: &Cells,
     count: usize,
 ) -> Result<Vec<Date>, AllocError>
+    requires parts { parts.now ≡ first.now.values }
     requires short { count ≤ 20001 }
     requires second { count ≤ length second.now }
     requires second_bound { AreUpTo 20001000000000000000000 second.now }
-    ensures { IfOk result (λ values. values.items ≡ table (tail_product first.now (listed second.now)) count) }
+    ensures { IfOk result (λ values. values.items ≡ table
+        (tail_product first.now (listed second.now)) count) }
 {
-    let values = first.values();
     let (period, step) = (first.period(), first.step());
     let mut tails = Vec::new(alloc);
     for shift in 0..count {
-        let next = tail_value(values, period, step, second, tails.as_slice(), shift);
+        let next = tail_value(parts, period, step, second, tails.as_slice(), shift);
         tails.push(next)?;
     }
     Ok(tails)
 }
 
-/// The first values of the product of a series and a list, by the sums in the tail.
+// The first values of the product of a series and a list, by the sums in the tail.
 fn product_list(
     alloc: Global,
     first: &Series,
-    second: &[Date],
+    parts: &Cells,
+    second: &Cells,
     tails: &[Date],
-    count: usize,
 ) -> Result<Vec<Date>, AllocError>
-    requires second { count ≤ length second.now }
-    requires second_bound { AreUpTo 20001000000000000000000 second.now }
-    requires tails { tails.now ≡ table (tail_product first.now (listed second.now)) count }
-    ensures { IfOk result (λ values. values.items ≡ table (product_at (value_at first.now) (listed second.now)) count) }
+    requires parts { parts.now ≡ first.now.values }
+    requires second { length tails.now ≤ length second.now }
+    requires tails { tails.now ≡ table (tail_product first.now (listed second.now))
+        (length tails.now) }
+    ensures { IfOk result (λ values. values.items ≡ table
+        (product_at (value_at first.now) (listed second.now)) (length tails.now)) }
 {
-    let (parts, from) = (first.values(), start(first));
+    let from = start(first);
     let mut values = Vec::new(alloc);
-    for shift in 0..count {
+    for shift in 0..tails.len() {
         values.push(value_with_tail(parts, from, second, tails[shift], shift))?;
     }
     Ok(values)
 }
 
-/// The first values of the product, by the list of the first series. The work is their number times
-/// the length of that list.
+// The first values of the product, by the list of the first series. The work is their number times
+// the length of that list.
 fn values_by_first(
     alloc: Global,
     first: &Series,
@@ -180,15 +186,17 @@ fn values_by_first(
     count: usize,
 ) -> Result<Vec<Date>, AllocError>
     requires { count ≤ 20001 }
-    ensures { IfOk result (λ values. values.items ≡ table (product_at (value_at first.now) (value_at second.now)) count) }
+    ensures { IfOk result (λ values. values.items ≡ table
+        (product_at (value_at first.now) (value_at second.now)) count) }
 {
     let values = first_values(alloc, second, count)?;
-    let seconds = values.as_slice();
-    let tails = tail_list(alloc, first, seconds, count)?;
-    product_list(alloc, first, seconds, tails.as_slice(), count)
+    let seconds = collected(alloc, values.as_slice())?;
+    let parts = collected(alloc, first.values())?;
+    let tails = tail_list(alloc, first, &parts, &seconds, count)?;
+    product_list(alloc, first, &parts, &seconds, tails.as_slice())
 }
 
-/// The first values of the product, by the shorter list.
+// The first values of the product, by the shorter list.
 pub(crate) fn product_values(
     alloc: Global,
     first: &Series,
@@ -196,7 +204,8 @@ pub(crate) fn product_values(
     count: usize,
 ) -> Result<Vec<Date>, AllocError>
     requires { count ≤ 20001 }
-    ensures { IfOk result (λ values. values.items ≡ table (product_at (value_at first.now) (value_at second.now)) count) }
+    ensures { IfOk result (λ values. values.items ≡ table
+        (product_at (value_at first.now) (value_at second.now)) count) }
 {
     if second.values().len() < first.values().len() {
         values_by_first(alloc, second, first, count)
@@ -210,8 +219,11 @@ pub(crate) fn product_values(
 /// TooGreat exactly where a number of the result has a magnitude above 10^18. `OutOfMemory` comes
 /// only where no memory is found.
 pub fn product(alloc: Global, first: &Series, second: &Series) -> Result<Series, SeriesRefused>
-    ensures answer { AnswersOf (λ r. HasValues r (product_at (value_at first.now) (value_at second.now))) (need_of (product_plan first.now second.now)) (need_of (product_plan first.now second.now)) result }
-    ensures model { Answers (need_of (product_plan first.now second.now)) (form_product first.now second.now) result }
+    ensures answer { AnswersOf (λ r. HasValues r (product_at (value_at first.now)
+        (value_at second.now))) (need_of (product_plan first.now second.now))
+        (need_of (product_plan first.now second.now)) result }
+    ensures model { Answers (need_of (product_plan first.now second.now))
+        (form_product first.now second.now) result }
     ensures left { IsSeries first.now }
     ensures right { IsSeries second.now }
 {

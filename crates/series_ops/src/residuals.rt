@@ -1,17 +1,19 @@
 //! The residual of one series by another.
-ghost use Rattle.std.specs.Prelude.{◌≡◌, ◌≤◌, ◌<◌, ◌+◌, ◌-◌, ℕ, IfOk, length};
+ghost use Rattle.std.specs.Prelude.{◌≡◌, ◌≤◌, ◌<◌, ◌+◌, ◌-◌, ℕ, IfOk, length, map};
 ghost use Rattle.std.specs.Int.RustNames.{unsigned_abs};
 ghost use Rattle.dioid.specs.declared.dates.Date.TheVariants.{Early};
 ghost use Rattle.dioid.specs.Dates.{date_left};
 ghost use Rattle.series_laws.specs.declared.plans.Slopes.TheVariants.{First};
-ghost use Rattle.series_laws.specs.Forms.{size_of, value_at, table};
+ghost use Rattle.series_laws.specs.Forms.{size_of, start_of, value_at, table};
 ghost use Rattle.series_form.specs.Bounds.{IsUpTo, IsSeries};
 ghost use Rattle.series_form.specs.Answer.{AnswersOf, Answers};
 ghost use Rattle.series_laws.specs.Needs.{need_of, tail_of};
 ghost use Rattle.series_laws.specs.Residual.{IsLeftAt};
 ghost use Rattle.series_laws.specs.ProductNeeds.{offsets_of, left_over, OffsetsDecide, left_at, long_left, short_left, left_plan, form_left};
-ghost use Rattle.series_ops.specs.Listed.{AreEarlyTo, AreUpTo, part_listed, left_listed, star_left_listed, IsStarLeft};
+ghost use Rattle.series_ops.specs.Cells.{conjugate_of, turned};
+ghost use Rattle.series_ops.specs.Listed.{AreEarlyTo, AreUpTo, left_listed, star_left_listed, IsStarLeft};
 
+use crate::cells::{Cells, collected, conjugate, conjugates, conjugates_back, greatest_split};
 use crate::tables::{ended, first_values};
 use dioid::Date;
 use series_form::{
@@ -19,7 +21,7 @@ use series_form::{
 };
 use std::alloc::{AllocError, Global};
 
-/// The offsets that decide a residual.
+// The offsets that decide a residual.
 fn offsets(first: &Series, second: &Series) -> usize
     ensures value { result ≡ offsets_of first.now second.now }
     ensures bound { result ≤ 400020000 }
@@ -28,7 +30,7 @@ fn offsets(first: &Series, second: &Series) -> usize
     common_start(first, second) + common_period(first, second)
 }
 
-/// The plan where the offsets decide how long the list is.
+// The plan where the offsets decide how long the list is.
 fn plan_by_offsets(first: &Series, second: &Series) -> Plan
     ensures value { result ≡ long_left first.now second.now }
     ensures bound { result.from ≤ 400020000 }
@@ -42,7 +44,7 @@ fn plan_by_offsets(first: &Series, second: &Series) -> Plan
     }
 }
 
-/// The plan where the list is as long as that of the second series.
+// The plan where the list is as long as that of the second series.
 fn plan_by_second(first: &Series, second: &Series) -> Plan
     ensures value { result ≡ short_left first.now second.now }
     ensures bound { result.from ≤ 400020000 }
@@ -53,7 +55,7 @@ fn plan_by_second(first: &Series, second: &Series) -> Plan
     }
 }
 
-/// From where the residual repeats, by the period of the second series.
+// From where the residual repeats, by the period of the second series.
 fn plan_of_left(first: &Series, second: &Series) -> Plan
     ensures value { result ≡ left_plan first.now second.now }
     ensures bound { result.from ≤ 400020000 }
@@ -70,7 +72,7 @@ fn plan_of_left(first: &Series, second: &Series) -> Plan
     }
 }
 
-/// The greatest date whose sum with the first is at most the second.
+// The greatest date whose sum with the first is at most the second.
 fn subtracted(first: Date, second: Date) -> Date
     requires first { IsUpTo 500000000000000000000000000 first }
     requires second { IsUpTo 500000000000000000000000000 second }
@@ -84,8 +86,8 @@ fn subtracted(first: Date, second: Date) -> Date
     }
 }
 
-/// One more value of the residual of a list by the star of the monomial of shift `turn` and date
-/// `step`, from the values there are, which begin at the end of the list.
+// One more value of the residual of a list by the star of the monomial of shift `turn` and date
+// `step`, from the values there are, which begin at the end of the list.
 fn next_by_star(list: &[Date], values: &[Date], turn: usize, step: i128) -> Date
     requires place { length values.now < length list.now }
     requires turn { 0 < turn }
@@ -100,7 +102,7 @@ fn next_by_star(list: &[Date], values: &[Date], turn: usize, step: i128) -> Date
     date.earlier(subtracted(Date::At(step), values[values.len() - turn]))
 }
 
-/// The residual of a list by the star of the monomial of shift `turn` and date `step`, in reverse.
+// The residual of a list by the star of the monomial of shift `turn` and date `step`, in reverse.
 fn left_by_star(
     alloc: Global,
     list: &[Date],
@@ -121,132 +123,122 @@ fn left_by_star(
     Ok(values)
 }
 
-/// The residual at one place of the first list, from `from` on of the residual by the star, which
-/// stands in reverse.
-fn left_part(
-    first: &[Date],
-    from: usize,
-    second: &[Date],
-    by_star: &[Date],
-    shift: usize,
-    place: usize,
-) -> Date
-    requires first { place < length first.now }
-    requires second { shift + place < length second.now }
-    requires by_star { shift + place < length by_star.now }
-    requires first_bound { AreUpTo 500000000000000000000000000 first.now }
-    requires second_bound { AreUpTo 500000000000000000000000000 second.now }
-    requires by_star_bound { AreUpTo 500000000000000000000000000 by_star.now }
-    ensures { result ≡ part_listed first.now second.now by_star.now from shift place }
-{
-    let date = if place < from {
-        second[shift + place]
-    } else {
-        by_star[by_star.len() - 1 - (shift + place)]
-    };
-    subtracted(first[place], date)
-}
-
-/// How many places of a list come before one that is not Early, or else before the last.
-fn places_begun(list: &[Date]) -> usize
-    requires some { 0 < length list.now }
-    ensures within { result < length list.now }
+// How many of the first `most` places of a list come before one that is not Early.
+fn places_begun(list: &[Date], most: usize) -> usize
+    requires { most ≤ length list.now }
+    ensures within { result ≤ most }
     ensures early { AreEarlyTo result list.now }
 {
-    for place in 0..list.len() - 1 {
+    for place in 0..most {
         if list[place] != Date::Early {
             return place;
         }
     }
-    list.len() - 1
+    most
 }
 
-/// The least residual at a shift, over the places of the first list. Those where the first list is
-/// still Early bound nothing, and are passed over.
+// The least residual at a shift, over the places of the first list: below `from` of the one list,
+// from there on of the other, both conjugated and in reverse. A residual is the conjugate of the sum
+// with the conjugate, so that it is found by a greatest sum. The places below `begun`, where the
+// first list is still Early, bound nothing, and are passed over.
 fn left_value(
-    first: &[Date],
+    first: &Cells,
     begun: usize,
     from: usize,
-    second: &[Date],
-    by_star: &[Date],
+    second: &Cells,
+    by_star: &Cells,
     shift: usize,
 ) -> Date
-    requires begun { begun < length first.now }
+    requires begun { begun ≤ from }
+    requires from { from < length first.now }
     requires early { AreEarlyTo begun first.now }
     requires second { shift + length first.now ≤ length second.now }
     requires by_star { shift + length first.now ≤ length by_star.now }
-    requires first_bound { AreUpTo 500000000000000000000000000 first.now }
-    requires second_bound { AreUpTo 500000000000000000000000000 second.now }
-    requires by_star_bound { AreUpTo 500000000000000000000000000 by_star.now }
-    ensures { result ≡ left_listed first.now second.now by_star.now from shift }
+    ensures { result ≡ left_listed first.now (turned second.now) (map conjugate_of by_star.now) from
+        shift }
 {
-    let mut best = left_part(first, from, second, by_star, shift, begun);
-    for place in begun + 1..first.len() {
-        best = best.earlier(left_part(first, from, second, by_star, shift, place));
-    }
-    best
+    let last = second.len() - 1 - shift;
+    let head = greatest_split(first, second, last, begun, from - begun);
+    let last = by_star.len() - 1 - shift;
+    let rest = greatest_split(first, by_star, last, from, first.len() - from);
+    conjugate(head.later(rest))
 }
 
-/// One more value of the residual where the offsets decide: over the list of the first series, and
-/// past the list of the second by its period.
+// One more value of the residual where the offsets decide: over the list of the first series, and
+// past the list of the second by its period.
 fn next_left(
-    first: &Series,
+    parts: &Cells,
     begun: usize,
+    first: &Series,
     second: &Series,
-    list: &[Date],
-    by_star: &[Date],
+    list: &Cells,
+    by_star: &Cells,
     values: &[Date],
 ) -> Date
     requires series { IsSeries first.now }
     requires decide { OffsetsDecide first.now second.now }
-    requires begun { begun < size_of first.now }
+    requires parts { parts.now ≡ first.now.values }
+    requires begun { begun ≤ start_of first.now }
     requires early { AreEarlyTo begun first.now.values }
     requires few { offsets_of first.now second.now ≤ 40000 }
-    requires list { list.now ≡ table (value_at second.now) (size_of second.now + offsets_of first.now second.now) }
-    requires by_star { IsStarLeft list.now by_star.now first.now.period first.now.step }
+    requires list { turned list.now ≡ table (value_at second.now)
+        (size_of second.now + offsets_of first.now second.now) }
+    requires by_star { IsStarLeft (turned list.now) (map conjugate_of by_star.now) first.now.period
+        first.now.step }
     requires values { values.now ≡ table (left_over first.now second.now) (length values.now) }
     requires count { length values.now ≤ 20000 }
     ensures { result ≡ left_over first.now second.now (length values.now) }
 {
     let shift = values.len();
     if shift < second.values().len() {
-        return left_value(first.values(), begun, start(first), list, by_star, shift);
+        return left_value(parts, begun, start(first), list, by_star, shift);
     }
     subtracted(Date::At(-second.step()), values[shift - second.period()])
 }
 
-/// The first values of the residual where the offsets decide, from the first values of the second
-/// series and their residual by the star of the first series' period.
+// The first values of the residual where the offsets decide, from the first values of the second
+// series and their residual by the star of the first series' period, both conjugated and in reverse.
 fn left_list(
     alloc: Global,
     first: &Series,
     second: &Series,
-    list: &[Date],
-    by_star: &[Date],
+    list: &Cells,
+    by_star: &Cells,
     count: usize,
 ) -> Result<Vec<Date>, AllocError>
     requires series { IsSeries first.now }
     requires decide { OffsetsDecide first.now second.now }
     requires few { offsets_of first.now second.now ≤ 40000 }
-    requires list { list.now ≡ table (value_at second.now) (size_of second.now + offsets_of first.now second.now) }
-    requires by_star { IsStarLeft list.now by_star.now first.now.period first.now.step }
+    requires list { turned list.now ≡ table (value_at second.now)
+        (size_of second.now + offsets_of first.now second.now) }
+    requires by_star { IsStarLeft (turned list.now) (map conjugate_of by_star.now) first.now.period
+        first.now.step }
     requires count { count ≤ 20001 }
     ensures { IfOk result (λ values. values.items ≡ table (left_over first.now second.now) count) }
 {
-    let begun = places_begun(first.values());
+    let parts = collected(alloc, first.values())?;
+    let begun = places_begun(first.values(), start(first));
     let mut values = Vec::new(alloc);
     for _shift in 0..count {
-        let next = next_left(first, begun, second, list, by_star, values.as_slice());
+        let next = next_left(
+            &parts,
+            begun,
+            first,
+            second,
+            list,
+            by_star,
+            values.as_slice(),
+        );
         values.push(next)?;
     }
     Ok(values)
 }
 
-/// The first values of the residual where the offsets decide. From its start on the first series is
-/// its last period times the star of the monomial of that period and its step, and the residual by a
-/// product is that by one factor of the residual by the other: so the places of its list are enough.
-/// The work grows with the product of the length of the second list and the places from the first
-/// number of the first list on.
+// The first values of the residual where the offsets decide. From its start on the first series is
+// its last period times the star of the monomial of that period and its step, and the residual by a
+// product is that by one factor of the residual by the other: so the places of its list are enough.
+// The work grows with the product of the length of the second list and the places from the first
+// number of the first list on.
 fn values_by_offsets(
     alloc: Global,
     first: &Series,
@@ -261,17 +253,12 @@ fn values_by_offsets(
     let size = second.values().len() + offsets(first, second);
     let list = first_values(alloc, second, size)?;
     let by_star = left_by_star(alloc, list.as_slice(), first.period(), first.step())?;
-    left_list(
-        alloc,
-        first,
-        second,
-        list.as_slice(),
-        by_star.as_slice(),
-        count,
-    )
+    let ends = conjugates_back(alloc, list.as_slice())?;
+    let ends_by_star = conjugates(alloc, by_star.as_slice())?;
+    left_list(alloc, first, second, &ends, &ends_by_star, count)
 }
 
-/// The one date, `count` times.
+// The one date, `count` times.
 fn repeated(alloc: Global, date: Date, count: usize) -> Result<Vec<Date>, AllocError>
     ensures { IfOk result (λ values. values.items ≡ table (λ _. date) count) }
 {
@@ -282,7 +269,7 @@ fn repeated(alloc: Global, date: Date, count: usize) -> Result<Vec<Date>, AllocE
     Ok(values)
 }
 
-/// The first values of the residual where the first series is not Early everywhere.
+// The first values of the residual where the first series is not Early everywhere.
 fn values_by_slopes(
     alloc: Global,
     first: &Series,
@@ -300,7 +287,7 @@ fn values_by_slopes(
     }
 }
 
-/// The first values of the residual.
+// The first values of the residual.
 fn left_values(
     alloc: Global,
     first: &Series,
@@ -323,8 +310,11 @@ fn left_values(
 /// exactly where a number of the result has a magnitude above 10^18. `OutOfMemory` comes only where
 /// no memory is found.
 pub fn left(alloc: Global, first: &Series, second: &Series) -> Result<Series, SeriesRefused>
-    ensures answer { AnswersOf (λ r. (k : ℕ) → IsLeftAt (value_at first.now) (value_at second.now) k (value_at r k)) (need_of (left_plan first.now second.now)) (need_of (left_plan first.now second.now)) result }
-    ensures model { Answers (need_of (left_plan first.now second.now)) (form_left first.now second.now) result }
+    ensures answer { AnswersOf (λ r. (k : ℕ) → IsLeftAt (value_at first.now) (value_at second.now) k
+        (value_at r k)) (need_of (left_plan first.now second.now))
+        (need_of (left_plan first.now second.now)) result }
+    ensures model { Answers (need_of (left_plan first.now second.now))
+        (form_left first.now second.now) result }
     ensures left { IsSeries first.now }
     ensures right { IsSeries second.now }
 {

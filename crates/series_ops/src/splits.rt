@@ -4,12 +4,13 @@ ghost use Rattle.std.specs.Int.RustNames.{unsigned_abs};
 ghost use Rattle.dioid.specs.Dates.{date_product};
 ghost use Rattle.series_laws.specs.Forms.{form_with, table};
 ghost use Rattle.series_form.specs.Bounds.{IsUpTo};
-ghost use Rattle.series_ops.specs.Splits.{greatest_from, split_of, places_to, tail_product, with_tail};
+ghost use Rattle.series_ops.specs.Splits.{places_to, tail_product, with_tail};
 ghost use Rattle.series_ops.specs.Listed.{listed, AreUpTo};
 
+use crate::cells::{Cells, greatest_split};
 use dioid::Date;
 
-/// The two dates added.
+// The two dates added.
 fn added(first: Date, second: Date) -> Date
     requires first { IsUpTo 20001000000000000000000 first }
     requires second { IsUpTo 500000000000000000000000000 second }
@@ -22,7 +23,7 @@ fn added(first: Date, second: Date) -> Date
     }
 }
 
-/// How many of `most` places from `from` on are at most `shift`.
+// How many of `most` places from `from` on are at most `shift`.
 fn places(from: usize, most: usize, shift: usize) -> usize
     ensures { result ≡ places_to from most shift }
 {
@@ -36,30 +37,13 @@ fn places(from: usize, most: usize, shift: usize) -> usize
     }
 }
 
-/// The greatest sum of a value of the first list at `count` places from `from` on and a value of the
-/// second, their places adding up to `shift`. Early for no place.
-fn greatest_split(first: &[Date], second: &[Date], shift: usize, from: usize, count: usize) -> Date
-    requires first { from + count ≤ length first.now }
-    requires splits { count ≤ shift + 1 - from }
-    requires second { shift < length second.now }
-    requires first_bound { AreUpTo 20001000000000000000000 first.now }
-    requires second_bound { AreUpTo 500000000000000000000000000 second.now }
-    ensures { result ≡ greatest_from (split_of (listed first.now) (listed second.now) shift) from count }
-{
-    let mut best = Date::Early;
-    for place in 0..count {
-        best = best.later(added(first[from + place], second[shift - (from + place)]));
-    }
-    best
-}
-
-/// The greatest sum at a shift whose first part is in the tail of a list, of which the last `period`
-/// values go on by `step`: of those in the list, and of those of a period before, a step later.
+// The greatest sum at a shift whose first part is in the tail of a list, of which the last `period`
+// values go on by `step`: of those in the list, and of those of a period before, a step later.
 pub(crate) fn tail_value(
-    values: &[Date],
+    values: &Cells,
     period: usize,
     step: i128,
-    second: &[Date],
+    second: &Cells,
     tails: &[Date],
     shift: usize,
 ) -> Date
@@ -67,10 +51,10 @@ pub(crate) fn tail_value(
     requires period { period ≤ length values.now }
     requires step { unsigned_abs step ≤ 20001000000000000000000 }
     requires second { shift < length second.now }
-    requires values_bound { AreUpTo 20001000000000000000000 values.now }
-    requires second_bound { AreUpTo 500000000000000000000000000 second.now }
+    requires long { length tails.now ≡ shift }
     requires tails_bound { AreUpTo 500000000000000000000000000 tails.now }
-    requires tails { tails.now ≡ table (tail_product (form_with values.now period step) (listed second.now)) shift }
+    requires tails { tails.now ≡ table (tail_product (form_with values.now period step)
+        (listed second.now)) shift }
     ensures { result ≡ tail_product (form_with values.now period step) (listed second.now) shift }
 {
     let from = values.len() - period;
@@ -82,19 +66,17 @@ pub(crate) fn tail_value(
     here.later(added(Date::At(step), tails[shift - period]))
 }
 
-/// The later of the sums at a shift whose first part is at a place below `from`, and of those whose
-/// first part is in the tail.
+// The later of the sums at a shift whose first part is at a place below `from`, and of those whose
+// first part is in the tail.
 pub(crate) fn value_with_tail(
-    values: &[Date],
+    values: &Cells,
     from: usize,
-    second: &[Date],
+    second: &Cells,
     tail: Date,
     shift: usize,
 ) -> Date
     requires from { from ≤ length values.now }
     requires second { shift < length second.now }
-    requires values_bound { AreUpTo 20001000000000000000000 values.now }
-    requires second_bound { AreUpTo 500000000000000000000000000 second.now }
     ensures { result ≡ with_tail (listed values.now) (listed second.now) from tail shift }
 {
     let count = places(0, from, shift);

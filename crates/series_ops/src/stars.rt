@@ -13,6 +13,7 @@ ghost use Rattle.series_ops.specs.Listed.{AreUpTo, later_part};
 ghost use Rattle.series_laws.specs.StarOf.{parts_star, above_zero, IsStarOf};
 
 use crate::anchors::plan_of_parts;
+use crate::cells::Cells;
 use crate::splits::{tail_value, value_with_tail};
 use crate::tables::ended;
 use dioid::Date;
@@ -21,7 +22,7 @@ use series_form::{
 };
 use std::alloc::{AllocError, Global};
 
-/// A plan that has at least this need.
+// A plan that has at least this need.
 fn raised(need: usize, own: Plan) -> Plan
     ensures { result ≡ at_least need own }
 {
@@ -33,14 +34,15 @@ fn raised(need: usize, own: Plan) -> Plan
     }
 }
 
-/// From where the star repeats, by the first values of the sum with the monomial of shift 1 and
-/// date 0 and the value after them.
+// From where the star repeats, by the first values of the sum with the monomial of shift 1 and
+// date 0 and the value after them.
 fn plan_by_sum(mut values: Vec<Date>, turn: usize, next: Date, need: usize) -> Plan
     requires beginning { IsBeginning values.items turn next }
     requires values { AreUpTo 20001000000000000000000 values.items }
     requires next { IsUpTo 20001000000000000000000 next }
     requires need { need ≤ 20000 }
-    ensures value { (g : Form) → IsCanonical g → HasValues g (value_at (form_before values.items turn next)) → result ≡ at_least need (own_plan g) }
+    ensures value { (g : Form) → IsCanonical g → HasValues g
+        (value_at (form_before values.items turn next)) → result ≡ at_least need (own_plan g) }
     ensures bound { result.from ≤ 1000000000000000000000000000000000 }
 {
     let shape = canonical_part(values.as_slice(), turn, next);
@@ -51,67 +53,67 @@ fn plan_by_sum(mut values: Vec<Date>, turn: usize, next: Date, need: usize) -> P
     )
 }
 
-/// The values of a series from shift 1 on.
-fn later_values(alloc: Global, series: &Series, count: usize) -> Result<Vec<Date>, AllocError>
+// The values of a series from shift 1 on.
+fn later_values(alloc: Global, series: &Series, count: usize) -> Result<Cells, AllocError>
     requires { count ≤ 20000 }
-    ensures { IfOk result (λ values. values.items ≡ table (later_part (value_at series.now)) count) }
+    ensures { IfOk result (λ values. values ≡ table (later_part (value_at series.now)) count) }
 {
-    let mut values = Vec::new(alloc);
+    let mut values = Cells::new(alloc);
     for shift in 0..count {
         values.push(series.at((shift + 1) as u64))?;
     }
     Ok(values)
 }
 
-/// The star over lists of parts at the shifts up to `need`, by the values from shift 1 on and the
-/// sums whose first part is in their tail. The work is the need times the number of those values.
+// The star over lists of parts at the shifts up to `need`, by the values from shift 1 on and the
+// sums whose first part is in their tail. The work is the need times the number of those values.
 fn star_list(
     alloc: Global,
     first: &Series,
-    rest: &[Date],
+    rest: &Cells,
     need: usize,
 ) -> Result<Vec<Date>, AllocError>
     requires rest { rest.now ≡ table (later_part (value_at first.now)) (size_of first.now) }
     requires need { need ≤ 20000 }
-    ensures { IfOk result (λ values. values.items ≡ table (parts_star (value_at first.now)) (need + 1)) }
+    ensures { IfOk result (λ values. values.items ≡ table (parts_star (value_at first.now))
+        (need + 1)) }
 {
     let (period, step) = (first.period(), first.step());
     let from = start(first);
     let mut stars = Vec::new(alloc);
+    let mut cells = Cells::new(alloc);
     let mut tails = Vec::new(alloc);
     stars.push(Date::At(0))?;
+    cells.push(Date::At(0))?;
     for shift in 0..need {
-        let tail = tail_value(
-            rest,
-            period,
-            step,
-            stars.as_slice(),
-            tails.as_slice(),
-            shift,
-        );
+        let tail = tail_value(rest, period, step, &cells, tails.as_slice(), shift);
         tails.push(tail)?;
-        let next = value_with_tail(rest, from, stars.as_slice(), tail, shift);
-        stars.push(Date::At(0).later(next))?;
+        let best = value_with_tail(rest, from, &cells, tail, shift);
+        let next = Date::At(0).later(best);
+        cells.push(next)?;
+        stars.push(next)?;
     }
     Ok(stars)
 }
 
-/// The same, of the series alone.
+// The same, of the series alone.
 fn star_values(alloc: Global, first: &Series, need: usize) -> Result<Vec<Date>, AllocError>
     requires need { need ≤ 20000 }
-    ensures { IfOk result (λ values. values.items ≡ table (parts_star (value_at first.now)) (need + 1)) }
+    ensures { IfOk result (λ values. values.items ≡ table (parts_star (value_at first.now))
+        (need + 1)) }
 {
     let rest = later_values(alloc, first, first.values().len())?;
-    star_list(alloc, first, rest.as_slice(), need)
+    star_list(alloc, first, &rest, need)
 }
 
-/// The star by its plan.
+// The star by its plan.
 fn star_by_plan(alloc: Global, first: &Series, plan: Plan) -> Result<Series, SeriesRefused>
     requires series { IsSeries first.now }
     requires low { Le (value_at first.now 0) (At (pos 0)) }
     requires plan { plan ≡ star_plan first.now }
     requires bound { plan.from ≤ 1000000000000000000000000000000000 }
-    ensures { AnswersOf (λ r. HasValues r (parts_star (value_at first.now))) (need_of plan) (need_of plan) result }
+    ensures { AnswersOf (λ r. HasValues r (parts_star (value_at first.now))) (need_of plan)
+        (need_of plan) result }
 {
     let need = plan.from + plan.turn as u128;
     if need > 20_000 {
@@ -123,11 +125,12 @@ fn star_by_plan(alloc: Global, first: &Series, plan: Plan) -> Result<Series, Ser
     }
 }
 
-/// The star with the monomial of shift 1 and date 0 at hand.
+// The star with the monomial of shift 1 and date 0 at hand.
 fn star_with(alloc: Global, first: &Series, one: &Series) -> Result<Series, SeriesRefused>
     requires low { Le (value_at first.now 0) (At (pos 0)) }
     requires one { HasValues one.now (monomial_at 1 (pos 0)) }
-    ensures { AnswersOf (λ r. HasValues r (parts_star (value_at first.now))) (need_of (star_plan first.now)) (carried_of first.now) result }
+    ensures { AnswersOf (λ r. HasValues r (parts_star (value_at first.now)))
+        (need_of (star_plan first.now)) (carried_of first.now) result }
 {
     let plan = plan_of_sum(first, one);
     let need = plan.from + plan.turn as u128;
@@ -144,10 +147,11 @@ fn star_with(alloc: Global, first: &Series, one: &Series) -> Result<Series, Seri
     }
 }
 
-/// The star of a series whose first value is not above 0.
+// The star of a series whose first value is not above 0.
 fn star_of_parts(alloc: Global, first: &Series) -> Result<Series, SeriesRefused>
     requires low { Le (value_at first.now 0) (At (pos 0)) }
-    ensures { AnswersOf (λ r. HasValues r (parts_star (value_at first.now))) (need_of (star_plan first.now)) (carried_of first.now) result }
+    ensures { AnswersOf (λ r. HasValues r (parts_star (value_at first.now)))
+        (need_of (star_plan first.now)) (carried_of first.now) result }
 {
     match Series::monomial(alloc, 1, 0) {
         Ok(one) => star_with(alloc, first, &one),
@@ -155,7 +159,7 @@ fn star_of_parts(alloc: Global, first: &Series) -> Result<Series, SeriesRefused>
     }
 }
 
-/// Whether a date is above 0.
+// Whether a date is above 0.
 fn is_above_zero(date: Date) -> bool
     ensures { result ≡ above_zero date }
 {
@@ -173,7 +177,8 @@ fn is_above_zero(date: Date) -> bool
 /// exactly where a number of the result has a magnitude above 10^18. `OutOfMemory` comes only where
 /// no memory is found.
 pub fn star(alloc: Global, first: &Series) -> Result<Series, SeriesRefused>
-    ensures answer { AnswersOf (λ r. (k : ℕ) → IsStarOf (value_at first.now) k (value_at r k)) (star_need first.now) (star_carried first.now) result }
+    ensures answer { AnswersOf (λ r. (k : ℕ) → IsStarOf (value_at first.now) k (value_at r k))
+        (star_need first.now) (star_carried first.now) result }
     ensures model { Answers (star_need first.now) (form_star first.now) result }
     ensures operand { IsSeries first.now }
 {

@@ -9,7 +9,7 @@ use dioid::Date;
 use series_form::{Series, SeriesRefused, shortest};
 use std::alloc::{AllocError, Global};
 
-/// The first values of a series.
+// The first values of a series.
 pub(crate) fn first_values(
     alloc: Global,
     series: &Series,
@@ -27,11 +27,12 @@ pub(crate) fn first_values(
     Ok(values)
 }
 
-/// The series of a list whose last value is the one after the list of its form.
+// The series of a list whose last value is the one after the list of its form.
 pub(crate) fn ended(mut values: Vec<Date>, turn: usize) -> Result<Series, SeriesRefused>
     requires some { 0 < length values.items }
     requires beginning { IsBeginning (all_but_last values.items) turn (last_of values.items) }
-    ensures { IsShortest (value_at (form_before (all_but_last values.items) turn (last_of values.items))) result }
+    ensures { IsShortest (value_at (form_before (all_but_last values.items) turn
+        (last_of values.items))) result }
 {
     let last = values.len() - 1;
     let next = values[last];

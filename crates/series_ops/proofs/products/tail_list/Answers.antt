@@ -2,11 +2,11 @@ use Rattle.std.proofs.Common.{◌≡◌, ◌≤◌, ◌∙◌, ap, sym, arith, L
 use Rattle.std.specs.Int.{w128}
 use Rattle.dioid.specs.declared.dates.Date.{Date}
 use Rattle.series_laws.specs.Forms.{Form, form_with, size_of, table}
+use Rattle.series_laws.proofs.FormValues.{table_length}
 use Rattle.series_form.proofs.Finished.{table_push}
 use Rattle.series_ops.specs.Listed.{listed}
 use Rattle.series_ops.specs.Splits.{tail_product}
-use Rattle.series_ops.proofs.FirstValues.{all_more}
-use Rattle.series_ops.proofs.SplitLaws.{passed_form, passed_step, values_up_to, tails_up_to}
+use Rattle.series_ops.proofs.SplitLaws.{passed_form, passed_step, tails_up_to}
 use Rattle.series_ops.proofs.products.tail_list.Goals as goal
 
 pub tail_value-next-requires : goal.tail_value-next-requires
@@ -14,10 +14,10 @@ tail_value-next-requires c =
     let fits : c.args.first.now.period ≤ size_of c.args.first.now = c.period-period.ensures.series.canonical.form.period_fits in
     let some = c.period-period.ensures.series.canonical.form.period_positive in
     let here : c.period-period.result ≡ c.args.first.now.period = c.period-period.ensures.value in
-    let size : length c.values-values.result.now ≡ size_of c.args.first.now = ap length c.values-values.ensures.value in
-    let form : form_with c.values-values.result.now c.period-period.result (to_z w128 (of_z w128 c.step-step.result)) ≡ c.args.first.now =
-    passed_form c.args.first.now c.values-values.result.now c.period-period.result c.step-step.result c.step-step.ensures.series c.period-period.ensures.value c.step-step.ensures.value
-    ∙ ap (λ (z : List Date). form_with z c.args.first.now.period c.args.first.now.step) c.values-values.ensures.value in
+    let size : length c.args.parts.now ≡ size_of c.args.first.now = ap length c.requires.parts in
+    let form : form_with c.args.parts.now c.period-period.result (to_z w128 (of_z w128 c.step-step.result)) ≡ c.args.first.now =
+    passed_form c.args.first.now c.args.parts.now c.period-period.result c.step-step.result c.step-step.ensures.series c.period-period.ensures.value c.step-step.ensures.value
+    ∙ ap (λ (z : List Date). form_with z c.args.first.now.period c.args.first.now.step) c.requires.parts in
     let more = c.loop-shift-test.true in
     let short = c.requires.short in
     let long = c.requires.second in
@@ -27,16 +27,15 @@ tail_value-next-requires c =
       period = omega arith;
       step = passed_step c.args.first.now c.step-step.result c.step-step.ensures.series c.step-step.ensures.value;
       second = omega arith;
-      values_bound = values_up_to c.args.first.now c.values-values.result.now c.values-values.ensures.series c.values-values.ensures.value;
-      second_bound = all_more 20001000000000000000000 500000000000000000000000000 c.args.second.now (omega arith) c.requires.second_bound;
+      long = ap length items ∙ table_length (tail_product c.args.first.now (listed c.args.second.now)) c.loop-shift.shift;
       tails_bound = tails_up_to c.args.first.now c.args.second.now c.as_slice.result.now c.loop-shift.shift c.step-step.ensures.series c.requires.second_bound (omega arith) items;
       tails = items ∙ ap (λ (z : Form). table (tail_product z (listed c.args.second.now)) c.loop-shift.shift) (sym form);
     }
 
 pub loop-shift-preserved : goal.loop-shift-preserved
 loop-shift-preserved c =
-    let form : form_with c.values-values.result.now c.period-period.result (to_z w128 (of_z w128 c.step-step.result)) ≡ c.args.first.now =
-    passed_form c.args.first.now c.values-values.result.now c.period-period.result c.step-step.result c.step-step.ensures.series c.period-period.ensures.value c.step-step.ensures.value
-    ∙ ap (λ (z : List Date). form_with z c.args.first.now.period c.args.first.now.step) c.values-values.ensures.value in
+    let form : form_with c.args.parts.now c.period-period.result (to_z w128 (of_z w128 c.step-step.result)) ≡ c.args.first.now =
+    passed_form c.args.first.now c.args.parts.now c.period-period.result c.step-step.result c.step-step.ensures.series c.period-period.ensures.value c.step-step.ensures.value
+    ∙ ap (λ (z : List Date). form_with z c.args.first.now.period c.args.first.now.step) c.requires.parts in
     c.in_ok-push.ensures.items ∙ table_push (tail_product c.args.first.now (listed c.args.second.now)) c.loop-shift.shift c.loop-shift.tails.items _ c.loop-shift.invariant
     (c.tail_value-next.ensures ∙ ap (λ (z : Form). tail_product z (listed c.args.second.now) c.loop-shift.shift) form)

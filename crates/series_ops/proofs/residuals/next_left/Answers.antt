@@ -1,60 +1,45 @@
-use Rattle.std.proofs.Common.{◌≡◌, ◌+◌, ◌-◌, ◌∙◌, ◌-ℤ◌, ℕ, ℤ, pos, ap, arith, length, get_or}
+use Rattle.std.proofs.Common.{◌≡◌, ◌-◌, ◌∙◌, ◌-ℤ◌, ℕ, ℤ, pos, ap, sym, subst, arith, List, length, get_or, map}
+use Rattle.std.proofs.lemmas.List.{length-map}
 use Rattle.dioid.specs.Dates.{date_left}
+use Rattle.dioid.specs.declared.dates.Date.{Date}
 use Rattle.dioid.specs.declared.dates.Date.TheVariants.{Early, At}
-use Rattle.series_laws.specs.Forms.{size_of, value_at}
-use Rattle.series_laws.proofs.FormValues.{table_length}
-use Rattle.series_ops.specs.Listed.{left_listed}
-use Rattle.series_laws.specs.ProductNeeds.{offsets_of}
-use Rattle.series_ops.proofs.FirstValues.{all_more}
-use Rattle.series_ops.proofs.LeftValues.{long_table_up_to}
-use Rattle.series_ops.proofs.LeftParts.{list_reaches, left_listed_is, left_later_is, star_left_up_to, overs_up_to, negative_code}
+use Rattle.series_laws.specs.Forms.{size_of}
+use Rattle.series_ops.specs.Cells.{conjugate_of, turned}
+use Rattle.series_ops.specs.Listed.{AreEarlyTo, left_listed}
+use Rattle.series_ops.proofs.LeftParts.{list_reaches, left_listed_is, left_later_is, overs_up_to, negative_code}
+use Rattle.series_ops.proofs.LeftSplits.{turned_length}
 use Rattle.series_ops.proofs.residuals.next_left.Goals as goal
 
-pub left_value-requires-clause-second : goal.left_value-requires-clause-second
-left_value-requires-clause-second c =
-    let first : length c.values-then-shift-values.result.now ≡ size_of c.args.first.now = ap length c.values-then-shift-values.ensures.value in
+pub left_value-requires : goal.left_value-requires
+left_value-requires c =
+    let parts : length c.args.parts.now ≡ size_of c.args.first.now = ap length c.requires.parts in
     let second : length c.values.result.now ≡ size_of c.args.second.now = ap length c.values.ensures.value in
     let low = c.if-shift-values.true in
-    let reach = list_reaches c.args.first.now c.args.second.now c.requires.series.canonical.form c.values.ensures.series.canonical.form c.requires.decide c.args.list.now (length c.args.values.now) c.requires.list (omega arith) in
-    omega arith
-
-pub left_value-requires-clause-by_star : goal.left_value-requires-clause-by_star
-left_value-requires-clause-by_star c =
-    let first : length c.values-then-shift-values.result.now ≡ size_of c.args.first.now = ap length c.values-then-shift-values.ensures.value in
-    let second : length c.values.result.now ≡ size_of c.args.second.now = ap length c.values.ensures.value in
-    let low = c.if-shift-values.true in
+    let own = c.requires.series.canonical.form.period_positive in
+    let fits = c.requires.series.canonical.form.period_fits in
+    let start = c.start.ensures.value in
+    let begun = c.requires.begun in
     let size = c.requires.by_star.size in
-    let reach = list_reaches c.args.first.now c.args.second.now c.requires.series.canonical.form c.values.ensures.series.canonical.form c.requires.decide c.args.list.now (length c.args.values.now) c.requires.list (omega arith) in
-    omega arith
-
-pub left_value-requires-clause-second_bound : goal.left_value-requires-clause-second_bound
-left_value-requires-clause-second_bound c =
-    let few = c.requires.few in
-    let short = c.values.ensures.series.short in
-    all_more 60002000000000000000000 500000000000000000000000000 c.args.list.now (omega arith)
-    (long_table_up_to c.args.second.now (size_of c.args.second.now + offsets_of c.args.first.now c.args.second.now) c.args.list.now c.values.ensures.series (omega arith) c.requires.list)
-
-pub left_value-requires-clause-by_star_bound : goal.left_value-requires-clause-by_star_bound
-left_value-requires-clause-by_star_bound c =
-    let few = c.requires.few in
-    let short = c.values.ensures.series.short in
-    let size = c.requires.by_star.size in
-    let long : length c.args.list.now ≡ size_of c.args.second.now + offsets_of c.args.first.now c.args.second.now =
-    ap length c.requires.list ∙ table_length (value_at c.args.second.now) (size_of c.args.second.now + offsets_of c.args.first.now c.args.second.now) in
-    star_left_up_to c.args.list.now c.args.by_star.now c.args.first.now.period c.args.first.now.step
-    c.requires.series.canonical.form.period_positive c.requires.series.small.step
-    (long_table_up_to c.args.second.now (size_of c.args.second.now + offsets_of c.args.first.now c.args.second.now) c.args.list.now c.values.ensures.series (omega arith) c.requires.list)
-    c.requires.by_star.at (omega arith)
+    let whole : length (turned c.args.list.now) ≡ length c.args.list.now = turned_length c.args.list.now in
+    let all : length (map conjugate_of c.args.by_star.now) ≡ length c.args.by_star.now = length-map c.args.by_star.now conjugate_of in
+    let reach = list_reaches c.args.first.now c.args.second.now c.requires.series.canonical.form c.values.ensures.series.canonical.form c.requires.decide (turned c.args.list.now) (length c.args.values.now) c.requires.list (omega arith) in
+    record {
+      begun = omega arith;
+      from = omega arith;
+      early = subst (λ (z : List Date). AreEarlyTo c.args.begun z) (sym c.requires.parts) c.requires.early;
+      second = omega arith;
+      by_star = omega arith;
+    }
 
 pub returns-then-shift-values : goal.returns-then-shift-values
 returns-then-shift-values c =
     let second : length c.values.result.now ≡ size_of c.args.second.now = ap length c.values.ensures.value in
     let low = c.if-shift-values.true in
     c.left_value.ensures
-    ∙ ap (λ z. left_listed z c.args.list.now c.args.by_star.now c.start.result (length c.args.values.now)) c.values-then-shift-values.ensures.value
-    ∙ ap (λ z. left_listed c.args.first.now.values c.args.list.now c.args.by_star.now z (length c.args.values.now)) c.start.ensures.value
+    ∙ ap (λ z. left_listed z (turned c.args.list.now) (map conjugate_of c.args.by_star.now) c.start.result (length c.args.values.now)) c.requires.parts
+    ∙ ap (λ z. left_listed c.args.first.now.values (turned c.args.list.now) (map conjugate_of c.args.by_star.now) z (length c.args.values.now)) c.start.ensures.value
     ∙ left_listed_is c.args.first.now c.args.second.now c.requires.series.canonical.form c.values.ensures.series.canonical.form c.requires.decide
-    c.args.list.now c.args.by_star.now (length c.args.values.now) c.requires.list c.requires.by_star (omega arith)
+    (turned c.args.list.now) (map conjugate_of c.args.by_star.now) (length c.args.values.now) c.requires.list c.requires.by_star (omega arith)
 
 pub subtracted-requires-clause-second : goal.subtracted-requires-clause-second
 subtracted-requires-clause-second c =

@@ -4,4 +4,4 @@ use Rattle.series_ops.specs.Listed.{later_part}
 use Rattle.series_ops.proofs.stars.later_values.Given as goal
 
 abbrev pub invariant-loop-shift : goal.invariant-loop-shift
-invariant-loop-shift l = l.values.items ≡ table (later_part (value_at l.series)) l.shift
+invariant-loop-shift l = l.values ≡ table (later_part (value_at l.series)) l.shift

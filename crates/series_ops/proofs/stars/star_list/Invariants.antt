@@ -5,4 +5,6 @@ use Rattle.series_laws.specs.StarOf.{parts_star}
 use Rattle.series_ops.proofs.stars.star_list.Given as goal
 
 abbrev pub invariant-loop-shift : goal.invariant-loop-shift
-invariant-loop-shift l = (l.stars.items ≡ table (parts_star (value_at l.first)) (l.shift + 1)) × (l.tails.items ≡ table (tail_product (form_with l.rest l.first.period l.first.step) (parts_star (value_at l.first))) l.shift)
+invariant-loop-shift l = (l.stars.items ≡ table (parts_star (value_at l.first)) (l.shift + 1))
+    × (l.cells ≡ table (parts_star (value_at l.first)) (l.shift + 1))
+    × (l.tails.items ≡ table (tail_product (form_with l.rest l.first.period l.first.step) (parts_star (value_at l.first))) l.shift)

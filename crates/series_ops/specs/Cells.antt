@@ -1,0 +1,109 @@
+-- Dates as numbers: two far numbers stand for Early and Never.
+use Rattle.std.specs.Prelude.{◌≡◌, ◌≤◌, ◌<◌, ◌-ℤ◌, ◌⊎◌, ℕ, ℤ, pos, negsuc, suc, cond, ltb, List, [], ◌∷◌, ◌++◌, length, get_or, map, reverse}
+use Rattle.dioid.specs.declared.dates.Date.{Date}
+use Rattle.dioid.specs.declared.dates.Date.TheVariants.{Early, At, Never}
+use Rattle.series_form.specs.Bounds.{IsUpTo}
+
+-- ---- by any such two numbers
+
+-- the number that stands for a date, by those that stand for Early and Never
+abbrev pub cell_by : ℤ → ℤ → Date → ℤ
+cell_by early never Early = early
+cell_by early never (At t) = t
+cell_by early never Never = never
+
+-- the date that a number stands for, where one of a greater magnitude stands for no number
+abbrev pub date_by : ℕ → ℤ → Date
+date_by far (pos n) = cond (ltb far n) Never (At (pos n))
+date_by far (negsuc n) = cond (ltb far (suc n)) Early (At (negsuc n))
+
+-- the number is that of a date, with a magnitude of at most `most`
+pub record IsCellBy (far most : ℕ) (early never z : ℤ) : Type 0 where
+  pub own : cell_by early never (date_by far z) ≡ z
+  pub bound : IsUpTo most (date_by far z)
+
+-- each number is one of a date
+abbrev pub AreCellsBy : ℕ → ℕ → ℤ → ℤ → List ℤ → Type 0
+AreCellsBy far most early never l = (k : ℕ) → k < length l → IsCellBy far most early never (get_or l k (pos 0))
+
+-- ---- in sixteen bytes
+
+-- a number of a greater magnitude stands for no number
+abbrev pub far : ℕ
+far = 1000000000000000000000000000000
+
+-- no number of a list has a greater magnitude
+abbrev pub greatest_listed : ℕ
+greatest_listed = 500000000000000000000000000
+
+-- the number that stands for Never
+abbrev pub never_cell : ℤ
+never_cell = pos 1000000000000000000000000000000000000
+
+-- the number that stands for Early: its sum with the one for Never stands for Early too
+abbrev pub early_cell : ℤ
+early_cell = pos 0 -ℤ pos 10000000000000000000000000000000000000
+
+-- the number that stands for a date
+abbrev pub cell_of : Date → ℤ
+cell_of d = cell_by early_cell never_cell d
+
+-- the date that a number stands for
+abbrev pub date_in : ℤ → Date
+date_in z = date_by far z
+
+-- each number is one of a date
+abbrev pub AreCells : List ℤ → Type 0
+AreCells l = AreCellsBy far greatest_listed early_cell never_cell l
+
+-- ---- in eight bytes
+
+-- a number of a greater magnitude stands for no number
+abbrev pub short_far : ℕ
+short_far = 1800000000000000000
+
+-- no number of a list in eight bytes has a greater magnitude
+abbrev pub greatest_short : ℕ
+greatest_short = 900000000000000000
+
+-- the number that stands for Never
+abbrev pub never_short : ℤ
+never_short = pos 2750000000000000000
+
+-- the number that stands for Early: its sum with the one for Never stands for Early too
+abbrev pub early_short : ℤ
+early_short = pos 0 -ℤ pos 4600000000000000000
+
+-- the number that stands for a date
+abbrev pub short_of : Date → ℤ
+short_of d = cell_by early_short never_short d
+
+-- the date that a number stands for
+abbrev pub short_date : ℤ → Date
+short_date z = date_by short_far z
+
+-- each number is one of a date
+abbrev pub AreShort : List ℤ → Type 0
+AreShort l = AreCellsBy short_far greatest_short early_short never_short l
+
+-- the numbers of l in eight bytes stand for the first dates of n
+pub record AreShortOf (l n : List ℤ) : Type 0 where
+  pub fits : length l ≤ length n
+  pub short : AreShort l
+  pub same : (k : ℕ) → k < length l → short_date (get_or l k (pos 0)) ≡ date_in (get_or n k (pos 0))
+
+-- m is l, or l and the number of the date in eight bytes behind it
+abbrev pub IsPushed : List ℤ → List ℤ → Date → Type 0
+IsPushed l m d = (m ≡ l) ⊎ ((m ≡ l ++ short_of d ∷ []) × IsUpTo greatest_short d)
+
+-- ---- conjugates
+
+-- the conjugate of a date: numbers change their sign, Early and Never their places
+abbrev pub conjugate_of : Date → Date
+conjugate_of Early = Never
+conjugate_of (At t) = At (pos 0 -ℤ t)
+conjugate_of Never = Early
+
+-- the conjugates in reverse
+abbrev pub turned : List Date → List Date
+turned l = reverse (map conjugate_of l)
