@@ -1,2 +1,3 @@
 pub mod Unread
 pub mod Steps
+pub mod RowLaws

@@ -1,3 +1,4 @@
 pub mod Records
 pub mod Numbers
 pub mod Rows
+pub mod Seen

@@ -34,7 +34,8 @@ pub fn two_fields<'r>(row: &'r ByteRecord) -> Option<TwoFields<'r>>
 
 /// The three fields of a record; none exactly where it has another number of them.
 pub fn three_fields<'r>(row: &'r ByteRecord) -> Option<ThreeFields<'r>>
-    ensures some { IfSome result (λ f. fields_of row.now ≡ f.first.now ∷ f.second.now ∷ f.third.now ∷ []) }
+    ensures some { IfSome result (λ f. fields_of row.now
+        ≡ f.first.now ∷ f.second.now ∷ f.third.now ∷ []) }
     ensures none { IfNone result (length (fields_of row.now) ≢ 3) }
 {
     if row.len() != 3 {

@@ -51,7 +51,8 @@ impl<'a> Records<'a> {
     /// `row` has no field. Where no memory is found it has none either, and nothing is left to read
     /// afterwards.
     pub fn read(&mut self, row: &mut ByteRecord) -> Result<bool, OutOfMemory>
-        ensures found { IfOk result (λ found. found ≡ true → self.old ≡ fields_of row.new ∷ self.new) }
+        ensures found { IfOk result (λ found. found ≡ true → self.old
+            ≡ fields_of row.new ∷ self.new) }
         ensures ended { IfOk result (λ found. found ≡ false → (self.old ≡ []) × (self.new ≡ [])) }
         ensures failed { OnErr result (self.new ≡ []) }
         ensures no_row { (result ≢ Ok true) → fields_of row.new ≡ [] }

@@ -30,17 +30,17 @@ has_due rows t n = list_any (λ r. (r.transition.index == t) && (r.number == n))
 abbrev pub in_due_limits : ℕ → ℕ → Bool
 in_due_limits n date = nat_le 1 n && (nat_le n greatest_due_number && nat_le date greatest_date)
 
--- row k of transition t, a number and a date, after these rows
-abbrev pub due_numbered : List DueRow → ℕ → ℕ → ℕ → ℕ → Result DueRow DueRefusal
-due_numbered rows k t n date =
-    if has_due rows t n then Err (RepeatedDue k)
+-- row k of transition t, a number and a date, of a firing that an earlier row has or has not
+abbrev pub due_numbered : Bool → ℕ → ℕ → ℕ → ℕ → Result DueRow DueRefusal
+due_numbered is_repeated k t n date =
+    if is_repeated then Err (RepeatedDue k)
     else (if in_due_limits n date then Ok (record { row = k; transition = record { index = t }; number = n; date = date })
     else Err (OutOfRange k))
 
 -- row k of a transition that has or has not that name, a number and a date, after these rows
 abbrev pub due_placed : NetLists → List DueRow → ℕ → Option ℕ → ℕ → ℕ → Result DueRow DueRefusal
 due_placed net rows k None n date = Err (UnknownTransition k)
-due_placed net rows k (Some t) n date = if is_input net t then Err (NotDue k) else due_numbered rows k t n date
+due_placed net rows k (Some t) n date = if is_input net t then Err (NotDue k) else due_numbered (has_due rows t n) k t n date
 
 -- row k of these fields, after these rows, or the first of its faults
 abbrev pub due_row : NetLists → List DueRow → ℕ → List (List ℕ) → Result DueRow DueRefusal

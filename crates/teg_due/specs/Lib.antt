@@ -2,4 +2,4 @@ pub mod Names
 pub mod Dues
 pub mod Logs
 pub mod Rules
-pub mod Gathered
+pub mod DueFiles

@@ -4,12 +4,11 @@
 //! the first of its faults. Rows are counted from 1, a header included. The rows that are answered
 //! keep the rules that the crates above ask for (`IsDueOf`, `IsLogOf`). [`transition_named`] and
 //! [`is_input`] are what other readers of rows ask of a net too. The crate stands on
-//! `teg_net` for the names of transitions and on `csv_records` for the records of a text.
+//! `teg_net` for the names of transitions and on `csv_records` for the reader of rows.
 //! Its examples stand in `worked_examples`.
 #![tactic(auto)]
 
 mod dues;
-mod gathered;
 mod logs;
 mod names;
 mod rows;

@@ -87,11 +87,3 @@ impl From<OutOfMemory> for LogRefusal {
         LogRefusal::OutOfMemory
     }
 }
-
-impl From<csv_records::OutOfMemory> for LogRefusal {
-    ghost from_gives = { λ _ e. e ≡ NoLogMemory };
-
-    fn from(_error: csv_records::OutOfMemory) -> LogRefusal {
-        LogRefusal::OutOfMemory
-    }
-}
