@@ -1,7 +1,7 @@
 -- Where an input is among the transitions.
-use Rattle.std.proofs.Common.{ℕ, ◌<◌, ◌≡◌, Some, None, length, get_or, refl, sym, ⊎_elim}
+use Rattle.std.proofs.Common.{ℕ, ◌<◌, ◌≡◌, Some, None, length, get_or, ⊎_elim}
 use Rattle.std.specs.Prelude.{Any, IsSomeAnd, slice_get}
-use Rattle.std.proofs.lemmas.Option.{slice_get_read, slice_get_cases}
+use Rattle.std.proofs.lemmas.Option.{slice_get_cases}
 use Rattle.teg_net.specs.declared.entries.Role.TheVariants.{Input}
 use Rattle.teg_net.specs.declared.entries.Transition.{Transition}
 use Rattle.teg_net.specs.Nets.{NetLists, IsInput}

@@ -1,10 +1,9 @@
 -- An answer is read back from its text.
-use Rattle.std.proofs.Common.{ℕ, ◌<◌, ◌^◌, ◌≡◌, true, List, codes, refl, sym, ap, ◌∙◌, arith}
+use Rattle.std.proofs.Common.{ℕ, ◌<◌, ◌^◌, List, codes, refl, arith}
 use Rattle.std.specs.Prelude.{if◌then◌else◌}
-use Rattle.teg_text.specs.Lines.{are_lines}
-use Rattle.teg_text.specs.Reading.{lines_in, line_at, word, stands_at, number_in}
+use Rattle.teg_text.specs.Reading.{line_at, word, stands_at, number_in}
 use Rattle.teg_text.proofs.Back.{number_back, word64_back}
-use Rattle.teg_text.proofs.Reading.{written_read}
+use Rattle.teg_text.proofs.Telling.{IsReadFrom, same_told}
 use Rattle.teg_text.proofs.Words.{decimal_is_word}
 use Rattle.teg_bound.specs.Texts.{Cause, InputsCause, PlacesCause, WaysCause, DatesCause, Told, BoundTold, CauseTold, bound_lines, AreNumbersIn, TextsOfBoundsDiffer}
 
@@ -24,26 +23,17 @@ told_in lines =
 
 -- ---- answers
 
--- the lines are read back from their text, and the answer from the lines
-record IsRead (p : Told) : Type 0 where
-  words : are_lines (bound_lines p) ≡ true
-  told : told_in (bound_lines p) ≡ p
-
-is_read : (p : Told) → AreNumbersIn p → IsRead p
+is_read : (p : Told) → AreNumbersIn p → IsReadFrom told_in (bound_lines p) p
 is_read (BoundTold number after period) h = record {
   words = rw (decimal_is_word number, decimal_is_word after, decimal_is_word period) refl;
-  told =
+  back =
       let below : number < 2 ^ 128 = h.0 in
       rw (number_back number (omega arith), word64_back after h.1, word64_back period h.2) refl;
 }
-is_read (CauseTold InputsCause) h = record { words = refl; told = refl }
-is_read (CauseTold PlacesCause) h = record { words = refl; told = refl }
-is_read (CauseTold WaysCause) h = record { words = refl; told = refl }
-is_read (CauseTold DatesCause) h = record { words = refl; told = refl }
+is_read (CauseTold InputsCause) h = record { words = refl; back = refl }
+is_read (CauseTold PlacesCause) h = record { words = refl; back = refl }
+is_read (CauseTold WaysCause) h = record { words = refl; back = refl }
+is_read (CauseTold DatesCause) h = record { words = refl; back = refl }
 
 pub texts_of_bounds_differ : TextsOfBoundsDiffer
-texts_of_bounds_differ p q h k e =
-    let one = is_read p h in
-    let two = is_read q k in
-    let lines : bound_lines p ≡ bound_lines q = sym (written_read (bound_lines p) one.words) ∙ ap lines_in e ∙ written_read (bound_lines q) two.words in
-    sym one.told ∙ ap told_in lines ∙ two.told
+texts_of_bounds_differ p q h k = same_told told_in (bound_lines p) (bound_lines q) p q (is_read p h) (is_read q k)

@@ -1,5 +1,5 @@
 -- What the parts of a net and its certificate tell of a net without dates from outside.
-use Rattle.std.proofs.Common.{ℕ, ◌<◌, ◌≤◌, ◌≡◌, ◌≢◌, List, Some, None, length, get_or, sym, subst, ◌∙◌, arith}
+use Rattle.std.proofs.Common.{ℕ, ◌<◌, ◌≤◌, ◌≡◌, ◌≢◌, List, Option, Some, None, length, get_or, refl, sym, subst, ◌∙◌, arith}
 use Rattle.teg_net.specs.declared.entries.PlaceId.{PlaceId}
 use Rattle.teg_net.specs.declared.answers.PartAnswer.{PartAnswer}
 use Rattle.teg_net.specs.declared.answers.PartAnswer.TheVariants.{NoCircuit, Best}
@@ -8,14 +8,14 @@ use Rattle.teg_net.specs.Nets.{NetLists, IsNet}
 use Rattle.teg_net.specs.Ratios.{Fraction, IsLowestTerms}
 use Rattle.teg_net.specs.Circuits.{no_place, from_of, IsCircuit, IsLive}
 use Rattle.teg_net.specs.Parts.{to_of}
-use Rattle.teg_net.specs.GreatestRatios.{IsGreatestRatio, IsAnyPlace, IsCycleTime, ratio_in}
+use Rattle.teg_net.specs.GreatestRatios.{IsGreatestRatio, IsAnyPlace, IsCycleTime, ratio_in, ratio_at}
 use Rattle.teg_net.specs.Certificates.{IsCertificate, IsPartCertificate}
 use Rattle.teg_parts.specs.Partitions.{PartLists, AreParts}
+use Rattle.teg_cycle.specs.BestRatios.{named_ratio, best_ratio_of}
 use Rattle.teg_cycle.proofs.Certified.{tell_of_nets}
 use Rattle.teg_cycle.proofs.FirstBest.{told_in}
 use Rattle.teg_loops.proofs.Through.{pass_back}
 use Rattle.teg_bound.specs.Bounds.{EachReachesEach, HasNoWay}
-use Rattle.teg_bound.specs.Readings.{TellsBest}
 use Rattle.teg_bound.proofs.Small.{ratio_small}
 
 -- ---- parts
@@ -60,11 +60,28 @@ some_circuit net rules each some =
 
 -- ---- the answer on cycle times
 
-pub some_best : (net : NetLists) (answer : CycleAnswer) → IsNet net → IsLive net → IsCertificate net answer → EachReachesEach net → 0 < length net.places → answer.best ≢ None
+-- the answer of the best part tells this ratio
+pub record TellsBest (answer : CycleAnswer) (r : Fraction) : Type 0 where
+  pub part : ℕ
+  pub named : answer.best ≡ Some part
+  pub told : ratio_at answer.parts.items part ≡ Some r
+
+named_tells : (answers : List PartAnswer) (best : Option ℕ) (r : Fraction) → named_ratio answers best ≡ Some r → (k : ℕ) × (best ≡ Some k) × (ratio_at answers k ≡ Some r)
+named_tells answers None r e = let f : ⊥ = cc in absurd f
+named_tells answers (Some k) r e = (k, refl, e)
+
+pub tells_best : (answer : CycleAnswer) (r : Fraction) → best_ratio_of answer ≡ Some r → TellsBest answer r
+tells_best answer r e = let w = named_tells answer.parts.items answer.best r e in record { part = w.0; named = w.1; told = w.2 }
+
+named_some : (net : NetLists) (answers : List PartAnswer) (best : Option ℕ) → IsCycleTime net answers best → named_ratio answers best ≡ None → best ≡ None
+named_some net answers None told e = refl
+named_some net answers (Some k) told e = let r = told.1 in let f : ⊥ = cc in absurd f
+
+pub some_best : (net : NetLists) (answer : CycleAnswer) → IsNet net → IsLive net → IsCertificate net answer → EachReachesEach net → 0 < length net.places → best_ratio_of answer ≢ None
 some_best net answer rules live cert each some none =
     let c = some_circuit net rules each some in
     let told : IsCycleTime net answer.parts.items answer.best = tell_of_nets net answer rules live cert in
-    let no : IsCycleTime net answer.parts.items None = subst (IsCycleTime net answer.parts.items) none told in
+    let no : IsCycleTime net answer.parts.items None = subst (IsCycleTime net answer.parts.items) (named_some net answer.parts.items answer.best told none) told in
     no c.0 c.1 (λ i d l. tt)
 
 -- the ratio of the best part is the greatest

@@ -1,14 +1,5 @@
--- Working definitions of what is read off a net and an answer on cycle times.
-use Rattle.std.specs.Prelude.{ℕ, ◌≤◌, ◌≡◌, Some}
-use Rattle.teg_net.specs.declared.answers.CycleAnswer.{CycleAnswer}
-use Rattle.teg_net.specs.Ratios.{Fraction}
-use Rattle.teg_net.specs.GreatestRatios.{ratio_at}
-
--- the answer of the best part tells this ratio
-pub record TellsBest (answer : CycleAnswer) (r : Fraction) : Type 0 where
-  pub part : ℕ
-  pub named : answer.best ≡ Some part
-  pub told : ratio_at answer.parts.items part ≡ Some r
+-- Working definitions of what is read off a net.
+use Rattle.std.specs.Prelude.{ℕ, ◌≤◌}
 
 -- a count, a hold, tokens, and a ratio within their limits
 pub record AreWithin (count hold tokens time per : ℕ) : Type 0 where

@@ -2,6 +2,7 @@
 use Rattle.std.specs.Prelude.{ℕ, ◌<◌, ◌≡◌, ◌^◌, List, [], ◌∷◌, codes, ⊤}
 use Rattle.std.specs.Fmt.{decimal}
 use Rattle.teg_text.specs.Lines.{written}
+use Rattle.teg_text.specs.Names.{settled_words}
 use Rattle.teg_bound.specs.declared.bound.BoundAnswer.{BoundAnswer}
 use Rattle.teg_bound.specs.declared.bound.BoundAnswer.TheVariants.{Bound, HasInputs, NoPlace, NotStrong, ReadyDates}
 
@@ -36,17 +37,13 @@ cause_words DatesCause = codes "ready" ∷ codes "dates" ∷ []
 abbrev pub bound_line : ℕ → List (List ℕ)
 bound_line number = codes "bound" ∷ decimal number ∷ []
 
--- the line of the shortest settled form: its number and its period
-abbrev pub settled_line : ℕ → ℕ → List (List ℕ)
-settled_line after period = codes "settled" ∷ codes "after" ∷ decimal after ∷ codes "period" ∷ decimal period ∷ []
-
 -- the line that says why no bound is told
 abbrev pub cause_line : Cause → List (List ℕ)
 cause_line cause = codes "no" ∷ codes "bound:" ∷ cause_words cause
 
 -- the lines of an answer
 abbrev pub bound_lines : Told → List (List (List ℕ))
-bound_lines (BoundTold number after period) = bound_line number ∷ settled_line after period ∷ []
+bound_lines (BoundTold number after period) = bound_line number ∷ settled_words after period ∷ []
 bound_lines (CauseTold cause) = cause_line cause ∷ []
 
 -- the bound has 128 bits, and the number and the period have 64

@@ -5,8 +5,9 @@ ghost use Rattle.teg_parts.specs.Partitions.{AreParts};
 ghost use Rattle.teg_bound.specs.Bounds.{IsRightBound};
 
 use crate::numbers::bound_number;
-use crate::readings::{best_ratio, has_input, has_late_token};
+use crate::readings::{has_input, has_late_token};
 use teg_check::Live;
+use teg_cycle::best_ratio;
 use teg_net::{CycleAnswer, Net};
 use teg_parts::Parts;
 

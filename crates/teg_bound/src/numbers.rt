@@ -7,8 +7,8 @@ ghost use Rattle.teg_bound.specs.Readings.{AreWithin};
 use crate::readings::{greatest_hold, most_tokens};
 use teg_net::{Net, Ratio};
 
-/// The number of n transitions, hold H, tokens M and ratio a/b: with T = (n - 1) M, C = n M and
-/// P = (n - 1) H it is T + C (b P + a (T + C)) + 1.
+// The number of n transitions, hold H, tokens M and ratio a/b: with T = (n - 1) M, C = n M and
+// P = (n - 1) H it is T + C (b P + a (T + C)) + 1.
 fn number_of(count: u128, hold: u128, tokens: u128, time: u128, per: u128) -> u128
     requires { AreWithin count hold tokens time per }
     ensures value { result ≡ bound_of count hold tokens time per }
@@ -20,7 +20,7 @@ fn number_of(count: u128, hold: u128, tokens: u128, time: u128, per: u128) -> u1
     straight + around * (per * path + time * (straight + around)) + 1
 }
 
-/// The bound of a net at its greatest ratio.
+// The bound of a net at its greatest ratio.
 pub(crate) fn bound_number(net: &Net, ratio: Ratio) -> u128
     requires place { 0 < length net.now.places }
     requires time { ratio.time ≤ 400000000000 }

@@ -2,29 +2,25 @@
 //! why there is none.
 ghost use Rattle.std.specs.Prelude.{◌≡◌, ◌++◌, [], IfOk, string_bytes};
 ghost use Rattle.teg_text.specs.Lines.{line_then, written};
-ghost use Rattle.teg_bound.specs.Texts.{BoundTold, told, bound_line, settled_line, bound_lines, AreNumbersIn, IsCause, TextsOfBoundsDiffer};
+ghost use Rattle.teg_bound.specs.Texts.{BoundTold, told, bound_line, bound_lines, AreNumbersIn, IsCause, TextsOfBoundsDiffer};
 
 use crate::bound::BoundAnswer;
 use std::alloc::{AllocError, Global};
 use teg_net::OutOfMemory;
+use teg_text::push_settled;
 
-/// Appends the line of a bound.
+// Appends the line of a bound.
 fn push_bound(text: &mut String, number: u128) -> Result<(), AllocError>
-    ensures { IfOk result (λ _. string_bytes text.new ≡ string_bytes text.old ++ line_then (bound_line number) []) }
+    ensures { IfOk result (λ _. string_bytes text.new ≡ string_bytes text.old ++ line_then
+        (bound_line number) []) }
 {
     write!(text, "bound {number}\n")
 }
 
-/// Appends the line of a settled form.
-fn push_settled(text: &mut String, after: u64, period: u64) -> Result<(), AllocError>
-    ensures { IfOk result (λ _. string_bytes text.new ≡ string_bytes text.old ++ line_then (settled_line after period) []) }
-{
-    write!(text, "settled after {after} period {period}\n")
-}
-
-/// The two lines of a bound.
+// The two lines of a bound.
 fn two_lines(alloc: Global, number: u128, after: u64, period: u64) -> Result<String, AllocError>
-    ensures { IfOk result (λ text. string_bytes text ≡ written (bound_lines (BoundTold number after period))) }
+    ensures { IfOk result (λ text. string_bytes text ≡ written
+        (bound_lines (BoundTold number after period))) }
 {
     let mut text = String::new(alloc);
     push_bound(&mut text, number)?;
@@ -40,13 +36,14 @@ pub fn bound_text(
     after: u64,
     period: u64,
 ) -> Result<String, OutOfMemory>
-    ensures text { IfOk result (λ text. string_bytes text ≡ written (bound_lines (BoundTold number after period))) }
+    ensures text { IfOk result (λ text. string_bytes text
+        ≡ written (bound_lines (BoundTold number after period))) }
     ensures told { IfOk result (λ _. AreNumbersIn (BoundTold number after period)) }
 {
     Ok(two_lines(alloc, number, after, period)?)
 }
 
-/// The line of an answer that tells no bound.
+// The line of an answer that tells no bound.
 fn cause_line(answer: &BoundAnswer) -> &'static str
     requires { IsCause answer.now }
     ensures { result.now ≡ written (bound_lines (told answer.now 0 0)) }
@@ -64,7 +61,8 @@ fn cause_line(answer: &BoundAnswer) -> &'static str
 /// where no memory is found.
 pub fn no_bound_text(alloc: Global, answer: &BoundAnswer) -> Result<String, OutOfMemory>
     requires { IsCause answer.now }
-    ensures { IfOk result (λ text. string_bytes text ≡ written (bound_lines (told answer.now 0 0))) }
+    ensures { IfOk result (λ text. string_bytes text ≡ written
+        (bound_lines (told answer.now 0 0))) }
 {
     let mut text = String::new(alloc);
     text.push_str(cause_line(answer))?;

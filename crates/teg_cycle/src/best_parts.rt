@@ -7,14 +7,14 @@ ghost use Rattle.teg_cycle.specs.BestParts.{IsRatioAbove, HaveTokens};
 use std::cmp::Ordering;
 use teg_net::{PartAnswer, Ratio};
 
-/// The best part so far.
+// The best part so far.
 #[derive(Clone, Copy, Debug, PartialEq, Eq)]
 pub(crate) struct BestPart {
     pub(crate) part: usize,
     pub(crate) ratio: Ratio,
 }
 
-/// Whether the ratio is greater than that of the best part so far.
+// Whether the ratio is greater than that of the best part so far.
 fn is_above(ratio: &Ratio, best: &Option<BestPart>) -> bool
     ensures { IsTrue result ↔ IsRatioAbove ratio.now best.now }
 {
@@ -24,7 +24,7 @@ fn is_above(ratio: &Ratio, best: &Option<BestPart>) -> bool
     }
 }
 
-/// The first part of greatest ratio; none where no part has a circuit.
+// The first part of greatest ratio; none where no part has a circuit.
 pub(crate) fn best_part(answers: &[PartAnswer]) -> Option<usize>
     requires { HaveTokens answers.now }
     ensures { IsFirstGreatest answers.now result }
@@ -46,7 +46,7 @@ pub(crate) fn best_part(answers: &[PartAnswer]) -> Option<usize>
     }
 }
 
-/// The number of the first part of greatest ratio; none where no part has a circuit.
+// The number of the first part of greatest ratio; none where no part has a circuit.
 pub(crate) fn best_number(answers: &[PartAnswer]) -> Option<u32>
     requires tokens { HaveTokens answers.now }
     requires few { length answers.now ≤ most_transitions }

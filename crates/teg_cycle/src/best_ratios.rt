@@ -5,7 +5,7 @@ ghost use Rattle.teg_cycle.specs.BestRatios.{best_ratio_of};
 
 use teg_net::{CycleAnswer, PartAnswer, Ratio};
 
-/// The ratio that the answer of a part tells; none where it has no circuit.
+// The ratio that the answer of a part tells; none where it has no circuit.
 fn ratio_of(answer: &PartAnswer) -> Option<Ratio>
     ensures { result ≡ ratio_in answer.now }
 {

@@ -14,26 +14,28 @@ use teg_net::{
     CycleAnswer, Net, PartAnswer, Place, PlaceId, Potential, Ratio, is_circuit, time_of, tokens_of,
 };
 
-/// Whether each number is below the count.
+// Whether each number is below the count.
 fn all_below(part_of: &[u32], count: usize) -> bool
     ensures { IsTrue result ↔ All (λ k. k < count) part_of.now }
 {
     part_of.iter().all(|part| (*part as usize) < count)
 }
 
-/// Whether the number does not fall along the place.
+// Whether the number does not fall along the place.
 fn rises_along(part_of: &[u32], place: &Place) -> bool
     requires from_in { place.now.from.index < length part_of.now }
     requires to_in { place.now.to.index < length part_of.now }
-    ensures { IsTrue result ↔ (slice_index part_of.now place.now.from.index ≤ slice_index part_of.now place.now.to.index) }
+    ensures { IsTrue result ↔ (slice_index part_of.now place.now.from.index ≤ slice_index
+        part_of.now place.now.to.index) }
 {
     part_of[place.from.index as usize] <= part_of[place.to.index as usize]
 }
 
-/// Whether the numbers never fall along a place.
+// Whether the numbers never fall along a place.
 fn never_fall(net: &Net, part_of: &[u32]) -> bool
     requires { length part_of.now ≡ length net.now.transitions }
-    ensures { IsTrue result ↔ All (λ p. slice_index part_of.now p.from.index ≤ slice_index part_of.now p.to.index) net.now.places }
+    ensures { IsTrue result ↔ All (λ p. slice_index part_of.now p.from.index ≤ slice_index
+        part_of.now p.to.index) net.now.places }
 {
     for place in net.places() {
         if !rises_along(part_of, place) {
@@ -43,7 +45,7 @@ fn never_fall(net: &Net, part_of: &[u32]) -> bool
     true
 }
 
-/// Whether the numbers of transitions are those of parts, and never fall along a place.
+// Whether the numbers of transitions are those of parts, and never fall along a place.
 fn numbers_fit(net: &Net, part_of: &[u32], count: usize) -> bool
     ensures { IsTrue result ↔ AreNumbersOf net.now part_of.now count }
 {
@@ -52,7 +54,7 @@ fn numbers_fit(net: &Net, part_of: &[u32], count: usize) -> bool
         && never_fall(net, part_of)
 }
 
-/// Whether the ratio keeps the limits of an answer that is checked.
+// Whether the ratio keeps the limits of an answer that is checked.
 fn is_within(ratio: Ratio) -> bool
     ensures within { IsTrue result ↔ IsRatioWithin ratio }
     ensures terms { IsLowestTerms ratio }
@@ -60,7 +62,7 @@ fn is_within(ratio: Ratio) -> bool
     ratio.time() <= 1_000_000_000_000 && ratio.tokens() <= 1_000_000_000_000
 }
 
-/// Whether the time and the tokens have the ratio.
+// Whether the time and the tokens have the ratio.
 fn is_ratio_of(ratio: Ratio, time: u128, tokens: u128) -> bool
     requires limits { IsRatioWithin ratio }
     requires time { time ≤ 400000000000 }
@@ -70,11 +72,12 @@ fn is_ratio_of(ratio: Ratio, time: u128, tokens: u128) -> bool
     time * u128::from(ratio.tokens()) == u128::from(ratio.time()) * tokens
 }
 
-/// Whether the circuit has the ratio.
+// Whether the circuit has the ratio.
 fn attains(net: &Net, ratio: Ratio, places: &[PlaceId]) -> bool
     requires limits { IsRatioWithin ratio }
     requires circuit { IsCircuit net.now places.now }
-    ensures { IsTrue result ↔ (time_of net.now places.now * ratio.tokens ≡ ratio.time * tokens_of net.now places.now) }
+    ensures { IsTrue result ↔ (time_of net.now places.now * ratio.tokens
+        ≡ ratio.time * tokens_of net.now places.now) }
 {
     let _count = net.transitions().len();
     let time = time_of(net, places);
@@ -82,7 +85,7 @@ fn attains(net: &Net, ratio: Ratio, places: &[PlaceId]) -> bool
     is_ratio_of(ratio, time, tokens)
 }
 
-/// Whether the places are a circuit in the part that has the ratio.
+// Whether the places are a circuit in the part that has the ratio.
 fn has_ratio(net: &Net, part_of: &[u32], part: usize, ratio: Ratio, places: &[PlaceId]) -> bool
     requires count { length part_of.now ≡ length net.now.transitions }
     requires limits { IsRatioWithin ratio }
@@ -91,7 +94,7 @@ fn has_ratio(net: &Net, part_of: &[u32], part: usize, ratio: Ratio, places: &[Pl
     is_circuit(net, places) && all_inner(net, part_of, part, places) && attains(net, ratio, places)
 }
 
-/// Whether ratio, circuit and potentials are a certificate of the part.
+// Whether ratio, circuit and potentials are a certificate of the part.
 fn best_fits(
     net: &Net,
     part_of: &[u32],
@@ -101,7 +104,8 @@ fn best_fits(
     potentials: &[Potential],
 ) -> bool
     requires { length part_of.now ≡ length net.now.transitions }
-    ensures fits { IsTrue result ↔ FitsBest net.now part_of.now part ratio places.now potentials.now }
+    ensures fits { IsTrue result ↔ FitsBest net.now part_of.now part ratio places.now
+        potentials.now }
     ensures terms { IsLowestTerms ratio }
 {
     is_within(ratio)
@@ -109,7 +113,7 @@ fn best_fits(
         && potentials_fit(net, part_of, part, ratio, potentials)
 }
 
-/// Whether the answer is a certificate of the part.
+// Whether the answer is a certificate of the part.
 fn part_fits(net: &Net, part_of: &[u32], part: usize, answer: &PartAnswer) -> bool
     requires { length part_of.now ≡ length net.now.transitions }
     ensures { IsTrue result ↔ IsPartCertificate net.now part_of.now part answer.now }
@@ -124,7 +128,7 @@ fn part_fits(net: &Net, part_of: &[u32], part: usize, answer: &PartAnswer) -> bo
     }
 }
 
-/// Whether each answer is a certificate of its part.
+// Whether each answer is a certificate of its part.
 fn parts_fit(net: &Net, part_of: &[u32], answers: &[PartAnswer]) -> bool
     requires { length part_of.now ≡ length net.now.transitions }
     ensures { IsTrue result ↔ ArePartCertificates net.now part_of.now answers.now }
@@ -137,7 +141,7 @@ fn parts_fit(net: &Net, part_of: &[u32], answers: &[PartAnswer]) -> bool
     true
 }
 
-/// Whether the two are the same number, or both none.
+// Whether the two are the same number, or both none.
 fn is_same(first: Option<usize>, second: Option<u32>) -> bool
     ensures { IsTrue result ↔ (first ≡ second) }
 {
@@ -150,7 +154,7 @@ fn is_same(first: Option<usize>, second: Option<u32>) -> bool
     }
 }
 
-/// Whether the part is the first of greatest ratio; none where no part has a circuit.
+// Whether the part is the first of greatest ratio; none where no part has a circuit.
 fn is_first_best(answers: &[PartAnswer], best: Option<u32>) -> bool
     requires { HaveTokens answers.now }
     ensures { IsTrue result ↔ IsFirstGreatest answers.now best }
@@ -158,7 +162,7 @@ fn is_first_best(answers: &[PartAnswer], best: Option<u32>) -> bool
     is_same(best_part(answers), best)
 }
 
-/// Whether the parts of an answer on the net are a certificate.
+// Whether the parts of an answer on the net are a certificate.
 fn lists_fit(net: &Net, part_of: &[u32], answers: &[PartAnswer], best: Option<u32>) -> bool
     ensures { IsTrue result ↔ FitsLists net.now part_of.now answers.now best }
 {

@@ -15,10 +15,10 @@ use crate::best_parts::best_number;
 use std::alloc::{AllocError, Global};
 use teg_check::Live;
 use teg_howard::{howard, last_round};
-use teg_net::{CycleAnswer, Net, OutOfMemory, PartAnswer, Round, TransitionId};
+use teg_net::{CycleAnswer, Net, OutOfMemory, PartAnswer, Round};
 use teg_parts::Parts;
 
-/// The answer of one part.
+// The answer of one part.
 fn part_answer(
     alloc: Global,
     net: &Net,
@@ -40,7 +40,7 @@ fn part_answer(
     Ok(answer)
 }
 
-/// The answer of one part, and the rounds that led to it where a circuit lies there.
+// The answer of one part, and the rounds that led to it where a circuit lies there.
 fn part_run(
     alloc: Global,
     net: &Net,
@@ -53,7 +53,8 @@ fn part_run(
     requires part { part < length parts.now.inner }
     ensures answer { IfOk result (λ w. IsPartAnswer net.now parts.now.part_of part w.0) }
     ensures certificate { IfOk result (λ w. IsPartCertificate net.now parts.now.part_of part w.0) }
-    ensures run { IfOk result (λ w. IsRunOf net.now parts.now.part_of part w.0 (option_map (λ r. r.items) w.1)) }
+    ensures run { IfOk result (λ w. IsRunOf net.now parts.now.part_of part w.0
+        (option_map (λ r. r.items) w.1)) }
 {
     if !parts.has_circuit(part) {
         return Ok((PartAnswer::NoCircuit, None));
@@ -62,7 +63,7 @@ fn part_run(
     Ok((answer, Some(rounds)))
 }
 
-/// Puts the answer at the end of the list.
+// Puts the answer at the end of the list.
 fn keep(answers: &mut Vec<PartAnswer>, answer: PartAnswer) -> Result<(), AllocError>
     ensures { OnOk result (answers.new.items ≡ answers.old.items ++ answer ∷ []) }
 {
@@ -70,9 +71,10 @@ fn keep(answers: &mut Vec<PartAnswer>, answer: PartAnswer) -> Result<(), AllocEr
     Ok(())
 }
 
-/// Puts the rounds of a part, if it has some, at the end of the list.
+// Puts the rounds of a part, if it has some, at the end of the list.
 fn keep_run(runs: &mut Vec<Vec<Round>>, rounds: Option<Vec<Round>>) -> Result<(), AllocError>
-    ensures { OnOk result (rounds_in runs.new.items ≡ rounds_in runs.old.items ++ some_run (option_map (λ r. r.items) rounds)) }
+    ensures { OnOk result (rounds_in runs.new.items ≡ rounds_in runs.old.items ++ some_run
+        (option_map (λ r. r.items) rounds)) }
 {
     if let Some(rounds) = rounds {
         runs.push(rounds)?;
@@ -80,22 +82,7 @@ fn keep_run(runs: &mut Vec<Vec<Round>>, rounds: Option<Vec<Round>>) -> Result<()
     Ok(())
 }
 
-/// The number of each transition's part.
-fn part_numbers(alloc: Global, net: &Net, parts: &Parts) -> Result<Vec<u32>, AllocError>
-    requires { length parts.now.part_of ≡ length net.now.transitions }
-    ensures value { IfOk result (λ numbers. numbers.items ≡ parts.now.part_of) }
-    ensures rules { IfOk result (λ _. IsNet net.now) }
-{
-    let mut numbers = Vec::new(alloc);
-    for index in 0..net.transitions().len() {
-        numbers.push(parts.part_of(TransitionId {
-            index: index as u32,
-        }))?;
-    }
-    Ok(numbers)
-}
-
-/// The answer on the net that has these answers of its parts.
+// The answer on the net that has these answers of its parts.
 fn gathered(
     net: &Net,
     live: &Live,
@@ -154,7 +141,8 @@ pub fn cycle(
     ensures net { IfOk result (λ a. IsCycleTime net.now a.parts.items a.best) }
     ensures certificate { IfOk result (λ a. IsCertificate net.now a) }
 {
-    let part_of = part_numbers(alloc, net, parts)?;
+    let _count = net.transitions().len();
+    let part_of = parts.numbers()?;
     let mut answers = Vec::new(alloc);
     for part in 0..parts.count() {
         let answer = part_answer(alloc, net, live, parts, part)?;
@@ -181,9 +169,11 @@ pub fn cycle_with_runs(
     ensures best { IfOk result (λ w. IsFirstGreatest w.0.parts.items w.0.best) }
     ensures net { IfOk result (λ w. IsCycleTime net.now w.0.parts.items w.0.best) }
     ensures certificate { IfOk result (λ w. IsCertificate net.now w.0) }
-    ensures runs { IfOk result (λ w. AreRunsFrom net.now parts.now.part_of 0 w.0.parts.items (rounds_in w.1.items)) }
+    ensures runs { IfOk result (λ w. AreRunsFrom net.now parts.now.part_of 0 w.0.parts.items
+        (rounds_in w.1.items)) }
 {
-    let part_of = part_numbers(alloc, net, parts)?;
+    let _count = net.transitions().len();
+    let part_of = parts.numbers()?;
     let mut answers = Vec::new(alloc);
     let mut runs = Vec::new(alloc);
     for part in 0..parts.count() {

@@ -9,23 +9,24 @@ ghost use Rattle.teg_cycle.specs.Checks.{IsRatioWithin, IsTold, TellsMembers, Ke
 use crate::inner_places::is_inner;
 use teg_net::{Net, Place, Potential, Ratio};
 
-/// Whether the transition has the part's number.
+// Whether the transition has the part's number.
 fn is_member(part_of: &[u32], part: usize, transition: usize) -> bool
     ensures { IsTrue result ↔ IsMember part_of.now part transition }
 {
     transition < part_of.len() && part_of[transition] as usize == part
 }
 
-/// Whether the first potential is of a lower numbered transition than the second.
+// Whether the first potential is of a lower numbered transition than the second.
 fn is_before(first: Potential, second: Potential) -> bool
     ensures { IsTrue result ↔ (first.transition.index < second.transition.index) }
 {
     first.transition.index < second.transition.index
 }
 
-/// Whether the potentials stand in order of transition.
+// Whether the potentials stand in order of transition.
 fn in_order(potentials: &[Potential]) -> bool
-    ensures { IsTrue result ↔ AllPairs (λ v w. v.transition.index < w.transition.index) potentials.now }
+    ensures { IsTrue result ↔ AllPairs (λ v w. v.transition.index < w.transition.index)
+        potentials.now }
 {
     for next in 1..potentials.len() {
         if !is_before(potentials[next - 1], potentials[next]) {
@@ -35,9 +36,10 @@ fn in_order(potentials: &[Potential]) -> bool
     true
 }
 
-/// Whether each potential is of a member of the part.
+// Whether each potential is of a member of the part.
 fn only_members(part_of: &[u32], part: usize, potentials: &[Potential]) -> bool
-    ensures { IsTrue result ↔ All (λ v. IsMember part_of.now part v.transition.index) potentials.now }
+    ensures { IsTrue result ↔ All (λ v. IsMember part_of.now part v.transition.index)
+        potentials.now }
 {
     for told in potentials {
         if !is_member(part_of, part, told.transition.index as usize) {
@@ -47,7 +49,7 @@ fn only_members(part_of: &[u32], part: usize, potentials: &[Potential]) -> bool
     true
 }
 
-/// Whether a potential is told of the transition.
+// Whether a potential is told of the transition.
 fn is_told(potentials: &[Potential], transition: usize) -> bool
     ensures { IsTrue result ↔ IsTold potentials.now transition }
 {
@@ -56,9 +58,10 @@ fn is_told(potentials: &[Potential], transition: usize) -> bool
         .any(|told| told.transition.index as usize == transition)
 }
 
-/// Whether a potential is told of the transition, if that is a member of the part.
+// Whether a potential is told of the transition, if that is a member of the part.
 fn is_told_member(part_of: &[u32], part: usize, potentials: &[Potential], transition: usize) -> bool
-    ensures { IsTrue result ↔ (IsMember part_of.now part transition → IsTold potentials.now transition) }
+    ensures { IsTrue result ↔ (IsMember part_of.now part transition
+        → IsTold potentials.now transition) }
 {
     if !is_member(part_of, part, transition) {
         return true;
@@ -66,7 +69,7 @@ fn is_told_member(part_of: &[u32], part: usize, potentials: &[Potential], transi
     is_told(potentials, transition)
 }
 
-/// Whether a potential is told of each member of the part.
+// Whether a potential is told of each member of the part.
 fn all_members(part_of: &[u32], part: usize, potentials: &[Potential]) -> bool
     ensures { IsTrue result ↔ ((t : ℕ) → IsMember part_of.now part t → IsTold potentials.now t) }
 {
@@ -78,7 +81,7 @@ fn all_members(part_of: &[u32], part: usize, potentials: &[Potential]) -> bool
     true
 }
 
-/// Whether a potential is told of each member of the part, in order, and of no other transition.
+// Whether a potential is told of each member of the part, in order, and of no other transition.
 fn tells_members(part_of: &[u32], part: usize, potentials: &[Potential]) -> bool
     ensures { IsTrue result ↔ TellsMembers part_of.now part potentials.now }
 {
@@ -87,7 +90,7 @@ fn tells_members(part_of: &[u32], part: usize, potentials: &[Potential]) -> bool
         && all_members(part_of, part, potentials)
 }
 
-/// Whether the potentials keep their limit.
+// Whether the potentials keep their limit.
 fn all_within(potentials: &[Potential]) -> bool
     ensures { IsTrue result ↔ All (λ v. IsWithin greatest_potential v.value) potentials.now }
 {
@@ -96,7 +99,7 @@ fn all_within(potentials: &[Potential]) -> bool
     })
 }
 
-/// The potential of a transition, 0 where none is told.
+// The potential of a transition, 0 where none is told.
 fn potential_of(potentials: &[Potential], transition: u32) -> i128
     requires { All (λ v. IsWithin greatest_potential v.value) potentials.now }
     ensures value { result ≡ potential_at potentials.now transition }
@@ -110,27 +113,28 @@ fn potential_of(potentials: &[Potential], transition: u32) -> i128
     0
 }
 
-/// What a place lifts its end to, where its start has the potential.
+// What a place lifts its end to, where its start has the potential.
 fn lifted(ratio: Ratio, place: &Place, potential: i128) -> i128
     requires limits { IsRatioWithin ratio }
     requires hold { place.now.hold ≤ greatest_hold }
     requires tokens { place.now.tokens ≤ most_tokens }
     requires within { IsWithin greatest_potential potential }
-    ensures { result ≡ ((pos (ratio.tokens * place.now.hold) -ℤ pos (ratio.time * place.now.tokens)) +ℤ potential) }
+    ensures { result ≡ ((pos (ratio.tokens * place.now.hold) -ℤ pos (ratio.time * place.now.tokens))
+        +ℤ potential) }
 {
     let gain = u128::from(ratio.tokens()) * u128::from(place.hold);
     let loss = u128::from(ratio.time()) * u128::from(place.tokens);
     gain as i128 - loss as i128 + potential
 }
 
-/// Whether the first number is at most the second.
+// Whether the first number is at most the second.
 fn is_at_most(first: i128, second: i128) -> bool
     ensures { IsTrue result ↔ (first ≤ℤ second) }
 {
     first <= second
 }
 
-/// Whether the place, if it lies in the part, does not lift its end above the potential there.
+// Whether the place, if it lies in the part, does not lift its end above the potential there.
 fn keeps_potential(
     part_of: &[u32],
     part: usize,
@@ -154,7 +158,7 @@ fn keeps_potential(
     is_at_most(lifted(ratio, place, from), to)
 }
 
-/// Whether no place of the part lifts its end above the potential there.
+// Whether no place of the part lifts its end above the potential there.
 fn all_keep_potentials(
     net: &Net,
     part_of: &[u32],
@@ -175,8 +179,8 @@ fn all_keep_potentials(
     true
 }
 
-/// Whether the potentials are those of the part's members, within limits, and no place of the part
-/// exceeds them.
+// Whether the potentials are those of the part's members, within limits, and no place of the part
+// exceeds them.
 pub(crate) fn potentials_fit(
     net: &Net,
     part_of: &[u32],

@@ -7,6 +7,7 @@ use Rattle.teg_net.specs.Nets.{NetLists}
 use Rattle.teg_net.specs.Circuits.{IsPathBetween, from_of}
 use Rattle.teg_net.specs.Parts.{IsMember, IsPlaceOfPart, to_of}
 use Rattle.teg_howard.specs.Policies.{Policy, IsPolicy, IsPolicyCircuit, step_back}
+use Rattle.teg_howard.specs.FoundCircuits.{IsOnPolicy}
 use Rattle.teg_howard.proofs.Search.{FirstBelow, first_below, pigeons}
 
 -- the places passed by following m places backwards from t, in the order of a path to t
@@ -102,3 +103,7 @@ module _ (net : NetLists) (parts : List ℕ) (part : ℕ) (π : Policy) (ok : Is
       let again : step_back net π (j - i) s ≡ s = back_add net π (j - i) i t ∙ (ap (λ x. step_back net π x t) e ∙ sym p.4) in
       let f = first_return (j - i) s (omega arith) again in
       (i, f.0, f.1, f.3, trail_circuit f.0 s (back_member i t h) f.1 f.3 f.4)
+
+-- following the policy backwards stays on it
+pub on_back : (net : NetLists) (π : Policy) (t : ℕ) → IsOnPolicy net π t → IsOnPolicy net π (from_of net (π t))
+on_back net π t h = record { parts = h.parts; part = h.part; count = h.count; member = (h.kept t h.member).inside.from_member; kept = h.kept }

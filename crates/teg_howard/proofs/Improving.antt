@@ -10,7 +10,7 @@ use Rattle.teg_net.specs.Nets.{NetLists}
 use Rattle.teg_net.specs.Ratios.{Fraction}
 use Rattle.teg_net.specs.Parts.{IsPlaceOfPart, to_of}
 use Rattle.teg_howard.specs.Policies.{Policy, Enters, first_id, offer_of, Improves}
-use Rattle.teg_howard.specs.FoundCircuits.{policy_of, potentials, IsMarked, IsBetter}
+use Rattle.teg_howard.specs.FoundCircuits.{policy_of, potentials, IsMarked, IsBar, IsBetter}
 use Rattle.teg_howard.proofs.Turns.{same_id}
 
 -- the greatest offer to t so far, which the policy has taken
@@ -33,36 +33,43 @@ pub record Improving (net : NetLists) (parts : List ℕ) (part a b : ℕ) (v : �
 pub cases_marked : (cs : List Bool) (t : ℕ) → IsMarked cs t ⊎ (IsMarked cs t → ⊥)
 cases_marked cs t = ⊎_elim (λ (e : get_or cs t false ≡ true). inl e) (λ (e : get_or cs t false ≡ false). inr (λ f. cc)) (cases_Bool (get_or cs t false))
 
--- what the loop compares an offer with
-abbrev pub bar : (ℕ → ℤ) → List ℤ → List Bool → ℕ → ℤ → Type 0
-bar v gs cs t z = (IsMarked cs t → z ≡ get_or gs t (pos 0)) × ((IsMarked cs t → ⊥) → z ≡ v t)
+-- no place has made its offer
+pub improving_none : (net : NetLists) (parts : List ℕ) (part a b : ℕ) (v : ℕ → ℤ) (ps : List PlaceId) (gs : List ℤ) (cs : List Bool) (i : ℕ) → length ps ≡ length parts → length gs ≡ length parts → length cs ≡ length parts
+    → ((t : ℕ) → IsMarked cs t → ⊥) → ((q : PlaceId) → IsPlaceOfPart net parts part q → q.index < i → ⊥) → All (λ p. p.index < length net.places) ps → Improving net parts part a b v (policy_of ps) ps gs cs i
+improving_none net parts part a b v ps gs cs i count count_gs count_cs none first in_range = record {
+  count = count;
+  count_gs = count_gs;
+  count_cs = count_cs;
+  marked = λ t m. absurd (none t m);
+  same = λ t m. refl;
+  low = λ t m q n l. absurd (first q n.inside l);
+  in_range = in_range;
+}
 
 module _ (net : NetLists) (parts : List ℕ) (part a b : ℕ) (v : ℕ → ℤ) (first : Policy) (ps : List PlaceId) (gs : List ℤ) (cs : List Bool) (i : ℕ) (h : Improving net parts part a b v first ps gs cs i) where
   -- a place at i enters only one transition
   at_i : (p q : PlaceId) (t : ℕ) → p.index ≡ i → Enters net parts part t q → q.index < i + 1 → (q.index < i) ⊎ (q ≡ p)
   at_i p q t e n l = ⊎_elim (λ (k : q.index < i). inl k) (λ (k : i ≤ q.index). inr (same_id q p (omega arith))) (cases_lt q.index i)
 
-  pub improving_skip : (p : PlaceId) → p.index ≡ i → (IsPlaceOfPart net parts part p → ⊥) → Improving net parts part a b v first ps gs cs (i + 1)
-  improving_skip p e out =
-      let earlier = λ (q : PlaceId) (t : ℕ) (n : Enters net parts part t q) (l : q.index < i + 1).
-      let r : q.index < i = ⊎_elim (λ (k : q.index < i). k) (λ (k : q ≡ p). absurd (out (subst (IsPlaceOfPart net parts part) k n.inside))) (at_i p q t e n l) in r in
-      record {
-        count = h.count;
-        count_gs = h.count_gs;
-        count_cs = h.count_cs;
-        same = h.same;
-        in_range = h.in_range;
-        marked = λ t m. let g = h.marked t m in let k = g.before in record {
-          improves = g.improves;
-          value = g.value;
-          before = omega arith;
-          most = λ q n l. g.most q n (earlier q t n l);
-          lowest = λ q n l. g.lowest q n (earlier q t n l);
-        };
-        low = λ t m q n l. h.low t m q n (earlier q t n l);
-      }
+  -- no place of the part lies between
+  pub improving_far : (j : ℕ) → i ≤ j → ((q : PlaceId) → IsPlaceOfPart net parts part q → q.index < j → q.index < i) → Improving net parts part a b v first ps gs cs j
+  improving_far j le far = record {
+    count = h.count;
+    count_gs = h.count_gs;
+    count_cs = h.count_cs;
+    same = h.same;
+    in_range = h.in_range;
+    marked = λ t m. let g = h.marked t m in let k = g.before in record {
+      improves = g.improves;
+      value = g.value;
+      before = omega arith;
+      most = λ q n l. g.most q n (far q n.inside l);
+      lowest = λ q n l. g.lowest q n (far q n.inside l);
+    };
+    low = λ t m q n l. h.low t m q n (far q n.inside l);
+  }
 
-  pub improving_keep : (p : PlaceId) (z : ℤ) → p.index ≡ i → bar v gs cs (to_of net p) z → offer_of net a b v p ≤ℤ z → Improving net parts part a b v first ps gs cs (i + 1)
+  pub improving_keep : (p : PlaceId) (z : ℤ) → p.index ≡ i → IsBar v gs cs (to_of net p) z → offer_of net a b v p ≤ℤ z → Improving net parts part a b v first ps gs cs (i + 1)
   improving_keep p z e at le = record {
     count = h.count;
     count_gs = h.count_gs;
@@ -103,7 +110,7 @@ module _ (net : NetLists) (parts : List ℕ) (part a b : ℕ) (v : ℕ → ℤ) 
         (at_i p q t e n l);
   }
 
-  pub improving_take : (p : PlaceId) (z : ℤ) → p.index ≡ i → IsPlaceOfPart net parts part p → bar v gs cs (to_of net p) z → z <ℤ offer_of net a b v p
+  pub improving_take : (p : PlaceId) (z : ℤ) → p.index ≡ i → IsPlaceOfPart net parts part p → IsBar v gs cs (to_of net p) z → z <ℤ offer_of net a b v p
       → Improving net parts part a b v first (set ps (to_of net p) p) (set gs (to_of net p) (offer_of net a b v p)) (set cs (to_of net p) true) (i + 1)
   improving_take p z e inside at less =
       let t : ℕ = to_of net p in

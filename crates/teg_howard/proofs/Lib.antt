@@ -2,6 +2,7 @@ pub mod Search
 pub mod Back
 pub mod Sums
 pub mod Turns
+pub mod InnerPlaces
 pub mod Routing
 pub mod Optimum
 pub mod Measure

@@ -23,6 +23,10 @@ some_not_none o z e n = cc
 abbrev pub left_over : List (Option ℕ) → ℕ
 left_over passed = count_by is_none passed
 
+-- a walk from a member ends at one
+pub end_member : (net : NetLists) (π : Policy) (parts : List ℕ) (part start : ℕ) (old new : List (Option ℕ)) (end : ℕ) → IsPolicy net parts part π → IsMember parts part start → IsPassed net π start old new end → IsMember parts part end
+end_member net π parts part start old new end ok member e = subst (IsMember parts part) e.leads.1 (back_member net parts part π ok e.leads.0 start member)
+
 module _ (net : NetLists) (π : Policy) where
   -- ---- one walk
   pub record Passing (start : ℕ) (old now : List (Option ℕ)) (at : ℕ) : Type 0 where

@@ -1,6 +1,6 @@
 -- Potentials spread from the root to the followers of what has one.
-use Rattle.std.proofs.Common.{ℕ, ◌+◌, ◌<◌, ◌≤◌, ◌≡◌, ◌≢◌, List, [], ◌∷◌, ◌++◌, AllPairs, Option, Some, None, cond, is_none, count_by, length, get_or, set, refl, sym, ap, subst, ◌∙◌, arith, rules, inl, inr, ⊎_elim}
-use Rattle.std.specs.Prelude.{ℤ, pos, All, Any, IsSome, ◌⊎◌}
+use Rattle.std.proofs.Common.{ℕ, ◌+◌, ◌<◌, ◌≤◌, ◌≡◌, ◌≢◌, List, [], ◌∷◌, ◌++◌, AllPairs, Option, Some, None, cond, is_none, count_by, length, get_or, set, refl, sym, ap, subst, ◌∙◌, arith, inl, inr, ⊎_elim}
+use Rattle.std.specs.Prelude.{ℤ, pos, All, Any, ◌⊎◌}
 use Rattle.std.proofs.lemmas.List.Sums.{sum_by-set}
 use Rattle.std.proofs.lemmas.Bool.{cases_eq, cases_lt}
 use Rattle.std.proofs.lemmas.List.{get_or-set_same, get_or-set_other, length-set, length_push, get_or_push, get_or_append_left}
@@ -14,10 +14,6 @@ use Rattle.teg_howard.specs.Policies.{Policy}
 use Rattle.teg_howard.specs.FoundCircuits.{value_of, IsFollower}
 use Rattle.teg_howard.specs.Following.{StartsAt, IsHighestBelow, AreFollowers, listed, Followed}
 use Rattle.teg_howard.proofs.Values.{some_apart, cases_option}
-
-pub some_of : (o : Option ℤ) → o ≢ None → IsSome o
-some_of None n = absurd (n refl)
-some_of (Some z) n = search rules
 
 abbrev counted : Option ℤ → ℕ
 counted o = cond (is_none o) 1 0

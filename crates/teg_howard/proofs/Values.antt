@@ -1,8 +1,8 @@
 -- The two loops of `settle`: potentials given by following the policy, and then by routing.
-use Rattle.std.proofs.Common.{ℕ, zero, suc, ◌+◌, ◌*◌, ◌<◌, ◌≤◌, ◌≡◌, ◌≢◌, List, [], ◌∷◌, ◌++◌, Option, Some, None, is_some, cond, length, get_or, set, take, refl, sym, ap, subst, ◌∙◌, arith, inl, inr, ⊎_elim}
-use Rattle.std.specs.Prelude.{ℤ, pos, ◌+ℤ◌, All, Any, ◌⊎◌}
-use Rattle.std.proofs.lemmas.Int.{ints, to_z-of_z}
-use mir.Val.{SFits, to_z, of_z}
+use Rattle.std.proofs.Common.{ℕ, zero, suc, ◌+◌, ◌*◌, ◌<◌, ◌≤◌, ◌≡◌, ◌≢◌, List, [], ◌∷◌, ◌++◌, Option, Some, None, is_some, cond, length, get_or, set, take, refl, sym, ap, subst, ◌∙◌, arith, rules, inl, inr, ⊎_elim}
+use Rattle.std.specs.Prelude.{ℤ, pos, ◌+ℤ◌, All, Any, IsSome, ◌⊎◌}
+use Rattle.std.proofs.lemmas.Int.{ints}
+use mir.Val.{SFits}
 use mir.Syntax.{w128}
 use Rattle.std.proofs.lemmas.Nat.{mul-le}
 use Rattle.std.proofs.lemmas.Bool.{cases_eq, cases_lt}
@@ -17,15 +17,19 @@ use Rattle.teg_net.specs.Circuits.{place_at, no_place, IsPathBetween, from_of}
 use Rattle.teg_net.specs.Ratios.{Fraction}
 use Rattle.teg_parts.specs.Partitions.{AreStrong}
 use Rattle.teg_net.specs.Parts.{IsMember, IsPlaceOfPart, Reaches, to_of}
-use Rattle.teg_howard.specs.Policies.{Policy, IsPolicy, step_back, LeadsBack, first_id, IsRouted, Joins, JoinsNext, IsRouting, AreSums}
+use Rattle.teg_howard.specs.Policies.{Policy, IsPolicy, step_back, LeadsBack, first_id, IsRouted, Joins, JoinsNext, IsRouting, AreSums, offer_of}
 use Rattle.teg_net.specs.ReducedTimes.{reduced_time, IsWithin}
-use Rattle.teg_howard.specs.FoundCircuits.{policy_of, value_or_zero, value_of, IsSmallRatio, IsFollower, IsJoin}
+use Rattle.teg_howard.specs.FoundCircuits.{policy_of, value_or_zero, value_of, potentials, IsSmallRatio, IsFollower, IsJoin, IsNextJoin}
 use Rattle.teg_howard.specs.Following.{step_bound, filled, Valued, Followed}
 use Rattle.teg_howard.proofs.Back.{back_add}
 
 pub cases_option : (o : Option ℤ) → (o ≡ None) ⊎ ((z : ℤ) × (o ≡ Some z))
 cases_option None = inl refl
 cases_option (Some z) = inr (z, refl)
+
+pub some_of : (o : Option ℤ) → o ≢ None → IsSome o
+some_of None n = absurd (n refl)
+some_of (Some z) n = search rules
 
 pub some_apart : (o : Option ℤ) (z : ℤ) → o ≡ Some z → o ≢ None
 some_apart o z e n = cc
@@ -158,7 +162,7 @@ take_whole xs ys = take-append-le (length xs) xs ys (omega arith) ∙ take-lengt
 
 pub routed_more :
     (net : NetLists) (parts : List ℕ) (part a b s : ℕ) (first : Policy) (joins : List PlaceId) (π σ : Policy) (vs : List (Option ℤ)) (p : PlaceId) (y : ℤ)
-    → Routed net parts part a b s first joins π vs → IsJoin net parts part vs p → ((k : ℕ) → k < p.index → IsJoin net parts part vs (record { index = k }) → ⊥)
+    → Routed net parts part a b s first joins π vs → IsJoin net parts part vs p → ((q : PlaceId) → IsJoin net parts part vs q → p.index ≤ q.index)
     → value_of vs (from_of net p) ≡ Some y → IsWithin step_bound (reduced_time net a b p) → σ (to_of net p) ≡ p → ((u : ℕ) → u ≢ to_of net p → σ u ≡ π u)
     → Routed net parts part a b s first (joins ++ p ∷ []) σ (set vs (to_of net p) (Some (reduced_time net a b p +ℤ y)))
 routed_more net parts part a b s first joins π σ vs p y h j low e small mine same =
@@ -176,7 +180,7 @@ routed_more net parts part a b s first joins π σ vs p y h j low e small mine s
     } in r in
     let next : JoinsNext net parts part first s joins p = record {
       joins_ = record { inside = j.inside; from_routed = h.had (from_of net p) y e; to_unrouted = not_routed };
-      lowest = λ q w. ⊎_elim (λ (l : q.index < p.index). absurd (low q.index l (is_join q w))) (λ (l : p.index ≤ q.index). l) (cases_lt q.index p.index);
+      lowest = λ q w. low q (is_join q w);
     } in
     let here : value_of (set vs t (Some new)) t ≡ Some new = get_or-set_same vs t (Some new) None t_in in
     record {
@@ -262,10 +266,10 @@ spread net parts part vs none (p ∷ ps) s t l h v =
 
 pub all_valued :
     (net : NetLists) (parts : List ℕ) (part : ℕ) → IsNet net → AreStrong net parts → (vs : List (Option ℤ)) (s : ℕ) → IsMember parts part s → value_of vs s ≢ None
-    → ((k : ℕ) → IsJoin net parts part vs (record { index = k }) → ⊥) → (t : ℕ) → IsMember parts part t → value_of vs t ≢ None
+    → ((p : PlaceId) → IsJoin net parts part vs p → ⊥) → (t : ℕ) → IsMember parts part t → value_of vs t ≢ None
 all_valued net parts part kept strong vs s hs v none t ht =
     let path : Reaches net s t = ((strong.strong s t hs.in_range ht.in_range).0 (hs.here ∙ sym ht.here)).0 in
-    spread net parts part vs (λ p j. none p.index j) path.0 s t path.1 (path_inside net parts part kept strong path.0 s t hs ht path.1) v
+    spread net parts part vs none path.0 s t path.1 (path_inside net parts part kept strong path.0 s t hs ht path.1) v
 
 -- the sums of a list of values are the potentials
 pub valued_sums : (net : NetLists) (parts : List ℕ) (part a b s : ℕ) (π : Policy) (vs : List (Option ℤ)) → Valued net parts part a b s π vs → ((t : ℕ) → IsMember parts part t → value_of vs t ≢ None)
@@ -334,31 +338,38 @@ followed_start net parts part a b s π vs m long none =
 pub fits_within : (z : ℤ) → IsWithin 400000000000000000 z → SFits w128 z
 fits_within z h = let l = h.low in let k = h.high in omega (arith, ints)
 
+-- a value is what it counts as
+value_is : (vs : List (Option ℤ)) (t : ℕ) → value_of vs t ≢ None → value_of vs t ≡ Some (potentials vs t)
+value_is vs t n =
+    ⊎_elim
+    (λ (e : value_of vs t ≡ None). absurd (n e))
+    (λ (w : (z : ℤ) × (value_of vs t ≡ Some z)). w.1 ∙ ap (λ x. Some x) (sym (ap value_or_zero w.1)))
+    (cases_option (value_of vs t))
+
 pub follow_step :
-    (net : NetLists) (parts : List ℕ) (part s : ℕ) (r : Fraction) (π : Policy) (vs : List (Option ℤ)) (t : ℕ) (y offered : ℤ) → IsNet net → IsSmallRatio r → IsPolicy net parts part π
-    → Followed net parts part r.time r.tokens s π vs → IsFollower net parts part π vs t → value_of vs (from_of net (π t)) ≡ Some y → offered ≡ (reduced_time net r.time r.tokens (π t) +ℤ y)
+    (net : NetLists) (parts : List ℕ) (part s : ℕ) (r : Fraction) (π : Policy) (vs : List (Option ℤ)) (t : ℕ) (offered : ℤ) → IsNet net → IsSmallRatio r → IsPolicy net parts part π
+    → Followed net parts part r.time r.tokens s π vs → IsFollower net parts part π vs t → offered ≡ offer_of net r.time r.tokens (potentials vs) (π t)
     → Followed net parts part r.time r.tokens s π (set vs t (Some offered))
-follow_step net parts part s r π vs t y offered kept small ok h f e o =
+follow_step net parts part s r π vs t offered kept small ok h f o =
     let is = (ok t f.member).inside.in_range in
-    rw o (followed_more net parts part r.time r.tokens s π vs t y h f e (count_small net r (π t) kept small is))
+    let x : ℕ = from_of net (π t) in
+    rw o (followed_more net parts part r.time r.tokens s π vs t (potentials vs x) h f (value_is vs x f.starts) (count_small net r (π t) kept small is))
 
 pub route_step :
-    (net : NetLists) (parts : List ℕ) (part s : ℕ) (r : Fraction) (first : Policy) (joins : List PlaceId) (ps : List PlaceId) (vs : List (Option ℤ)) (i : ℕ) (y offered : ℤ) → IsNet net → IsSmallRatio r → length ps ≡ length parts
-    → Routed net parts part r.time r.tokens s first joins (policy_of ps) vs → IsJoin net parts part vs (record { index = i }) → ((k : ℕ) → k < i → IsJoin net parts part vs (record { index = k }) → ⊥)
-    → value_of vs (from_of net (record { index = i })) ≡ Some y → offered ≡ (reduced_time net r.time r.tokens (record { index = i }) +ℤ y)
-    → Routed net parts part r.time r.tokens s first (joins ++ record { index = i } ∷ []) (policy_of (set ps (to_of net (record { index = i })) (record { index = i }))) (set vs (to_of net (record { index = i })) (Some offered))
-route_step net parts part s r first joins ps vs i y offered kept small count h j low e o =
-    let p : PlaceId = record { index = i } in
+    (net : NetLists) (parts : List ℕ) (part s : ℕ) (r : Fraction) (first : Policy) (joins : List PlaceId) (ps : List PlaceId) (vs : List (Option ℤ)) (p : PlaceId) (offered : ℤ) → IsNet net → IsSmallRatio r → length ps ≡ length parts
+    → Routed net parts part r.time r.tokens s first joins (policy_of ps) vs → IsNextJoin net parts part vs p → offered ≡ offer_of net r.time r.tokens (potentials vs) p
+    → Routed net parts part r.time r.tokens s first (joins ++ p ∷ []) (policy_of (set ps (to_of net p) p)) (set vs (to_of net p) (Some offered))
+route_step net parts part s r first joins ps vs p offered kept small count h n o =
     let t : ℕ = to_of net p in
+    let j = n.join in
+    let x : ℕ = from_of net p in
     let t_in : t < length ps = let m = j.inside.to_member.in_range in omega arith in
-    rw o (routed_more net parts part r.time r.tokens s first joins (policy_of ps) (policy_of (set ps t p)) vs p y h j low e (count_small net r p kept small j.inside.in_range)
+    rw o (routed_more net parts part r.time r.tokens s first joins (policy_of ps) (policy_of (set ps t p)) vs p (potentials vs x) h j n.lowest (value_is vs x j.starts) (count_small net r p kept small j.inside.in_range)
     (get_or-set_same ps t p first_id t_in) (λ u ne. get_or-set_other ps t u p first_id ne))
 
--- the value that a transition with one holds fits
-pub held_fits : (net : NetLists) (parts : List ℕ) (part a b s : ℕ) (π : Policy) (vs : List (Option ℤ)) → Valued net parts part a b s π vs → length parts ≤ 400 → (t : ℕ) (z : ℤ) → value_of vs t ≡ Some z → IsWithin 400000000000000000 z × (to_z w128 (of_z w128 z) ≡ z)
-held_fits net parts part a b s π vs h l t z e =
-    let w = all_within net parts part a b s π vs h (let k = h.count in omega arith) t z e in
-    (w, to_z-of_z w128 z (fits_within z w))
+-- each value keeps its bound
+pub held_at : (net : NetLists) (parts : List ℕ) (part a b s : ℕ) (π : Policy) (vs : List (Option ℤ)) → Valued net parts part a b s π vs → length parts ≤ 400 → (t : ℕ) → IsWithin 400000000000000000 (potentials vs t)
+held_at net parts part a b s π vs h l t = held_within vs t (λ z e. all_within net parts part a b s π vs h (let k = h.count in omega arith) t z e)
 
 pub only_members : (net : NetLists) (parts : List ℕ) (part a b s : ℕ) (π : Policy) (vs : List (Option ℤ)) → Valued net parts part a b s π vs → (t : ℕ) → (IsMember parts part t → ⊥) → value_of vs t ≡ None
 only_members net parts part a b s π vs h t out = ⊎_elim (λ (n : value_of vs t ≡ None). n) (λ (w : (z : ℤ) × (value_of vs t ≡ Some z)). absurd (out (h.members t w.0 w.1))) (cases_option (value_of vs t))

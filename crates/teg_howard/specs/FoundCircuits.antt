@@ -85,11 +85,20 @@ pub record IsFollower (net : NetLists) (parts : List ℕ) (part : ℕ) (policy :
   pub without : value_of values t ≡ None
   pub starts : value_of values (from_of net (policy t)) ≢ None
 
--- a place in the part from a transition with a value to one without
+-- a place from a transition with a value to one without
+abbrev pub LeadsOn : NetLists → List (Option ℤ) → PlaceId → Type 0
+LeadsOn net values p = (value_of values (from_of net p) ≢ None) × (value_of values (to_of net p) ≡ None)
+
+-- such a place in the part
 pub record IsJoin (net : NetLists) (parts : List ℕ) (part : ℕ) (values : List (Option ℤ)) (p : PlaceId) : Type 0 where
   pub inside : IsPlaceOfPart net parts part p
   pub starts : value_of values (from_of net p) ≢ None
   pub without : value_of values (to_of net p) ≡ None
+
+-- the lowest numbered of them
+pub record IsNextJoin (net : NetLists) (parts : List ℕ) (part : ℕ) (values : List (Option ℤ)) (p : PlaceId) : Type 0 where
+  pub join : IsJoin net parts part values p
+  pub lowest : (q : PlaceId) → IsJoin net parts part values q → p.index ≤ q.index
 
 -- the value, and 0 where there is none
 abbrev pub value_or_zero : Option ℤ → ℤ
@@ -137,6 +146,10 @@ pub record IsSettled (net : NetLists) (parts : List ℕ) (part : ℕ) (policy ro
 -- the potentials that a list of values gives
 abbrev pub potentials : List (Option ℤ) → ℕ → ℤ
 potentials values t = value_or_zero (value_of values t)
+
+-- what an offer to the transition has to exceed: the greatest so far, and before that its potential
+abbrev pub IsBar : (ℕ → ℤ) → List ℤ → List Bool → ℕ → ℤ → Type 0
+IsBar v greatest changed t z = (IsMarked changed t → z ≡ slice_index_or greatest t (pos 0)) × ((IsMarked changed t → ⊥) → z ≡ v t)
 
 -- values and a policy that can be improved
 pub record CanImprove (net : NetLists) (parts : List ℕ) (part : ℕ) (r : Fraction) (values : List (Option ℤ)) (policy : List PlaceId) : Type 0 where

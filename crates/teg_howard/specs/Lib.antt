@@ -6,3 +6,4 @@ pub mod FoundCircuits
 pub mod RoundStates
 pub mod Following
 pub mod CircuitStarts
+pub mod InnerPlaces

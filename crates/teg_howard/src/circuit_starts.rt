@@ -1,44 +1,41 @@
 //! Where the circuits of a policy begin, by one walk that marks what it has passed.
-ghost use Rattle.std.specs.Prelude.{◌≡◌, ◌↔◌, ◌<◌, length, All, IsTrue, IfOk, Some};
+ghost use Rattle.std.specs.Prelude.{ℕ, ◌≡◌, ◌↔◌, ◌<◌, length, All, IsTrue, IfOk, IfSome, IfNone, Some};
 ghost use Rattle.teg_net.specs.Nets.{IsNet};
 ghost use Rattle.teg_howard.specs.Policies.{IsPolicy};
 ghost use Rattle.teg_howard.specs.FoundCircuits.{policy_of, IsOnPolicy};
-ghost use Rattle.teg_howard.specs.CircuitStarts.{ComesAgain, IsLowestBack, IsPassed, AreStarts};
+ghost use Rattle.teg_howard.specs.CircuitStarts.{ComesAgain, IsLowestBack, IsPassed, AreStarts, walk_at};
 
+use crate::steps::place_into;
 use std::alloc::{AllocError, Global};
 use teg_net::{Net, PlaceId};
 
-/// Follows the policy backwards from `start` to a transition that was passed before, and notes of
-/// each on the way that this walk was the first there. It gives where the walk ends.
+// Follows the policy backwards from `start` to a transition that was passed before, and notes of
+// each on the way that this walk was the first there. It gives where the walk ends.
 fn pass(net: &Net, policy: &[PlaceId], start: usize, passed: &mut [Option<usize>]) -> usize
     requires count { length policy.now ≡ length net.now.transitions }
     requires count_passed { length passed.old ≡ length policy.now }
     requires on_policy { IsOnPolicy net.now (policy_of policy.now) start }
-    requires in_range { All (λ p. p.index < length net.now.places) policy.now }
     ensures { IsPassed net.now (policy_of policy.now) start passed.old passed.new result }
 {
-    let places = net.places();
     let mut at = start;
     'back: while passed[at].is_none() {
         passed[at] = Some(start);
-        at = places[policy[at].index as usize].from.index as usize;
+        at = place_into(net, policy, at).from.index as usize;
     }
     at
 }
 
-/// The lowest numbered transition of the policy's circuit that passes `start`.
+// The lowest numbered transition of the policy's circuit that passes `start`.
 fn lowest_back(net: &Net, policy: &[PlaceId], start: usize) -> usize
     requires count { length policy.now ≡ length net.now.transitions }
     requires on_policy { IsOnPolicy net.now (policy_of policy.now) start }
-    requires in_range { All (λ p. p.index < length net.now.places) policy.now }
     requires again { ComesAgain net.now (policy_of policy.now) (length policy.now) start }
     ensures { IsLowestBack net.now (policy_of policy.now) start result }
 {
-    let places = net.places();
     let mut lowest = start;
     let mut at = start;
     'walk: for _step in 0..policy.len() {
-        at = places[policy[at].index as usize].from.index as usize;
+        at = place_into(net, policy, at).from.index as usize;
         if at == start {
             return lowest;
         }
@@ -49,7 +46,7 @@ fn lowest_back(net: &Net, policy: &[PlaceId], start: usize) -> usize
     lowest
 }
 
-/// Whether the walk from `start` was the first to pass a transition.
+// Whether the walk from `start` was the first to pass a transition.
 fn is_own(first: Option<usize>, start: usize) -> bool
     ensures { IsTrue result ↔ (first ≡ Some start) }
 {
@@ -59,7 +56,30 @@ fn is_own(first: Option<usize>, start: usize) -> bool
     }
 }
 
-/// For each transition whether it is the lowest numbered one of a circuit of the policy.
+// Follows the policy backwards from `start`, and gives where the walk ends if it was the first there.
+fn fresh_end(
+    net: &Net,
+    policy: &[PlaceId],
+    start: usize,
+    passed: &mut [Option<usize>],
+) -> Option<usize>
+    requires count { length policy.now ≡ length net.now.transitions }
+    requires count_passed { length passed.old ≡ length policy.now }
+    requires on_policy { IsOnPolicy net.now (policy_of policy.now) start }
+    ensures some { IfSome result (λ end. IsPassed net.now (policy_of policy.now) start passed.old
+        passed.new end × (walk_at passed.new end ≡ Some start)) }
+    ensures none { IfNone result ((end : ℕ) × IsPassed net.now (policy_of policy.now) start
+        passed.old passed.new end × (walk_at passed.new end ≡ Some start → ⊥)) }
+{
+    let end = pass(net, policy, start, passed);
+    if is_own(passed[end], start) {
+        Some(end)
+    } else {
+        None
+    }
+}
+
+// For each transition whether it is the lowest numbered one of a circuit of the policy.
 pub(crate) fn circuit_starts(
     alloc: Global,
     net: &Net,
@@ -72,14 +92,14 @@ pub(crate) fn circuit_starts(
     requires count { length policy.now ≡ length parts.now }
     requires policy { IsPolicy net.now parts.now part (policy_of policy.now) }
     requires in_range { All (λ p. p.index < length net.now.places) policy.now }
-    ensures { IfOk result (λ starts. AreStarts net.now parts.now part (policy_of policy.now) starts.items) }
+    ensures { IfOk result (λ starts. AreStarts net.now parts.now part (policy_of policy.now)
+        starts.items) }
 {
     let mut starts = vec![in alloc; false; parts.len()]?;
     let mut passed = vec![in alloc; None; parts.len()]?;
     for start in 0..parts.len() {
         if parts[start] == part {
-            let end = pass(net, policy, start, &mut passed);
-            if is_own(passed[end], start) {
+            if let Some(end) = fresh_end(net, policy, start, &mut passed) {
                 starts[lowest_back(net, policy, end)] = true;
             }
         }

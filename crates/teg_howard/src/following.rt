@@ -3,19 +3,19 @@ ghost use Rattle.std.specs.Prelude.{◌≡◌, ◌<◌, ◌++◌, ℕ, length, A
 ghost use Rattle.teg_howard.specs.FoundCircuits.{policy_of, IsFollower};
 ghost use Rattle.teg_howard.specs.Following.{AreFollowers, Followed, CanFollow, listed};
 
-use crate::settling::offer;
+use crate::offers::offer_from;
 use std::alloc::{AllocError, Global};
 use teg_net::{Net, PlaceId, Ratio};
 
-/// The followers of each transition, the members whose policy places start there, but for the root:
-/// the highest numbered one, and for each member the next lower one that has the same start.
+// The followers of each transition, the members whose policy places start there, but for the root:
+// the highest numbered one, and for each member the next lower one that has the same start.
 #[derive(Debug, Drop)]
 pub(crate) struct Followers {
     pub(crate) highest: Vec<Option<usize>>,
     pub(crate) lower: Vec<Option<usize>>,
 }
 
-/// The followers of each transition, by one pass.
+// The followers of each transition, by one pass.
 fn link_followers(
     alloc: Global,
     net: &Net,
@@ -42,7 +42,7 @@ fn link_followers(
     Ok(Followers { highest, lower })
 }
 
-/// Puts the member, if there is one, at the end of the list.
+// Puts the member, if there is one, at the end of the list.
 fn add(waiting: &mut Vec<usize>, member: Option<usize>) -> Result<(), AllocError>
     ensures { OnOk result (waiting.new.items ≡ waiting.old.items ++ listed member) }
 {
@@ -52,8 +52,8 @@ fn add(waiting: &mut Vec<usize>, member: Option<usize>) -> Result<(), AllocError
     Ok(())
 }
 
-/// The potentials of the members from which following backwards leads to the root: 0 there, and
-/// elsewhere what the policy's place offers.
+// The potentials of the members from which following backwards leads to the root: 0 there, and
+// elsewhere what the policy's place offers.
 pub(crate) fn follow(
     alloc: Global,
     net: &Net,
@@ -64,19 +64,18 @@ pub(crate) fn follow(
     root: usize,
 ) -> Result<Vec<Option<i128>>, AllocError>
     requires { CanFollow net.now parts.now part policy.now ratio root }
-    ensures followed { IfOk result (λ values. Followed net.now parts.now part ratio.time ratio.tokens root (policy_of policy.now) values.items) }
-    ensures all { IfOk result (λ values. (t : ℕ) → IsFollower net.now parts.now part (policy_of policy.now) values.items t → ⊥) }
+    ensures followed { IfOk result (λ values. Followed net.now parts.now part ratio.time
+        ratio.tokens root (policy_of policy.now) values.items) }
+    ensures all { IfOk result (λ values. (t : ℕ) → IsFollower net.now parts.now part
+        (policy_of policy.now) values.items t → ⊥) }
 {
-    let places = net.places();
     let followers = link_followers(alloc, net, parts, part, policy, root)?;
     let mut values = vec![in alloc; None; parts.len()]?;
     values[root] = Some(0);
     let mut waiting = Vec::new(alloc);
     add(&mut waiting, followers.highest[root])?;
     'follow: while let Some(member) = waiting.pop() {
-        let place = &places[policy[member].index as usize];
-        let value = values[place.from.index as usize].unwrap();
-        values[member] = Some(offer(ratio, place, value));
+        values[member] = Some(offer_from(net, ratio, &values, policy[member]));
         add(&mut waiting, followers.lower[member])?;
         add(&mut waiting, followers.highest[member])?;
     }

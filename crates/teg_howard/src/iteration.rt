@@ -4,22 +4,26 @@ ghost use Rattle.teg_net.specs.PartAnswers.{IsPartAnswer};
 ghost use Rattle.teg_howard.specs.Rounds.{IsFirstRound, IsPolicyRun};
 ghost use Rattle.teg_howard.specs.Runs.{potential_of, IsAnswerOf, IsAnswerOfLast, EndsRun, KeepsLimits, AllRise, RiseByCase};
 ghost use Rattle.teg_howard.specs.FoundCircuits.{AreLowest};
+ghost use Rattle.teg_howard.specs.InnerPlaces.{ListsPlaces};
 ghost use Rattle.teg_howard.specs.RoundStates.{IsRoundState, HasCircuit, GoesOn, IsLast};
 
+use crate::inside::inner_places;
 use crate::policies::{improve, is_any, lowest_places};
 use crate::policy_circuits::best_circuit;
 use crate::settling::{RoundState, settle};
 use std::alloc::{AllocError, Global};
 use teg_net::{Choice, Circuit, Net, PartAnswer, PlaceId, Potential, Ratio, Round};
 
-/// The first round: each member takes its lowest numbered place.
+// The first round: each member takes its lowest numbered place.
 fn first_state(
     alloc: Global,
     net: &Net,
     parts: &[u32],
     part: u32,
+    inner: &[PlaceId],
     policy: &mut [PlaceId],
 ) -> Result<RoundState, AllocError>
+    requires inner { ListsPlaces net.now parts.now part inner.now }
     requires circuit { HasCircuit net.now parts.now part }
     requires lowest { AreLowest net.now parts.now part policy.old }
     ensures standing { IfOk result (λ st. IsRoundState net.now parts.now part policy.new st) }
@@ -28,21 +32,24 @@ fn first_state(
     let everywhere = vec![in alloc; true; parts.len()]?;
     let found = best_circuit(alloc, net, parts, part, policy, &everywhere)?.unwrap();
     let ratio = Ratio::of(found.time, found.tokens);
-    settle(alloc, net, parts, part, policy, ratio, found.places)
+    settle(alloc, net, parts, part, inner, policy, ratio, found.places)
 }
 
-/// The round that follows, unless no place improves.
+// The round that follows, unless no place improves.
 fn next_state(
     alloc: Global,
     net: &Net,
     parts: &[u32],
     part: u32,
+    inner: &[PlaceId],
     state: &RoundState,
     policy: &mut [PlaceId],
 ) -> Result<Option<RoundState>, AllocError>
+    requires inner { ListsPlaces net.now parts.now part inner.now }
     requires circuit { HasCircuit net.now parts.now part }
     requires standing { IsRoundState net.now parts.now part policy.old state.now }
-    ensures some { IfOk result (λ o. IfSome o (λ next. GoesOn net.now parts.now part policy.new state.now next)) }
+    ensures some { IfOk result (λ o. IfSome o (λ next. GoesOn net.now parts.now part policy.new
+        state.now next)) }
     ensures none { IfOk result (λ o. IfNone o (IsLast net.now parts.now part state.now.round)) }
 {
     let changed = improve(
@@ -50,6 +57,7 @@ fn next_state(
         net,
         parts,
         part,
+        inner,
         state.round.ratio,
         &state.values,
         policy,
@@ -60,18 +68,27 @@ fn next_state(
     match best_circuit(alloc, net, parts, part, policy, &changed)? {
         Some(found) => {
             let ratio = Ratio::of(found.time, found.tokens);
-            let next = settle(alloc, net, parts, part, policy, ratio, found.places)?;
+            let next = settle(alloc, net, parts, part, inner, policy, ratio, found.places)?;
             Ok(Some(next))
         }
         None => {
             let circuit = state.round.circuit.places.clone()?;
-            let next = settle(alloc, net, parts, part, policy, state.round.ratio, circuit)?;
+            let next = settle(
+                alloc,
+                net,
+                parts,
+                part,
+                inner,
+                policy,
+                state.round.ratio,
+                circuit,
+            )?;
             Ok(Some(next))
         }
     }
 }
 
-/// The potentials of the choices.
+// The potentials of the choices.
 fn potentials_of(alloc: Global, choices: &[Choice]) -> Result<Vec<Potential>, AllocError>
     ensures { IfOk result (λ ps. ps.items ≡ map potential_of choices.now) }
 {
@@ -84,7 +101,7 @@ fn potentials_of(alloc: Global, choices: &[Choice]) -> Result<Vec<Potential>, Al
         .collect(alloc)
 }
 
-/// The answer that a round gives.
+// The answer that a round gives.
 fn answer_of(alloc: Global, round: &Round) -> Result<PartAnswer, AllocError>
     ensures { IfOk result (λ answer. IsAnswerOf round.now answer) }
 {
@@ -97,7 +114,7 @@ fn answer_of(alloc: Global, round: &Round) -> Result<PartAnswer, AllocError>
     })
 }
 
-/// The policy run of a part, and the answer that its last round gives.
+// The policy run of a part, and the answer that its last round gives.
 pub(crate) fn policy_run(
     alloc: Global,
     net: &Net,
@@ -112,10 +129,19 @@ pub(crate) fn policy_run(
     ensures rises { IfOk result (λ w. AllRise w.1.items) }
     ensures cases { IfOk result (λ w. RiseByCase net.now parts.now part w.1.items) }
 {
+    let inner = inner_places(alloc, net, parts, part)?;
     let mut policy = lowest_places(alloc, net, parts, part)?;
-    let mut state = first_state(alloc, net, parts, part, &mut policy)?;
+    let mut state = first_state(alloc, net, parts, part, &inner, &mut policy)?;
     let mut rounds = Vec::new(alloc);
-    'rounds: while let Some(next) = next_state(alloc, net, parts, part, &state, &mut policy)? {
+    'rounds: while let Some(next) = next_state(
+        alloc,
+        net,
+        parts,
+        part,
+        &inner,
+        &state,
+        &mut policy,
+    )? {
         let RoundState {
             round,
             values: _values,
@@ -132,7 +158,7 @@ pub(crate) fn policy_run(
     Ok((answer, rounds))
 }
 
-/// The answer that the last round of a part's policy run gives. One round is kept.
+// The answer that the last round of a part's policy run gives. One round is kept.
 pub(crate) fn last_answer(
     alloc: Global,
     net: &Net,
@@ -144,9 +170,18 @@ pub(crate) fn last_answer(
     ensures run { IfOk result (λ answer. EndsRun net.now parts.now part answer) }
     ensures limits { IfOk result (λ answer. KeepsLimits answer) }
 {
+    let inner = inner_places(alloc, net, parts, part)?;
     let mut policy = lowest_places(alloc, net, parts, part)?;
-    let mut state = first_state(alloc, net, parts, part, &mut policy)?;
-    'rounds: while let Some(next) = next_state(alloc, net, parts, part, &state, &mut policy)? {
+    let mut state = first_state(alloc, net, parts, part, &inner, &mut policy)?;
+    'rounds: while let Some(next) = next_state(
+        alloc,
+        net,
+        parts,
+        part,
+        &inner,
+        &state,
+        &mut policy,
+    )? {
         state = next;
     }
     let answer = answer_of(alloc, &state.round)?;

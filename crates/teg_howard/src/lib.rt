@@ -13,10 +13,12 @@ mod following;
 mod inside;
 mod iteration;
 mod laws;
+mod offers;
 mod part_answers;
 mod policies;
 mod policy_circuits;
 mod settling;
+mod steps;
 
 pub use laws::policy_runs_are_one;
 pub use part_answers::{howard, last_round};

@@ -6,7 +6,6 @@ ghost use Rattle.teg_parts.specs.Partitions.{AreParts};
 ghost use Rattle.teg_howard.specs.Rounds.{IsPolicyRun};
 ghost use Rattle.teg_howard.specs.Runs.{HasInnerPlace, IsAnswerOfLast, EndsRun, KeepsLimits, AllRise, RiseByCase};
 
-use crate::inside::part_numbers;
 use crate::iteration::{last_answer, policy_run};
 use std::alloc::Global;
 use teg_check::Live;
@@ -38,7 +37,8 @@ pub fn howard(
     ensures cases { IfOk result (λ w. RiseByCase net.now parts.now.part_of part w.1.items) }
 {
     let _ranks = live;
-    let part_of = part_numbers(alloc, net, parts)?;
+    let _count = net.transitions().len();
+    let part_of = parts.numbers()?;
     let run = policy_run(alloc, net, &part_of, part)?;
     Ok(run)
 }
@@ -61,7 +61,8 @@ pub fn last_round(
     ensures limits { IfOk result (λ answer. KeepsLimits answer) }
 {
     let _ranks = live;
-    let part_of = part_numbers(alloc, net, parts)?;
+    let _count = net.transitions().len();
+    let part_of = parts.numbers()?;
     let answer = last_answer(alloc, net, &part_of, part)?;
     Ok(answer)
 }

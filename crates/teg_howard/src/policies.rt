@@ -1,13 +1,14 @@
 //! Policies of a part: the first one, and the better one that the potentials give (policy improvement).
-ghost use Rattle.std.specs.Prelude.{◌≡◌, ◌↔◌, ℕ, length, IsTrue, IfOk};
-ghost use Rattle.teg_howard.specs.FoundCircuits.{AreLowest, IsMarked, CanImprove, IsBetter};
+ghost use Rattle.std.specs.Prelude.{◌≡◌, ◌≢◌, ◌<◌, ◌↔◌, ℕ, length, None, IsTrue, IfOk};
+ghost use Rattle.teg_howard.specs.InnerPlaces.{ListsPlaces};
+ghost use Rattle.teg_howard.specs.FoundCircuits.{AreLowest, IsMarked, IsBar, CanImprove, IsBetter, value_of, potentials};
 
 use crate::inside::is_inside;
-use crate::settling::offer;
+use crate::offers::{end_of, offer_from};
 use std::alloc::{AllocError, Global};
 use teg_net::{Net, PlaceId, Ratio};
 
-/// For each member the lowest numbered place that enters it.
+// For each member the lowest numbered place that enters it.
 pub(crate) fn lowest_places(
     alloc: Global,
     net: &Net,
@@ -30,44 +31,51 @@ pub(crate) fn lowest_places(
     Ok(policy)
 }
 
-/// Gives each member that a place improves the lowest numbered place of greatest offer, and marks it.
+// What an offer to the member has to exceed: the greatest so far, and before that its value.
+fn bar_of(values: &[Option<i128>], greatest: &[i128], changed: &[bool], member: usize) -> i128
+    requires greatest { member < length greatest.now }
+    requires changed { member < length changed.now }
+    requires has { value_of values.now member ≢ None }
+    ensures { IsBar (potentials values.now) greatest.now changed.now member result }
+{
+    if changed[member] {
+        greatest[member]
+    } else {
+        values[member].unwrap()
+    }
+}
+
+// Gives each member that a place improves the lowest numbered place of greatest offer, and marks it.
 pub(crate) fn improve(
     alloc: Global,
     net: &Net,
     parts: &[u32],
     part: u32,
+    inner: &[PlaceId],
     ratio: Ratio,
     values: &[Option<i128>],
     policy: &mut [PlaceId],
 ) -> Result<Vec<bool>, AllocError>
-    requires { CanImprove net.now parts.now part ratio values.now policy.old }
-    ensures { IfOk result (λ changed. IsBetter net.now parts.now part ratio values.now policy.old policy.new changed.items) }
+    requires inner { ListsPlaces net.now parts.now part inner.now }
+    requires can { CanImprove net.now parts.now part ratio values.now policy.old }
+    ensures { IfOk result (λ changed. IsBetter net.now parts.now part ratio values.now policy.old
+        policy.new changed.items) }
 {
     let mut greatest = vec![in alloc; 0i128; parts.len()]?;
     let mut changed = vec![in alloc; false; parts.len()]?;
-    for (index, place) in net.places().iter().enumerate() {
-        if is_inside(parts, part, place) {
-            let to = place.to.index as usize;
-            let start = values[place.from.index as usize].unwrap();
-            let end = if changed[to] {
-                greatest[to]
-            } else {
-                values[to].unwrap()
-            };
-            let offered = offer(ratio, place, start);
-            if offered > end {
-                greatest[to] = offered;
-                changed[to] = true;
-                policy[to] = PlaceId {
-                    index: index as u32,
-                };
-            }
+    for id in inner {
+        let member = end_of(net, *id);
+        let offered = offer_from(net, ratio, values, *id);
+        if offered > bar_of(values, &greatest, &changed, member) {
+            greatest[member] = offered;
+            changed[member] = true;
+            policy[member] = *id;
         }
     }
     Ok(changed)
 }
 
-/// Whether a transition is marked.
+// Whether a transition is marked.
 pub(crate) fn is_any(marked: &[bool]) -> bool
     ensures { IsTrue result ↔ ((t : ℕ) × IsMarked marked.now t) }
 {

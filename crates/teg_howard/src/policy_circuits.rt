@@ -8,10 +8,11 @@ ghost use Rattle.teg_net.specs.declared.entries.PlaceId.{PlaceId};
 ghost use Rattle.teg_howard.specs.FoundCircuits.{policy_of, IsOnPolicy, IsFoundAt, IsMarked, IsAbove, AreSmall, IsBestFound, GoesBelow};
 
 use crate::circuit_starts::circuit_starts;
+use crate::steps::place_into;
 use std::alloc::{AllocError, Global};
 use teg_net::{Net, PlaceId};
 
-/// A circuit of a policy, with its sums.
+// A circuit of a policy, with its sums.
 #[derive(Debug, Drop)]
 pub(crate) struct FoundCircuit {
     pub(crate) places: Vec<PlaceId>,
@@ -19,8 +20,8 @@ pub(crate) struct FoundCircuit {
     pub(crate) tokens: u64,
 }
 
-/// The policy's circuit that passes `start`, beginning there. None where there is no such circuit, or
-/// it passes a lower numbered transition, from which it is found.
+// The policy's circuit that passes `start`, beginning there. None where there is no such circuit, or
+// it passes a lower numbered transition, from which it is found.
 fn circuit_through(
     alloc: Global,
     net: &Net,
@@ -30,19 +31,19 @@ fn circuit_through(
     requires count { length policy.now ≡ length net.now.transitions }
     requires starts { start < length policy.now }
     requires on_policy { IsOnPolicy net.now (policy_of policy.now) start }
-    requires in_range { All (λ p. p.index < length net.now.places) policy.now }
-    ensures some { IfOk result (λ found. IfSome found (λ f. IsFoundAt net.now (policy_of policy.now) start f)) }
-    ensures none { IfOk result (λ found. IfNone found (GoesBelow net.now (policy_of policy.now) start (length policy.now))) }
+    ensures some { IfOk result (λ found. IfSome found (λ f. IsFoundAt net.now (policy_of policy.now)
+        start f)) }
+    ensures none { IfOk result (λ found. IfNone found (GoesBelow net.now (policy_of policy.now)
+        start (length policy.now))) }
 {
-    let places = net.places();
+    let _count = net.transitions().len();
     let mut back = Vec::new(alloc);
     let mut time = 0;
     let mut tokens = 0;
     let mut at = start;
     'walk: for _step in 0..policy.len() {
-        let id = policy[at];
-        let place = &places[id.index as usize];
-        back.push(id)?;
+        let place = place_into(net, policy, at);
+        back.push(policy[at])?;
         time += place.hold;
         tokens += place.tokens as u64;
         at = place.from.index as usize;
@@ -61,7 +62,7 @@ fn circuit_through(
     Ok(None)
 }
 
-/// Whether a place of the circuit ends at a marked transition.
+// Whether a place of the circuit ends at a marked transition.
 fn passes(net: &Net, circuit: &[PlaceId], marked: &[bool]) -> bool
     requires in_range { AreInRange net.now circuit.now }
     requires count { length marked.now ≡ length net.now.transitions }
@@ -76,7 +77,7 @@ fn passes(net: &Net, circuit: &[PlaceId], marked: &[bool]) -> bool
     false
 }
 
-/// Whether the circuit has a greater ratio than the best so far.
+// Whether the circuit has a greater ratio than the best so far.
 fn is_greater(circuit: &FoundCircuit, best: &Option<FoundCircuit>) -> bool
     requires small { AreSmall (Some circuit.now) }
     requires best_small { AreSmall best.now }
@@ -88,8 +89,8 @@ fn is_greater(circuit: &FoundCircuit, best: &Option<FoundCircuit>) -> bool
     }
 }
 
-/// The policy's circuit of greatest ratio among those that pass a marked member, among equals
-/// the one with the lowest numbered transition.
+// The policy's circuit of greatest ratio among those that pass a marked member, among equals
+// the one with the lowest numbered transition.
 pub(crate) fn best_circuit(
     alloc: Global,
     net: &Net,
@@ -105,8 +106,11 @@ pub(crate) fn best_circuit(
     requires count_marked { length marked.now ≡ length parts.now }
     requires policy { IsPolicy net.now parts.now part (policy_of policy.now) }
     requires in_range { All (λ p. p.index < length net.now.places) policy.now }
-    ensures some { IfOk result (λ found. IfSome found (λ f. IsBestFound net.now parts.now part (policy_of policy.now) marked.now f)) }
-    ensures none { IfOk result (λ found. IfNone found ((d : List PlaceId) → IsPolicyCircuit net.now parts.now part (policy_of policy.now) d → Any (λ p. IsMarked marked.now (to_of net.now p)) d → ⊥)) }
+    ensures some { IfOk result (λ found. IfSome found (λ f. IsBestFound net.now parts.now part
+        (policy_of policy.now) marked.now f)) }
+    ensures none { IfOk result (λ found. IfNone found ((d : List PlaceId)
+        → IsPolicyCircuit net.now parts.now part (policy_of policy.now) d
+        → Any (λ p. IsMarked marked.now (to_of net.now p)) d → ⊥)) }
 {
     let starts = circuit_starts(alloc, net, parts, part, policy)?;
     let mut best = None;

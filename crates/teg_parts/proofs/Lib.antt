@@ -1,10 +1,8 @@
 pub mod Marks
-pub mod Steps
-pub mod Entering
-pub mod Closing
 pub mod Linking
-pub mod Components
+pub mod Reaching
 pub mod Ordering
+pub mod Rooted
 pub mod NumberingSteps
 pub mod Inside
 pub mod OneParts

@@ -1,42 +1,13 @@
 -- The loops of the numbering.
-use Rattle.std.proofs.Common.{ℕ, ◌+◌, ◌<◌, ◌≤◌, ◌≡◌, ◌≢◌, List, Option, Some, None, Bool, true, false, cond, is_none, length, get_or, set, refl, sym, ap, subst, ◌∙◌, arith, inl, inr, ⊎_elim}
-use Rattle.std.specs.Prelude.{◌⊎◌}
-use Rattle.std.proofs.lemmas.Bool.{cases_eq, cases_lt, cases_Bool}
-use Rattle.std.proofs.lemmas.List.{get_or-set_same, get_or-set_other, length-set, get_or_past, get_or-replicate, length-replicate}
-use Rattle.std.proofs.lemmas.List.Sums.{sum_by-set}
-use lib.ListN.{replicate}
+use Rattle.std.proofs.Common.{ℕ, ◌+◌, ◌<◌, ◌≤◌, ◌≡◌, ◌≢◌, List, Option, Some, None, Bool, true, false, length, get_or, set, sym, ap, subst, ◌∙◌, arith, ⊎_elim}
+use Rattle.std.proofs.lemmas.Bool.{cases_lt, cases_Bool}
+use Rattle.std.proofs.lemmas.List.{get_or-set_same, length-set}
 use Rattle.teg_net.specs.declared.entries.PlaceId.{PlaceId}
 use Rattle.teg_net.specs.Nets.{NetLists}
 use Rattle.teg_net.specs.Circuits.{from_of}
 use Rattle.teg_net.specs.Parts.{to_of, IsPlaceOfPart}
-use Rattle.teg_parts.specs.Numbers.{component_at, number_of, without, Blocks, AreBlocked, IsFree, IsFirstFree, IsGiven, IsOpenFor, IsFirstOpen, AreInnerMarks}
-
-same_id : (p q : PlaceId) → p.index ≡ q.index → p ≡ q
-same_id p q e = ap (λ i. let r : PlaceId = record { index = i } in r) e
-
-flag_past : (n c : ℕ) → get_or (replicate n false) c false ≡ false
-flag_past n c =
-    ⊎_elim
-    (λ (l : c < n). get_or-replicate n c false false l)
-    (λ (l : n ≤ c). get_or_past (replicate n false) c false (omega (arith, length-replicate n false)))
-    (cases_lt c n)
-
-false_not_true : (b : Bool) → b ≡ false → b ≡ true → ⊥
-false_not_true b e f = cc
-
-set_flag : (flags : List Bool) (u c : ℕ) → u < length flags → get_or flags c false ≡ true → get_or (set flags u true) c false ≡ true
-set_flag flags u c l e =
-    ⊎_elim
-    (λ (q : c ≡ u). ap (λ x. get_or (set flags u true) x false) q ∙ get_or-set_same flags u true false l)
-    (λ (q : c ≢ u). get_or-set_other flags u c true false q ∙ e)
-    (cases_eq c u)
-
-set_flag_before : (flags : List Bool) (u c : ℕ) → get_or (set flags u true) c false ≡ true → (c ≡ u) ⊎ (get_or flags c false ≡ true)
-set_flag_before flags u c e =
-    ⊎_elim
-    (λ (q : c ≡ u). inl q)
-    (λ (q : c ≢ u). inr (sym (get_or-set_other flags u c true false q) ∙ e))
-    (cases_eq c u)
+use Rattle.teg_parts.specs.Numbers.{component_at, number_of, without, Blocks, AreBlocked, IsFree, IsOpenFor}
+use Rattle.teg_parts.proofs.Marks.{same_id, false_not_true, set_flag, set_flag_before}
 
 -- ---- which components are blocked
 pub record BlockedTo (net : NetLists) (components : List ℕ) (numbers : List (Option ℕ)) (blocked : List Bool) (i : ℕ) : Type 0 where

@@ -1,10 +1,9 @@
 -- A net has one list of parts: the rules of the order leave no choice.
-use Rattle.std.proofs.Common.{ℕ, zero, suc, ◌+◌, ◌<◌, ◌≤◌, ◌≡◌, ◌≢◌, List, Bool, true, false, length, get_or, sym, ap, subst, ◌∙◌, arith, ⊎_elim}
+use Rattle.std.proofs.Common.{ℕ, zero, suc, ◌<◌, ◌≤◌, ◌≡◌, ◌≢◌, List, Bool, true, false, length, get_or, sym, ap, subst, ◌∙◌, arith, ⊎_elim}
 use Rattle.std.proofs.lemmas.Bool.{cases_eq, cases_lt, cases_Bool}
 use Rattle.std.proofs.lemmas.List.{ext_get_or}
-use Rattle.teg_net.specs.declared.entries.PlaceId.{PlaceId}
 use Rattle.teg_net.specs.Nets.{NetLists}
-use Rattle.teg_net.specs.Parts.{Reaches, IsMember, IsPlaceOfPart}
+use Rattle.teg_net.specs.Parts.{IsPlaceOfPart}
 use Rattle.teg_parts.specs.Partitions.{PartLists, AreStrong, MayTake, AreParts}
 
 abbrev part_at : PartLists → ℕ → ℕ

@@ -1,29 +1,30 @@
 -- Components get the numbers of their parts in order.
-use Rattle.std.proofs.Common.{ℕ, zero, suc, ◌+◌, ◌<◌, ◌≤◌, ◌≡◌, ◌≢◌, List, [], ◌∷◌, Option, Some, None, Bool, length, get_or, refl, sym, ap, subst, ◌∙◌, arith, inl, inr, ⊎_elim}
+use Rattle.std.proofs.Common.{ℕ, zero, suc, ◌+◌, ◌<◌, ◌≤◌, ◌≡◌, ◌≢◌, List, [], ◌∷◌, Option, Some, None, Bool, true, false, length, get_or, set, refl, sym, ap, subst, ◌∙◌, arith, inl, inr, ⊎_elim}
 use Rattle.std.specs.Prelude.{◌⊎◌}
-use Rattle.std.proofs.lemmas.Bool.{cases_eq, cases_lt}
-use Rattle.std.proofs.lemmas.List.{get_or_past, get_or_default, get_or-replicate, length-replicate}
+use Rattle.std.proofs.lemmas.Bool.{cases_eq, cases_lt, cases_Bool}
+use Rattle.std.proofs.lemmas.List.{get_or_past, get_or_default, length-set, length-replicate}
 use lib.ListN.{replicate}
 use Rattle.teg_net.specs.declared.entries.PlaceId.{PlaceId}
 use Rattle.teg_net.specs.Nets.{NetLists, IsNet}
 use Rattle.teg_net.specs.Circuits.{no_place, from_of, IsPathBetween}
 use Rattle.teg_net.specs.Parts.{Reaches, to_of}
 use Rattle.teg_parts.specs.Partitions.{AreStrong, AreInOrder, AreParts}
-use Rattle.teg_parts.specs.Searches.{AreComponents}
+use Rattle.teg_parts.specs.Components.{AreComponents}
 use Rattle.teg_parts.specs.Numbers.{component_at, number_of, IsFree, IsFirstFree, IsGiven, IsAfter, MayBy, IsFirstOf, AreNumbered, AllNumbered, AreInOrderOf, AreInnerMarks}
-use Rattle.teg_parts.proofs.Marks.{reaches_on, reaches_by}
+use Rattle.teg_parts.proofs.Marks.{false_not_true, unmarked, unmarked_less, flag_past, set_flag_before}
+use Rattle.teg_parts.proofs.Reaching.{reaches_on, reaches_by}
 
 pub cases_number : (o : Option ℕ) → (o ≡ None) ⊎ ((j : ℕ) × (o ≡ Some j))
 cases_number None = inl refl
 cases_number (Some j) = inr (j, refl)
 
-none_not_some : (o : Option ℕ) (j : ℕ) → o ≡ None → o ≡ Some j → ⊥
+pub none_not_some : (o : Option ℕ) (j : ℕ) → o ≡ None → o ≡ Some j → ⊥
 none_not_some o j a b = cc
 
-same_number : (o : Option ℕ) (i j : ℕ) → o ≡ Some i → o ≡ Some j → i ≡ j
+pub same_number : (o : Option ℕ) (i j : ℕ) → o ≡ Some i → o ≡ Some j → i ≡ j
 same_number o i j a b = cc
 
-number_in : (numbers : List (Option ℕ)) (t j : ℕ) → number_of numbers t ≡ Some j → t < length numbers
+pub number_in : (numbers : List (Option ℕ)) (t j : ℕ) → number_of numbers t ≡ Some j → t < length numbers
 number_in numbers t j e =
     ⊎_elim
     (λ (l : t < length numbers). l)
@@ -91,7 +92,7 @@ module _ (net : NetLists) (kept : IsNet net) (components : List ℕ) (comps : Ar
           unnumbered = without;
           unblocked = λ p b.
               let w : ℕ = from_of net p in
-              let into : Reaches net (to_of net p) u = comps.mutual_reach (to_of net p) u (to_in p b.in_range) l b.enters in
+              let into : Reaches net (to_of net p) u = ((comps.strong (to_of net p) u (to_in p b.in_range) l).0 b.enters).0 in
               let x = may_before k u (omega arith) may w (from_in p b.in_range) (reaches_on net w (to_of net p) u (reaches_by net p b.in_range) into) b.other in
               none_not_some (number_of ns w) x.0 b.unnumbered x.1;
         } in
@@ -160,38 +161,54 @@ module _ (net : NetLists) (kept : IsNet net) (components : List ℕ) (comps : Ar
           (split_number (to_of net p) j e);
     }
 
-  -- where no transition is free, each has a number
-  all_from : (ns : List (Option ℕ)) → ((t : ℕ) → IsFree net components ns t → ⊥) → (m t : ℕ) → t < length components → length components ≤ comp t + m → number_of ns t ≢ None
-  all_from ns none zero t l k e = let b = comps.below t l in absurd (omega arith)
-  all_from ns none (suc m) t l k e =
+  -- where no transition is free, each has a number: otherwise another part without one lies upstream of it, and so on;
+  -- marked are the parts that were passed, all of which the transition reaches
+  all_from : (ns : List (Option ℕ)) → ((t : ℕ) → IsFree net components ns t → ⊥) → (m : ℕ) (seen : List Bool) → length seen ≡ length components → unmarked seen ≤ m
+      → (t : ℕ) → t < length components → get_or seen (comp t) false ≡ false → ((u : ℕ) → u < length components → get_or seen (comp u) false ≡ true → Reaches net t u) → number_of ns t ≢ None
+  all_from ns none zero seen long few t l new reached e = let b = comps.below t l in let less = unmarked_less seen (comp t) (omega arith) new in absurd (omega arith)
+  all_from ns none (suc m) seen long few t l new reached e =
+      let in_seen : comp t < length seen = let b = comps.below t l in omega arith in
+      let seen' : List Bool = set seen (comp t) true in
+      let less = unmarked_less seen (comp t) in_seen new in
+      let from_t : (u : ℕ) → u < length components → get_or seen' (comp u) false ≡ true → Reaches net t u =
+      (λ u k s.
+      ⊎_elim
+      (λ (q : comp u ≡ comp t). ((comps.strong t u l k).0 (sym q)).0)
+      (λ (q : get_or seen (comp u) false ≡ true). reached u k q)
+      (set_flag_before seen (comp t) (comp u) s)) in
       none t (record {
         in_range = l;
         unnumbered = e;
         unblocked = λ p b.
-            let up = comps.never_rise p b.in_range in
-            let enters = b.enters in
-            let other = b.other in
-            all_from ns none m (from_of net p) (from_in p b.in_range) (omega arith) b.unnumbered;
+            let w : ℕ = from_of net p in
+            let w_in : w < length components = from_in p b.in_range in
+            let into : Reaches net (to_of net p) t = ((comps.strong (to_of net p) t (to_in p b.in_range) l).0 b.enters).0 in
+            let up : Reaches net w t = reaches_on net w (to_of net p) t (reaches_by net p b.in_range) into in
+            ⊎_elim
+            (λ (s : get_or seen' (comp w) false ≡ true).
+            let one : comp w ≡ comp t = (comps.strong w t w_in l).1 (up, from_t w w_in s) in
+            b.other one)
+            (λ (s : get_or seen' (comp w) false ≡ false).
+            all_from ns none m seen' (length-set seen (comp t) true ∙ long) (omega arith) w w_in s (λ u k r. reaches_on net w t u up (from_t u k r)) b.unnumbered)
+            (cases_Bool (get_or seen' (comp w) false));
       })
 
   pub all_numbered : (ns : List (Option ℕ)) → length ns ≡ length components → ((t : ℕ) → IsFree net components ns t → ⊥) → AllNumbered ns
-  all_numbered ns count none t l = all_from ns none (length components) t (omega arith) (omega arith)
+  all_numbered ns count none t l =
+      let n : ℕ = length components in
+      all_from ns none (unmarked (replicate n false)) (replicate n false) (length-replicate n false) (omega arith) t (omega arith) (flag_past n (comp t))
+      (λ u k s. absurd (false_not_true (get_or (replicate n false) (comp u) false) (flag_past n (comp u)) s))
 
   -- ---- the parts that come of it
-  along : (ps : List PlaceId) (a b : ℕ) → IsPathBetween net a ps b → comp b ≤ comp a
-  along [] a b h = let e : comp a ≡ comp b = ap comp h in omega arith
-  along (p ∷ ps) a b h =
-      let rest = along ps (to_of net p) b h.2 in
-      let here = comps.never_rise p h.0 in
-      let e : comp (from_of net p) ≡ comp a = ap comp h.1 in
-      omega arith
-
   module _ (part_of : List ℕ) (k : ℕ) (o : AreInOrderOf net components part_of k) where
     abbrev part : ℕ → ℕ
     part t = get_or part_of t 0
 
+    length_is : length part_of ≡ length components
+    length_is = o.told.count ∙ o.numbered.count
+
     number_is : (t : ℕ) → t < length components → number_of o.numbers t ≡ Some (part t)
-    number_is t l = o.same t l
+    number_is t l = let d = o.numbered.count in o.told.same t (omega arith)
 
     part_is : (t j : ℕ) → number_of o.numbers t ≡ Some j → part t ≡ j
     part_is t j e =
@@ -219,18 +236,14 @@ module _ (net : NetLists) (kept : IsNet net) (components : List ℕ) (comps : Ar
 
     strong : AreStrong net part_of
     strong = record {
-      count = o.count ∙ comps.count;
+      count = length_is ∙ comps.count;
       strong = λ t u l m.
-          let c = o.count in
+          let c = length_is in
           let t_in : t < length components = omega arith in
           let u_in : u < length components = omega arith in (
-            λ e.
-                let one = one_component t u t_in u_in e in
-                (comps.mutual_reach t u t_in u_in one, comps.mutual_reach u t u_in t_in (sym one)),
+            λ e. (comps.strong t u t_in u_in).0 (one_component t u t_in u_in e),
             λ r.
-                let down = along r.0.0 t u r.0.1 in
-                let up = along r.1.0 u t r.1.1 in
-                let one : comp t ≡ comp u = omega arith in
+                let one : comp t ≡ comp u = (comps.strong t u t_in u_in).1 r in
                 same_number (number_of o.numbers t) (part t) (part u) (number_is t t_in) (o.numbered.same t u t_in u_in one ∙ number_is u u_in),
           );
     }
@@ -244,7 +257,7 @@ module _ (net : NetLists) (kept : IsNet net) (components : List ℕ) (comps : Ar
       lowest = λ i j l m may.
           let x = o.numbered.taken i (omega arith) in
           let t : ℕ = x.0 in
-          let c = o.count in
+          let c = length_is in
           let d = o.numbered.count in
           let t_in = number_in o.numbers t i x.1.here in (
             t,
@@ -264,13 +277,13 @@ module _ (net : NetLists) (kept : IsNet net) (components : List ℕ) (comps : Ar
     are_parts inner long marks = record {
       strong = strong;
       below = λ i d l.
-          let c = o.count in
+          let c = length_is in
           let read = get_or_default part_of i d 0 l in
           let b = o.numbered.below i (part i) (number_is i (omega arith)) in
           omega arith;
       some_member = λ j l.
           let x = o.numbered.taken j (omega arith) in
-          let c = o.count in
+          let c = length_is in
           let d = o.numbered.count in
           let t_in = number_in o.numbers x.0 j x.1.here in
           (x.0, record { in_range = omega arith; here = part_is x.0 j x.1.here });

@@ -1,5 +1,5 @@
 pub mod Partitions
-pub mod PlacesFrom
-pub mod Searches
+pub mod PlacesAlong
+pub mod Components
 pub mod Numbers
 pub mod Laws

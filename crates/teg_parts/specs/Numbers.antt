@@ -74,12 +74,16 @@ pub record AreNumbered (net : NetLists) (components : List ℕ) (numbers : List 
 abbrev pub AllNumbered : List (Option ℕ) → Type 0
 AllNumbered numbers = (t : ℕ) → t < length numbers → number_of numbers t ≢ None
 
+-- the numbers as a list of their own
+pub record AreNumbers (numbers : List (Option ℕ)) (plain : List ℕ) : Type 0 where
+  pub count : length plain ≡ length numbers
+  pub same : (t : ℕ) → t < length numbers → number_of numbers t ≡ Some (slice_index_or plain t 0)
+
 -- the numbers of the parts, in order, with the number of parts
 pub record AreInOrderOf (net : NetLists) (components part_of : List ℕ) (k : ℕ) : Type 0 where
   pub numbers : List (Option ℕ)
   pub numbered : AreNumbered net components numbers k
-  pub count : length part_of ≡ length components
-  pub same : (t : ℕ) → t < length components → number_of numbers t ≡ Some (slice_index_or part_of t 0)
+  pub told : AreNumbers numbers part_of
 
 -- for each part whether some place has both ends in it
 pub record AreInnerMarks (net : NetLists) (part_of : List ℕ) (inner : List Bool) : Type 0 where

@@ -2,15 +2,17 @@
 //!
 //! Two transitions have one part exactly where each reaches the other by a path. A [`Parts`] is
 //! seen by contracts as its lists; it stands for a net where `AreParts` ties the two, which is what
-//! calls above ask. [`split`] finds the parts by one walk over the places. The crate stands on `teg_net` alone.
+//! calls above ask. [`split`] finds the parts by searches along the places and against them. The
+//! crate stands on `teg_net` alone.
 //! Its examples stand in `worked_examples`.
 #![tactic(auto)]
 
+mod components;
 mod laws;
 mod numbering;
+mod numbers;
 mod parts;
-mod places_from;
-mod search;
+mod places_along;
 mod strong_parts;
 
 pub use laws::{circuits_lie_in_one_part, parts_are_one};

@@ -3,13 +3,14 @@
 ghost use Rattle.std.specs.Prelude.{◌≡◌, ◌<◌, ◌≤◌, ℕ, All, length, IfOk, IfSome, IfNone, slice_index_or};
 ghost use Rattle.teg_net.specs.Limits.{most_transitions};
 ghost use Rattle.teg_net.specs.Nets.{IsNet};
-ghost use Rattle.teg_parts.specs.Searches.{AreComponents};
+ghost use Rattle.teg_parts.specs.Components.{AreComponents};
 ghost use Rattle.teg_parts.specs.Numbers.{AreBlocked, IsFree, IsFirstFree, IsGiven, AreInOrderOf, AreInnerMarks, IsOpenFor, IsFirstOpen};
 
+use crate::numbers::numbers_of;
 use std::alloc::{AllocError, Global};
 use teg_net::Net;
 
-/// For each component whether a place enters it from another one that has no number.
+// For each component whether a place enters it from another one that has no number.
 fn blocked_components(
     alloc: Global,
     net: &Net,
@@ -31,13 +32,15 @@ fn blocked_components(
     Ok(blocked)
 }
 
-/// The first transition without a number whose component is not blocked.
+// The first transition without a number whose component is not blocked.
 fn first_open(components: &[u32], numbers: &[Option<u32>], blocked: &[bool]) -> Option<usize>
-    requires below { (t : ℕ) → t < length components.now → slice_index_or components.now t 0 < length components.now }
+    requires below { (t : ℕ) → t < length components.now
+        → slice_index_or components.now t 0 < length components.now }
     requires count { length numbers.now ≡ length components.now }
     requires blocked { length blocked.now ≡ length components.now }
     ensures some { IfSome result (λ t. IsFirstOpen components.now numbers.now blocked.now t) }
-    ensures none { IfNone result ((t : ℕ) → IsOpenFor components.now numbers.now blocked.now t → ⊥) }
+    ensures none { IfNone result ((t : ℕ) → IsOpenFor components.now numbers.now blocked.now t
+        → ⊥) }
 {
     for (transition, component) in components.iter().enumerate() {
         if numbers[transition].is_none() && !blocked[*component as usize] {
@@ -47,7 +50,7 @@ fn first_open(components: &[u32], numbers: &[Option<u32>], blocked: &[bool]) -> 
     None
 }
 
-/// The lowest numbered transition whose part may take the next number.
+// The lowest numbered transition whose part may take the next number.
 fn first_free(
     alloc: Global,
     net: &Net,
@@ -56,14 +59,16 @@ fn first_free(
 ) -> Result<Option<usize>, AllocError>
     requires components { AreComponents net.now components.now }
     requires count { length numbers.now ≡ length components.now }
-    ensures some { IfOk result (λ o. IfSome o (λ t. IsFirstFree net.now components.now numbers.now t)) }
-    ensures none { IfOk result (λ o. IfNone o ((t : ℕ) → IsFree net.now components.now numbers.now t → ⊥)) }
+    ensures some { IfOk result (λ o. IfSome o (λ t. IsFirstFree net.now components.now numbers.now
+        t)) }
+    ensures none { IfOk result (λ o. IfNone o ((t : ℕ) → IsFree net.now components.now numbers.now t
+        → ⊥)) }
 {
     let blocked = blocked_components(alloc, net, components, numbers)?;
     Ok(first_open(components, numbers, &blocked))
 }
 
-/// Gives the number to each transition of the component.
+// Gives the number to each transition of the component.
 fn give_number(components: &[u32], numbers: &mut [Option<u32>], component: u32, number: u32)
     requires { length numbers.old ≡ length components.now }
     ensures { IsGiven components.now numbers.old numbers.new component number }
@@ -75,7 +80,7 @@ fn give_number(components: &[u32], numbers: &mut [Option<u32>], component: u32, 
     }
 }
 
-/// The numbers of the parts in order, and how many there are.
+// The numbers of the parts in order, and how many there are.
 pub(crate) fn parts_in_order(
     alloc: Global,
     net: &Net,
@@ -93,14 +98,11 @@ pub(crate) fn parts_in_order(
         give_number(components, &mut numbers, components[transition], next);
         next += 1;
     }
-    let mut part_of = Vec::new(alloc);
-    'copy: for number in &numbers {
-        part_of.push(number.unwrap())?;
-    }
+    let part_of = numbers_of(alloc, &numbers)?;
     Ok((part_of, next))
 }
 
-/// For each part whether some place has both ends in it.
+// For each part whether some place has both ends in it.
 pub(crate) fn inner_marks(
     alloc: Global,
     net: &Net,

@@ -1,9 +1,9 @@
 //! The parts of a net, by number.
-ghost use Rattle.std.specs.Prelude.{◌≡◌, ◌<◌, ◌≤◌, length, slice_index, slice_index_or, false};
+ghost use Rattle.std.specs.Prelude.{◌≡◌, ◌<◌, ◌≤◌, length, slice_index, slice_index_or, false, IfOk};
 ghost use Rattle.teg_net.specs.Limits.{most_transitions};
 
 use std::marker::Model;
-use teg_net::TransitionId;
+use teg_net::{OutOfMemory, TransitionId};
 
 /// The parts of a net: for each transition the number of its part, and for each part whether some
 /// place has both ends in it. Contracts see the two lists; they stand for each net of which they
@@ -27,7 +27,7 @@ impl Model for Parts {
 }
 
 impl Parts {
-    /// The value with these lists. It takes no memory.
+    // The value with these lists. It takes no memory.
     pub(crate) fn new(part_of: Vec<u32>, inner: Vec<bool>) -> Parts
         requires { length inner.items ≤ most_transitions }
         ensures { result ≡ record { part_of = part_of.items; inner = inner.items } }
@@ -49,6 +49,15 @@ impl Parts {
         ensures { result ≡ slice_index self.now.part_of transition.index }
     {
         self.part_of[transition.index as usize]
+    }
+
+    /// The number of each transition's part, as a list. It answers `OutOfMemory` only where no memory
+    /// is found.
+    pub fn numbers(&self) -> Result<Vec<u32>, OutOfMemory>
+        ensures { IfOk result (λ numbers. numbers.items ≡ self.now.part_of) }
+    {
+        let numbers = self.part_of.clone()?;
+        Ok(numbers)
     }
 
     /// Whether some place has both ends in the part. It takes no memory.

@@ -2,9 +2,9 @@
 ghost use Rattle.std.specs.Prelude.{IfOk};
 ghost use Rattle.teg_parts.specs.Partitions.{AreParts};
 
+use crate::components::components;
 use crate::numbering::{inner_marks, parts_in_order};
 use crate::parts::Parts;
-use crate::search::components;
 use std::alloc::Global;
 use teg_net::{Net, OutOfMemory};
 
@@ -13,8 +13,9 @@ use teg_net::{Net, OutOfMemory};
 /// number where each other part that lies upstream of it has one, and among those that may, the
 /// part of the lowest numbered transition takes it. So numbers never fall along a place.
 ///
-/// The parts are found by one walk over the places, linear in places and transitions; each number
-/// costs a pass over the places. It answers `OutOfMemory` only where no memory is found.
+/// The parts are found by two searches for each, along the places and against them, and each number
+/// costs a pass over the places: n parts take time of n times the places. It answers `OutOfMemory`
+/// only where no memory is found.
 pub fn split(alloc: Global, net: &Net) -> Result<Parts, OutOfMemory>
     ensures { IfOk result (λ parts. AreParts net.now parts) }
 {

@@ -4,7 +4,7 @@ use Rattle.teg_check.proofs.Liveness.{ranking_is_live}
 use Rattle.teg_bound.proofs.Causes.{no_places, alone, ready_at_zero}
 use Rattle.teg_bound.proofs.Inputs.{input_is_some}
 use Rattle.teg_bound.proofs.Keeping.{keeps}
-use Rattle.teg_bound.proofs.Strong.{one_part, two_parts, some_best, best_is}
+use Rattle.teg_bound.proofs.Strong.{one_part, two_parts, some_best, tells_best, best_is}
 use Rattle.teg_bound.proofs.bound.settling_bound.Goals as goal
 
 pub returns-then-is_empty : goal.returns-then-is_empty
@@ -35,7 +35,7 @@ unreachable-requires c =
     let places = alone net c.places.result.now none c.places.ensures.value (sym c.is_empty.ensures ∙ c.if-is_empty.false) in
     let live = ranking_is_live net c.args._live.now c.requires.live in
     let each = one_part net c.args.parts.now c.requires.parts (omega arith) in
-    some_best net c.args.answer.now c.places.ensures.rules live c.requires.certificate each places.some_place c.in_default.ensures.none
+    some_best net c.args.answer.now c.places.ensures.rules live c.requires.certificate each places.some_place (sym c.best_ratio.ensures ∙ c.in_default.is)
 
 pub bound_number-requires : goal.bound_number-requires
 bound_number-requires c =
@@ -43,7 +43,7 @@ bound_number-requires c =
     let none = iff_false c.has_input.ensures c.if-has_input.false in
     let places = alone net c.places.result.now none c.places.ensures.value (sym c.is_empty.ensures ∙ c.if-is_empty.false) in
     let live = ranking_is_live net c.args._live.now c.requires.live in
-    let best = best_is net c.args.answer.now c.in-Some.ratio c.places.ensures.rules live c.requires.certificate c.in-Some.ensures.some in
+    let best = best_is net c.args.answer.now c.in-Some.ratio c.places.ensures.rules live c.requires.certificate (tells_best c.args.answer.now c.in-Some.ratio (sym c.best_ratio.ensures ∙ c.in-Some.is)) in
     record { place = places.some_place; time = best.small.0; tokens = best.small.1 }
 
 pub returns : goal.returns
@@ -56,7 +56,7 @@ returns c =
     let live = ranking_is_live net c.args._live.now c.requires.live in
     let each = one_part net c.args.parts.now c.requires.parts (omega arith) in
     let ready = ready_at_zero net (iff_false c.has_late_token.ensures c.if-has_late_token.false) in
-    let best = best_is net c.args.answer.now r rules live c.requires.certificate c.in-Some.ensures.some in
+    let best = best_is net c.args.answer.now r rules live c.requires.certificate (tells_best c.args.answer.now r (sym c.best_ratio.ensures ∙ c.in-Some.is)) in
     let is = c.bound_number.ensures.number in
     record {
       alone = places;

@@ -3,7 +3,8 @@ use lib.ListN.{replicate}
 use Rattle.teg_net.specs.Parts.{to_of}
 use Rattle.teg_howard.specs.Policies.{step_back}
 use Rattle.teg_howard.specs.FoundCircuits.{policy_of, IsBestFound}
-use Rattle.teg_howard.proofs.Exits.{IfOk_then, some_by, all_marked, any_marked}
+use Rattle.teg_parts.proofs.Marks.{IfOk_then}
+use Rattle.teg_howard.proofs.Exits.{some_by, all_marked, any_marked}
 use Rattle.teg_howard.proofs.Back.{to_a_circuit, trail}
 use Rattle.teg_howard.proofs.Runs.{lowest_policy, lowest_in_range, lowest_outside, entered}
 use Rattle.teg_howard.proofs.RoundStates.{can_settle, settled_stands, first_stands}
@@ -29,8 +30,8 @@ unwrap-found-requires c =
     (λ none. none (trail net π way.1 (step_back net π way.0 (to_of net inner.0))) way.4
     (any_marked net parts part c.deref.result.now (trail net π way.1 (step_back net π way.0 (to_of net inner.0))) (c.deref.ensures.value ∙ filled) way.4.circuit.not_empty way.4.inside))
 
-pub settle-requires : goal.settle-requires
-settle-requires c =
+pub settle-requires-clause-can : goal.settle-requires-clause-can
+settle-requires-clause-can c =
     let net = c.args.net.now in
     let parts = c.args.parts.now in
     let part = c.args.part in

@@ -18,8 +18,8 @@ best_circuit-requires-clause-policy c =
     let up : IsBetter c.args.net.now c.args.parts.now c.args.part st.round.ratio st.values.items c.args.policy.now c.improve.new.policy c.in_ok-changed.changed.items = rw c.deref.ensures.value at c.in_ok-changed.ensures in
     step_policy c.args.net.now c.args.parts.now c.args.part c.args.policy.now c.improve.new.policy st c.in_ok-changed.changed.items c.requires.standing up
 
-pub settle-requires : goal.settle-requires
-settle-requires c =
+pub settle-requires-clause-can : goal.settle-requires-clause-can
+settle-requires-clause-can c =
     let net = c.args.net.now in
     let st = c.args.state.now in
     let marked = c.in_ok-changed.changed.items in
@@ -40,8 +40,8 @@ returns-in-Some-clause-some c =
     let can = ready_new net c.args.parts.now c.args.part c.args.policy.now c.improve.new.policy st marked c.of-ratio.result c.in-Some.found c.requires.circuit c.requires.standing up count best e.ratio e.time e.tokens in
     goes_new net c.args.parts.now c.args.part c.args.policy.now c.improve.new.policy c.settle.new.policy st c.in_ok-next-in-Some.next marked c.of-ratio.result c.in-Some.found c.requires.circuit c.requires.standing up best e.ratio can (c.settle.auto.policy ∙ count) c.in_ok-next-in-Some.ensures
 
-pub settle-requires-in-None : goal.settle-requires-in-None
-settle-requires-in-None c =
+pub settle-requires-in-None-clause-can : goal.settle-requires-in-None-clause-can
+settle-requires-in-None-clause-can c =
     let net = c.args.net.now in
     let st = c.args.state.now in
     let marked = c.in_ok-changed.changed.items in

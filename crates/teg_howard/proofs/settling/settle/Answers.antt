@@ -1,19 +1,16 @@
-use Rattle.std.proofs.Common.{Some, None, ◌≡◌, ◌<◌, ◌≤◌, ◌++◌, ◌∷◌, [], length, get_or, sym, ◌∙◌, arith, rules}
-use Rattle.std.specs.Prelude.{◌+ℤ◌}
+use Rattle.std.proofs.Common.{◌≡◌, ◌<◌, ◌≤◌, ◌++◌, ◌∷◌, [], length, get_or, ◌∙◌, arith, rules}
 use Rattle.std.proofs.lemmas.List.{get_or_read, get_or_default}
 use Rattle.std.proofs.lemmas.List.Elements.{All-set}
 use Rattle.std.proofs.lemmas.Int.{to_z-of_z}
 use mir.Val.{SFits}
 use mir.Syntax.{w128}
-use Rattle.teg_net.specs.declared.entries.PlaceId.{PlaceId}
-use Rattle.teg_net.specs.Circuits.{no_place, place_at, from_of}
+use Rattle.teg_net.specs.Circuits.{no_place, from_of}
 use Rattle.teg_net.specs.Parts.{to_of}
 use Rattle.teg_net.specs.PartAnswers.{first_transition_of}
-use Rattle.teg_howard.specs.Policies.{first_id}
-use Rattle.teg_net.specs.ReducedTimes.{reduced_time}
-use Rattle.teg_howard.specs.FoundCircuits.{policy_of, value_of}
+use Rattle.teg_howard.specs.Policies.{first_id, offer_of}
+use Rattle.teg_howard.specs.FoundCircuits.{policy_of, potentials, IsNextJoin}
 use Rattle.teg_howard.specs.Following.{Followed}
-use Rattle.teg_howard.proofs.Values.{route_step, held_fits, all_within, held_within, routed_none, all_valued, valued_sums, routed_routing, some_apart, only_members}
+use Rattle.teg_howard.proofs.Values.{route_step, held_at, all_within, held_within, routed_none, all_valued, valued_sums, routed_routing, some_apart, only_members}
 use Rattle.teg_howard.proofs.Turns.{root_member}
 use Rattle.teg_howard.proofs.settling.settle.Goals as goal
 
@@ -21,7 +18,7 @@ pub follow-requires : goal.follow-requires
 follow-requires c =
     let net = c.args.net.now in
     let circuit = c.args.circuit.items in
-    let r = c.requires in
+    let r = c.requires.can in
     let first : c.index-first.result.now ≡ get_or circuit 0 first_id = get_or_read circuit 0 c.index-first.result.now r.circuit.circuit.not_empty c.index-first.ensures first_id in
     let read = get_or_default net.places (get_or circuit 0 first_id).index c.index-places-first.result no_place (r.circuit.inside 0 first_id r.circuit.circuit.not_empty).in_range in
     rw (c.places-places.ensures.value, first, read)
@@ -39,7 +36,7 @@ pub route-init : goal.route-init
 route-init c =
     let net = c.args.net.now in
     let circuit = c.args.circuit.items in
-    let r = c.requires in
+    let r = c.requires.can in
     let π = policy_of c.args.policy.now in
     let vs = c.in_ok-values.values.items in
     let first : c.index-first.result.now ≡ get_or circuit 0 first_id = get_or_read circuit 0 c.index-first.result.now r.circuit.circuit.not_empty c.index-first.ensures first_id in
@@ -51,55 +48,38 @@ route-init c =
       routed = ([], routed_none net c.args.parts.now c.args.part c.args.ratio.time c.args.ratio.tokens (first_transition_of net circuit) π r.is_policy vs followed c.in_ok-values.ensures.all);
     }
 
-pub offer-requires-clause-within : goal.offer-requires-clause-within
-offer-requires-clause-within c =
+pub offer_from-requires-clause-within : goal.offer_from-requires-clause-within
+offer_from-requires-clause-within c =
     let net = c.args.net.now in
-    let r = c.requires in
     let h = c.route.invariant.routed.1 in
-    let vs = c.route.values.items in
-    let p : PlaceId = record { index = c.in-Some.index } in
-    let j = rw c.deref.ensures.value at c.in-Some.ensures.some in
-    let in_net : p.index < length net.places = j.0.inside.in_range in
-    let item : c.index-places-index.result ≡ place_at net p = rw c.places-places.ensures.value at (get_or_read c.places-places.result.now p.index c.index-places-index.result (rw c.places-places.ensures.value in_net) c.index-places-index.is no_place) in
-    let few = r.kept.few_transitions in
-    let from_in : from_of net p < length vs = let m = j.0.inside.from_member.in_range in let k = h.valued.count in omega arith in
-    let read : c.index.result.now ≡ value_of vs (from_of net p) = get_or_read vs (from_of net p) c.index.result.now from_in (rw item at c.index.ensures) None in
-    let e : value_of vs (from_of net p) ≡ Some c.unwrap-value.result = sym read ∙ c.unwrap-value.ensures in
-    let fit = held_fits net c.args.parts.now c.args.part c.args.ratio.time c.args.ratio.tokens (first_transition_of net c.args.circuit.items) (policy_of c.route.policy) vs h.valued (omega (arith, r.parts_.count)) (from_of net p) c.unwrap-value.result e in
-    rw fit.1 fit.0
+    let few = c.requires.can.kept.few_transitions in
+    rw c.deref-in-Some.ensures.value
+    (held_at net c.args.parts.now c.args.part c.args.ratio.time c.args.ratio.tokens (first_transition_of net c.args.circuit.items) (policy_of c.route.policy) c.route.values.items h.valued (omega (arith, c.requires.can.parts_.count)) (from_of net c.in-Some.id))
 
 pub route-preserved : goal.route-preserved
 route-preserved c =
     let net = c.args.net.now in
-    let r = c.requires in
+    let parts = c.args.parts.now in
+    let r = c.requires.can in
     let joins = c.route.invariant.routed.0 in
-    let h = c.route.invariant.routed.1 in
     let vs = c.route.values.items in
-    let i = c.in-Some.index in
-    let p : PlaceId = record { index = i } in
-    let j = rw c.deref.ensures.value at c.in-Some.ensures.some in
-    let in_net : p.index < length net.places = j.0.inside.in_range in
-    let item : c.index-places-index.result ≡ place_at net p = rw c.places-places.ensures.value at (get_or_read c.places-places.result.now p.index c.index-places-index.result (rw c.places-places.ensures.value in_net) c.index-places-index.is no_place) in
-    let few = r.kept.few_transitions in
-    let from_in : from_of net p < length vs = let m = j.0.inside.from_member.in_range in let k = h.valued.count in omega arith in
-    let read : c.index.result.now ≡ value_of vs (from_of net p) = get_or_read vs (from_of net p) c.index.result.now from_in (rw item at c.index.ensures) None in
-    let e : value_of vs (from_of net p) ≡ Some c.unwrap-value.result = sym read ∙ c.unwrap-value.ensures in
-    let fit = held_fits net c.args.parts.now c.args.part c.args.ratio.time c.args.ratio.tokens (first_transition_of net c.args.circuit.items) (policy_of c.route.policy) vs h.valued (omega (arith, r.parts_.count)) (from_of net p) c.unwrap-value.result e in
-    let offered = c.offer.result in
+    let p = c.in-Some.id in
+    let next : IsNextJoin net parts c.args.part vs p = rw c.deref.ensures.value at c.in-Some.ensures.some in
+    let ends : c.end_of-member.result ≡ to_of net p = c.end_of-member.ensures in
+    let offered = c.offer_from.result in
     let fits : SFits w128 offered = search rules in
-    let same = to_z-of_z w128 offered fits in
-    let o : offered ≡ (reduced_time net c.args.ratio.time c.args.ratio.tokens p +ℤ c.unwrap-value.result) = rw (item, fit.1) at c.offer.ensures in
-    let count : length c.route.policy ≡ length c.args.parts.now = c.route.auto.policy ∙ r.count in
-    rw (item, same)
+    let o : offered ≡ offer_of net c.args.ratio.time c.args.ratio.tokens (potentials vs) p = rw c.deref-in-Some.ensures.value at c.offer_from.ensures in
+    let count : length c.route.policy ≡ length parts = c.route.auto.policy ∙ r.count in
+    rw (ends, to_z-of_z w128 offered fits)
     (record {
-      in_range = All-set (λ q. q.index < length net.places) c.route.policy (to_of net p) p j.0.inside.in_range c.route.invariant.in_range;
-      routed = (joins ++ p ∷ [], route_step net c.args.parts.now c.args.part (first_transition_of net c.args.circuit.items) c.args.ratio (policy_of c.args.policy.now) joins c.route.policy vs i c.unwrap-value.result offered r.kept r.small count h j.0 j.1 e o);
+      in_range = All-set (λ q. q.index < length net.places) c.route.policy (to_of net p) p next.join.inside.in_range c.route.invariant.in_range;
+      routed = (joins ++ p ∷ [], route_step net parts c.args.part (first_transition_of net c.args.circuit.items) c.args.ratio (policy_of c.args.policy.now) joins c.route.policy vs p offered r.kept r.small count c.route.invariant.routed.1 next o);
     })
 
 pub round_of-requires-clause-has : goal.round_of-requires-clause-has
 round_of-requires-clause-has c =
     let net = c.args.net.now in
-    let r = c.requires in
+    let r = c.requires.can in
     let h = c.route.invariant.routed.1 in
     let root = first_transition_of net c.args.circuit.items in
     rw c.deref-2.ensures.value
@@ -109,7 +89,7 @@ round_of-requires-clause-has c =
 pub returns : goal.returns
 returns c =
     let net = c.args.net.now in
-    let r = c.requires in
+    let r = c.requires.can in
     let h = c.route.invariant.routed.1 in
     let vs = c.route.values.items in
     let root = first_transition_of net c.args.circuit.items in

@@ -1,8 +1,6 @@
-use Rattle.std.proofs.Common.{ℕ, ◌≡◌, ◌<◌, ◌≤◌, [], ◌∷◌, Some, length, refl, ap, subst, ◌∙◌, arith, ⊎_elim}
-use Rattle.std.proofs.lemmas.Bool.{cases_lt}
-use Rattle.std.proofs.lemmas.List.{length_push, get_or_push, get_or_append_left}
-use Rattle.teg_parts.specs.Numbers.{component_at, number_of, IsFree, IsFirstFree, IsGiven, AllNumbered}
-use Rattle.teg_parts.proofs.Marks.{written_back, is_some_of}
+use Rattle.std.proofs.Common.{ℕ, ◌≡◌, length, refl, ap, ◌∙◌, arith}
+use Rattle.teg_parts.specs.Numbers.{component_at, IsFree, IsFirstFree, IsGiven, AllNumbered}
+use Rattle.teg_parts.proofs.Marks.{written_back}
 use Rattle.teg_parts.proofs.Ordering.{numbered_more, all_numbered}
 use Rattle.teg_parts.proofs.numbering.parts_in_order.Goals as goal
 
@@ -28,53 +26,18 @@ number-preserved c =
       few = omega arith;
     })
 
-pub copy-init : goal.copy-init
-copy-init c = record { long = ap length c.new-part_of.ensures.items; same = λ t l. absurd (omega arith) }
-
-pub unwrap-requires : goal.unwrap-requires
-unwrap-requires c =
+pub numbers_of-requires : goal.numbers_of-requires
+numbers_of-requires c =
     let net = c.args.net.now in
     let comps = c.args.components.now in
     let ns = c.number.numbers.items in
     let none : (t : ℕ) → IsFree net comps ns t → ⊥ = rw (c.in_default.is, c.deref.ensures.value) at c.in_ok-transition.ensures.none in
     let all : AllNumbered ns = all_numbered net c.transitions-count.ensures.rules comps c.requires ns c.number.invariant.numbered.count none in
-    let in' : c.copy.number-index < length ns = rw c.deref-number-items.ensures.value at c.copy-test.true in
-    rw c.deref-number-items.ensures.value (is_some_of (number_of ns c.copy.number-index) (all c.copy.number-index in'))
-
-pub copy-preserved : goal.copy-preserved
-copy-preserved c =
-    let h = c.copy.invariant in
-    let old = c.copy.part_of.items in
-    let i = c.copy.number-index in
-    let x = c.unwrap.result in
-    let now = c.deref-number-items.result.now in
-    let long = h.long in
-    let push = length_push old x in
-    rw c.in_ok-push.ensures.items
-    (record {
-      long = omega arith;
-      same = λ t l.
-          ⊎_elim
-          (λ (q : t < i). let t_in : t < length old = omega arith in rw (get_or_append_left old (x ∷ []) 0 t t_in) (h.same t q))
-          (λ (q : i ≤ t).
-          let e : i ≡ t = omega arith in
-          let at : length old ≡ t = omega arith in
-          rw (get_or_push old x 0 t at) (subst (λ y. number_of now y ≡ Some x) e c.unwrap.ensures))
-          (cases_lt t i);
-    })
+    rw c.deref-2.ensures.value all
 
 pub returns-clause-order : goal.returns-clause-order
-returns-clause-order c =
-    let h = c.copy.invariant in
-    let n = c.number.invariant.numbered in
-    let value = c.deref-number-items.ensures.value in
-    let all : c.copy.number-index ≡ length c.deref-number-items.result.now = omega (arith, c.copy-test.false, c.copy.auto.number-index-end) in
-    let same : length c.deref-number-items.result.now ≡ length c.number.numbers.items = ap length value in
-    let long = h.long in
-    let count = n.count in
-    record {
-      numbers = c.number.numbers.items;
-      numbered = n;
-      count = omega arith;
-      same = λ t l. rw value at (h.same t (omega (arith, all, same, count, l)));
-    }
+returns-clause-order c = record {
+  numbers = c.number.numbers.items;
+  numbered = c.number.invariant.numbered;
+  told = rw c.deref-2.ensures.value at c.in_ok-part_of.ensures;
+}

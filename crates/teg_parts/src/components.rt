@@ -1,0 +1,93 @@
+//! The strong parts, each numbered by its lowest transition: what a search along the places from there
+//! reaches, and what one against them reaches.
+ghost use Rattle.std.specs.Prelude.{◌≡◌, ◌<◌, length, IfOk, OnOk};
+ghost use Rattle.teg_net.specs.Nets.{IsNet};
+ghost use Rattle.teg_parts.specs.PlacesAlong.{ArePlacesAlong};
+ghost use Rattle.teg_parts.specs.declared.places_along.Way.TheVariants.{Onward, Back};
+ghost use Rattle.teg_parts.specs.Components.{AreLedTo, AreFound, IsRooted, HasFound, AreComponents};
+
+use crate::numbers::numbers_of;
+use crate::places_along::{PlacesAlong, Way, far_end, places_along, push_places_along};
+use std::alloc::{AllocError, Global};
+use teg_net::Net;
+
+// The transitions to which a path goes from the start, marked: a place is gone along once at most.
+fn led_from(
+    alloc: Global,
+    net: &Net,
+    along: &PlacesAlong,
+    start: usize,
+) -> Result<Vec<bool>, AllocError>
+    requires along { ArePlacesAlong net.now along.now }
+    requires start { start < length net.now.transitions }
+    ensures { IfOk result (λ marks. AreLedTo net.now along.now.way start marks.items) }
+{
+    let places = net.places();
+    let mut marks = vec![in alloc; false; net.transitions().len()]?;
+    let mut agenda = Vec::new(alloc);
+    marks[start] = true;
+    push_places_along(net, along, start, &mut agenda)?;
+    'search: while let Some(id) = agenda.pop() {
+        let far = far_end(along.way, &places[id.index as usize]);
+        if !marks[far] {
+            marks[far] = true;
+            push_places_along(net, along, far, &mut agenda)?;
+        }
+    }
+    Ok(marks)
+}
+
+// Gives the number to each transition that has both marks.
+fn give_root(onward: &[bool], back: &[bool], found: &mut [Option<u32>], root: u32)
+    requires onward { length onward.now ≡ length found.old }
+    requires back { length back.now ≡ length found.old }
+    ensures { IsRooted onward.now back.now root found.old found.new }
+{
+    for transition in 0..found.len() {
+        if onward[transition] && back[transition] {
+            found[transition] = Some(root);
+        }
+    }
+}
+
+// Numbers the part of the root, unless it has a number.
+fn find_part(
+    alloc: Global,
+    net: &Net,
+    onward: &PlacesAlong,
+    back: &PlacesAlong,
+    root: usize,
+    found: &mut [Option<u32>],
+) -> Result<(), AllocError>
+    requires rules { IsNet net.now }
+    requires onward { ArePlacesAlong net.now onward.now }
+    requires onward_way { onward.now.way ≡ Onward }
+    requires back { ArePlacesAlong net.now back.now }
+    requires back_way { back.now.way ≡ Back }
+    requires root { root < length net.now.transitions }
+    requires found { AreFound net.now found.old }
+    ensures { OnOk result (HasFound net.now root found.old found.new) }
+{
+    if found[root].is_some() {
+        return Ok(());
+    }
+    let reached = led_from(alloc, net, onward, root)?;
+    let reaching = led_from(alloc, net, back, root)?;
+    give_root(&reached, &reaching, found, root as u32);
+    Ok(())
+}
+
+// For each transition a number that it shares with exactly those that it reaches and that reach it:
+// two searches for each part, each linear in places and transitions.
+pub(crate) fn components(alloc: Global, net: &Net) -> Result<Vec<u32>, AllocError>
+    ensures { IfOk result (λ numbers. AreComponents net.now numbers.items) }
+{
+    let count = net.transitions().len();
+    let onward = places_along(alloc, net, Way::Onward)?;
+    let back = places_along(alloc, net, Way::Back)?;
+    let mut found = vec![in alloc; None; count]?;
+    for root in 0..count {
+        find_part(alloc, net, &onward, &back, root, &mut found)?;
+    }
+    numbers_of(alloc, &found)
+}
