@@ -28,7 +28,7 @@ use Rattle.delay_laws.proofs.Releases.{release_rises}
 use Rattle.delay_laws.proofs.ReleaseLists.{lists_release}
 use Rattle.delay_laws.proofs.Derived.{which, leads_below, stays_live}
 use Rattle.delay_laws.proofs.Steps.{together_first, together_second}
-use Rattle.delay_laws.proofs.Alike.{AreAlike}
+use Rattle.settled_laws.proofs.Alike.{AreAlike}
 
 -- ---- places and datings
 

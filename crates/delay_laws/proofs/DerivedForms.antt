@@ -5,7 +5,7 @@ use Rattle.teg_model.specs.Datings.{listed}
 use Rattle.settled_laws.specs.Forms.{IsShortest, SettlesPast}
 use Rattle.delay_laws.specs.Delays.{together}
 use Rattle.delay_laws.specs.SettlingLaws.{ReleaseNetsTellDelays}
-use Rattle.delay_laws.proofs.Alike.{shortest_alike, past_alike}
+use Rattle.settled_laws.proofs.Alike.{shortest_alike, past_alike}
 use Rattle.delay_laws.proofs.DerivedDates.{beside, is_delayed, are_alike}
 
 pub release_nets_tell_delays : ReleaseNetsTellDelays

@@ -8,7 +8,6 @@ pub mod PassedOn
 pub mod Keeping
 pub mod ReleaseLists
 pub mod Derived
-pub mod Alike
 pub mod DerivedDates
 pub mod DerivedForms
 pub mod Together

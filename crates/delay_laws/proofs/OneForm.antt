@@ -24,7 +24,7 @@ use Rattle.delay_laws.specs.FormLaws.{FormsAreOfEach, FormsOfDelaysAreOne, Delay
 use Rattle.delay_laws.proofs.Releases.{release_rises}
 use Rattle.delay_laws.proofs.Dated.{delayed_datings_are_one, one_above, left_above}
 use Rattle.delay_laws.proofs.Steps.{together_first, together_second}
-use Rattle.delay_laws.proofs.Alike.{AreAlike, shortest_alike}
+use Rattle.settled_laws.proofs.Alike.{AreAlike, shortest_alike}
 
 -- two delayed datings of a timetable are alike, with their releases
 datings_alike : (net : NetLists) (period : ℕ) (t : Timetable) (x w y v : Dating) → HasEndsInRange net → IsDelayedBy net period t x w → IsDelayedBy net period t y v

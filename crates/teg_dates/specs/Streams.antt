@@ -57,6 +57,10 @@ pub record StreamLists : Type 0 where
   pub order : List Turn
   pub last : LastDates
 
+-- how many rows the stream has given
+abbrev pub rows_given : StreamLists → ℕ
+rows_given stream = stream.last.number
+
 -- the stream stands for the net
 abbrev pub IsStreamOf : NetLists → StreamLists → Type 0
 IsStreamOf net stream = GoesOn net stream.order (last_rows stream.last)
@@ -65,6 +69,10 @@ IsStreamOf net stream = GoesOn net stream.order (last_rows stream.last)
 pub record FirstLists : Type 0 where
   pub order : List Turn
   pub window : WindowCells
+
+-- how many of them were given
+abbrev pub first_rows_given : FirstLists → ℕ
+first_rows_given rows = rows.window.number
 
 -- these rows stand for the net
 abbrev pub AreFirstRowsOf : NetLists → FirstLists → Type 0

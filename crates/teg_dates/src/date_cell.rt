@@ -108,7 +108,7 @@ impl DateCell for u64 {
     }
 }
 
-/// The later of a cell and a date.
+// The later of a cell and a date.
 pub(crate) fn later_date<C: DateCell>(cell: C, date: Date) -> C
     requires { IsWithin C.most date }
     ensures { C.held result ≡ later_of (C.held cell) date }

@@ -7,13 +7,13 @@ use dioid::Date;
 use std::alloc::{AllocError, Global};
 use std::marker::Model;
 
-/// The number of eight bytes that stands for `Never`.
+// The number of eight bytes that stands for `Never`.
 const NEVER: u64 = u64::MAX;
 
-/// The number of eight bytes that stands for `Early`.
+// The number of eight bytes that stands for `Early`.
 const EARLY: u64 = u64::MAX - 1;
 
-/// The date in eight bytes, if it fits.
+// The date in eight bytes, if it fits.
 fn shortened(date: Date) -> Option<u64>
     ensures { IfSome result (λ cell. short_date cell ≡ date) }
 {
@@ -29,7 +29,7 @@ fn shortened(date: Date) -> Option<u64>
     }
 }
 
-/// The date that a number of eight bytes stands for.
+// The date that a number of eight bytes stands for.
 fn long_date(cell: u64) -> Date
     ensures { result ≡ short_date cell }
 {
@@ -42,8 +42,8 @@ fn long_date(cell: u64) -> Date
     }
 }
 
-/// Dates one after another: in eight bytes each, and from the first that does not fit on as they are.
-/// Contracts see the list of them.
+// Dates one after another: in eight bytes each, and from the first that does not fit on as they are.
+// Contracts see the list of them.
 #[derive(Debug, Drop)]
 pub(crate) struct DateList {
     short: Vec<u64>,
@@ -61,7 +61,7 @@ impl Model for DateList {
 }
 
 impl DateList {
-    /// No dates.
+    // No dates.
     pub(crate) fn new(alloc: Global) -> DateList
         ensures { result ≡ [] }
     {
@@ -71,7 +71,7 @@ impl DateList {
         }
     }
 
-    /// Adds a date behind the others.
+    // Adds a date behind the others.
     #[tactic(auto, using(crate::proofs::Shortening::short_more, crate::proofs::Shortening::rest_more))]
     fn push(&mut self, date: Date) -> Result<(), AllocError>
         ensures { IfOk result (λ _. self.new ≡ self.old ++ date ∷ []) }
@@ -89,7 +89,7 @@ impl DateList {
         Ok(())
     }
 
-    /// Adds dates behind the others.
+    // Adds dates behind the others.
     #[tactic(auto, using(crate::proofs::Shortening::extended_more))]
     pub(crate) fn extend(&mut self, dates: &[Date]) -> Result<(), AllocError>
         ensures { IfOk result (λ _. self.new ≡ self.old ++ dates.now) }
@@ -100,7 +100,7 @@ impl DateList {
         Ok(())
     }
 
-    /// The date at this index.
+    // The date at this index.
     #[tactic(auto, using(crate::proofs::Shortening::short_at, crate::proofs::Shortening::rest_at))]
     pub(crate) fn date(&self, index: usize) -> Date
         requires { index < length self.now }

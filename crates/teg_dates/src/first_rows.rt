@@ -4,7 +4,7 @@ ghost use Rattle.teg_net.specs.Limits.{greatest_number};
 ghost use Rattle.teg_check.specs.Ranks.{IsRanking};
 ghost use Rattle.teg_dates.specs.DateCells.{date_of};
 ghost use Rattle.teg_dates.specs.Tables.{most_numbers};
-ghost use Rattle.teg_dates.specs.Streams.{AreFirstRowsOf, HasLeast, IsLeastRow};
+ghost use Rattle.teg_dates.specs.Streams.{AreFirstRowsOf, HasLeast, IsLeastRow, first_rows_given};
 
 use crate::next::{most_tokens_of, next_row};
 use crate::order::PlaceOrder;
@@ -39,7 +39,7 @@ impl FirstRows {
     pub fn new(alloc: Global, net: &Net, live: &Live) -> Result<FirstRows, OutOfMemory>
         requires stands { IsRanking net.now live.now }
         ensures stands { IfOk result (AreFirstRowsOf net.now) }
-        ensures number { IfOk result (λ rows. rows.window.number ≡ 0) }
+        ensures number { IfOk result (λ rows. first_rows_given rows ≡ 0) }
         ensures exists { IfOk result (λ _. HasLeast net.now) }
     {
         let order = PlaceOrder::new(alloc, net, live)?;
@@ -50,7 +50,7 @@ impl FirstRows {
 
     /// How many rows were given so far. It takes no memory.
     pub fn number(&self) -> u64
-        ensures value { result ≡ self.now.window.number }
+        ensures value { result ≡ first_rows_given self.now }
         ensures few { result ≤ greatest_number }
     {
         self.window.number()
@@ -63,10 +63,10 @@ impl FirstRows {
     /// and p places.
     pub fn next_row(&mut self, net: &Net, row: &mut [u64])
         requires stands { AreFirstRowsOf net.now self.old }
-        requires few { self.old.window.number < most_numbers }
+        requires few { first_rows_given self.old < most_numbers }
         requires full { length row.old ≡ length net.now.transitions }
-        ensures row { IsLeastRow net.now (self.old.window.number + 1) (map date_of row.new) }
-        ensures number { self.new.window.number ≡ self.old.window.number + 1 }
+        ensures row { IsLeastRow net.now (first_rows_given self.old + 1) (map date_of row.new) }
+        ensures number { first_rows_given self.new ≡ first_rows_given self.old + 1 }
         ensures stands { AreFirstRowsOf net.now self.new }
     {
         let number = self.window.number() + 1;

@@ -9,7 +9,7 @@ use std::alloc::{AllocError, Global};
 use std::marker::Model;
 use teg_net::TransitionId;
 
-/// The last rows of dates, as many as `reach`. All room for them is made at the start.
+// The last rows of dates, as many as `reach`. All room for them is made at the start.
 #[derive(Drop)]
 pub(crate) struct LastRows {
     width: usize,
@@ -33,7 +33,7 @@ impl LastRows {
     ghost use Rattle.teg_dates.specs.Passes.{HaveNext};
     ghost use Rattle.teg_dates.specs.Streams.{last_rows};
 
-    /// No rows, and room for as many as `reach`.
+    // No rows, and room for as many as `reach`.
     pub(crate) fn new(alloc: Global, width: usize, reach: u64) -> Result<LastRows, AllocError>
         requires width { width ≤ most_transitions }
         requires reach { reach ≤ most_tokens }
@@ -48,7 +48,7 @@ impl LastRows {
         })
     }
 
-    /// How many rows were given. It takes no memory.
+    // How many rows were given. It takes no memory.
     pub(crate) fn number(&self) -> u64
         ensures value { result ≡ self.now.number }
         ensures few { result ≤ greatest_number }
@@ -56,7 +56,7 @@ impl LastRows {
         self.number
     }
 
-    /// Adds a row behind the others. Where the room is full, the first row goes. It takes no memory.
+    // Adds a row behind the others. Where the room is full, the first row goes. It takes no memory.
     pub(crate) fn push(&mut self, row: &[Date])
         requires few { self.old.number < greatest_number }
         requires full { length row.now ≡ self.old.width }

@@ -13,7 +13,7 @@ use crate::sources::NetInputs;
 use teg_model::least_datings_are_one;
 use teg_net::Net;
 
-/// The greatest number of tokens of a place, and at least 1.
+// The greatest number of tokens of a place, and at least 1.
 pub(crate) fn most_tokens_of(net: &Net) -> u32
     ensures one { 1 ≤ result }
     ensures most { result ≤ most_tokens }
@@ -27,7 +27,7 @@ pub(crate) fn most_tokens_of(net: &Net) -> u32
     most
 }
 
-/// Writes the next row of the net's least dating, of number `number`. It takes no memory.
+// Writes the next row of the net's least dating, of number `number`. It takes no memory.
 pub(crate) fn next_row<C: DateCell, P: Past<C>>(
     net: &Net,
     order: &[Turn],

@@ -8,8 +8,8 @@ use std::marker::Model;
 use teg_check::Live;
 use teg_net::{Net, OutOfMemory, Place, PlaceId, TransitionId};
 
-/// What a pass reads of a place, and when the place has its turn. A pass goes over thousands of these
-/// for each number, so they are small.
+// What a pass reads of a place, and when the place has its turn. A pass goes over thousands of these
+// for each number, so they are small.
 #[derive(Clone, Copy, Debug, Drop)]
 pub(crate) struct Turn {
     pub(crate) turn: u32,
@@ -48,7 +48,7 @@ impl PlaceOrder {
         Ok(PlaceOrder { turns })
     }
 
-    /// The places with their turns.
+    // The places with their turns.
     pub(crate) fn turns(&self) -> &[Turn]
         ensures { result.now ≡ self.now }
     {
@@ -56,7 +56,7 @@ impl PlaceOrder {
     }
 }
 
-/// When the turn of a place comes.
+// When the turn of a place comes.
 fn turn_of(live: &Live, place: &Place) -> u32
     requires { place.now.to.index < length live.now }
     ensures { result ≡ turn_of live.now place.now }
@@ -68,7 +68,7 @@ fn turn_of(live: &Live, place: &Place) -> u32
     }
 }
 
-/// The places in the order of their turns.
+// The places in the order of their turns.
 fn by_turn(alloc: Global, net: &Net, live: &Live) -> Result<Vec<Turn>, AllocError>
     requires { IsRanking net.now live.now }
     ensures { IfOk result (λ order. IsOrder net.now live.now order.items) }

@@ -20,8 +20,8 @@ use crate::past::Past;
 use crate::sources::Source;
 use teg_net::{Net, TransitionId};
 
-/// The date of the place's downstream transition, but not before the place has its token for the
-/// firing of this number.
+// The date of the place's downstream transition, but not before the place has its token for the
+// firing of this number.
 fn raised<C: DateCell, P: Past<C>, S: Source>(
     net: &Net,
     source: &S,
@@ -37,8 +37,11 @@ fn raised<C: DateCell, P: Past<C>, S: Source>(
     requires few { number ≤ greatest_number }
     requires full { length row.now ≡ length net.now.transitions }
     requires reach { ReachesBack net.now number (P.rows past.now) }
-    requires within { IsSourceWithin C.most (P.rows past.now).back (map C.held row.now) number (place_at net.now place.place) }
-    ensures { C.held result ≡ later_of (slice_index_or (map C.held row.now) place.to.index Early) (available_in (S.initial source.now) (seen_at (P.rows past.now).back (map C.held row.now) number) (place_at net.now place.place) number) }
+    requires within { IsSourceWithin C.most (P.rows past.now).back (map C.held row.now) number
+        (place_at net.now place.place) }
+    ensures { C.held result ≡ later_of (slice_index_or (map C.held row.now) place.to.index Early)
+        (available_in (S.initial source.now) (seen_at (P.rows past.now).back (map C.held row.now)
+        number) (place_at net.now place.place) number) }
 {
     let date = row[place.to.index as usize];
     let tokens = place.tokens as u64;
@@ -51,7 +54,7 @@ fn raised<C: DateCell, P: Past<C>, S: Source>(
     }
 }
 
-/// The date of the firing before this one, and for the first that of the implicit place's token.
+// The date of the firing before this one, and for the first that of the implicit place's token.
 fn date_before<C: DateCell, P: Past<C>, S: Source>(
     net: &Net,
     source: &S,
@@ -64,7 +67,8 @@ fn date_before<C: DateCell, P: Past<C>, S: Source>(
     requires bounded { StaysWithin C.most number (system_by S.Source source.now net.now) }
     requires number { 1 ≤ number }
     requires reach { ReachesBack net.now number (P.rows past.now) }
-    ensures { C.held result ≡ available_in (S.initial source.now) (seen_at (P.rows past.now).back [] number) (implicit_place transition.index) number }
+    ensures { C.held result ≡ available_in (S.initial source.now)
+        (seen_at (P.rows past.now).back [] number) (implicit_place transition.index) number }
 {
     if number == 1 {
         C::of(source.first(net, transition))
@@ -73,7 +77,7 @@ fn date_before<C: DateCell, P: Past<C>, S: Source>(
     }
 }
 
-/// Writes the dates of the number as far as the firings before it and the releases have them.
+// Writes the dates of the number as far as the firings before it and the releases have them.
 fn begin_row<C: DateCell, P: Past<C>, S: Source>(
     net: &Net,
     source: &S,
@@ -87,7 +91,8 @@ fn begin_row<C: DateCell, P: Past<C>, S: Source>(
     requires few { number ≤ greatest_number }
     requires full { length row.old ≡ length net.now.transitions }
     requires reach { ReachesBack net.now number (P.rows past.now) }
-    ensures { HasBegun net.now (system_by S.Source source.now net.now) (P.rows past.now).back number (map C.held row.new) }
+    ensures { HasBegun net.now (system_by S.Source source.now net.now) (P.rows past.now).back number
+        (map C.held row.new) }
 {
     let width = net.transitions().len();
     for index in 0..width {
@@ -99,7 +104,7 @@ fn begin_row<C: DateCell, P: Past<C>, S: Source>(
     }
 }
 
-/// Raises the dates of the number to the least, by one pass over the places in the order of their turns.
+// Raises the dates of the number to the least, by one pass over the places in the order of their turns.
 fn raise_row<C: DateCell, P: Past<C>, S: Source>(
     net: &Net,
     order: &[Turn],
@@ -114,9 +119,12 @@ fn raise_row<C: DateCell, P: Past<C>, S: Source>(
     requires number { 1 ≤ number }
     requires few { number ≤ greatest_number }
     requires reach { ReachesBack net.now number (P.rows past.now) }
-    requires past { AreLeastRowsBack net.now (system_by S.Source source.now net.now) number (P.rows past.now) }
-    requires begun { HasBegun net.now (system_by S.Source source.now net.now) (P.rows past.now).back number (map C.held row.old) }
-    ensures least { IsRowOfLeast net.now (system_by S.Source source.now net.now) number (map C.held row.new) }
+    requires past { AreLeastRowsBack net.now (system_by S.Source source.now net.now) number
+        (P.rows past.now) }
+    requires begun { HasBegun net.now (system_by S.Source source.now net.now) (P.rows past.now).back
+        number (map C.held row.old) }
+    ensures least { IsRowOfLeast net.now (system_by S.Source source.now net.now) number
+        (map C.held row.new) }
     ensures exists { HasLeastDating (system_by S.Source source.now net.now) }
 {
     for place in order {
@@ -124,9 +132,9 @@ fn raise_row<C: DateCell, P: Past<C>, S: Source>(
     }
 }
 
-/// Writes the row of the number: the dates of its firings by the least dating of the system that the
-/// source makes of the net (chapter 2). It takes no memory, and time of order `n + p` for n
-/// transitions and p places, and what the source takes.
+// Writes the row of the number: the dates of its firings by the least dating of the system that the
+// source makes of the net (chapter 2). It takes no memory, and time of order `n + p` for n
+// transitions and p places, and what the source takes.
 pub(crate) fn fill_row<C: DateCell, P: Past<C>, S: Source>(
     net: &Net,
     order: &[Turn],
@@ -144,8 +152,10 @@ pub(crate) fn fill_row<C: DateCell, P: Past<C>, S: Source>(
     requires few { number ≤ greatest_number }
     requires full { length row.old ≡ length net.now.transitions }
     requires reach { ReachesBack net.now number (P.rows past.now) }
-    requires past { AreLeastRowsBack net.now (system_by S.Source source.now net.now) number (P.rows past.now) }
-    ensures least { IsRowOfLeast net.now (system_by S.Source source.now net.now) number (map C.held row.new) }
+    requires past { AreLeastRowsBack net.now (system_by S.Source source.now net.now) number
+        (P.rows past.now) }
+    ensures least { IsRowOfLeast net.now (system_by S.Source source.now net.now) number
+        (map C.held row.new) }
     ensures exists { HasLeastDating (system_by S.Source source.now net.now) }
 {
     begin_row(net, source, past, row, number);

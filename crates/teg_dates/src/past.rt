@@ -9,14 +9,14 @@ use crate::date_list::DateList;
 use dioid::Date;
 use teg_net::TransitionId;
 
-/// The rows before one, as far as they are kept. A pass asks them for dates, so many rows back.
+// The rows before one, as far as they are kept. A pass asks them for dates, so many rows back.
 pub(crate) trait Past<C: DateCell> {
     ghost use Rattle.teg_dates.specs.Passes.{KeptRows};
 
     // what is kept
     ghost rows: { Self → KeptRows };
 
-    /// The date of the transition so many rows back, 1 being the last. It takes no memory.
+    // The date of the transition so many rows back, 1 being the last. It takes no memory.
     fn back(&self, transition: TransitionId, behind: u64) -> C
         requires transition { transition.index < (rows self.now).width }
         requires first { 1 ≤ behind }
@@ -24,7 +24,7 @@ pub(crate) trait Past<C: DateCell> {
         ensures { C.held result ≡ (rows self.now).back transition.index behind };
 }
 
-/// Where the date of a firing stands in rows of this width.
+// Where the date of a firing stands in rows of this width.
 pub(crate) fn cell_of(width: usize, transition: TransitionId, number: u64) -> usize
     requires width { width ≤ most_transitions }
     requires transition { transition.index < width }
@@ -36,7 +36,7 @@ pub(crate) fn cell_of(width: usize, transition: TransitionId, number: u64) -> us
     (number as usize - 1) * width + transition.index as usize
 }
 
-/// All rows up to number `count`, one after another.
+// All rows up to number `count`, one after another.
 #[derive(Drop)]
 pub(crate) struct AllRows<'a> {
     pub(crate) width: usize,

@@ -16,7 +16,7 @@ use std::alloc::Global;
 use std::marker::Model;
 use teg_net::{Net, OutOfMemory, TransitionId};
 
-/// Writes the row of the number behind the dates of the numbers before it.
+// Writes the row of the number behind the dates of the numbers before it.
 fn fill_next<S: Source>(
     net: &Net,
     order: &[Turn],
@@ -31,9 +31,11 @@ fn fill_next<S: Source>(
     requires few { number ≤ most_rows }
     requires kept { length dates.now ≡ (number - 1) * length net.now.transitions }
     requires full { length row.old ≡ length net.now.transitions }
-    requires before { AreFirstLeast net.now (system_by S.Source source.now net.now) (number - 1) dates.now }
+    requires before { AreFirstLeast net.now (system_by S.Source source.now net.now) (number - 1)
+        dates.now }
     ensures full { length row.new ≡ length net.now.transitions }
-    ensures least { AreFirstLeast net.now (system_by S.Source source.now net.now) number (dates.now ++ row.new) }
+    ensures least { AreFirstLeast net.now (system_by S.Source source.now net.now) number
+        (dates.now ++ row.new) }
     ensures exists { HasLeastDating (system_by S.Source source.now net.now) }
 {
     let past = AllRows {

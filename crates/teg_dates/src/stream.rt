@@ -3,7 +3,7 @@ ghost use Rattle.std.specs.Prelude.{◌≡◌, ◌+◌, ◌<◌, ◌≤◌, leng
 ghost use Rattle.teg_net.specs.Limits.{greatest_number};
 ghost use Rattle.teg_net.specs.Circuits.{IsLive};
 ghost use Rattle.teg_form.specs.Forms.{IsFormOf};
-ghost use Rattle.teg_dates.specs.Streams.{HasLeast, IsLeastRow, IsStreamOf};
+ghost use Rattle.teg_dates.specs.Streams.{HasLeast, IsLeastRow, IsStreamOf, rows_given};
 
 use crate::last_rows::LastRows;
 use crate::next::{most_tokens_of, next_row};
@@ -46,7 +46,7 @@ impl Stream {
         requires live { IsLive net.now }
         requires stands { IsFormOf net.now form.now }
         ensures stands { IfOk result (IsStreamOf net.now) }
-        ensures number { IfOk result (λ stream. stream.last.number ≡ 0) }
+        ensures number { IfOk result (λ stream. rows_given stream ≡ 0) }
         ensures exists { IfOk result (λ _. HasLeast net.now) }
     {
         match check(alloc, net) {
@@ -63,7 +63,7 @@ impl Stream {
 
     /// How many rows were given so far. It takes no memory.
     pub fn number(&self) -> u64
-        ensures value { result ≡ self.now.last.number }
+        ensures value { result ≡ rows_given self.now }
         ensures few { result ≤ greatest_number }
     {
         self.last.number()
@@ -76,10 +76,10 @@ impl Stream {
     pub fn next_row(&mut self, net: &Net, form: &Form, row: &mut [Date])
         requires form { IsFormOf net.now form.now }
         requires stands { IsStreamOf net.now self.old }
-        requires few { self.old.last.number < greatest_number }
+        requires few { rows_given self.old < greatest_number }
         requires full { length row.old ≡ length net.now.transitions }
-        ensures row { IsLeastRow net.now (self.old.last.number + 1) row.new }
-        ensures number { self.new.last.number ≡ self.old.last.number + 1 }
+        ensures row { IsLeastRow net.now (rows_given self.old + 1) row.new }
+        ensures number { rows_given self.new ≡ rows_given self.old + 1 }
         ensures stands { IsStreamOf net.now self.new }
     {
         let number = self.last.number() + 1;

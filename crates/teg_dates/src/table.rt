@@ -27,7 +27,7 @@ impl Model for Table {
 impl Table {
     ghost use Rattle.teg_dates.specs.Tables.{TableDates, IsTable};
 
-    /// The table of these rows. It takes no memory.
+    // The table of these rows. It takes no memory.
     pub(crate) fn new(rows: Rows) -> Table
         requires { IsTable rows }
         ensures { result ≡ rows }

@@ -8,13 +8,13 @@ use std::alloc::{AllocError, Global};
 use std::marker::Model;
 use teg_net::TransitionId;
 
-/// How many rows more than are kept there is room for. Moving the columns every so many rows costs less
-/// than it saves: what was moved is near when it is read.
+// How many rows more than are kept there is room for. Moving the columns every so many rows costs less
+// than it saves: what was moved is near when it is read.
 const ROOM_BESIDE: usize = 64;
 
-/// The last rows of dates, at least as many as `reach`: each transition has a column of `room` cells,
-/// and the next date stands at `at`. Where the columns are full, the last dates of each go to its
-/// front, so that a date so many rows back always stands so many cells before.
+// The last rows of dates, at least as many as `reach`: each transition has a column of `room` cells,
+// and the next date stands at `at`. Where the columns are full, the last dates of each go to its
+// front, so that a date so many rows back always stands so many cells before.
 #[derive(Drop)]
 pub(crate) struct Window {
     width: usize,
@@ -35,7 +35,7 @@ impl Model for Window {
     ghost invariant = { λ a. IsWindow (record { width = a.width; reach = a.reach; room = a.room; at = a.at; number = a.number; cells = a.cells.items }) };
 }
 
-/// Where a date of a transition stands.
+// Where a date of a transition stands.
 fn cell(width: usize, room: usize, transition: usize, at: usize) -> usize
     requires width { width ≤ most_transitions }
     requires room { room ≤ most_room }
@@ -47,7 +47,7 @@ fn cell(width: usize, room: usize, transition: usize, at: usize) -> usize
     transition * room + at
 }
 
-/// Writes the row's dates at `at` of the columns.
+// Writes the row's dates at `at` of the columns.
 fn write_row(room: usize, at: usize, cells: &mut [u64], row: &[u64])
     requires few { length row.now ≤ most_transitions }
     requires room { room ≤ most_room }
@@ -60,7 +60,7 @@ fn write_row(room: usize, at: usize, cells: &mut [u64], row: &[u64])
     }
 }
 
-/// Moves the last dates of each column, so many, to its front.
+// Moves the last dates of each column, so many, to its front.
 fn move_to_front(width: usize, reach: usize, room: usize, cells: &mut [u64])
     requires few { width ≤ most_transitions }
     requires room { room ≤ most_room }
@@ -74,8 +74,8 @@ fn move_to_front(width: usize, reach: usize, room: usize, cells: &mut [u64])
     }
 }
 
-/// Adds the row's dates to the columns behind those that end before `at`, and answers before which
-/// index they then end.
+// Adds the row's dates to the columns behind those that end before `at`, and answers before which
+// index they then end.
 fn add_row(reach: usize, room: usize, at: usize, cells: &mut [u64], row: &[u64]) -> usize
     requires few { length row.now ≤ most_transitions }
     requires room { room ≤ most_room }
@@ -97,7 +97,7 @@ impl Window {
     ghost use Rattle.teg_dates.specs.Passes.{HaveNext};
     ghost use Rattle.teg_dates.specs.Windows.{WindowCells, opened, window_rows};
 
-    /// No rows, and room for at least as many as `reach`.
+    // No rows, and room for at least as many as `reach`.
     pub(crate) fn new(alloc: Global, width: usize, reach: usize) -> Result<Window, AllocError>
         requires width { width ≤ most_transitions }
         requires reach { reach ≤ most_tokens }
@@ -115,7 +115,7 @@ impl Window {
         })
     }
 
-    /// How many rows were given. It takes no memory.
+    // How many rows were given. It takes no memory.
     pub(crate) fn number(&self) -> u64
         ensures value { result ≡ self.now.number }
         ensures few { result ≤ greatest_number }
@@ -123,7 +123,7 @@ impl Window {
         self.number
     }
 
-    /// The rows, for a pass to read. It takes no memory.
+    // The rows, for a pass to read. It takes no memory.
     pub(crate) fn columns(&self) -> Columns<'_>
         ensures { record { width = result.width; reach = result.reach; room = result.room; at = result.at; number = result.number; cells = result.cells.now } ≡ self.now }
     {
@@ -137,7 +137,7 @@ impl Window {
         }
     }
 
-    /// Adds a row behind the others. It takes no memory.
+    // Adds a row behind the others. It takes no memory.
     pub(crate) fn push(&mut self, row: &[u64])
         requires few { self.old.number < greatest_number }
         requires full { length row.now ≡ self.old.width }
@@ -148,7 +148,7 @@ impl Window {
     }
 }
 
-/// The same rows, lent to a pass: so what says where dates stand is not read again for each place.
+// The same rows, lent to a pass: so what says where dates stand is not read again for each place.
 #[derive(Drop)]
 pub(crate) struct Columns<'a> {
     width: usize,

@@ -8,7 +8,9 @@ pub mod Limiting
 pub mod OwnForms
 pub mod Reaching
 pub mod Transferring
+mod ReachedPart
 pub mod WalkForms
 mod Witnessed
 pub mod OneTransfer
 pub mod Showing
+mod Steps

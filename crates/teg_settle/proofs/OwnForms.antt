@@ -3,18 +3,24 @@ use Rattle.std.proofs.Common.{ℕ, ◌≡◌, List}
 use Rattle.teg_net.specs.Nets.{NetLists, IsNet}
 use Rattle.teg_check.specs.Ranks.{IsRanking}
 use Rattle.teg_check.proofs.Liveness.{ranking_is_live}
-use Rattle.settled_laws.specs.Forms.{SettledForm, IsSettledFormOf}
+use Rattle.settled_laws.specs.Forms.{SettledForm, IsSettledFormOf, NetSettlesPast}
 use Rattle.slope_laws.proofs.FormSlopes.{settled_forms_have_slopes}
+use Rattle.teg_settle.specs.declared.refusals.SettleRefusal.{SettleRefusal}
 use Rattle.teg_settle.specs.declared.releases.Tokens.TheVariants.{Ready}
 use Rattle.teg_settle.specs.declared.releases.Releases.{Releases}
 use Rattle.teg_settle.specs.Releases.{AreWaits, wait_of}
-use Rattle.teg_settle.specs.Windows.{IsLeastForm}
+use Rattle.teg_settle.specs.Refusals.{IsRightRefusal}
+use Rattle.teg_settle.specs.Windows.{IsLeastForm, LeastSettlesPast}
 use Rattle.teg_settle.specs.Slopes.{HasSlopes}
+use Rattle.teg_settle.proofs.Limiting.{refusal_weaker}
 use Rattle.teg_settle.proofs.Owning.{own_least}
 
 module _ (net : NetLists) (r : Releases) (ready : r.tokens ≡ Ready) (waits : AreWaits net (wait_of net) r.waits.items) where
   pub own_form : (f : SettledForm) → IsLeastForm net r f → IsSettledFormOf net f
   own_form f h = (h.0, own_least net r ready waits h.0 h.1, h.2)
+
+  pub own_refusal : (limit : ℕ) (e : SettleRefusal) → IsRightRefusal (LeastSettlesPast net r limit) limit e → IsRightRefusal (NetSettlesPast net limit) limit e
+  own_refusal limit e = refusal_weaker (LeastSettlesPast net r limit) (NetSettlesPast net limit) limit e (λ h. (h.0, own_least net r ready waits h.0 h.1, h.2))
 
   pub own_slopes : (ranks : List ℕ) → IsNet net → IsRanking net ranks → (f : SettledForm) → IsLeastForm net r f → HasSlopes net f
   own_slopes ranks ok ranking f h =

@@ -12,7 +12,7 @@ use Rattle.teg_net.specs.declared.entries.Transition.{Transition}
 use Rattle.teg_net.specs.Nets.{NetLists, IsInput}
 use Rattle.teg_net.specs.Inputs.{date_by}
 use Rattle.teg_model.specs.Systems.{Dating, InitialDates, IsFeasibleIn, IsLeastIn}
-use Rattle.teg_model.specs.Datings.{as_date, listed, by_role, by_transition, at_input, system_with, IsLeastDating}
+use Rattle.teg_model.specs.Datings.{as_date, listed, by_role, by_transition, at_input, system_of, system_with, IsLeastDating}
 use Rattle.teg_model.proofs.OfNet.{least_of_system}
 use Rattle.teg_settle.specs.declared.releases.Tokens.TheVariants.{Ready}
 use Rattle.teg_settle.specs.declared.releases.Wait.{Wait}
@@ -55,11 +55,15 @@ own_release net r w t k =
     ap (λ z. release_as net z k) past ∙ sym (ap (λ o. by_transition o (listed net t k) Early) none))
     (cases_lt t (length net.transitions))
 
-pub own_least : (net : NetLists) (r : Releases) → r.tokens ≡ Ready → AreWaits net (wait_of net) r.waits.items → (x : Dating) → IsLeastIn (system_for r net) x → IsLeastDating net x
-own_least net r ready w x h =
+-- the least dating is that of the net's own system
+pub own_system : (net : NetLists) (r : Releases) → r.tokens ≡ Ready → AreWaits net (wait_of net) r.waits.items → (x : Dating) → IsLeastIn (system_for r net) x → IsLeastIn (system_of net (listed net)) x
+own_system net r ready w x h =
     let rel : Dating = release_by r.waits.items net in
     let here : IsLeastIn (system_with net (initial_by Ready) rel) x = subst (λ t. IsLeastIn (system_with net (initial_by t) rel) x) ready h in
-    least_of_system net (listed net) x (least_same net (initial_by Ready) rel (λ t k. at_input net t (listed net t k) Early) x (own_release net r w) here)
+    least_same net (initial_by Ready) rel (λ t k. at_input net t (listed net t k) Early) x (own_release net r w) here
+
+pub own_least : (net : NetLists) (r : Releases) → r.tokens ≡ Ready → AreWaits net (wait_of net) r.waits.items → (x : Dating) → IsLeastIn (system_for r net) x → IsLeastDating net x
+own_least net r ready w x h = least_of_system net (listed net) x (own_system net r ready w x h)
 
 waits_as_role : (r : Role) (list number : ℕ) → wait_by_role r number ≡ Dates list → r ≡ Input
 waits_as_role Internal list number e = absurd (cc)

@@ -37,7 +37,7 @@ use Rattle.teg_settle.proofs.Owning.{least_same, waits_within}
 abbrev pub released : ℕ → ℕ → ℕ → Date
 released input t k = cond (eqb input t) (At (pos 0)) Early
 
-abbrev alone : NetLists → ℕ → System
+abbrev pub alone : NetLists → ℕ → System
 alone net input = system_with net (initial_by Absent) (released input)
 
 is_transition : (o : Option Transition) → o ≡ None → IsSomeAnd o (λ x. x.role ≡ Input) → ⊥
@@ -125,14 +125,19 @@ times_from net input t k d in' h =
       greatest = most;
     }
 
-pub alone_least : (net : NetLists) (r : Releases) (input : ℕ) (ranks : List ℕ) → IsNet net → IsRanking net ranks → IsInput net input → r.tokens ≡ Absent → AreWaits net (wait_from net input) r.waits.items
-    → (x : Dating) → IsLeastIn (system_for r net) x → AreWalkTimes net input x
-alone_least net r input ranks ok ranking h absent w x least t k l o =
+-- the system of these releases has the same least dating
+pub alone_here : (net : NetLists) (r : Releases) (input : ℕ) → IsInput net input → r.tokens ≡ Absent → AreWaits net (wait_from net input) r.waits.items
+    → (x : Dating) → IsLeastIn (system_for r net) x → IsLeastIn (alone net input) x
+alone_here net r input h absent w x least =
     let rel : Dating = release_by r.waits.items net in
     let here : IsLeastIn (system_with net (initial_by Absent) rel) x = subst (λ t. IsLeastIn (system_with net (initial_by t) rel) x) absent least in
-    let there : IsLeastIn (alone net input) x = least_same net (initial_by Absent) rel (released input) x (alone_release net r input h w) here in
+    least_same net (initial_by Absent) rel (released input) x (alone_release net r input h w) here
+
+pub alone_times : (net : NetLists) (input : ℕ) (ranks : List ℕ) → IsNet net → IsRanking net ranks → IsInput net input
+    → (x : Dating) → IsLeastIn (alone net input) x → AreWalkTimes net input x
+alone_times net input ranks ok ranking h x least t k l o =
     times_from net input t k (x t k) (input_within net input h)
-    (least_in_is_walk net (initial_by Absent) (released input) 400 (rank_of ranks) (net_ends net ok) (ranks_of net ranks ok ranking) x there t k l o)
+    (least_in_is_walk net (initial_by Absent) (released input) 400 (rank_of ranks) (net_ends net ok) (ranks_of net ranks ok ranking) x least t k l o)
 
 waits_at : (net : NetLists) (input t list : ℕ) → IsInput net input → wait_from net input t ≡ Dates list → IsInput net t
 waits_at net input t list h e =

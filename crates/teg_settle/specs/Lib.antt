@@ -7,6 +7,8 @@ pub mod Witnesses
 pub mod Searches
 pub mod Copies
 pub mod Transfers
+pub mod Reached
 pub mod Endless
+pub mod Steps
 pub mod Slopes
 pub mod Laws

@@ -18,11 +18,11 @@ use teg_check::Live;
 use teg_dates::{PlaceOrder, Rows};
 use teg_net::{Net, OutOfMemory};
 
-/// Where more rows than this show no form, no further ones are made: the dates of so many fill more
-/// than 47 bits of addresses tell apart.
+// Where more rows than this show no form, no further ones are made: the dates of so many fill more
+// than 47 bits of addresses tell apart.
 const MOST_ROWS: u64 = 20_000_000_000_000;
 
-/// Rows that show the shortest form, where a form is known to be: they are doubled until they show one.
+// Rows that show the shortest form, where a form is known to be: they are doubled until they show one.
 fn endless(
     alloc: Global,
     net: &Net,
@@ -53,7 +53,7 @@ fn endless(
     }
 }
 
-/// Rows that show the shortest form of the net's least dating, which every live net has.
+// Rows that show the shortest form of the net's least dating, which every live net has.
 fn found(alloc: Global, net: &Net, live: &Live, releases: &Releases) -> Result<Found, OutOfMemory>
     requires stands { IsRanking net.now live.now }
     requires tokens { releases.now.tokens ≡ Tokens.Ready }
@@ -68,9 +68,10 @@ fn found(alloc: Global, net: &Net, live: &Live, releases: &Releases) -> Result<F
 
 /// The shortest settled form of the least dates of a live net, with its ready dates and its input
 /// lists (chapter 3, cyclicity): the one of `settle_within`, whatever its length. Each live net has
-/// one, so the search for it ends: `OutOfMemory` comes where no memory is found, and past
-/// 20,000,000,000,000 rows, which no memory holds. It takes the time and the memory of
-/// [`settle_within`](crate::settle_within) with no limit.
+/// one, and so many rows as its lists tell show it ([`shown_form`](crate::shown_form)), so the search
+/// ends. `OutOfMemory` comes where no memory is found for the table of its lists, the order of its
+/// places, the rows or the form, and past 20,000,000,000,000 rows, which no memory holds. It takes the
+/// time and the memory of [`settle_within`](crate::settle_within) with no limit.
 pub fn settle(alloc: Global, net: &Net, live: &Live) -> Result<Settled, OutOfMemory>
     requires stands { IsRanking net.now live.now }
     ensures form { IfOk result (IsSettledFormOf net.now) }

@@ -7,7 +7,9 @@
 //! a number, a period, and for each transition the dates up to the end of the first period past that
 //! number and a step; contracts see it as a `SettledForm`. It tells the date of every number. [`settle_dates`]
 //! and [`settle_dates_within`] answer the same form as the rows that show it, for callers that ask for
-//! some of its dates: [`SettledDates`] takes a quarter of the memory.
+//! some of its dates: [`SettledDates`] takes a quarter of the memory. [`shown_form`] is the step of the
+//! search for rows of one's own: it takes no memory, and so many rows as the lists of the net tell
+//! always show a form.
 //!
 //! Rows of dates are made until they show a form: in its last period no step falls along a place, the
 //! dates before move alike, and so do the releases of the inputs. The crate stands on `teg_dates` for
@@ -20,11 +22,13 @@
 mod endless;
 mod laws;
 mod limited;
+mod reached;
 mod refusals;
 mod releases;
 mod search;
 mod settled;
 mod shown;
+mod step;
 mod window;
 mod witness;
 
@@ -32,5 +36,7 @@ pub use endless::{settle, settle_dates};
 pub use laws::{transfers_are_one, walk_times_settle};
 pub use limited::{settle_dates_within, settle_within, transfer};
 pub use refusals::SettleRefusal;
+pub use releases::{Releases, Repetition};
 pub use settled::Settled;
 pub use shown::SettledDates;
+pub use step::{own_releases, shown_form};

@@ -10,6 +10,7 @@ ghost use Rattle.teg_settle.specs.Slopes.{HasSlopes};
 ghost use Rattle.teg_settle.specs.Transfers.{IsTransferOf, TransferSettlesPast};
 ghost use Rattle.teg_settle.specs.Windows.{IsLeastForm, IsReady, LeastSettlesPast};
 
+use crate::reached::part_from;
 use crate::refusals::SettleRefusal;
 use crate::releases::Releases;
 use crate::search::{Found, dates_of, form_of, most_tokens, search};
@@ -19,9 +20,9 @@ use std::alloc::Global;
 use teg_check::Live;
 use teg_net::{Net, TransitionId};
 
-/// Rows that show the shortest form of the least dating of the net with these releases, if its length
-/// is within the limit: rows of twice the limit and the tokens of a place show each form of such a
-/// length.
+// Rows that show the shortest form of the least dating of the net with these releases, if its length
+// is within the limit: rows of twice the limit and the tokens of a place show each form of such a
+// length.
 fn found_within(
     alloc: Global,
     net: &Net,
@@ -36,7 +37,8 @@ fn found_within(
     requires few { limit ≤ greatest_limit }
     ensures found { IfOk result (IsFound net.now releases.now) }
     ensures within { IfOk result (λ found. found.form.after + found.form.period ≤ limit) }
-    ensures too_long { IfErr result (IsRightRefusal (LeastSettlesPast net.now releases.now limit) limit) }
+    ensures too_long { IfErr result (IsRightRefusal (LeastSettlesPast net.now releases.now limit)
+        limit) }
 {
     let last = 2 * u64::from(limit) + most;
     match search(alloc, net, live, releases, most, last)? {
@@ -50,7 +52,7 @@ fn found_within(
     }
 }
 
-/// The form that they show.
+// The form that they show.
 fn within(
     alloc: Global,
     net: &Net,
@@ -63,14 +65,15 @@ fn within(
     requires few { limit ≤ greatest_limit }
     ensures form { IfOk result (IsLeastForm net.now releases.now) }
     ensures within { IfOk result (λ form. settled_length form ≤ limit) }
-    ensures too_long { IfErr result (IsRightRefusal (LeastSettlesPast net.now releases.now limit) limit) }
+    ensures too_long { IfErr result (IsRightRefusal (LeastSettlesPast net.now releases.now limit)
+        limit) }
 {
     let most = most_tokens(net);
     let found = found_within(alloc, net, live, releases, most, limit)?;
     Ok(form_of(alloc, net, releases, &found)?)
 }
 
-/// The same form by its rows.
+// The same form by its rows.
 fn dates_within(
     alloc: Global,
     net: &Net,
@@ -83,7 +86,8 @@ fn dates_within(
     requires few { limit ≤ greatest_limit }
     ensures form { IfOk result (IsLeastForm net.now releases.now) }
     ensures within { IfOk result (λ form. settled_length form ≤ limit) }
-    ensures too_long { IfErr result (IsRightRefusal (LeastSettlesPast net.now releases.now limit) limit) }
+    ensures too_long { IfErr result (IsRightRefusal (LeastSettlesPast net.now releases.now limit)
+        limit) }
 {
     let most = most_tokens(net);
     let found = found_within(alloc, net, live, releases, most, limit)?;
@@ -137,8 +141,8 @@ pub fn settle_dates_within(
 /// each firing of each transition (chapters 2 and 3); a firing to which no such walk leads has the date
 /// `Early`. Its number and its period are both least over all transitions. `limit` is at most 200,000,
 /// and `TooLong` comes exactly where the length of that form exceeds it. `OutOfMemory` comes only where
-/// no memory is found. It takes the time of [`settle_within`]: rows
-/// are made of all transitions, those that the input does not reach too.
+/// no memory is found. It takes the time of [`settle_within`] for the places that such walks come
+/// through alone: those that they do not reach are left out once, in time of order `n p` at most.
 pub fn transfer(
     alloc: Global,
     net: &Net,
@@ -151,8 +155,10 @@ pub fn transfer(
     requires few { limit ≤ greatest_limit }
     ensures form { IfOk result (IsTransferOf net.now input.index) }
     ensures within { IfOk result (λ form. settled_length form ≤ limit) }
-    ensures too_long { IfErr result (IsRightRefusal (TransferSettlesPast net.now input.index limit) limit) }
+    ensures too_long { IfErr result (IsRightRefusal (TransferSettlesPast net.now input.index limit)
+        limit) }
 {
-    let releases = Releases::of_input(alloc, net, input)?;
-    within(alloc, net, live, &releases, limit)
+    let part = part_from(alloc, net, input)?;
+    let releases = Releases::of_input(alloc, &part, input)?;
+    within(alloc, &part, live, &releases, limit)
 }

@@ -11,39 +11,42 @@ use std::alloc::{AllocError, Global};
 use teg_dates::Source;
 use teg_net::{Net, PlaceId, Role, TransitionId};
 
-/// What the firings of a transition wait for beside tokens.
+// What the firings of a transition wait for beside tokens.
 #[derive(Clone, Copy, Debug, Drop)]
 pub(crate) enum Wait {
-    /// For nothing.
+    // For nothing.
     Nothing,
-    /// For the dates of the net's input list of this number, or for date 0 where it has none of it.
+    // For the dates of the net's input list of this number, or for date 0 where it has none of it.
     Dates(usize),
 }
 
-/// Whether there are initial tokens.
+// Whether there are initial tokens.
 #[derive(Clone, Copy, Debug, Drop)]
 pub(crate) enum Tokens {
-    /// Each is there from its ready date on.
+    // Each is there from its ready date on.
     Ready,
-    /// There are none, so that what takes one waits for nothing.
+    // There are none, so that what takes one waits for nothing.
     Absent,
 }
 
-/// Past `after` the dates go on evenly in each `period` numbers.
+/// Past a number the dates go on evenly.
 #[derive(Clone, Copy, Debug, Drop)]
-pub(crate) struct Repetition {
-    pub(crate) after: u64,
-    pub(crate) period: u64,
+pub struct Repetition {
+    /// The number, 0 or more.
+    pub after: u64,
+    /// In so many numbers, at least 1.
+    pub period: u64,
 }
 
-/// With the places of a net they make a system: each list is found once, and not for each firing.
+/// The ready dates and the input lists of a net, or one input alone. With the places of a net they make
+/// a system: each list is found once, and not for each firing. Contracts see them by `AreOwnReleases`.
 #[derive(Debug, Drop)]
-pub(crate) struct Releases {
+pub struct Releases {
     tokens: Tokens,
     waits: Vec<Wait>,
 }
 
-/// The date that the list of this number gives the firing, and 0 where the net has no such list.
+// The date that the list of this number gives the firing, and 0 where the net has no such list.
 fn date_of_list(net: &Net, list: usize, number: u64) -> Date
     requires first { 1 ≤ number }
     requires last { number ≤ greatest_number }
@@ -59,7 +62,7 @@ fn date_of_list(net: &Net, list: usize, number: u64) -> Date
     }
 }
 
-/// What a transition of this role waits for.
+// What a transition of this role waits for.
 fn wait_of(net: &Net, transition: TransitionId, role: Role) -> Wait
     ensures { result ≡ wait_by_role role (list_number net.now transition.index) }
 {
@@ -69,7 +72,7 @@ fn wait_of(net: &Net, transition: TransitionId, role: Role) -> Wait
     }
 }
 
-/// The number of the transition's list, or of no list.
+// The number of the transition's list, or of no list.
 fn list_number(net: &Net, transition: TransitionId) -> usize
     ensures { result ≡ list_number net.now transition.index }
 {
@@ -84,7 +87,7 @@ fn list_number(net: &Net, transition: TransitionId) -> usize
 }
 
 impl Releases {
-    /// Each initial token from its ready date on, and each input by its list.
+    // Each initial token from its ready date on, and each input by its list.
     pub(crate) fn of_net(alloc: Global, net: &Net) -> Result<Releases, AllocError>
         ensures tokens { IfOk result (λ r. r.tokens ≡ Tokens.Ready) }
         ensures waits { IfOk result (λ r. AreWaits net.now (wait_of net.now) r.waits.items) }
@@ -103,14 +106,15 @@ impl Releases {
         })
     }
 
-    /// No initial token, and one input from date 0 on.
+    // No initial token, and one input from date 0 on.
     pub(crate) fn of_input(
         alloc: Global,
         net: &Net,
         input: TransitionId,
     ) -> Result<Releases, AllocError>
         ensures tokens { IfOk result (λ r. r.tokens ≡ Tokens.Absent) }
-        ensures waits { IfOk result (λ r. AreWaits net.now (wait_from net.now input.index) r.waits.items) }
+        ensures waits { IfOk result (λ r. AreWaits net.now (wait_from net.now input.index)
+            r.waits.items) }
         ensures rules { IsNet net.now }
     {
         let none = net.inputs().len();
@@ -129,7 +133,7 @@ impl Releases {
         })
     }
 
-    /// What the transition waits for.
+    // What the transition waits for.
     fn wait(&self, transition: TransitionId) -> Wait
         ensures { result ≡ wait_in self.now.waits.items transition.index }
     {
@@ -141,7 +145,7 @@ impl Releases {
         }
     }
 
-    /// The date before which this firing is not released.
+    // The date before which this firing is not released.
     pub(crate) fn date(&self, net: &Net, transition: TransitionId, number: u64) -> Date
         requires first { 1 ≤ number }
         requires last { number ≤ greatest_number }
@@ -154,9 +158,10 @@ impl Releases {
         }
     }
 
-    /// From where on, and in how many numbers, these dates go on evenly.
+    // From where on, and in how many numbers, these dates go on evenly.
     pub(crate) fn span(&self, net: &Net, transition: TransitionId) -> Repetition
-        ensures evenly { HasSpan (release_by self.now.waits.items net.now transition.index) result.after result.period }
+        ensures evenly { HasSpan (release_by self.now.waits.items net.now transition.index)
+            result.after result.period }
         ensures few { result.after ≤ most_dates }
         ensures short { result.period ≤ most_every }
     {
@@ -170,7 +175,7 @@ impl Releases {
     }
 }
 
-/// From where on, and in how many numbers, the dates of the list of this number go on evenly.
+// From where on, and in how many numbers, the dates of the list of this number go on evenly.
 fn span_of_list(net: &Net, list: usize) -> Repetition
     ensures evenly { HasSpan (date_of_list net.now list) result.after result.period }
     ensures few { result.after ≤ most_dates }

@@ -18,24 +18,25 @@ use teg_check::Live;
 use teg_dates::{PlaceOrder, Rows};
 use teg_net::{Net, OutOfMemory};
 
-/// Rows of dates, and past which of their numbers they go on in each period.
+// Rows of dates, and past which of their numbers they go on in each period.
 #[derive(Debug, Drop)]
 pub(crate) struct Found {
     pub(crate) rows: Rows,
     pub(crate) form: Repetition,
 }
 
-/// The pairs of rows that are compared before the input lists are.
+// The pairs of rows that are compared before the input lists are.
 const FIRST_PAIRS: u64 = 16;
 
-/// The least number past which the dates go on in this period, if the rows are enough to see it. What
-/// fails soonest is tested first: a few pairs of rows, then the lists, then all other pairs.
+// The least number past which the dates go on in this period, if the rows are enough to see it. What
+// fails soonest is tested first: a few pairs of rows, then the lists, then all other pairs.
 fn seen_from(net: &Net, releases: &Releases, rows: &Rows, most: u64, period: u64) -> Option<u64>
     requires ready { IsReady net.now releases.now most }
     requires rows { AreRowsOf net.now releases.now rows.now }
     requires some { 1 ≤ period }
     requires fits { most + period + period ≤ rows.now.count }
-    ensures { MatchOption result (IsRefuted net.now releases.now most rows.now.count period) (IsSeenFrom net.now releases.now rows.now most period) }
+    ensures { MatchOption result (IsRefuted net.now releases.now most rows.now.count period)
+        (IsSeenFrom net.now releases.now rows.now most period) }
 {
     if !is_rising(net, rows, period) {
         return None;
@@ -53,7 +54,7 @@ fn seen_from(net: &Net, releases: &Releases, rows: &Rows, most: u64, period: u64
     if after > latest { None } else { Some(after) }
 }
 
-/// What refutes this period, where it was refuted.
+// What refutes this period, where it was refuted.
 fn found_against(
     net: &Net,
     releases: &Releases,
@@ -65,14 +66,15 @@ fn found_against(
     requires rows { AreRowsOf net.now releases.now rows.now }
     requires some { 1 ≤ period }
     requires fits { most + period + period ≤ rows.now.count }
-    ensures { IfSome result (Refutes net.now releases.now rows.now period (rows.now.count - most - period - period)) }
+    ensures { IfSome result (Refutes net.now releases.now rows.now period
+        (rows.now.count - most - period - period)) }
 {
     let latest = rows.count() - most - period - period;
     let near = latest.max((rows.count() - period).saturating_sub(FIRST_PAIRS));
     witness_against(net, releases, rows, period, latest, near)
 }
 
-/// Another firing of a transition that a witness names, which refutes this period.
+// Another firing of a transition that a witness names, which refutes this period.
 fn other_against(
     net: &Net,
     releases: &Releases,
@@ -91,7 +93,7 @@ fn other_against(
     witnesses.other(net, releases, rows, period, latest)
 }
 
-/// A witness that refutes this period too.
+// A witness that refutes this period too.
 fn still_against(
     net: &Net,
     releases: &Releases,
@@ -110,8 +112,8 @@ fn still_against(
     witnesses.refute(net, releases, rows, period, latest)
 }
 
-/// The number from which this period is seen, or the witnesses with what refutes it. Those that there
-/// are come first, then another firing of their transitions, and then the tests.
+// The number from which this period is seen, or the witnesses with what refutes it. Those that there
+// are come first, then another firing of their transitions, and then the tests.
 fn tried(
     net: &Net,
     releases: &Releases,
@@ -124,7 +126,8 @@ fn tried(
     requires rows { AreRowsOf net.now releases.now rows.now }
     requires some { 1 ≤ period }
     requires fits { most + period + period ≤ rows.now.count }
-    ensures { MatchResult result (IsSeenFrom net.now releases.now rows.now most period) (λ _. IsRefuted net.now releases.now most rows.now.count period) }
+    ensures { MatchResult result (IsSeenFrom net.now releases.now rows.now most period)
+        (λ _. IsRefuted net.now releases.now most rows.now.count period) }
 {
     match still_against(net, releases, rows, most, period, witnesses) {
         Some(_) => return Err(witnesses),
@@ -140,11 +143,12 @@ fn tried(
     }
 }
 
-/// The least number and the least period by which the dates go on, if the rows are enough to see them.
+// The least number and the least period by which the dates go on, if the rows are enough to see them.
 pub(crate) fn seen(net: &Net, releases: &Releases, rows: &Rows, most: u64) -> Option<Repetition>
     requires ready { IsReady net.now releases.now most }
     requires rows { AreRowsOf net.now releases.now rows.now }
-    ensures { MatchOption result ((period : ℕ) → IsRefuted net.now releases.now most rows.now.count period) (IsSeen net.now releases.now rows.now) }
+    ensures { MatchOption result ((period : ℕ) → IsRefuted net.now releases.now most rows.now.count
+        period) (IsSeen net.now releases.now rows.now) }
 {
     let count = rows.count();
     if count < most {
@@ -162,7 +166,7 @@ pub(crate) fn seen(net: &Net, releases: &Releases, rows: &Rows, most: u64) -> Op
     None
 }
 
-/// As many rows as asked, from fewer on.
+// As many rows as asked, from fewer on.
 pub(crate) fn grow(
     net: &Net,
     releases: &Releases,
@@ -185,7 +189,7 @@ pub(crate) fn grow(
     Ok(rows)
 }
 
-/// The greatest number of tokens in a place, at least 1.
+// The greatest number of tokens in a place, at least 1.
 pub(crate) fn most_tokens(net: &Net) -> u64
     ensures some { 1 ≤ result }
     ensures few { result ≤ 1000 }
@@ -199,8 +203,8 @@ pub(crate) fn most_tokens(net: &Net) -> u64
     most
 }
 
-/// The shortest form that at most `last` rows show: the rows are doubled until they show one, so that
-/// it takes few more rows than the form needs.
+// The shortest form that at most `last` rows show: the rows are doubled until they show one, so that
+// it takes few more rows than the form needs.
 pub(crate) fn search(
     alloc: Global,
     net: &Net,
@@ -213,7 +217,8 @@ pub(crate) fn search(
     requires ready { IsReady net.now releases.now most }
     requires tokens { most ≤ 1000 }
     requires few { last ≤ most_window }
-    ensures { IfOk result (λ found. MatchOption found ((period : ℕ) → IsRefuted net.now releases.now most last period) (IsFound net.now releases.now)) }
+    ensures { IfOk result (λ found. MatchOption found ((period : ℕ)
+        → IsRefuted net.now releases.now most last period) (IsFound net.now releases.now)) }
 {
     let order = PlaceOrder::new(alloc, net, live)?;
     let mut rows = Rows::new(alloc, net);
@@ -229,7 +234,7 @@ pub(crate) fn search(
     Ok(None)
 }
 
-/// The form that the rows show.
+// The form that the rows show.
 pub(crate) fn form_of(
     alloc: Global,
     net: &Net,
@@ -239,12 +244,13 @@ pub(crate) fn form_of(
     requires ready { (most : ℕ) × IsReady net.now releases.now most }
     requires found { IsFound net.now releases.now found.now }
     ensures form { IfOk result (IsLeastForm net.now releases.now) }
-    ensures length { IfOk result (λ form. settled_length form ≡ found.now.form.after + found.now.form.period) }
+    ensures length { IfOk result (λ form. settled_length form
+        ≡ found.now.form.after + found.now.form.period) }
 {
     Ok(Settled::of_rows(alloc, net, &found.rows, found.form)?)
 }
 
-/// The same form by its rows, which it takes over.
+// The same form by its rows, which it takes over.
 pub(crate) fn dates_of(
     alloc: Global,
     net: &Net,
@@ -254,7 +260,8 @@ pub(crate) fn dates_of(
     requires ready { (most : ℕ) × IsReady net.now releases.now most }
     requires found { IsFound net.now releases.now found }
     ensures form { IfOk result (IsLeastForm net.now releases.now) }
-    ensures length { IfOk result (λ form. settled_length form ≡ found.form.after + found.form.period) }
+    ensures length { IfOk result (λ form. settled_length form
+        ≡ found.form.after + found.form.period) }
 {
     Ok(SettledDates::of_rows(alloc, net, found.rows, found.form)?)
 }

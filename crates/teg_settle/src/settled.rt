@@ -39,7 +39,7 @@ impl Model for Settled {
     ghost invariant = { λ s. IsKept (record { after = s.after; period = s.period; rows = map (λ r. r.items) s.rows.items; steps = s.steps.items }) };
 }
 
-/// The number so many steps on.
+// The number so many steps on.
 pub(crate) fn moved(number: i128, rounds: u64, step: i128) -> i128
     requires product { FitsSigned w128 (pos rounds *ℤ step) }
     requires sum { FitsSigned w128 (number +ℤ pos rounds *ℤ step) }
@@ -49,7 +49,7 @@ pub(crate) fn moved(number: i128, rounds: u64, step: i128) -> i128
     number + all
 }
 
-/// The first `count` dates of the transition.
+// The first `count` dates of the transition.
 fn dates_of(
     alloc: Global,
     rows: &Rows,
@@ -68,7 +68,7 @@ fn dates_of(
 }
 
 impl Settled {
-    /// The form that the rows show, with the dates that it needs of them.
+    // The form that the rows show, with the dates that it needs of them.
     pub(crate) fn of_rows(
         alloc: Global,
         net: &Net,
@@ -80,7 +80,8 @@ impl Settled {
         requires told { (x : ℕ → ℕ → Date) × IsToldBy net.now rows.now form x }
         ensures after { IfOk result (λ settled. settled.after ≡ form.after) }
         ensures period { IfOk result (λ settled. settled.period ≡ form.period) }
-        ensures stands { IfOk result (λ settled. (x : ℕ → ℕ → Date) → IsToldBy net.now rows.now form x → StandsFor (length net.now.transitions) settled x) }
+        ensures stands { IfOk result (λ settled. (x : ℕ → ℕ → Date)
+            → IsToldBy net.now rows.now form x → StandsFor (length net.now.transitions) settled x) }
     {
         let count = form.after + form.period;
         let mut table = Vec::new(alloc);

@@ -36,12 +36,13 @@ impl Model for SettledDates {
     ghost invariant = { λ s. IsShown s.rows s.form s.steps.items };
 }
 
-/// The steps of the last period of the rows.
+// The steps of the last period of the rows.
 fn steps_of(alloc: Global, net: &Net, rows: &Rows, period: u64) -> Result<Vec<i128>, AllocError>
     requires window { IsWindow net.now rows.now period }
     ensures rules { IsNet net.now }
     ensures count { IfOk result (λ steps. length steps.items ≡ length net.now.transitions) }
-    ensures each { IfOk result (λ steps. (t : ℕ) → t < length net.now.transitions → slice_index_or steps.items t (pos 0) ≡ read_step rows.now period t) }
+    ensures each { IfOk result (λ steps. (t : ℕ) → t < length net.now.transitions
+        → slice_index_or steps.items t (pos 0) ≡ read_step rows.now period t) }
 {
     let mut steps = Vec::new(alloc);
     for index in 0..net.transitions().len() {
@@ -54,7 +55,7 @@ fn steps_of(alloc: Global, net: &Net, rows: &Rows, period: u64) -> Result<Vec<i1
 }
 
 impl SettledDates {
-    /// The form that the rows show.
+    // The form that the rows show.
     pub(crate) fn of_rows(
         alloc: Global,
         net: &Net,
@@ -66,7 +67,8 @@ impl SettledDates {
         requires told { (x : ℕ → ℕ → Date) × IsToldBy net.now rows form x }
         ensures after { IfOk result (λ settled. settled.after ≡ form.after) }
         ensures period { IfOk result (λ settled. settled.period ≡ form.period) }
-        ensures stands { IfOk result (λ settled. (x : ℕ → ℕ → Date) → IsToldBy net.now rows form x → StandsFor (length net.now.transitions) settled x) }
+        ensures stands { IfOk result (λ settled. (x : ℕ → ℕ → Date) → IsToldBy net.now rows form x
+            → StandsFor (length net.now.transitions) settled x) }
     {
         let steps = steps_of(alloc, net, &rows, form.period)?;
         Ok(SettledDates { form, rows, steps })
@@ -96,7 +98,7 @@ impl SettledDates {
         self.steps[transition.index as usize]
     }
 
-    /// One of the dates of the rows, up to the end of the first period.
+    // One of the dates of the rows, up to the end of the first period.
     fn row_date(&self, transition: TransitionId, number: u64) -> Date
         requires transition { transition.index < length self.now.rows }
         requires first { 1 ≤ number }

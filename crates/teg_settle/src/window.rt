@@ -11,7 +11,7 @@ use dioid::Date;
 use teg_dates::Rows;
 use teg_net::{Net, Place, TransitionId};
 
-/// The step from one date to the other, 0 where one of them is no number.
+// The step from one date to the other, 0 where one of them is no number.
 fn step_between(early: Date, late: Date) -> i128
     requires early { IsWithin (2 ^ 126) early }
     requires late { IsWithin (2 ^ 126) late }
@@ -23,7 +23,7 @@ fn step_between(early: Date, late: Date) -> i128
     }
 }
 
-/// Whether the step leads from one date to the other.
+// Whether the step leads from one date to the other.
 pub(crate) fn is_step(early: Date, late: Date, step: i128) -> bool
     requires early { IsWithin (2 ^ 126) early }
     requires late { IsWithin (2 ^ 126) late }
@@ -37,7 +37,7 @@ pub(crate) fn is_step(early: Date, late: Date, step: i128) -> bool
     }
 }
 
-/// By what the dates of the transition move in the last period of the rows.
+// By what the dates of the transition move in the last period of the rows.
 pub(crate) fn step_in(net: &Net, rows: &Rows, period: u64, transition: TransitionId) -> i128
     requires window { IsWindow net.now rows.now period }
     requires transition { transition.index < length net.now.transitions }
@@ -50,7 +50,7 @@ pub(crate) fn step_in(net: &Net, rows: &Rows, period: u64, transition: Transitio
     )
 }
 
-/// Whether the step does not fall along the place, or it leads to never or from early.
+// Whether the step does not fall along the place, or it leads to never or from early.
 pub(crate) fn rises_along(net: &Net, rows: &Rows, period: u64, place: &Place) -> bool
     requires window { IsWindow net.now rows.now period }
     requires from { place.now.from.index < length net.now.transitions }
@@ -63,7 +63,7 @@ pub(crate) fn rises_along(net: &Net, rows: &Rows, period: u64, place: &Place) ->
         || step_in(net, rows, period, place.from) <= step_in(net, rows, period, place.to)
 }
 
-/// Whether the steps rise along all places.
+// Whether the steps rise along all places.
 pub(crate) fn is_rising(net: &Net, rows: &Rows, period: u64) -> bool
     requires window { IsWindow net.now rows.now period }
     ensures { Decides result (All (IsRisingPlace rows.now period) net.now.places) }
@@ -76,7 +76,7 @@ pub(crate) fn is_rising(net: &Net, rows: &Rows, period: u64) -> bool
     true
 }
 
-/// Whether a period after this number each date has moved by its step.
+// Whether a period after this number each date has moved by its step.
 fn is_moved(net: &Net, rows: &Rows, period: u64, number: u64) -> bool
     requires window { IsWindow net.now rows.now period }
     requires first { 1 ≤ number }
@@ -95,7 +95,7 @@ fn is_moved(net: &Net, rows: &Rows, period: u64, number: u64) -> bool
     true
 }
 
-/// The least number, from `least` on, past which the dates of the rows have moved so, found from the end.
+// The least number, from `least` on, past which the dates of the rows have moved so, found from the end.
 pub(crate) fn moved_past(net: &Net, rows: &Rows, period: u64, least: u64) -> u64
     requires window { IsWindow net.now rows.now period }
     requires least { least + period ≤ rows.now.count }
@@ -113,8 +113,8 @@ pub(crate) fn moved_past(net: &Net, rows: &Rows, period: u64, least: u64) -> u64
     least
 }
 
-/// Whether past `after` the releases of the transition go on by the step in each period: tested from
-/// the end of its list, where the dates go on evenly.
+// Whether past `after` the releases of the transition go on by the step in each period: tested from
+// the end of its list, where the dates go on evenly.
 fn is_released_alike(
     net: &Net,
     releases: &Releases,
@@ -125,7 +125,8 @@ fn is_released_alike(
 ) -> bool
     requires after { after ≤ most_window }
     requires period { period ≤ most_window }
-    ensures { Decides result (GoesOnBy (release_by releases.now.waits.items net.now transition.index) after period step) }
+    ensures { Decides result (GoesOnBy (release_by releases.now.waits.items net.now
+        transition.index) after period step) }
 {
     let span = releases.span(net, transition);
     let mut number = after.max(span.after) + span.period;
@@ -140,7 +141,7 @@ fn is_released_alike(
     true
 }
 
-/// The same of each transition, by the steps of the rows.
+// The same of each transition, by the steps of the rows.
 pub(crate) fn are_released_alike(
     net: &Net,
     releases: &Releases,

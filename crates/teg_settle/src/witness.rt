@@ -9,31 +9,31 @@ use crate::window::{is_step, moved_past, rises_along, step_in};
 use teg_dates::Rows;
 use teg_net::{Net, TransitionId};
 
-/// Why a period was refuted.
+// Why a period was refuted.
 #[derive(Clone, Copy, Debug, Drop)]
 pub(crate) enum Witness {
-    /// The step falls along the place of this number.
+    // The step falls along the place of this number.
     Fall(usize),
-    /// The date of this firing does not move by its transition's step.
+    // The date of this firing does not move by its transition's step.
     Firing(TransitionId, u64),
-    /// The release of this firing does not.
+    // The release of this firing does not.
     Release(TransitionId, u64),
 }
 
-/// The last two.
+// The last two.
 #[derive(Clone, Copy, Debug, Drop)]
 pub(crate) struct Witnesses {
     last: Option<Witness>,
     before: Option<Witness>,
 }
 
-/// The greatest number of a window.
+// The greatest number of a window.
 const MOST_WINDOW: u64 = 100_000_000_000_000;
 
-/// How many numbers of a transition are looked at for another firing that refutes a period.
+// How many numbers of a transition are looked at for another firing that refutes a period.
 const MOST_LOOKS: u64 = 4_096;
 
-/// Whether the step falls along the place of this number.
+// Whether the step falls along the place of this number.
 fn falls_along(net: &Net, rows: &Rows, period: u64, place: usize) -> bool
     requires window { IsWindow net.now rows.now period }
     ensures { IsTrue result → All (IsRisingPlace rows.now period) net.now.places → ⊥ }
@@ -45,7 +45,7 @@ fn falls_along(net: &Net, rows: &Rows, period: u64, place: usize) -> bool
     !rises_along(net, rows, period, &places[place])
 }
 
-/// Whether past `after` the date of this firing does not move by the step.
+// Whether past `after` the date of this firing does not move by the step.
 fn is_firing_apart(
     net: &Net,
     rows: &Rows,
@@ -71,7 +71,7 @@ fn is_firing_apart(
     )
 }
 
-/// Whether past `after` the release of this firing does not move by the step.
+// Whether past `after` the release of this firing does not move by the step.
 fn is_release_apart(
     net: &Net,
     releases: &Releases,
@@ -96,7 +96,7 @@ fn is_release_apart(
     !is_step(early, late, step)
 }
 
-/// Whether the witness refutes this period.
+// Whether the witness refutes this period.
 fn refutes(
     net: &Net,
     releases: &Releases,
@@ -119,7 +119,7 @@ fn refutes(
     }
 }
 
-/// The witness, if it refutes this period.
+// The witness, if it refutes this period.
 fn still(
     net: &Net,
     releases: &Releases,
@@ -139,8 +139,8 @@ fn still(
     }
 }
 
-/// The first number past `after`, of those that are looked at, whose date does not move by the
-/// transition's step: an early one stays in the rows for the most periods.
+// The first number past `after`, of those that are looked at, whose date does not move by the
+// transition's step: an early one stays in the rows for the most periods.
 fn first_number_apart(
     net: &Net,
     rows: &Rows,
@@ -161,7 +161,28 @@ fn first_number_apart(
     None
 }
 
-/// Another firing of the transition that the witness names, if one refutes this period.
+// A number past `after` whose date does not move by the transition's step: the one before `number`,
+// which a period later by one leads to the same date, or the first of those that are looked at.
+fn number_apart(
+    net: &Net,
+    rows: &Rows,
+    period: u64,
+    after: u64,
+    transition: TransitionId,
+    number: u64,
+) -> Option<u64>
+    requires window { IsWindow net.now rows.now period }
+    requires after { after ≤ most_window }
+    ensures { IfSome result (λ number. IsMovedPast rows.now period after → ⊥) }
+{
+    let before = number.saturating_sub(1);
+    if is_firing_apart(net, rows, period, after, transition, before) {
+        return Some(before);
+    }
+    first_number_apart(net, rows, period, after, transition)
+}
+
+// Another firing of the transition that the witness names, if one refutes this period.
 fn other_number(
     net: &Net,
     releases: &Releases,
@@ -175,8 +196,8 @@ fn other_number(
     ensures { IfSome result (Refutes net.now releases.now rows.now period after) }
 {
     match witness {
-        Some(Witness::Firing(transition, _)) => {
-            match first_number_apart(net, rows, period, after, transition) {
+        Some(Witness::Firing(transition, number)) => {
+            match number_apart(net, rows, period, after, transition, number) {
                 Some(number) => Some(Witness::Firing(transition, number)),
                 None => None,
             }
@@ -185,7 +206,7 @@ fn other_number(
     }
 }
 
-/// The first place along which the step falls.
+// The first place along which the step falls.
 fn first_fall(net: &Net, rows: &Rows, period: u64) -> Option<usize>
     requires window { IsWindow net.now rows.now period }
     ensures { IfSome result (λ place. All (IsRisingPlace rows.now period) net.now.places → ⊥) }
@@ -198,7 +219,7 @@ fn first_fall(net: &Net, rows: &Rows, period: u64) -> Option<usize>
     None
 }
 
-/// The first transition whose date of this number does not move by its step.
+// The first transition whose date of this number does not move by its step.
 fn first_apart(net: &Net, rows: &Rows, period: u64, after: u64, number: u64) -> Option<TransitionId>
     requires window { IsWindow net.now rows.now period }
     ensures { IfSome result (λ transition. IsMovedPast rows.now period after → ⊥) }
@@ -214,7 +235,7 @@ fn first_apart(net: &Net, rows: &Rows, period: u64, after: u64, number: u64) -> 
     None
 }
 
-/// The last number past `after` of which the transition's release does not move by its step.
+// The last number past `after` of which the transition's release does not move by its step.
 fn last_release_apart(
     net: &Net,
     releases: &Releases,
@@ -225,7 +246,8 @@ fn last_release_apart(
 ) -> Option<u64>
     requires window { IsWindow net.now rows.now period }
     requires after { after ≤ most_window }
-    ensures { IfSome result (λ number. AreReleasedAlike net.now releases.now rows.now period after → ⊥) }
+    ensures { IfSome result (λ number. AreReleasedAlike net.now releases.now rows.now period after
+        → ⊥) }
 {
     let span = releases.span(net, transition);
     let end = after.max(span.after) + span.period;
@@ -237,7 +259,7 @@ fn last_release_apart(
     None
 }
 
-/// The last release past `after` that does not move by its step, of the first transition that has one.
+// The last release past `after` that does not move by its step, of the first transition that has one.
 fn release_apart(
     net: &Net,
     releases: &Releases,
@@ -261,7 +283,7 @@ fn release_apart(
     None
 }
 
-/// An early firing that is apart, of the first transition that has one of this number.
+// An early firing that is apart, of the first transition that has one of this number.
 fn firing_apart(
     net: &Net,
     releases: &Releases,
@@ -286,7 +308,7 @@ fn firing_apart(
     }
 }
 
-/// What refutes a period that was refuted, found in the order of the tests.
+// What refutes a period that was refuted, found in the order of the tests.
 pub(crate) fn witness_against(
     net: &Net,
     releases: &Releases,
@@ -317,7 +339,7 @@ pub(crate) fn witness_against(
 }
 
 impl Witnesses {
-    /// None yet.
+    // None yet.
     pub(crate) fn nothing() -> Witnesses {
         Witnesses {
             last: None,
@@ -325,7 +347,7 @@ impl Witnesses {
         }
     }
 
-    /// These with one more: the older of the two goes.
+    // These with one more: the older of the two goes.
     pub(crate) fn joined(self, witness: Option<Witness>) -> Witnesses {
         match witness {
             Some(witness) => Witnesses {
@@ -336,7 +358,7 @@ impl Witnesses {
         }
     }
 
-    /// Whether one of them refutes this period.
+    // Whether one of them refutes this period.
     pub(crate) fn refute(
         self,
         net: &Net,
@@ -354,7 +376,7 @@ impl Witnesses {
         }
     }
 
-    /// Another firing of a transition that one of them names, which refutes this period.
+    // Another firing of a transition that one of them names, which refutes this period.
     pub(crate) fn other(
         self,
         net: &Net,

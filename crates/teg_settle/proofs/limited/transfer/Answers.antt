@@ -1,30 +1,39 @@
 use Rattle.std.proofs.lemmas.Result.{IfOk-weaker, IfErr-weaker}
+use Rattle.teg_net.specs.Nets.{IsNet}
+use Rattle.teg_settle.specs.Reached.{IsPartFrom}
 use Rattle.teg_settle.specs.Refusals.{IsRightRefusal}
 use Rattle.teg_settle.specs.Transfers.{IsTransferOf, TransferSettlesPast}
 use Rattle.teg_settle.specs.Windows.{IsLeastForm, LeastSettlesPast}
 use Rattle.teg_settle.proofs.Limiting.{refusal_weaker}
-use Rattle.teg_settle.proofs.Transferring.{alone_least, alone_waits}
+use Rattle.teg_settle.proofs.ReachedPart.{ranked_part, part_waits, form_of_part, past_of_part}
 use Rattle.teg_settle.proofs.limited.transfer.Goals as goal
 
+pub within-requires-clause-stands : goal.within-requires-clause-stands
+within-requires-clause-stands c = ranked_part c.args.net.now c.in_ok-part.part c.args.input.index c.in_ok-part.ensures.part c.requires.input c.args.live.now c.requires.stands
+
 pub within-requires-clause-waits : goal.within-requires-clause-waits
-within-requires-clause-waits c = alone_waits c.args.net.now c.in_ok-releases.releases c.args.input.index c.requires.input c.in_ok-releases.ensures.waits
+within-requires-clause-waits c =
+    part_waits c.args.net.now c.in_ok-part.part c.args.input.index c.in_ok-part.ensures.part c.requires.input c.in_ok-releases.releases c.in_ok-releases.ensures.waits
 
 pub returns-clause-form : goal.returns-clause-form
 returns-clause-form c =
     let net = c.args.net.now in
+    let part = c.in_ok-part.part in
     let r = c.in_ok-releases.releases in
     let made = c.in_ok-releases.ensures in
-    IfOk-weaker c.within.result (IsLeastForm net r) (IsTransferOf net c.args.input.index)
-    (λ f h. (h.0, alone_least net r c.args.input.index c.args.live.now c.of_input.ensures.rules c.requires.stands c.requires.input made.tokens made.waits h.0 h.1, h.2)) c.within.ensures.form
+    let input = c.args.input.index in
+    IfOk-weaker c.within.result (IsLeastForm part r) (IsTransferOf net input)
+    (form_of_part net part input c.in_ok-part.ensures.part c.requires.input r made.waits c.args.live.now c.part_from.ensures.rules c.requires.stands made.tokens) c.within.ensures.form
 
 pub returns-clause-too_long : goal.returns-clause-too_long
 returns-clause-too_long c =
     let net = c.args.net.now in
+    let part = c.in_ok-part.part in
     let r = c.in_ok-releases.releases in
     let made = c.in_ok-releases.ensures in
-    let limit = c.args.limit in
     let input = c.args.input.index in
-    IfErr-weaker c.within.result (IsRightRefusal (LeastSettlesPast net r limit) limit) (IsRightRefusal (TransferSettlesPast net input limit) limit)
-    (λ e. refusal_weaker (LeastSettlesPast net r limit) (TransferSettlesPast net input limit) limit e
-    (λ h. (h.0, alone_least net r input c.args.live.now c.of_input.ensures.rules c.requires.stands c.requires.input made.tokens made.waits h.0 h.1, h.2)))
+    let limit = c.args.limit in
+    IfErr-weaker c.within.result (IsRightRefusal (LeastSettlesPast part r limit) limit) (IsRightRefusal (TransferSettlesPast net input limit) limit)
+    (λ e. refusal_weaker (LeastSettlesPast part r limit) (TransferSettlesPast net input limit) limit e
+    (past_of_part net part input c.in_ok-part.ensures.part c.requires.input r made.waits c.args.live.now c.part_from.ensures.rules c.requires.stands made.tokens limit))
     c.within.ensures.too_long
