@@ -13,11 +13,11 @@ use teg_form::{Form, standard_form};
 use teg_net::Net;
 use teg_reader::read_net;
 
-/// Two transitions in a loop: a place from a to b with hold 3, and one back with hold 2 and a token.
+// Two transitions in a loop: a place from a to b with hold 3, and one back with hold 2 and a token.
 const LOOP: &[u8] =
     b"transition = [{name = 'a'}, {name = 'b'}]\nplace = [{name = 'ab', from = 'a', to = 'b', hold = 3}, {name = 'ba', from = 'b', to = 'a', hold = 2, tokens = 1}]\n";
 
-/// The row that comes next, of two transitions.
+// The row that comes next, of two transitions.
 fn next_of(stream: &mut Stream, net: &Net, form: &Form) -> (Date, Date)
     requires two { length net.now.transitions ≡ 2 }
     requires stands { IsStreamOf net.now stream.old }
@@ -31,7 +31,7 @@ fn next_of(stream: &mut Stream, net: &Net, form: &Form) -> (Date, Date)
     (row[0], row[1])
 }
 
-/// The first two rows of a net of two transitions.
+// The first two rows of a net of two transitions.
 fn two_rows(alloc: Global, net: &Net) -> Result<[(Date, Date); 2], Fail>
     requires two { length net.now.transitions ≡ 2 }
 {

@@ -9,7 +9,7 @@ use crate::refusals::{Cell, MatrixRefused};
 use dioid::{Dioid, Refused};
 use std::alloc::Global;
 
-/// Each value of the list is an element. It takes no memory.
+// Each value of the list is an element. It takes no memory.
 pub(crate) fn known<D: Dioid>(values: &[D])
     ensures { AreElements D.Dioid values.now }
 {
@@ -18,7 +18,7 @@ pub(crate) fn known<D: Dioid>(values: &[D])
     }
 }
 
-/// The sums of two lists of entries by rows, place by place.
+// The sums of two lists of entries by rows, place by place.
 pub(crate) fn sums<D: Dioid>(
     alloc: Global,
     left: &[D],
@@ -53,7 +53,7 @@ pub(crate) fn sums<D: Dioid>(
     Ok(values)
 }
 
-/// The entry of a product: `count` entries of a row from `start` on, by those of a column.
+// The entry of a product: `count` entries of a row from `start` on, by those of a column.
 pub(crate) fn cell<D: Dioid>(
     alloc: Global,
     left: &[D],
@@ -90,7 +90,7 @@ pub(crate) fn cell<D: Dioid>(
     Cell::Value(sum)
 }
 
-/// The entries of the product of two lists of entries, by rows.
+// The entries of the product of two lists of entries, by rows.
 pub(crate) fn products<D: Dioid>(
     alloc: Global,
     left: &[D],

@@ -10,8 +10,8 @@ use crate::refusals::MatrixRefused;
 use dioid::{Dioid, Kleene, Refused};
 use std::alloc::{AllocError, Global};
 
-/// The loops of row `k` by columns: the star of the pivot by each entry of its row, up to the first
-/// that does not fit.
+// The loops of row `k` by columns: the star of the pivot by each entry of its row, up to the first
+// that does not fit.
 pub(crate) fn loops<D: Kleene>(
     alloc: Global,
     entries: &[D],
@@ -21,7 +21,8 @@ pub(crate) fn loops<D: Kleene>(
     requires step { k < size }
     requires filled { length entries.now ≡ size * size }
     requires fits { size * size < 2 ^ 64 }
-    ensures { IfOk result (λ loops. AreLoops D.Dioid D.Kleene.own size (entry_of D.Dioid (table_of size size entries.now)) k loops.items) }
+    ensures { IfOk result (λ loops. AreLoops D.Dioid D.Kleene.own size
+        (entry_of D.Dioid (table_of size size entries.now)) k loops.items) }
 {
     let mut loops = Vec::new(alloc);
     let star = match entries[k * size + k].star(alloc) {
@@ -39,16 +40,17 @@ pub(crate) fn loops<D: Kleene>(
     Ok(loops)
 }
 
-/// An entry's next value: the old one, and the way in by the loops.
+// An entry's next value: the old one, and the way in by the loops.
 pub(crate) fn turn<D: Dioid>(alloc: Global, old: &D, into: &D, loops: &D) -> Result<D, Refused>
-    ensures answer { Answers D.TAKES_MEMORY (WayFits D.Dioid old.now into.now loops.now) (D.sum old.now (D.product into.now loops.now)) result }
+    ensures answer { Answers D.TAKES_MEMORY (WayFits D.Dioid old.now into.now loops.now)
+        (D.sum old.now (D.product into.now loops.now)) result }
     ensures element { IfOk result D.is_element }
 {
     let way = into.times(alloc, loops)?;
     old.plus(alloc, &way)
 }
 
-/// Step `k + 1` of the recursion, by the loops of row `k`.
+// Step `k + 1` of the recursion, by the loops of row `k`.
 pub(crate) fn turned<D: Kleene>(
     alloc: Global,
     entries: &[D],
@@ -59,7 +61,8 @@ pub(crate) fn turned<D: Kleene>(
     requires step { k < size }
     requires filled { length entries.now ≡ size * size }
     requires fits { size * size < 2 ^ 64 }
-    requires loops { AreLoops D.Dioid D.Kleene.own size (entry_of D.Dioid (table_of size size entries.now)) k loops.now }
+    requires loops { AreLoops D.Dioid D.Kleene.own size
+        (entry_of D.Dioid (table_of size size entries.now)) k loops.now }
     ensures { let r = entry_of D.Dioid (table_of size size entries.now) in
         AnswersList D.Dioid size size (IsPassed D.Dioid D.Kleene.own size r k) (PassRefused D.Dioid D.Kleene.own size r k) result }
 {
@@ -98,7 +101,7 @@ pub(crate) fn turned<D: Kleene>(
     Ok(values)
 }
 
-/// Step `k + 1` of the recursion, on the entries of a square matrix.
+// Step `k + 1` of the recursion, on the entries of a square matrix.
 pub(crate) fn pass<D: Kleene>(
     alloc: Global,
     entries: &[D],
@@ -117,14 +120,15 @@ pub(crate) fn pass<D: Kleene>(
     turned(alloc, entries, loops.as_slice(), size, k)
 }
 
-/// An entry's last value: one is added on the diagonal.
+// An entry's last value: one is added on the diagonal.
 pub(crate) fn ended<D: Dioid>(
     alloc: Global,
     entry: &D,
     one: &D,
     is_diagonal: bool,
 ) -> Result<D, Refused>
-    ensures answer { Answers D.TAKES_MEMORY (IsTrue is_diagonal → D.sum_fits entry.now one.now) (cond is_diagonal (D.sum entry.now one.now) entry.now) result }
+    ensures answer { Answers D.TAKES_MEMORY (IsTrue is_diagonal → D.sum_fits entry.now one.now)
+        (cond is_diagonal (D.sum entry.now one.now) entry.now) result }
     ensures element { IfOk result D.is_element }
 {
     if is_diagonal {
@@ -134,7 +138,7 @@ pub(crate) fn ended<D: Dioid>(
     }
 }
 
-/// The last step of the recursion.
+// The last step of the recursion.
 pub(crate) fn finish<D: Kleene>(
     alloc: Global,
     entries: &[D],
@@ -173,7 +177,7 @@ pub(crate) fn finish<D: Kleene>(
     Ok(values)
 }
 
-/// The entries of the star of a square matrix.
+// The entries of the star of a square matrix.
 pub(crate) fn star_entries<D: Kleene>(
     alloc: Global,
     entries: &[D],

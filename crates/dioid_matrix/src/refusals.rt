@@ -37,7 +37,7 @@ pub enum MatrixRefused {
     OutOfMemory,
 }
 
-/// What became of an entry that is made step by step.
+// What became of an entry that is made step by step.
 #[derive(Drop)]
 pub(crate) enum Cell<D> {
     Value(D),

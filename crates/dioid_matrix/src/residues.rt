@@ -8,8 +8,8 @@ use crate::refusals::{Cell, MatrixRefused};
 use dioid::{Refused, Residuated};
 use std::alloc::Global;
 
-/// The entry of a residual: the meet of the rows' residuals in column `column` of the left, which has
-/// `middle` columns, and column `other` of the right, which has `columns`.
+// The entry of a residual: the meet of the rows' residuals in column `column` of the left, which has
+// `middle` columns, and column `other` of the right, which has `columns`.
 pub(crate) fn residue<D: Residuated>(
     alloc: Global,
     left: &[D],
@@ -51,7 +51,7 @@ pub(crate) fn residue<D: Residuated>(
     Cell::Value(meet)
 }
 
-/// The entries of the residual of two lists of entries, by rows.
+// The entries of the residual of two lists of entries, by rows.
 pub(crate) fn residue_list<D: Residuated>(
     alloc: Global,
     left: &[D],

@@ -23,8 +23,8 @@ use Rattle.teg_net.specs.ReducedTimes.{IsWithin}
 use Rattle.teg_net.specs.GreatestRatios.{ratio_in, ratio_at, IsFirstGreatest}
 use Rattle.teg_net.specs.Certificates.{potential_at, IsBestCertificate, IsPartCertificate, IsCertificate}
 use Rattle.teg_critical.specs.declared.losses.Loss.{Loss}
-use Rattle.teg_critical.specs.Losses.{most_lost, most_loss, count_of, IsLost, CanLose, loss_at_best, ratio_of, potentials_of, IsLossOf, IsLossIn, part_at, part_of, IsPlaceLoss}
-use Rattle.teg_critical.specs.Told.{IsSmallRatio, IsBestOf}
+use Rattle.teg_critical.specs.Losses.{most_lost, count_of, IsLost, CanLose, ratio_of, potentials_of, IsLossOf, IsLossIn, part_at, part_of, IsPlaceLoss}
+use Rattle.teg_critical.specs.Told.{IsSmallRatio, IsBestOf, CanLoseBy}
 use Rattle.teg_critical.proofs.Listed.{potential_within}
 
 -- what lies between two whole numbers
@@ -120,13 +120,13 @@ module _ (net : NetLists) (answer : CycleAnswer) (h : IsCertificate net answer) 
     facts : IsBestCertificate net answer.part_of.items k r c.places.items vs
     facts = certificate part_low (subst (IsPartCertificate net answer.part_of.items k) (sym told_is) (h.parts k part_low))
 
-    pub small_own : IsSmallRatio r
+    small_own : IsSmallRatio r
     small_own = record { time = facts.time_in; tokens = facts.tokens_in }
 
-    pub below_own : r.time * best.tokens ≤ best.time * r.tokens
+    below_own : r.time * best.tokens ≤ best.time * r.tokens
     below_own = below_best k r (ap ratio_in (sym told_is) ∙ ratio_told)
 
-    pub can_lose : CanLose (count_of r q) (potential_at vs q.from.index) (potential_at vs q.to.index)
+    can_lose : CanLose (count_of r q) (potential_at vs q.from.index) (potential_at vs q.to.index)
     can_lose =
         let keeps : (count_of r (place_at net p) +ℤ potential_at vs (from_of net p)) ≤ℤ potential_at vs (to_of net p) = facts.potentials p inside in
         let own : (count_of r q +ℤ potential_at vs q.from.index) ≤ℤ potential_at vs q.to.index = subst (λ (z : Place). (count_of r z +ℤ potential_at vs z.from.index) ≤ℤ potential_at vs z.to.index) (sym q_is) keeps in
@@ -141,11 +141,20 @@ module _ (net : NetLists) (answer : CycleAnswer) (h : IsCertificate net answer) 
           grouped : (n : ℕ) (w s t : ℤ) → (pos n +ℤ (w +ℤ s)) ≡ t → ((pos n +ℤ w) +ℤ s) ≡ t
           grouped n w s t e = omega (arith, ints, e)
 
+    pub can_lose_by : CanLoseBy best r vs q
+    can_lose_by = record {
+      best_small = best_told.small;
+      own_small = small_own;
+      some = facts.terms.some;
+      below = below_own;
+      hold = rules.hold_in;
+      tokens = rules.tokens_in;
+      can_lose = can_lose;
+    }
+
     -- what the place is told is its loss
-    pub is_loss : (lost : ℕ) → IsLost (count_of r q) (potential_at vs q.from.index) (potential_at vs q.to.index) lost → (loss : Loss) → loss.amount ≡ loss_at_best best r lost q.tokens → loss.scale ≡ r.tokens → loss.amount ≤ most_loss
-        → IsPlaceLoss net answer best p (Some loss)
-    is_loss lost is loss amount scale small =
-        let one : IsLossOf best r (potential_at vs q.from.index) (potential_at vs q.to.index) q loss = record { scale = scale; some = facts.terms.some; below = below_own; lost = lost; is_lost = is; amount = amount; small = small } in
+    pub is_loss : (loss : Loss) → IsLossOf best r (potential_at vs q.from.index) (potential_at vs q.to.index) q loss → IsPlaceLoss net answer best p (Some loss)
+    is_loss loss one =
         let P : Fraction → List Potential → Place → Type 0 = λ f us z. IsLossOf best f (potential_at us z.from.index) (potential_at us z.to.index) z loss in
         let two : P (ratio_of told) vs q = subst (λ (f : Fraction). P f vs q) (sym ratio_is) one in
         let three : P (ratio_of told) (potentials_of told) q = subst (λ (us : List Potential). P (ratio_of told) us q) (sym potentials_is) two in

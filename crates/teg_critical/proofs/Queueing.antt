@@ -55,14 +55,6 @@ first_is_least x (y ∷ ys) h e c =
 
 -- ---- steps taken
 
-pub none_queued : (least : List (Option ℕ)) (queue : List Entry) → AreQueued least least queue queue
-none_queued least queue = record {
-  kept = λ e c. c;
-  told = λ t d e. inl e;
-  sound = λ e c. inl c;
-  heap = λ h. h;
-}
-
 -- no loss that is told rises
 lower :
     (mid : List (Option ℕ)) (to offered t x : ℕ) → to < length mid → ((d : ℕ) → told_at mid to ≡ Some d → offered ≤ d)

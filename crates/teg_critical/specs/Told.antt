@@ -1,19 +1,21 @@
 -- Working definitions of how each place is told its slack.
-use Rattle.std.specs.Prelude.{ℕ, ◌/◌, ◌<◌, ◌≤◌, ◌≡◌, List, length, Option, Some, slice_index_or}
+use Rattle.std.specs.Prelude.{ℕ, ◌*◌, ◌/◌, ◌<◌, ◌≤◌, ◌≡◌, List, length, Option, Some, slice_index_or}
 use Rattle.teg_net.specs.declared.entries.PlaceId.{PlaceId}
+use Rattle.teg_net.specs.declared.entries.Place.{Place}
+use Rattle.teg_net.specs.declared.answers.Potential.{Potential}
 use Rattle.teg_net.specs.declared.answers.CycleAnswer.{CycleAnswer}
-use Rattle.teg_net.specs.Limits.{greatest_ratio}
+use Rattle.teg_net.specs.Limits.{greatest_hold, greatest_ratio, most_tokens}
 use Rattle.teg_net.specs.Nets.{NetLists}
 use Rattle.teg_net.specs.Ratios.{Fraction}
 use Rattle.teg_net.specs.Circuits.{IsLive}
 use Rattle.teg_net.specs.Parts.{to_of}
 use Rattle.teg_net.specs.GreatestRatios.{ratio_at, IsGreatestRatio, IsAnyPlace}
-use Rattle.teg_net.specs.Certificates.{IsCertificate}
+use Rattle.teg_net.specs.Certificates.{potential_at, IsCertificate}
 use Rattle.teg_critical.specs.declared.losses.Loss.{Loss}
 use Rattle.teg_critical.specs.declared.slacks.Slack.{Slack}
 use Rattle.teg_critical.specs.declared.slacks.Slack.TheVariants.{NoCircuit, Critical, Rise}
 use Rattle.teg_critical.specs.Slacks.{IsSlackOf}
-use Rattle.teg_critical.specs.Losses.{AreLosses}
+use Rattle.teg_critical.specs.Losses.{count_of, CanLose, AreLosses}
 
 -- time and tokens keep the limit of a ratio in an answer
 pub record IsSmallRatio (r : Fraction) : Type 0 where
@@ -25,6 +27,16 @@ pub record IsBestOf (answer : CycleAnswer) (r : Fraction) : Type 0 where
   pub part : ℕ
   pub best : answer.best ≡ Some part
   pub told : ratio_at answer.parts.items part ≡ Some r
+
+-- a place loses in a part with this ratio, which is no greater, and these potentials, and all keep their limits
+pub record CanLoseBy (best own : Fraction) (potentials : List Potential) (p : Place) : Type 0 where
+  pub best_small : IsSmallRatio best
+  pub own_small : IsSmallRatio own
+  pub some : 1 ≤ own.tokens
+  pub below : own.time * best.tokens ≤ best.time * own.tokens
+  pub hold : p.hold ≤ greatest_hold
+  pub tokens : p.tokens ≤ most_tokens
+  pub can_lose : CanLose (count_of own p) (potential_at potentials p.from.index) (potential_at potentials p.to.index)
 
 -- the slack that a gap tells, given the gap times the scale
 abbrev pub IsSlackOfGap : ℕ → ℕ → Fraction → Slack → Type 0

@@ -18,7 +18,7 @@ use crate::slacks::{Slack, Slacks};
 use std::alloc::{AllocError, Global};
 use teg_net::{CycleAnswer, Net, OutOfMemory, PartAnswer, PlaceId, Ratio};
 
-/// The slack that a loss of the whole round tells.
+// The slack that a loss of the whole round tells.
 fn slack_by(total: u128, scale: u64, best: Ratio) -> Slack
     requires { LeavesGap total scale }
     ensures { IsSlackOfGap total scale best result }
@@ -33,8 +33,8 @@ fn slack_by(total: u128, scale: u64, best: Ratio) -> Slack
     }
 }
 
-/// The slack of a place, where it ends at this transition and a circuit passes it, given the least
-/// that paths from there lose.
+// The slack of a place, where it ends at this transition and a circuit passes it, given the least
+// that paths from there lose.
 fn slack_from(
     net: &Net,
     best: Ratio,
@@ -59,7 +59,7 @@ fn slack_from(
     Some(slack_by(loss.amount + rest, loss.scale, best))
 }
 
-/// Tells the places that end at this transition, given the least that paths from there lose.
+// Tells the places that end at this transition, given the least that paths from there lose.
 fn tell_places(
     net: &Net,
     best: Ratio,
@@ -83,7 +83,7 @@ fn tell_places(
     }
 }
 
-/// The slack of each place at the greatest ratio.
+// The slack of each place at the greatest ratio.
 fn slacks_at(
     alloc: Global,
     net: &Net,
@@ -106,7 +106,7 @@ fn slacks_at(
     Ok(slacks)
 }
 
-/// Of a net without circuits: no circuit passes any place.
+// Of a net without circuits: no circuit passes any place.
 fn no_slacks(alloc: Global, net: &Net) -> Result<Vec<Slack>, AllocError>
     ensures each { IfOk result (λ slacks. length slacks.items ≡ length net.now.places) }
     ensures none { IfOk result (λ slacks. All (λ s. s ≡ NoCircuit) slacks.items) }
@@ -115,7 +115,7 @@ fn no_slacks(alloc: Global, net: &Net) -> Result<Vec<Slack>, AllocError>
     vec![in alloc; Slack::NoCircuit; net.places().len()]
 }
 
-/// The greatest ratio that the answer tells.
+// The greatest ratio that the answer tells.
 fn best_ratio(net: &Net, answer: &CycleAnswer) -> Option<Ratio>
     requires { IsCertificate net.now answer.now }
     ensures none { IfNone result (answer.now.best ≡ None) }
@@ -141,8 +141,10 @@ pub fn critical(alloc: Global, net: &Net, answer: &CycleAnswer) -> Result<Slacks
     requires certificate { IsCertificate net.now answer.now }
     requires live { IsLive net.now }
     ensures each { IfOk result (λ slacks. length slacks ≡ length net.now.places) }
-    ensures slacks { IfOk result (λ slacks. (r : Fraction) → IsGreatestRatio net.now IsAnyPlace r → AreSlacks net.now r slacks) }
-    ensures none { IfOk result (λ slacks. HasNoCircuit net.now IsAnyPlace → All (λ s. s ≡ NoCircuit) slacks) }
+    ensures slacks { IfOk result (λ slacks. (r : Fraction) → IsGreatestRatio net.now IsAnyPlace r
+        → AreSlacks net.now r slacks) }
+    ensures none { IfOk result (λ slacks. HasNoCircuit net.now IsAnyPlace
+        → All (λ s. s ≡ NoCircuit) slacks) }
 {
     match best_ratio(net, answer) {
         Some(best) => Ok(Slacks::new(slacks_at(alloc, net, answer, best)?)),

@@ -3,20 +3,20 @@
 ghost use Rattle.std.specs.Prelude.{◌≡◌, ◌≤◌, ◌<◌, ◌*◌, length, IfOk};
 ghost use Rattle.teg_net.specs.Limits.{greatest_hold, most_tokens};
 ghost use Rattle.teg_net.specs.Certificates.{potential_at, IsCertificate};
-ghost use Rattle.teg_critical.specs.Losses.{most_lost, most_loss, count_of, IsLost, CanLose, loss_at_best, IsPlaceLoss, AreLosses};
-ghost use Rattle.teg_critical.specs.Told.{IsSmallRatio, IsBestOf};
+ghost use Rattle.teg_critical.specs.Losses.{most_lost, most_loss, count_of, IsLost, CanLose, loss_at_best, IsLossOf, IsPlaceLoss, AreLosses};
+ghost use Rattle.teg_critical.specs.Told.{IsSmallRatio, IsBestOf, CanLoseBy};
 
 use std::alloc::{AllocError, Global};
 use teg_net::{CycleAnswer, Net, PartAnswer, Place, PlaceId, Potential, Ratio, TransitionId};
 
-/// What a place loses against the greatest ratio, times `scale`, the tokens of its part's ratio.
+// What a place loses against the greatest ratio, times `scale`, the tokens of its part's ratio.
 #[derive(Clone, Copy, Debug, PartialEq, Eq)]
 pub(crate) struct Loss {
     pub(crate) amount: u128,
     pub(crate) scale: u64,
 }
 
-/// The potential of a transition, 0 where none is told.
+// The potential of a transition, 0 where none is told.
 fn potential_of(potentials: &[Potential], transition: TransitionId) -> i128
     ensures { result ≡ potential_at potentials.now transition.index }
 {
@@ -28,8 +28,8 @@ fn potential_of(potentials: &[Potential], transition: TransitionId) -> i128
     0
 }
 
-/// What a place counts at a ratio: the ratio's tokens times its hold, less the ratio's time times
-/// its tokens.
+// What a place counts at a ratio: the ratio's tokens times its hold, less the ratio's time times
+// its tokens.
 fn count_at(ratio: Ratio, place: &Place) -> i128
     requires ratio { IsSmallRatio ratio }
     requires hold { place.now.hold ≤ greatest_hold }
@@ -41,7 +41,7 @@ fn count_at(ratio: Ratio, place: &Place) -> i128
     gain - cost
 }
 
-/// By how much a count, from one potential on, stays below another.
+// By how much a count, from one potential on, stays below another.
 fn lost_between(count: i128, start: i128, end: i128) -> u128
     requires { CanLose count start end }
     ensures lost { IsLost count start end result }
@@ -50,8 +50,8 @@ fn lost_between(count: i128, start: i128, end: i128) -> u128
     (end - start - count) as u128
 }
 
-/// What a place loses at the greatest ratio, times the tokens of its part's, where it loses so much
-/// at that.
+// What a place loses at the greatest ratio, times the tokens of its part's, where it loses so much
+// at that.
 fn loss_against(best: Ratio, own: Ratio, lost: u128, tokens: u32) -> u128
     requires best { IsSmallRatio best }
     requires own { IsSmallRatio own }
@@ -66,7 +66,22 @@ fn loss_against(best: Ratio, own: Ratio, lost: u128, tokens: u32) -> u128
     u128::from(best.tokens()) * lost + slower * u128::from(tokens)
 }
 
-/// What a place loses; none where its ends lie in two parts.
+// What a place loses whose ends lie in a part with this ratio and these potentials.
+fn loss_by(best: Ratio, own: Ratio, potentials: &[Potential], place: &Place) -> Loss
+    requires { CanLoseBy best own potentials.now place.now }
+    ensures { IsLossOf best own (potential_at potentials.now place.now.from.index)
+        (potential_at potentials.now place.now.to.index) place.now result }
+{
+    let start = potential_of(potentials, place.from);
+    let end = potential_of(potentials, place.to);
+    let lost = lost_between(count_at(own, place), start, end);
+    Loss {
+        amount: loss_against(best, own, lost, place.tokens),
+        scale: own.tokens(),
+    }
+}
+
+// What a place loses; none where its ends lie in two parts.
 fn loss_of(net: &Net, answer: &CycleAnswer, best: Ratio, place: PlaceId) -> Option<Loss>
     requires certificate { IsCertificate net.now answer.now }
     requires best { IsBestOf answer.now best }
@@ -84,19 +99,11 @@ fn loss_of(net: &Net, answer: &CycleAnswer, best: Ratio, place: PlaceId) -> Opti
             ratio,
             potentials,
             ..
-        } => {
-            let start = potential_of(potentials, place.from);
-            let end = potential_of(potentials, place.to);
-            let lost = lost_between(count_at(*ratio, place), start, end);
-            Some(Loss {
-                amount: loss_against(best, *ratio, lost, place.tokens),
-                scale: ratio.tokens(),
-            })
-        }
+        } => Some(loss_by(best, *ratio, potentials, place)),
     }
 }
 
-/// What each place loses.
+// What each place loses.
 pub(crate) fn losses_of(
     alloc: Global,
     net: &Net,

@@ -13,14 +13,14 @@ use std::collections::BinaryHeap;
 use std::marker::Model;
 use teg_net::{Net, Place};
 
-/// A place as the search takes it: the transition at which it ends, and what it loses.
+// A place as the search takes it: the transition at which it ends, and what it loses.
 #[derive(Clone, Copy, Debug, PartialEq, Eq)]
 pub(crate) struct Step {
     pub(crate) to: usize,
     pub(crate) loss: u128,
 }
 
-/// The steps from one transition. Contracts see the list.
+// The steps from one transition. Contracts see the list.
 #[derive(Debug, Drop)]
 pub(crate) struct Steps {
     steps: Vec<Step>,
@@ -36,7 +36,7 @@ impl Model for Steps {
 }
 
 impl Steps {
-    /// No steps.
+    // No steps.
     fn new(alloc: Global) -> Steps
         ensures { result ≡ [] }
     {
@@ -45,14 +45,14 @@ impl Steps {
         }
     }
 
-    /// The steps as a list.
+    // The steps as a list.
     fn as_slice(&self) -> &[Step]
         ensures { result.now ≡ self.now }
     {
         &self.steps
     }
 
-    /// Appends a step, or changes nothing.
+    // Appends a step, or changes nothing.
     fn push(&mut self, step: Step) -> Result<(), AllocError>
         ensures { self.new ≡ (if is_ok result then self.old ++ step ∷ [] else self.old) }
     {
@@ -61,7 +61,7 @@ impl Steps {
     }
 }
 
-/// So many lists without steps.
+// So many lists without steps.
 fn no_steps(alloc: Global, count: usize) -> Result<Vec<Steps>, AllocError>
     ensures { IfOk result (λ all. all.items ≡ replicate count []) }
 {
@@ -72,7 +72,7 @@ fn no_steps(alloc: Global, count: usize) -> Result<Vec<Steps>, AllocError>
     Ok(all)
 }
 
-/// The step that a place is, if it is told a loss.
+// The step that a place is, if it is told a loss.
 fn step_by(place: &Place, told: Option<Loss>) -> Option<Step>
     ensures none { IfNone result (told ≡ None) }
     ensures step { IfSome result (IsStepOf place.now told place.now.from.index) }
@@ -84,7 +84,7 @@ fn step_by(place: &Place, told: Option<Loss>) -> Option<Step>
     })
 }
 
-/// The steps from each transition: the places that leave it and are told a loss.
+// The steps from each transition: the places that leave it and are told a loss.
 pub(crate) fn all_steps(
     alloc: Global,
     net: &Net,
@@ -103,7 +103,7 @@ pub(crate) fn all_steps(
     Ok(all)
 }
 
-/// Whether nothing is told yet, or more than is offered.
+// Whether nothing is told yet, or more than is offered.
 fn is_less(offered: u128, told: Option<u128>) -> bool
     ensures less { IsTrue result → (d : ℕ) → told ≡ Some d → offered ≤ d }
     ensures not_less { result ≡ false → IsWithin told offered }
@@ -114,7 +114,7 @@ fn is_less(offered: u128, told: Option<u128>) -> bool
     }
 }
 
-/// Takes the steps from this loss on: what they offer is told where it is less, and queued.
+// Takes the steps from this loss on: what they offer is told where it is less, and queued.
 fn relax(
     steps: &[Step],
     base: u128,
@@ -125,7 +125,8 @@ fn relax(
     requires small { All (λ s. s.loss ≤ most_loss) steps.now }
     requires base { base ≤ most_transitions * most_loss }
     ensures relaxed { IfOk result (λ _. IsRelaxed steps.now base least.old least.new) }
-    ensures queued { IfOk result (λ _. AreQueued least.old least.new (heap_items queue.old) (heap_items queue.new)) }
+    ensures queued { IfOk result (λ _. AreQueued least.old least.new (heap_items queue.old)
+        (heap_items queue.new)) }
     ensures few { IfOk result (λ _. heap_len queue.new ≤ heap_len queue.old + length steps.now) }
 {
     for step in steps {
@@ -138,8 +139,8 @@ fn relax(
     Ok(())
 }
 
-/// The least that paths from this transition lose, to each. What is told of a transition waits in a
-/// queue until the transition is settled; an entry of a settled transition is passed over.
+// The least that paths from this transition lose, to each. What is told of a transition waits in a
+// queue until the transition is settled; an entry of a settled transition is passed over.
 pub(crate) fn least_losses(
     alloc: Global,
     net: &Net,

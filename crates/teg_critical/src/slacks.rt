@@ -34,7 +34,7 @@ impl Model for Slacks {
 }
 
 impl Slacks {
-    /// The value with these slacks, one for each place. It takes no memory.
+    // The value with these slacks, one for each place. It takes no memory.
     pub(crate) fn new(slacks: Vec<Slack>) -> Slacks
         ensures { result ≡ slacks.items }
     {

@@ -1,9 +1,8 @@
 -- The due dates set, before any number is passed.
-use Rattle.std.proofs.Common.{ℕ, ◌+◌, ◌*◌, ◌<◌, ◌≤◌, ◌≡◌, List, ◌++◌, take, length, get_or, set, refl, sym, ap, subst, ◌∙◌, arith, ⊎_elim}
+use Rattle.std.proofs.Common.{ℕ, ◌+◌, ◌*◌, ◌<◌, ◌≤◌, ◌≡◌, List, length, get_or, set, refl, sym, ap, subst, ◌∙◌, arith, ⊎_elim}
 use Rattle.std.specs.Prelude.{pos, Option, Some}
 use Rattle.std.proofs.lemmas.Bool.{cases_lt}
 use Rattle.std.proofs.lemmas.List.{length-set}
-use Rattle.std.proofs.Math.Seq.{take-append_seam}
 use Rattle.dioid.specs.declared.dates.Date.{Date}
 use Rattle.dioid.specs.declared.dates.Date.TheVariants.{At as on_date, Never}
 use Rattle.dioid.specs.Dates.{IsAtMostDate, delayed}
@@ -130,7 +129,3 @@ begun_is net rows last dates i ok h end order =
       steps = λ t d p l o is. absurd (due_is_no_place p (h.only t last d (By p) l o is).0);
       untouched = λ t s l o m d q is. (h.only t s d q l o is).0;
     }
-
--- what is written back into a list of that length
-pub written : (n : ℕ) (xs ys : List LatestDate) → length xs ≡ n → take n (xs ++ ys) ≡ xs
-written n xs ys e = subst (λ m. take m (xs ++ ys) ≡ xs) e (take-append_seam xs ys)

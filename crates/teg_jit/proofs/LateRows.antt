@@ -1,11 +1,13 @@
--- Rows that the least dating with all inputs at 0 exceeds, found in a table of its dates.
-use Rattle.std.proofs.Common.{ℕ, ◌+◌, ◌<◌, ◌≤◌, ◌≡◌, ◌^◌, List, length, get_or, sym, ap, ◌∙◌, arith}
+-- Rows that the least dating with all inputs at 0 exceeds.
+use Rattle.std.proofs.Common.{ℕ, ◌+◌, ◌<◌, ◌≤◌, ◌≡◌, List, true, false, eqb, length, get_or, sym, ap, ◌∙◌, arith, ⊎_elim}
 use Rattle.std.specs.Prelude.{ℤ, pos, Option, Some, None, IfNone, IfSome, All}
+use Rattle.std.proofs.lemmas.Bool.{cases_Bool}
 use Rattle.std.proofs.lemmas.Int.{ints}
 use Rattle.std.proofs.lemmas.List.{get_or-take, length-take-le}
 use Rattle.std.proofs.lemmas.Option.{slice_get-get_or}
 use Rattle.dioid.specs.declared.dates.Date.{Date}
 use Rattle.dioid.specs.declared.dates.Date.TheVariants.{Early, At as on_date, Never}
+use Rattle.dioid.proofs.DateOrder.{at_most_is}
 use Rattle.teg_net.specs.Limits.{greatest_date}
 use Rattle.teg_net.specs.Nets.{NetLists, IsNet, without_inputs}
 use Rattle.teg_net.specs.ReadyDates.{start_date}
@@ -14,18 +16,21 @@ use Rattle.teg_check.specs.Ranks.{IsRanking}
 use Rattle.teg_model.specs.Datings.{IsLeastUnder, IsLeastDating}
 use Rattle.teg_model.proofs.OfNet.{net_ends}
 use Rattle.teg_model.proofs.Within.{AreWithin, least_within}
-use Rattle.teg_dates.specs.Tables.{TableDates, HasDatesOf, date_at, most_numbers}
+use Rattle.teg_dates.specs.DateCells.{no_number, date_of}
+use Rattle.teg_dates.specs.Tables.{most_numbers}
 use Rattle.due_laws.specs.Dues.{InputsMeet, inputs_at_zero}
 use Rattle.teg_due.specs.declared.rows.DueRow.{DueRow}
-use Rattle.teg_jit.specs.DueDates.{due_in, IsGreatestNumber, NameFirings}
+use Rattle.teg_jit.specs.DueDates.{due_in, NameFirings}
+use Rattle.teg_jit.specs.DueNumbers.{AreDatesOfRows, AreNumbersOfRows}
 use Rattle.teg_jit.specs.Refusals.{KeepsRow, IsFirstLate}
-use Rattle.teg_jit.specs.FirstLate.{AreSmallDates, IsFirstExceeded}
+use Rattle.teg_jit.specs.FirstLate.{IsFirstExceeded}
+use Rattle.teg_jit.specs.LatestCells.{most_cell_date}
 use Rattle.teg_jit.proofs.Begun.{no_row}
 use Rattle.teg_jit.proofs.DueRows.{row_of_due}
 use Rattle.teg_jit.proofs.Tight.{ranks_of}
 use Rattle.teg_jit.proofs.LateWalks.{Reached, reached}
 
--- ---- the table
+-- ---- dates of the dating
 
 -- without input lists each input waits for nothing
 pub bare_least : (net : NetLists) (x : ℕ → ℕ → Date) → IsLeastDating (without_inputs net) x → IsLeastUnder net inputs_at_zero x
@@ -36,7 +41,7 @@ bare_least net x h = record {
 
 -- each least date is a number, and a small one
 pub date_is_small : (net : NetLists) (ranks : List ℕ) (x : ℕ → ℕ → Date) → IsNet net → IsRanking net ranks → IsLeastUnder net inputs_at_zero x → (t k : ℕ) → t < length net.transitions → 1 ≤ k → k ≤ most_numbers
-    → (n : ℕ) × (n < 2 ^ 64) × (x t k ≡ on_date (pos n))
+    → (n : ℕ) × (n < most_cell_date) × (x t k ≡ on_date (pos n))
 date_is_small net ranks x ok r h t k l o few =
     let rr = ranks_of net ranks ok r in
     let g : Reached net x t k = reached net x 400 (λ v. get_or ranks v 0) (net_ends net ok) rr h t k l o in
@@ -46,6 +51,17 @@ date_is_small net ranks x ok r h t k l o few =
     let small = rw g.is at (least_within net inputs_at_zero x 400 (λ v. get_or ranks v 0) (λ j. greatest_date) ok rr w h t k l o) in
     let low = rr.below t in
     (n, omega (arith, ints, small.1), g.is)
+
+-- ---- dates as numbers
+
+number_of : Date → ℤ
+number_of Early = pos 0
+number_of (on_date z) = z
+number_of Never = pos 0
+
+pub number_is : (a b : ℤ) → on_date a ≡ on_date b → a ≡ b
+unfolding number_of
+number_is a b e = ap number_of e
 
 -- ---- the loop
 
@@ -71,29 +87,53 @@ all_kept net x rows h kept = (
       rw (named.0, named.1, named.2) at (kept r.0 no_row r.1),
 )
 
--- the table has small dates
-pub table_is_small : (net : NetLists) (ranks : List ℕ) (x : ℕ → ℕ → Date) (table : TableDates) (last : ℕ) → IsNet net → IsRanking net ranks → IsLeastUnder net inputs_at_zero x → last ≤ most_numbers → table.width ≡ length net.transitions → table.count ≡ last → HasDatesOf (without_inputs net) x table → AreSmallDates table
-table_is_small net ranks x table last ok r h few wide count has t k l o m =
-    let l' : t < length net.transitions = omega (arith, wide) in
-    let n = date_is_small net ranks x ok r h t k l' o (omega (arith, count)) in
-    (n.0, n.1, has t k l' o m ∙ n.2)
+-- where each row's date is at least that of the dating it is kept
+pub row_is_kept : (x : ℕ → ℕ → Date) (rows : List DueRow) (dates : List ℕ) (j : ℕ) (q : DueRow) → AreNumbersOfRows x rows dates → j < length rows → get_or dates j 0 ≤ (get_or rows j q).date → KeepsRow x (get_or rows j q)
+row_is_kept x rows dates j q h l below = rw (h.each j q l) (omega (arith, ints))
 
--- what holds of the table's dates at a row holds of the dating's
-pub keeps_as : (net : NetLists) (rows : List DueRow) (x : ℕ → ℕ → Date) (table : TableDates) (last j : ℕ) (q : DueRow) → NameFirings net rows → IsGreatestNumber rows last → table.count ≡ last → HasDatesOf (without_inputs net) x table → j < length rows
-    → date_at table (get_or rows j q).transition.index (get_or rows j q).number ≡ x (get_or rows j q).transition.index (get_or rows j q).number
-keeps_as net rows x table last j q names greatest count has l =
-    let own = names.each j q l in
-    has (get_or rows j q).transition.index (get_or rows j q).number own.in_range own.from_one (omega (arith, greatest.most j q l, count))
+-- and so the first row that is not is the first that the dating exceeds
+pub exceeded_is : (x : ℕ → ℕ → Date) (rows : List DueRow) (dates : List ℕ) (i : ℕ) → AreNumbersOfRows x rows dates → i < length rows
+    → ((j : ℕ) (q : DueRow) → j < length rows → j < i → get_or dates j 0 ≤ (get_or rows j q).date) → ((d : DueRow) → (get_or rows i d).date < get_or dates i 0)
+    → IsFirstExceeded x rows i (get_or dates i 0)
+exceeded_is x rows dates i h l before late = record {
+  within = l;
+  kept = λ j q m n. row_is_kept x rows dates j q h m (before j q m n);
+  is_least = λ d. h.each i d l;
+  fits = h.small i l;
+  late = late;
+}
 
--- and so the first row that the table exceeds is the first that the dating does
-pub exceeded_is :
-    (net : NetLists) (rows : List DueRow) (x : ℕ → ℕ → Date) (table : TableDates) (last i least : ℕ) → NameFirings net rows → IsGreatestNumber rows last → table.count ≡ last → HasDatesOf (without_inputs net) x table
-    → IsFirstExceeded (date_at table) rows i least → IsFirstExceeded x rows i least
-exceeded_is net rows x table last i least names greatest count has first = record {
-  within = first.within;
-  kept = λ j q l m. rw (keeps_as net rows x table last j q names greatest count has l) at (first.kept j q l m);
-  is_least = λ d. sym (keeps_as net rows x table last i d names greatest count has first.within) ∙ first.is_least d;
-  late = first.late;
+no_never : (z : ℤ) → Never ≡ on_date z → ⊥
+no_never z e = at_most_is Never (on_date z) e
+
+-- the number of eight bytes that stands for a number's date is the number
+pub cell_is : (c n : ℕ) → date_of c ≡ on_date (pos n) → c ≡ n
+cell_is c n e =
+    ⊎_elim
+    (λ (q : eqb c no_number ≡ true). absurd (no_never (pos n) (rw q at e)))
+    (λ (q : eqb c no_number ≡ false).
+    let is : pos c ≡ pos n = number_is (pos c) (pos n) (rw q at e) in
+    omega (arith, ints, is))
+    (cases_Bool (eqb c no_number))
+
+-- without input lists the dates of rows are small numbers
+row_has_number :
+    (net : NetLists) (ranks : List ℕ) (x : ℕ → ℕ → Date) (rows : List DueRow) (dates : List ℕ) → IsNet net → IsRanking net ranks → IsLeastUnder net inputs_at_zero x → NameFirings net rows → All (λ r. r.number ≤ most_numbers) rows
+    → AreDatesOfRows x rows dates → (i : ℕ) (d : DueRow) → i < length rows
+    → (get_or dates i 0 < most_cell_date) × (x (get_or rows i d).transition.index (get_or rows i d).number ≡ on_date (pos (get_or dates i 0)))
+row_has_number net ranks x rows dates ok r h names few all i d l =
+    let own = names.each i d l in
+    let n = date_is_small net ranks x ok r h (get_or rows i d).transition.index (get_or rows i d).number own.in_range own.from_one (few i d l) in
+    let same : get_or dates i 0 ≡ n.0 = cell_is (get_or dates i 0) n.0 (sym (all.each i l d) ∙ n.2) in
+    rw same (n.1, n.2)
+
+pub rows_have_numbers :
+    (net : NetLists) (ranks : List ℕ) (x : ℕ → ℕ → Date) (rows : List DueRow) (dates : List ℕ) → IsNet net → IsRanking net ranks → IsLeastUnder net inputs_at_zero x → NameFirings net rows → All (λ r. r.number ≤ most_numbers) rows
+    → AreDatesOfRows x rows dates → AreNumbersOfRows x rows dates
+rows_have_numbers net ranks x rows dates ok r h names few all = record {
+  count = all.count;
+  small = λ i l. (row_has_number net ranks x rows dates ok r h names few all i no_row l).0;
+  each = λ i d l. (row_has_number net ranks x rows dates ok r h names few all i d l).1;
 }
 
 -- ---- options
@@ -105,14 +145,3 @@ none_map (Some x) h f = tt
 pub some_map : {X : Type 0} {P Q : X → Type 0} (o : Option X) → IfSome o P → ((x : X) → P x → Q x) → IfSome o Q
 some_map None h f = tt
 some_map (Some x) h f = f x h
-
--- ---- dates as numbers
-
-number_of : Date → ℤ
-number_of Early = pos 0
-number_of (on_date z) = z
-number_of Never = pos 0
-
-pub number_is : (a b : ℤ) → on_date a ≡ on_date b → a ≡ b
-unfolding number_of
-number_is a b e = ap number_of e

@@ -1,3 +1,5 @@
+mod Packing
+mod Turning
 mod TableCells
 mod Sorting
 mod DueRows
@@ -10,5 +12,6 @@ mod Walking
 mod Starting
 mod LateWalks
 mod LateRows
+mod DueNumbers
 pub mod Excluded
 pub mod MeetOrLate

@@ -1,13 +1,13 @@
 -- Working definitions of how the first late row is found, and of where a late walk begins.
-use Rattle.std.specs.Prelude.{ℕ, pos, ◌^◌, ◌<◌, ◌≤◌, ◌≡◌, List, length, slice_index_or}
+use Rattle.std.specs.Prelude.{ℕ, pos, ◌<◌, ◌≤◌, ◌≡◌, List, length, slice_index_or}
 use Rattle.dioid.specs.declared.dates.Date.{Date}
 use Rattle.dioid.specs.declared.dates.Date.TheVariants.{At}
 use Rattle.teg_net.specs.Nets.{NetLists}
 use Rattle.dioid.specs.Dates.{IsAtMostDate}
 use Rattle.teg_net.specs.Circuits.{place_at}
 use Rattle.teg_net.specs.ReadyDates.{ready_date, start_date}
-use Rattle.teg_dates.specs.Tables.{TableDates, date_at}
 use Rattle.teg_due.specs.declared.rows.DueRow.{DueRow}
+use Rattle.teg_jit.specs.LatestCells.{most_cell_date}
 use Rattle.teg_jit.specs.Plans.{PlanDates, dates_of}
 use Rattle.teg_jit.specs.Refusals.{KeepsRow}
 
@@ -48,13 +48,10 @@ HasDateWhenReady net plan = (q k : ℕ) × IsReadyFrom net plan q k
 abbrev pub StartsAreKept : NetLists → PlanDates → Type 0
 StartsAreKept net plan = (t k : ℕ) → t < length net.transitions → 1 ≤ k → IsAtMostDate (At (pos (start_date net t k))) (dates_of plan t k)
 
--- each date of the table is a number that fits 64 bits
-abbrev pub AreSmallDates : TableDates → Type 0
-AreSmallDates table = (t k : ℕ) → t < table.width → 1 ≤ k → k ≤ table.count → (n : ℕ) × (n < 2 ^ 64) × (date_at table t k ≡ At (pos n))
-
--- the rows before i are kept, and that at i is not: the date there
+-- the rows before i are kept, and that at i is not: the date there, which eight bytes hold
 pub record IsFirstExceeded (y : ℕ → ℕ → Date) (rows : List DueRow) (i least : ℕ) : Type 0 where
   pub within : i < length rows
   pub kept : (j : ℕ) (q : DueRow) → j < length rows → j < i → KeepsRow y (slice_index_or rows j q)
   pub is_least : (d : DueRow) → y (slice_index_or rows i d).transition.index (slice_index_or rows i d).number ≡ At (pos least)
+  pub fits : least < most_cell_date
   pub late : (d : DueRow) → (slice_index_or rows i d).date < least

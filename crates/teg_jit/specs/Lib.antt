@@ -3,6 +3,9 @@ pub mod Plans
 pub mod Refusals
 pub mod Laws
 pub mod FirstSteps
+pub mod LatestCells
+pub mod Turned
+pub mod DueNumbers
 pub mod FirstLate
 pub mod Order
 pub mod GoingBack

@@ -5,7 +5,7 @@ ghost use Rattle.teg_dates.specs.Tables.{cell_of, most_numbers};
 
 use teg_net::TransitionId;
 
-/// Where the date of a firing stands in a list of this width.
+// Where the date of a firing stands in a list of this width.
 pub(crate) fn cell_of(width: usize, transition: TransitionId, number: u32) -> usize
     requires width { width ≤ most_transitions }
     requires transition { transition.index < width }

@@ -5,7 +5,7 @@ ghost use Rattle.teg_jit.specs.DueDates.{IsGreatestNumber};
 
 use teg_due::DueRow;
 
-/// The greatest number that a row names, 0 for no rows.
+// The greatest number that a row names, 0 for no rows.
 pub(crate) fn greatest_number(rows: &[DueRow]) -> u32
     requires { All (λ r. r.number ≤ greatest_due_number) rows.now }
     ensures greatest { IsGreatestNumber rows.now result }

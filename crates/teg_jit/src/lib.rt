@@ -16,13 +16,16 @@
 mod answers;
 mod cells;
 mod due_dates;
+mod due_numbers;
 mod late;
+mod latest_list;
 mod laws;
 mod order;
 mod passes;
 mod plan;
 mod planning;
 mod starts;
+mod turned_list;
 
 pub use answers::{JitRefusal, LatestDate, Onward};
 pub use laws::{dues_are_kept_by_rows, late_excludes_meet, meet_or_late, plans_lead};

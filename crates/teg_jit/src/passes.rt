@@ -1,6 +1,6 @@
 //! One number after another, going back: the due dates are set, then each date of a number is lowered
 //! to that of the next number, and to what each place leaves of the date at its end.
-ghost use Rattle.std.specs.Prelude.{◌≡◌, ◌+◌, ◌-◌, ◌*◌, ◌<◌, ◌≤◌, ℕ, List, length, IfOk, slice_index_or, slice_set, Option};
+ghost use Rattle.std.specs.Prelude.{◌≡◌, ◌+◌, ◌-◌, ◌*◌, ◌<◌, ◌≤◌, ℕ, List, length, All, IfOk, IfSome, slice_index_or, slice_set, Option};
 ghost use Rattle.teg_net.specs.Limits.{most_transitions};
 ghost use Rattle.teg_check.specs.Ranks.{IsRanking};
 ghost use Rattle.teg_dates.specs.Tables.{cell_of, most_numbers};
@@ -8,32 +8,37 @@ ghost use Rattle.teg_jit.specs.DueDates.{due_in, IsGreatestNumber, NameFirings};
 ghost use Rattle.teg_jit.specs.Order.{IsBackOrder};
 ghost use Rattle.teg_jit.specs.declared.answers.LatestDate.TheVariants.{Free};
 ghost use Rattle.teg_jit.specs.Plans.{latest_in};
+ghost use Rattle.teg_jit.specs.LatestCells.{most_cell_date, HasStepNumber};
 ghost use Rattle.teg_jit.specs.GoingBack.{lowered, date_there, AreNext, ArePassedAbove, HaveRoom};
 
 use crate::answers::{LatestDate, Onward};
 use crate::cells::cell_of;
+use crate::latest_list::LatestList;
 use crate::order::Depth;
 use std::alloc::{AllocError, Global};
 use teg_due::DueRow;
 use teg_net::{Net, TransitionId};
 
-/// Lowers a date to this one, where it comes before.
-fn lower(dates: &mut [LatestDate], cell: usize, date: u64, onward: Onward)
-    requires { cell < length dates.old }
-    ensures { dates.new ≡ slice_set dates.old cell (lowered (slice_index_or dates.old cell Free) date onward) }
+// Lowers a date to this one, where it comes before.
+fn lower(dates: &mut LatestList, cell: usize, date: u64, onward: Onward)
+    requires cell { cell < length dates.old }
+    requires date { date < most_cell_date }
+    requires step { HasStepNumber onward }
+    ensures { dates.new ≡ slice_set dates.old cell (lowered (slice_index_or dates.old cell Free)
+        date onward) }
 {
-    let is_before = match dates[cell] {
+    let is_before = match dates.get(cell) {
         LatestDate::Free => true,
         LatestDate::At { date: there, .. } => date < there,
     };
     if is_before {
-        dates[cell] = LatestDate::At { date, onward };
+        dates.set(cell, date, onward);
     }
 }
 
-/// The date of a firing; none where it is free, and past the last number.
+// The date of a firing; none where it is free, and past the last number.
 fn date_at(
-    dates: &[LatestDate],
+    dates: &LatestList,
     width: usize,
     last: u32,
     transition: TransitionId,
@@ -44,22 +49,24 @@ fn date_at(
     requires number { 1 ≤ number }
     requires last { last ≤ most_numbers }
     requires full { length dates.now ≡ last * width }
-    ensures { result ≡ date_there (latest_in width dates.now transition.index number) }
+    ensures date { result ≡ date_there (latest_in width dates.now transition.index number) }
+    ensures fits { IfSome result (λ date. date < most_cell_date) }
 {
     if last < number {
         return None;
     }
-    match dates[cell_of(width, transition, number)] {
+    match dates.get(cell_of(width, transition, number)) {
         LatestDate::Free => None,
         LatestDate::At { date, .. } => Some(date),
     }
 }
 
-/// Sets the due dates.
-fn set_dues(net: &Net, rows: &[DueRow], dates: &mut [LatestDate], last: u32)
+// Sets the due dates.
+fn set_dues(net: &Net, rows: &[DueRow], dates: &mut LatestList, last: u32)
     requires due { NameFirings net.now rows.now }
     requires greatest { IsGreatestNumber rows.now last }
     requires few { last ≤ most_numbers }
+    requires fits { All (λ r. r.date < most_cell_date) rows.now }
     requires full { length dates.old ≡ last * length net.now.transitions }
     requires free { (i : ℕ) → slice_index_or dates.old i Free ≡ Free }
     ensures full { length dates.new ≡ last * length net.now.transitions }
@@ -72,33 +79,35 @@ fn set_dues(net: &Net, rows: &[DueRow], dates: &mut [LatestDate], last: u32)
     }
 }
 
-/// The dates of numbers 1 to `last` with the due dates alone.
+// The dates of numbers 1 to `last` with the due dates alone.
 pub(crate) fn begin(
     alloc: Global,
     net: &Net,
     rows: &[DueRow],
     last: u32,
-) -> Result<Vec<LatestDate>, AllocError>
+) -> Result<LatestList, AllocError>
     requires due { NameFirings net.now rows.now }
     requires greatest { IsGreatestNumber rows.now last }
     requires few { last ≤ most_numbers }
-    ensures full { IfOk result (λ dates. length dates.items ≡ last * length net.now.transitions) }
-    ensures settled { IfOk result (λ dates. ArePassedAbove net.now (due_in rows.now) last last dates.items) }
+    requires fits { All (λ r. r.date < most_cell_date) rows.now }
+    ensures full { IfOk result (λ dates. length dates ≡ last * length net.now.transitions) }
+    ensures settled { IfOk result (ArePassedAbove net.now (due_in rows.now) last last) }
 {
     let size = last as usize * net.transitions().len();
-    let mut dates = vec![in alloc; LatestDate::Free; size]?;
+    let mut dates = LatestList::new(alloc, size)?;
     set_dues(net, rows, &mut dates, last);
     Ok(dates)
 }
 
-/// Lowers the dates of the number to those of the next.
-fn pass_next(net: &Net, dates: &mut [LatestDate], last: u32, number: u32)
+// Lowers the dates of the number to those of the next.
+fn pass_next(net: &Net, dates: &mut LatestList, last: u32, number: u32)
     requires number { 1 ≤ number }
     requires last { number ≤ last }
     requires few { last ≤ most_numbers }
     requires full { length dates.old ≡ last * length net.now.transitions }
     ensures full { length dates.new ≡ last * length net.now.transitions }
-    ensures passed { (due : ℕ → ℕ → Option ℕ) → ArePassedAbove net.now due last number dates.old → AreNext net.now due last number (length net.now.transitions) dates.new }
+    ensures passed { (due : ℕ → ℕ → Option ℕ) → ArePassedAbove net.now due last number dates.old
+        → AreNext net.now due last number (length net.now.transitions) dates.new }
 {
     let width = net.transitions().len();
     for index in 0..width {
@@ -117,16 +126,20 @@ fn pass_next(net: &Net, dates: &mut [LatestDate], last: u32, number: u32)
     }
 }
 
-/// Lowers the dates of the number to what each place leaves of the date at its end.
-fn pass_places(net: &Net, order: &[Depth], dates: &mut [LatestDate], last: u32, number: u32)
-    requires order { (ranks : List ℕ) × IsRanking net.now ranks × IsBackOrder net.now ranks order.now }
+// Lowers the dates of the number to what each place leaves of the date at its end.
+fn pass_places(net: &Net, order: &[Depth], dates: &mut LatestList, last: u32, number: u32)
+    requires order { (ranks : List ℕ) × IsRanking net.now ranks
+        × IsBackOrder net.now ranks order.now }
     requires number { 1 ≤ number }
     requires last { number ≤ last }
     requires few { last ≤ most_numbers }
     requires full { length dates.old ≡ last * length net.now.transitions }
-    requires passed { (due : ℕ → ℕ → Option ℕ) × AreNext net.now due last number (length net.now.transitions) dates.old × HaveRoom net.now due }
+    requires passed { (due : ℕ → ℕ → Option ℕ) × AreNext net.now due last number
+        (length net.now.transitions) dates.old × HaveRoom net.now due }
     ensures full { length dates.new ≡ last * length net.now.transitions }
-    ensures settled { (due : ℕ → ℕ → Option ℕ) → AreNext net.now due last number (length net.now.transitions) dates.old → ArePassedAbove net.now due last (number - 1) dates.new }
+    ensures settled { (due : ℕ → ℕ → Option ℕ) → AreNext net.now due last number
+        (length net.now.transitions) dates.old
+        → ArePassedAbove net.now due last (number - 1) dates.new }
 {
     let places = net.places();
     let width = net.transitions().len();
@@ -144,14 +157,17 @@ fn pass_places(net: &Net, order: &[Depth], dates: &mut [LatestDate], last: u32, 
     }
 }
 
-/// Settles the dates of all numbers, going back from the last.
-pub(crate) fn pass_all(net: &Net, order: &[Depth], dates: &mut [LatestDate], last: u32)
-    requires order { (ranks : List ℕ) × IsRanking net.now ranks × IsBackOrder net.now ranks order.now }
+// Settles the dates of all numbers, going back from the last.
+pub(crate) fn pass_all(net: &Net, order: &[Depth], dates: &mut LatestList, last: u32)
+    requires order { (ranks : List ℕ) × IsRanking net.now ranks
+        × IsBackOrder net.now ranks order.now }
     requires few { last ≤ most_numbers }
     requires full { length dates.old ≡ last * length net.now.transitions }
-    requires begun { (due : ℕ → ℕ → Option ℕ) × ArePassedAbove net.now due last last dates.old × HaveRoom net.now due }
+    requires begun { (due : ℕ → ℕ → Option ℕ) × ArePassedAbove net.now due last last dates.old
+        × HaveRoom net.now due }
     ensures full { length dates.new ≡ last * length net.now.transitions }
-    ensures settled { (due : ℕ → ℕ → Option ℕ) → ArePassedAbove net.now due last last dates.old → ArePassedAbove net.now due last 0 dates.new }
+    ensures settled { (due : ℕ → ℕ → Option ℕ) → ArePassedAbove net.now due last last dates.old
+        → ArePassedAbove net.now due last 0 dates.new }
 {
     for done in 0..last {
         let number = last - done;

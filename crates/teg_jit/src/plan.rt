@@ -7,6 +7,7 @@ ghost use Rattle.teg_jit.specs.Plans.{latest_at, dates_of, IsPlanFor, StandsForN
 
 use crate::answers::{LatestDate, Onward};
 use crate::cells::cell_of;
+use crate::turned_list::TurnedList;
 use std::alloc::{AllocError, Global};
 use std::marker::Model;
 use teg_net::{Net, OutOfMemory, Step, TransitionId, Walk};
@@ -17,7 +18,7 @@ use teg_net::{Net, OutOfMemory, Step, TransitionId, Walk};
 pub struct Plan {
     width: usize,
     numbers: u32,
-    dates: Vec<LatestDate>,
+    dates: TurnedList,
 }
 
 impl Model for Plan {
@@ -25,18 +26,18 @@ impl Model for Plan {
 
     ghost Value = { PlanDates };
 
-    ghost view = { λ a. record { width = a.width; numbers = a.numbers; dates = a.dates.items } };
+    ghost view = { λ a. record { width = a.width; numbers = a.numbers; dates = a.dates } };
 
-    ghost invariant = { λ a. KeepsSizes (record { width = a.width; numbers = a.numbers; dates = a.dates.items }) };
+    ghost invariant = { λ a. KeepsSizes (record { width = a.width; numbers = a.numbers; dates = a.dates }) };
 }
 
 impl Plan {
     ghost use Rattle.teg_jit.specs.Plans.{PlanDates, KeepsSizes};
 
-    /// The plan with these dates. It takes no memory.
-    pub(crate) fn new(width: usize, numbers: u32, dates: Vec<LatestDate>) -> Plan
-        requires { KeepsSizes (record { width = width; numbers = numbers; dates = dates.items }) }
-        ensures { result ≡ record { width = width; numbers = numbers; dates = dates.items } }
+    // The plan with these dates. It takes no memory.
+    pub(crate) fn new(width: usize, numbers: u32, dates: TurnedList) -> Plan
+        requires { KeepsSizes (record { width = width; numbers = numbers; dates = dates }) }
+        ensures { result ≡ record { width = width; numbers = numbers; dates = dates } }
     {
         Plan {
             width,
@@ -61,10 +62,10 @@ impl Plan {
         ensures value { result ≡ latest_at self.now transition.index number }
         ensures limits { KeepsSizes self.now }
     {
-        self.dates[cell_of(self.width, transition, number)]
+        self.dates.get(cell_of(self.width, transition, number))
     }
 
-    /// The step by which the firing's latest date is attained; none where the firing is due at it.
+    // The step by which the firing's latest date is attained; none where the firing is due at it.
     fn step(&self, transition: TransitionId, number: u32) -> Option<Step>
         requires transition { transition.index < self.now.width }
         requires number { 1 ≤ number }
@@ -82,7 +83,7 @@ impl Plan {
         }
     }
 
-    /// The walk from a firing that is not free, by the first steps, up to a firing that is due.
+    // The walk from a firing that is not free, by the first steps, up to a firing that is due.
     fn walk_from(
         &self,
         alloc: Global,
@@ -95,8 +96,11 @@ impl Plan {
         requires number { 1 ≤ number }
         requires last { number ≤ self.now.numbers }
         requires bounded { latest_at self.now transition.index number ≢ Free }
-        ensures tight { IfOk result (λ walk. (due : ℕ → ℕ → Option ℕ) → IsPlanFor net.now due self.now → IsTightWalk net.now due transition.index number (dates_of self.now transition.index number) walk) }
-        ensures follows { IfOk result (λ walk. FollowsPlan net.now self.now transition.index number walk.steps.items) }
+        ensures tight { IfOk result (λ walk. (due : ℕ → ℕ → Option ℕ)
+            → IsPlanFor net.now due self.now → IsTightWalk net.now due transition.index number
+            (dates_of self.now transition.index number) walk) }
+        ensures follows { IfOk result (λ walk. FollowsPlan net.now self.now transition.index number
+            walk.steps.items) }
     {
         let places = net.places();
         let mut steps = Vec::new(alloc);
@@ -133,8 +137,11 @@ impl Plan {
         requires number { 1 ≤ number }
         requires last { number ≤ self.now.numbers }
         requires bounded { latest_at self.now transition.index number ≢ Free }
-        ensures tight { IfOk result (λ walk. (due : ℕ → ℕ → Option ℕ) → IsPlanFor net.now due self.now → IsTightWalk net.now due transition.index number (dates_of self.now transition.index number) walk) }
-        ensures follows { IfOk result (λ walk. FollowsPlan net.now self.now transition.index number walk.steps.items) }
+        ensures tight { IfOk result (λ walk. (due : ℕ → ℕ → Option ℕ)
+            → IsPlanFor net.now due self.now → IsTightWalk net.now due transition.index number
+            (dates_of self.now transition.index number) walk) }
+        ensures follows { IfOk result (λ walk. FollowsPlan net.now self.now transition.index number
+            walk.steps.items) }
     {
         Ok(self.walk_from(alloc, net, transition, number)?)
     }

@@ -1,5 +1,5 @@
 //! The latest dates, going back from the greatest number that is due.
-ghost use Rattle.std.specs.Prelude.{◌≡◌, ◌≤◌, IfOk, IfErr};
+ghost use Rattle.std.specs.Prelude.{◌≡◌, ◌≤◌, ◌<◌, All, IfOk, IfErr};
 ghost use Rattle.teg_net.specs.Nets.{IsNet};
 ghost use Rattle.teg_check.specs.Ranks.{IsRanking};
 ghost use Rattle.teg_dates.specs.Tables.{most_numbers};
@@ -8,6 +8,7 @@ ghost use Rattle.due_laws.specs.Dues.{InputsMeet, AreLatestInputs, inputs_at_zer
 ghost use Rattle.teg_due.specs.Rules.{IsDueOf};
 ghost use Rattle.teg_jit.specs.Refusals.{LateIsRight};
 ghost use Rattle.teg_jit.specs.DueDates.{due_in, IsGreatestNumber, NameFirings};
+ghost use Rattle.teg_jit.specs.LatestCells.{most_cell_date};
 ghost use Rattle.teg_jit.specs.Plans.{dates_of, IsPlanFor};
 
 use crate::answers::JitRefusal;
@@ -16,13 +17,14 @@ use crate::late::keep_dues;
 use crate::order::by_depth;
 use crate::passes::{begin, pass_all};
 use crate::plan::Plan;
+use crate::turned_list::TurnedList;
 use std::alloc::{AllocError, Global};
 use teg_check::Live;
 use teg_due::{Due, DueRow};
 use teg_form::Form;
 use teg_net::Net;
 
-/// The latest dates where the least dating with all inputs 0 keeps the due dates.
+// The latest dates where the least dating with all inputs 0 keeps the due dates.
 pub(crate) fn plan_for(
     alloc: Global,
     net: &Net,
@@ -34,6 +36,7 @@ pub(crate) fn plan_for(
     requires due { NameFirings net.now rows.now }
     requires greatest { IsGreatestNumber rows.now last }
     requires few { last ≤ most_numbers }
+    requires fits { All (λ r. r.date < most_cell_date) rows.now }
     requires kept { InputsMeet net.now (due_in rows.now) inputs_at_zero }
     ensures rules { IfOk result (λ _. IsNet net.now) }
     ensures numbers { IfOk result (λ plan. plan.numbers ≡ last) }
@@ -42,7 +45,9 @@ pub(crate) fn plan_for(
     let order = by_depth(alloc, net, live)?;
     let mut dates = begin(alloc, net, rows, last)?;
     pass_all(net, &order, &mut dates, last);
-    Ok(Plan::new(net.transitions().len(), last, dates))
+    let width = net.transitions().len();
+    let dates = TurnedList::new(alloc, width, last as usize, &dates)?;
+    Ok(Plan::new(width, last, dates))
 }
 
 /// The latest date of each firing up to the greatest number that is due, each with the first step of
@@ -51,18 +56,21 @@ pub(crate) fn plan_for(
 /// comes exactly where the least dating with all inputs at 0 exceeds a due date: it names the first
 /// such row, its date there, and a walk that ends at its firing and whose start plus time is that
 /// date. `OutOfMemory` comes only where no memory is found. It takes time of order `N (n + p)` for N
-/// numbers, n transitions and p places, and memory for one date for each of `N n` firings.
+/// numbers, n transitions and p places, and `r log r` for r due dates, and memory of 16 bytes for each
+/// of `N n` firings, of which the plan keeps eight.
 pub fn latest_inputs(alloc: Global, net: &Net, live: &Live, due: &Due) -> Result<Plan, JitRefusal>
     requires stands { IsRanking net.now live.now }
     requires due { IsDueOf net.now due.now.rows.items }
     ensures numbers { IfOk result (λ plan. IsGreatestNumber due.now.rows.items plan.numbers) }
     ensures plan { IfOk result (λ plan. IsPlanFor net.now (due_in due.now.rows.items) plan) }
-    ensures inputs { IfOk result (λ plan. AreLatestInputs net.now (due_in due.now.rows.items) (dates_of plan)) }
-    ensures in_time { IfOk result (λ _. InputsMeet net.now (due_in due.now.rows.items) inputs_at_zero) }
+    ensures inputs { IfOk result (λ plan. AreLatestInputs net.now (due_in due.now.rows.items)
+        (dates_of plan)) }
+    ensures in_time { IfOk result (λ _. InputsMeet net.now (due_in due.now.rows.items)
+        inputs_at_zero) }
     ensures late { IfErr result (LateIsRight net.now due.now.rows.items) }
 {
     let last = greatest_number(&due.rows);
-    keep_dues(alloc, net, live, &due.rows, last)?;
+    keep_dues(alloc, net, live, &due.rows)?;
     Ok(plan_for(alloc, net, live, &due.rows, last)?)
 }
 
@@ -79,8 +87,10 @@ pub fn latest(
     requires due { IsDueOf net.now due.now.rows.items }
     ensures numbers { IfOk result (λ plan. IsGreatestNumber due.now.rows.items plan.numbers) }
     ensures plan { IfOk result (λ plan. IsPlanFor net.now (due_in due.now.rows.items) plan) }
-    ensures inputs { IfOk result (λ plan. AreLatestInputs net.now (due_in due.now.rows.items) (dates_of plan)) }
-    ensures in_time { IfOk result (λ _. InputsMeet net.now (due_in due.now.rows.items) inputs_at_zero) }
+    ensures inputs { IfOk result (λ plan. AreLatestInputs net.now (due_in due.now.rows.items)
+        (dates_of plan)) }
+    ensures in_time { IfOk result (λ _. InputsMeet net.now (due_in due.now.rows.items)
+        inputs_at_zero) }
     ensures late { IfErr result (LateIsRight net.now due.now.rows.items) }
 {
     latest_inputs(alloc, net, live, due)

@@ -6,7 +6,7 @@ use crate::answers::LatestDate;
 use crate::plan::Plan;
 use teg_net::{Net, PlaceId, TransitionId};
 
-/// The first firing whose latest date is 0.
+// The first firing whose latest date is 0.
 fn first_at_zero(plan: &Plan, width: usize) -> Option<(TransitionId, u32)>
     requires width { width ≡ plan.now.width }
     ensures none { IfNone result (HasDateZero plan.now → ⊥) }
@@ -26,7 +26,7 @@ fn first_at_zero(plan: &Plan, width: usize) -> Option<(TransitionId, u32)>
     None
 }
 
-/// A firing whose latest date is the ready date of an initial token that it takes.
+// A firing whose latest date is the ready date of an initial token that it takes.
 fn first_when_ready(net: &Net, plan: &Plan) -> Option<(TransitionId, u32)>
     requires width { plan.now.width ≡ length net.now.transitions }
     ensures none { IfNone result (HasDateWhenReady net.now plan.now → ⊥) }
@@ -48,7 +48,7 @@ fn first_when_ready(net: &Net, plan: &Plan) -> Option<(TransitionId, u32)>
     None
 }
 
-/// A firing whose latest date is its start: 0, or the ready date of an initial token that it takes.
+// A firing whose latest date is its start: 0, or the ready date of an initial token that it takes.
 pub(crate) fn first_at_start(net: &Net, plan: &Plan) -> Option<(TransitionId, u32)>
     requires width { plan.now.width ≡ length net.now.transitions }
     requires kept { StartsAreKept net.now plan.now }

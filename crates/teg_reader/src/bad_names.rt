@@ -10,7 +10,7 @@ use std::alloc::Global;
 use teg_net::{Name, NameRefused};
 use toml::Value;
 
-/// Whether the entries of this section have names.
+// Whether the entries of this section have names.
 fn is_named(section: Section) -> bool
     ensures { result ≡ is_named section }
 {
@@ -20,7 +20,7 @@ fn is_named(section: Section) -> bool
     }
 }
 
-/// Finds names that are none.
+// Finds names that are none.
 #[derive(Drop)]
 pub(crate) struct BadNames;
 

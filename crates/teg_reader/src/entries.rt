@@ -21,7 +21,7 @@ use std::alloc::{AllocError, Global};
 use teg_net::{Again, DateList, InputList, Net, Place, Role, Transition};
 use toml::Value;
 
-/// The role of this text; without one a transition is internal.
+// The role of this text; without one a transition is internal.
 #[tactic(auto, unfolding(crate::specs::NetOf::role_of))]
 fn role_of(text: &str) -> Role
     ensures { result ≡ role_of text.now }
@@ -35,7 +35,7 @@ fn role_of(text: &str) -> Role
     }
 }
 
-/// The transition of an entry.
+// The transition of an entry.
 #[tactic(auto, unfolding(crate::specs::NetOf::transition_of))]
 fn make_transition(alloc: Global, entry: &Value) -> Result<Transition, AllocError>
     requires { has_good_name (view entry.now) ≡ true }
@@ -46,7 +46,7 @@ fn make_transition(alloc: Global, entry: &Value) -> Result<Transition, AllocErro
     Ok(Transition { name, role })
 }
 
-/// The transitions of the entries in order.
+// The transitions of the entries in order.
 fn make_transitions(alloc: Global, entries: &[Value]) -> Result<Vec<Transition>, AllocError>
     requires { list_all has_good_name (map view entries.now) ≡ true }
     ensures { IfOk result (λ ts. ts.items ≡ map transition_of (map view entries.now)) }
@@ -58,7 +58,7 @@ fn make_transitions(alloc: Global, entries: &[Value]) -> Result<Vec<Transition>,
     Ok(transitions)
 }
 
-/// The numbers of the values in order.
+// The numbers of the values in order.
 fn make_dates(alloc: Global, values: &[Value]) -> Result<Vec<u64>, AllocError>
     ensures { IfOk result (λ ds. ds.items ≡ map as_number (map view values.now)) }
 {
@@ -69,7 +69,7 @@ fn make_dates(alloc: Global, values: &[Value]) -> Result<Vec<u64>, AllocError>
     Ok(dates)
 }
 
-/// The place of an entry.
+// The place of an entry.
 #[tactic(auto, unfolding(crate::specs::NetOf::place_of, crate::specs::ReadyDates::ready_of))]
 fn make_place(
     alloc: Global,
@@ -93,7 +93,7 @@ fn make_place(
     })
 }
 
-/// The places of the entries in order.
+// The places of the entries in order.
 fn make_places(
     alloc: Global,
     names: &IndexSet<&str>,
@@ -101,9 +101,11 @@ fn make_places(
     entries: &[Value],
 ) -> Result<Vec<Place>, AllocError>
     requires same { map deref names.now.keys ≡ names_of (map view transitions.now) }
-    requires sound { list_all (is_sound_place (map deref names.now.keys)) (map view entries.now) ≡ true }
+    requires sound { list_all (is_sound_place (map deref names.now.keys)) (map view entries.now)
+        ≡ true }
     requires few { length names.now.keys < 2 ^ 32 }
-    ensures { IfOk result (λ ps. ps.items ≡ map (place_of (map view transitions.now)) (map view entries.now)) }
+    ensures { IfOk result (λ ps. ps.items ≡ map (place_of (map view transitions.now))
+        (map view entries.now)) }
 {
     let mut places = Vec::new(alloc);
     for entry in entries {
@@ -112,7 +114,7 @@ fn make_places(
     Ok(places)
 }
 
-/// How the input entry goes on past its list, if it does.
+// How the input entry goes on past its list, if it does.
 #[tactic(auto, unfolding(crate::specs::InputLists::again_of))]
 fn again_of(entry: &Value) -> Option<Again>
     requires { has_small_every (view entry.now) ≡ true }
@@ -127,7 +129,7 @@ fn again_of(entry: &Value) -> Option<Again>
     }
 }
 
-/// The input list of an entry.
+// The input list of an entry.
 #[tactic(auto, unfolding(crate::specs::NetOf::input_of, crate::specs::InputLists::dates_of))]
 fn make_input(alloc: Global, names: &IndexSet<&str>, entry: &Value) -> Result<InputList, AllocError>
     requires sound { is_sound_input (map deref names.now.keys) (view entry.now) ≡ true }
@@ -143,15 +145,17 @@ fn make_input(alloc: Global, names: &IndexSet<&str>, entry: &Value) -> Result<In
     })
 }
 
-/// The input lists of the entries in order.
+// The input lists of the entries in order.
 fn make_inputs(
     alloc: Global,
     names: &IndexSet<&str>,
     entries: &[Value],
 ) -> Result<Vec<InputList>, AllocError>
-    requires sound { list_all (is_sound_input (map deref names.now.keys)) (map view entries.now) ≡ true }
+    requires sound { list_all (is_sound_input (map deref names.now.keys)) (map view entries.now)
+        ≡ true }
     requires few { length names.now.keys < 2 ^ 32 }
-    ensures { IfOk result (λ ls. ls.items ≡ map (input_of (map deref names.now.keys)) (map view entries.now)) }
+    ensures { IfOk result (λ ls. ls.items ≡ map (input_of (map deref names.now.keys))
+        (map view entries.now)) }
 {
     let mut inputs = Vec::new(alloc);
     for entry in entries {
@@ -160,7 +164,7 @@ fn make_inputs(
     Ok(inputs)
 }
 
-/// The net of the entries in order.
+// The net of the entries in order.
 #[tactic(auto, unfolding(crate::specs::NetOf::net_of))]
 pub(crate) fn make_net(
     alloc: Global,

@@ -18,7 +18,7 @@ use std::alloc::{AllocError, Global};
 use teg_net::{Name, NameRefused};
 use toml::Value;
 
-/// A copy of a name.
+// A copy of a name.
 pub(crate) fn copy_name(alloc: Global, text: &str) -> Result<Name, AllocError>
     requires { is_name text.now ≡ true }
     ensures { IfOk result (λ name. name ≡ text.now) }
@@ -30,7 +30,7 @@ pub(crate) fn copy_name(alloc: Global, text: &str) -> Result<Name, AllocError>
     }
 }
 
-/// Looks whether there is a transition.
+// Looks whether there is a transition.
 #[tactic(auto, unfolding(crate::specs::EventGraphs::no_transitions))]
 pub(crate) fn look_for_transitions(transitions: &[Value]) -> Result<(), ReadRefusal>
     ensures { Finds (no_transitions (map view transitions.now)) result }
@@ -41,7 +41,7 @@ pub(crate) fn look_for_transitions(transitions: &[Value]) -> Result<(), ReadRefu
     Ok(())
 }
 
-/// How many texts the value is: one text, or those of an array.
+// How many texts the value is: one text, or those of an array.
 #[tactic(auto, using(crate::proofs::TreeLemmas::lengths), unfolding(crate::specs::Trees::texts_of))]
 fn texts_len(value: &Value) -> usize
     ensures { result ≡ length (texts_of (view value.now)) }
@@ -55,7 +55,7 @@ fn texts_len(value: &Value) -> usize
     }
 }
 
-/// How many texts stand at the key.
+// How many texts stand at the key.
 #[tactic(auto, unfolding(crate::specs::Trees::texts_at))]
 fn texts_len_at(entry: &Value, key: Key) -> usize
     ensures { result ≡ length (texts_at key (view entry.now)) }
@@ -66,8 +66,8 @@ fn texts_len_at(entry: &Value, key: Key) -> usize
     }
 }
 
-/// Looks whether the place has one producer and one consumer. No file has so many texts that their
-/// number is past 32 bits; it would be answered as want of memory.
+// Looks whether the place has one producer and one consumer. No file has so many texts that their
+// number is past 32 bits; it would be answered as want of memory.
 #[tactic(auto, unfolding(crate::specs::EventGraphs::not_event_graph))]
 fn look_at_ends(alloc: Global, place: &Value) -> Result<(), ReadRefusal>
     requires { has_good_name (view place.now) ≡ true }
@@ -89,7 +89,7 @@ fn look_at_ends(alloc: Global, place: &Value) -> Result<(), ReadRefusal>
     })
 }
 
-/// Looks for a place that has not one producer and one consumer.
+// Looks for a place that has not one producer and one consumer.
 pub(crate) fn look_at_all_ends(alloc: Global, places: &[Value]) -> Result<(), ReadRefusal>
     requires { list_all has_good_name (map view places.now) ≡ true }
     ensures { Finds (first_of not_event_graph (map view places.now)) result }
@@ -103,7 +103,7 @@ pub(crate) fn look_at_all_ends(alloc: Global, places: &[Value]) -> Result<(), Re
     Ok(())
 }
 
-/// The first text of the value, or the empty text.
+// The first text of the value, or the empty text.
 #[tactic(auto, unfolding(crate::specs::Trees::texts_of))]
 fn first_text(value: &Value) -> &str
     ensures { result.now ≡ first_text (texts_of (view value.now)) }
@@ -120,7 +120,7 @@ fn first_text(value: &Value) -> &str
     }
 }
 
-/// The first text at the key, or the empty text.
+// The first text at the key, or the empty text.
 #[tactic(auto, unfolding(crate::specs::EventGraphs::end_at, crate::specs::Trees::texts_at))]
 pub(crate) fn end_at(place: &Value, key: Key) -> &str
     ensures { result.now ≡ end_at key (view place.now) }
@@ -131,7 +131,7 @@ pub(crate) fn end_at(place: &Value, key: Key) -> &str
     }
 }
 
-/// Whether the transition has the role of an input.
+// Whether the transition has the role of an input.
 #[tactic(auto, unfolding(crate::specs::EventGraphs::is_input_entry))]
 fn is_input_entry(transition: &Value) -> bool
     ensures { result ≡ is_input_entry (view transition.now) }
@@ -139,7 +139,7 @@ fn is_input_entry(transition: &Value) -> bool
     text_at(transition, Key::Role) == "input"
 }
 
-/// Whether the transition of this name is an input.
+// Whether the transition of this name is an input.
 #[tactic(auto, unfolding(crate::specs::EventGraphs::is_input_named))]
 pub(crate) fn is_input_named(names: &IndexSet<&str>, transitions: &[Value], text: &str) -> bool
     requires { map deref names.now.keys ≡ names_of (map view transitions.now) }
@@ -151,7 +151,7 @@ pub(crate) fn is_input_named(names: &IndexSet<&str>, transitions: &[Value], text
     }
 }
 
-/// Looks whether the place enters an input.
+// Looks whether the place enters an input.
 #[tactic(auto, unfolding(crate::specs::EventGraphs::input_has_upstream))]
 fn look_at_end(
     alloc: Global,
@@ -170,7 +170,7 @@ fn look_at_end(
     Err(ReadRefusal::InputHasUpstream { place })
 }
 
-/// Looks for a place that enters an input.
+// Looks for a place that enters an input.
 pub(crate) fn look_for_entered_inputs(
     alloc: Global,
     names: &IndexSet<&str>,
@@ -179,7 +179,8 @@ pub(crate) fn look_for_entered_inputs(
 ) -> Result<(), ReadRefusal>
     requires names { map deref names.now.keys ≡ names_of (map view transitions.now) }
     requires good { list_all has_good_name (map view places.now) ≡ true }
-    ensures { Finds (first_of (input_has_upstream (map view transitions.now)) (map view places.now)) result }
+    ensures { Finds (first_of (input_has_upstream (map view transitions.now)) (map view places.now))
+        result }
 {
     for place in places {
         match look_at_end(alloc, names, transitions, place) {

@@ -5,18 +5,18 @@ ghost use Rattle.teg_reader.specs.Fields.{fields_of, listed_fields};
 use crate::keys::Key;
 use crate::refusals::Section;
 
-/// What may stand at a key.
+// What may stand at a key.
 #[derive(Clone, Copy)]
 pub(crate) enum Kind {
     Text,
     Integer,
-    /// A text, or an array of texts.
+    // A text, or an array of texts.
     Texts,
     Integers,
     Tables,
 }
 
-/// A key, what may stand there, and whether it must.
+// A key, what may stand there, and whether it must.
 #[derive(Clone, Copy)]
 pub(crate) struct Field {
     pub(crate) key: Key,
@@ -24,7 +24,7 @@ pub(crate) struct Field {
     pub(crate) needed: bool,
 }
 
-/// The keys of a section's tables in the second version, in the order in which they are looked at.
+// The keys of a section's tables in the second version, in the order in which they are looked at.
 #[tactic(auto, unfolding(crate::specs::Fields::fields_of))]
 pub(crate) fn fields_of(section: Section) -> &'static [Field]
     ensures { result.now ≡ fields_of section }
@@ -126,8 +126,8 @@ pub(crate) fn fields_of(section: Section) -> &'static [Field]
     }
 }
 
-/// The keys that a section's tables list: a transition has a duration in files of the second
-/// version only.
+// The keys that a section's tables list: a transition has a duration in files of the second
+// version only.
 #[tactic(auto, unfolding(crate::specs::Fields::listed_fields))]
 pub(crate) fn listed_fields(second: bool, section: Section) -> &'static [Field]
     ensures { result.now ≡ listed_fields second section }

@@ -17,7 +17,7 @@ use indexmap::IndexSet;
 use std::alloc::Global;
 use toml::Value;
 
-/// The duration of the transition of this name, or 0.
+// The duration of the transition of this name, or 0.
 #[tactic(auto, unfolding(crate::specs::Holds::duration_named))]
 fn duration_named(names: &IndexSet<&str>, transitions: &[Value], text: &str) -> u64
     requires { map deref names.now.keys ≡ names_of (map view transitions.now) }
@@ -30,7 +30,7 @@ fn duration_named(names: &IndexSet<&str>, transitions: &[Value], text: &str) -> 
     }
 }
 
-/// The hold of the place: that of its entry and the duration of its upstream transition.
+// The hold of the place: that of its entry and the duration of its upstream transition.
 #[tactic(auto, unfolding(crate::specs::Holds::hold_of))]
 pub(crate) fn hold_of(names: &IndexSet<&str>, transitions: &[Value], place: &Value) -> u64
     requires { map deref names.now.keys ≡ names_of (map view transitions.now) }
@@ -39,7 +39,7 @@ pub(crate) fn hold_of(names: &IndexSet<&str>, transitions: &[Value], place: &Val
     number_at(place, Key::Hold) + duration_named(names, transitions, end_at(place, Key::From))
 }
 
-/// Looks whether the hold of the place is too great.
+// Looks whether the hold of the place is too great.
 #[tactic(auto, unfolding(crate::specs::Holds::too_slow))]
 fn look_at_hold(
     alloc: Global,
@@ -58,7 +58,7 @@ fn look_at_hold(
     Err(ReadRefusal::TooSlow { place })
 }
 
-/// Looks for a place whose hold is too great.
+// Looks for a place whose hold is too great.
 pub(crate) fn look_for_slow_places(
     alloc: Global,
     names: &IndexSet<&str>,

@@ -15,7 +15,7 @@ use indexmap::IndexSet;
 use std::alloc::Global;
 use toml::Value;
 
-/// The position, counted from 1, of the first date that is less than the one before it.
+// The position, counted from 1, of the first date that is less than the one before it.
 #[tactic(auto, using(crate::proofs::TreeLemmas::lengths))]
 fn first_fall(dates: &[Value]) -> Option<usize>
     ensures { result ≡ first_fall 2 (map as_number (map view dates.now)) }
@@ -28,7 +28,7 @@ fn first_fall(dates: &[Value]) -> Option<usize>
     None
 }
 
-/// The date of this number, counted from 0, or 0.
+// The date of this number, counted from 0, or 0.
 fn date_at(dates: &[Value], index: usize) -> u64
     ensures value { result ≡ slice_index (map as_number (map view dates.now)) index }
     ensures small { result < 2 ^ 63 }
@@ -40,7 +40,7 @@ fn date_at(dates: &[Value], index: usize) -> u64
     }
 }
 
-/// Whether the list cannot go on.
+// Whether the list cannot go on.
 #[tactic(auto, using(crate::proofs::TreeLemmas::lengths), unfolding(crate::specs::InputLists::again_of))]
 fn is_bad_end(entry: &Value, dates: &[Value]) -> bool
     ensures { result ≡ is_bad_end (map as_number (map view dates.now)) (again_of (view entry.now)) }
@@ -57,7 +57,7 @@ fn is_bad_end(entry: &Value, dates: &[Value]) -> bool
     before + number_at(entry, Key::Gap) < date_at(dates, dates.len().saturating_sub(1))
 }
 
-/// The position of the first fault of the dates of an input.
+// The position of the first fault of the dates of an input.
 #[tactic(auto, using(crate::proofs::TreeLemmas::lengths), unfolding(crate::specs::InputLists::bad_date))]
 fn bad_date(entry: &Value, dates: &[Value]) -> Option<usize>
     ensures { result ≡ bad_date (map as_number (map view dates.now)) (again_of (view entry.now)) }
@@ -74,7 +74,7 @@ fn bad_date(entry: &Value, dates: &[Value]) -> Option<usize>
     }
 }
 
-/// The position of the first fault of the entry: 0 where its transition is no input.
+// The position of the first fault of the entry: 0 where its transition is no input.
 #[tactic(auto, unfolding(crate::specs::InputLists::fault_of, crate::specs::InputLists::dates_of))]
 fn fault_of(names: &IndexSet<&str>, transitions: &[Value], entry: &Value) -> Option<usize>
     requires { map deref names.now.keys ≡ names_of (map view transitions.now) }
@@ -87,8 +87,8 @@ fn fault_of(names: &IndexSet<&str>, transitions: &[Value], entry: &Value) -> Opt
     }
 }
 
-/// Looks whether the entry is faulty. No list is so long that a position is past 32 bits; it would
-/// be answered as want of memory.
+// Looks whether the entry is faulty. No list is so long that a position is past 32 bits; it would
+// be answered as want of memory.
 #[tactic(auto, unfolding(crate::specs::InputLists::bad_input))]
 fn look_at_input(
     alloc: Global,
@@ -113,7 +113,7 @@ fn look_at_input(
     })
 }
 
-/// Looks for a faulty entry.
+// Looks for a faulty entry.
 pub(crate) fn look_for_bad_inputs(
     alloc: Global,
     names: &IndexSet<&str>,

@@ -12,7 +12,7 @@ use crate::walk::Pass;
 use std::alloc::Global;
 use toml::Value;
 
-/// Whether the field is not needed, or something stands at its key.
+// Whether the field is not needed, or something stands at its key.
 #[tactic(auto, unfolding(crate::specs::MissingKeys::has_needed))]
 fn has_needed(entry: &Value, field: Field) -> bool
     ensures { result ≡ has_needed (view entry.now) field }
@@ -20,7 +20,7 @@ fn has_needed(entry: &Value, field: Field) -> bool
     !field.needed || is_there(entry, field.key)
 }
 
-/// The key of the first field that is needed and absent.
+// The key of the first field that is needed and absent.
 fn absent_key(entry: &Value, fields: &[Field]) -> Option<Key>
     ensures { result ≡ first_failing (has_needed (view entry.now)) fields.now }
 {
@@ -32,7 +32,7 @@ fn absent_key(entry: &Value, fields: &[Field]) -> Option<Key>
     None
 }
 
-/// The one of `every` and `gap` that is absent where the other stands.
+// The one of `every` and `gap` that is absent where the other stands.
 #[tactic(auto, unfolding(crate::specs::MissingKeys::lone_key))]
 fn lone_key(entry: &Value) -> Option<Key>
     ensures { result ≡ lone_key (view entry.now) }
@@ -48,7 +48,7 @@ fn lone_key(entry: &Value) -> Option<Key>
     }
 }
 
-/// The same of input entries, which alone have these keys.
+// The same of input entries, which alone have these keys.
 fn half_of_again(section: Section, entry: &Value) -> Option<Key>
     ensures { result ≡ half_of_again section (view entry.now) }
 {
@@ -58,7 +58,7 @@ fn half_of_again(section: Section, entry: &Value) -> Option<Key>
     }
 }
 
-/// Finds keys that are needed and absent.
+// Finds keys that are needed and absent.
 #[derive(Drop)]
 pub(crate) struct MissingKeys;
 

@@ -13,7 +13,7 @@ use std::alloc::{AllocError, Global};
 use teg_net::TransitionId;
 use toml::Value;
 
-/// The names of the entries in order, of which none stands twice.
+// The names of the entries in order, of which none stands twice.
 pub(crate) fn number_names(alloc: Global, entries: &[Value]) -> Result<IndexSet<&str>, AllocError>
     requires { is_distinct (names_of (map view entries.now)) ≡ true }
     ensures { IfOk result (λ names. map deref names.keys ≡ names_of (map view entries.now)) }
@@ -29,14 +29,14 @@ pub(crate) fn number_names(alloc: Global, entries: &[Value]) -> Result<IndexSet<
     Ok(names)
 }
 
-/// Whether a name has a number.
+// Whether a name has a number.
 pub(crate) fn has_number(names: &IndexSet<&str>, text: &str) -> bool
     ensures { result ≡ is_among (map deref names.now.keys) text.now }
 {
     names.get_index_of(&text).is_some()
 }
 
-/// The number of a name.
+// The number of a name.
 pub(crate) fn number_of(names: &IndexSet<&str>, text: &str) -> TransitionId
     requires known { is_among (map deref names.now.keys) text.now ≡ true }
     requires few { length names.now.keys < 2 ^ 32 }
@@ -50,7 +50,7 @@ pub(crate) fn number_of(names: &IndexSet<&str>, text: &str) -> TransitionId
     }
 }
 
-/// The entry of this name, where these are the entries that the names are of.
+// The entry of this name, where these are the entries that the names are of.
 pub(crate) fn entry_named<'a>(
     names: &IndexSet<&str>,
     entries: &'a [Value],

@@ -15,7 +15,7 @@ use crate::walk::Pass;
 use std::alloc::Global;
 use toml::Value;
 
-/// Whether what stands at the key, if anything, is an integer from low to high.
+// Whether what stands at the key, if anything, is an integer from low to high.
 fn is_between_at(entry: &Value, key: Key, low: u64, high: u64) -> bool
     ensures { result ≡ is_between_at key low high (view entry.now) }
 {
@@ -25,14 +25,14 @@ fn is_between_at(entry: &Value, key: Key, low: u64, high: u64) -> bool
     }
 }
 
-/// Whether the text is a role.
+// Whether the text is a role.
 fn is_role(text: &str) -> bool
     ensures { result ≡ is_role text.now }
 {
     text == "internal" || text == "input" || text == "output"
 }
 
-/// Whether the text at the key of the role, if there is one, is a role.
+// Whether the text at the key of the role, if there is one, is a role.
 fn has_role(entry: &Value) -> bool
     ensures { result ≡ has_role (view entry.now) }
 {
@@ -45,7 +45,7 @@ fn has_role(entry: &Value) -> bool
     }
 }
 
-/// Whether there are at most so many.
+// Whether there are at most so many.
 #[tactic(auto, using(crate::proofs::TreeLemmas::lengths))]
 fn is_count_within(values: &[Value], most: usize) -> bool
     ensures { result ≡ nat_le (length (map view values.now)) most }
@@ -53,7 +53,7 @@ fn is_count_within(values: &[Value], most: usize) -> bool
     values.len() <= most
 }
 
-/// Whether each value is an integer within the limits of a date.
+// Whether each value is an integer within the limits of a date.
 fn are_dates(values: &[Value]) -> bool
     ensures { result ≡ list_all (is_between 0 greatest_date) (map view values.now) }
 {
@@ -65,7 +65,7 @@ fn are_dates(values: &[Value]) -> bool
     true
 }
 
-/// Whether the dates are few and each keeps its limits.
+// Whether the dates are few and each keeps its limits.
 fn has_dates_in_range(entry: &Value) -> bool
     ensures { result ≡ has_dates_in_range (view entry.now) }
 {
@@ -73,7 +73,7 @@ fn has_dates_in_range(entry: &Value) -> bool
     is_count_within(dates, 100_000) && are_dates(dates)
 }
 
-/// Whether what stands at the key of a table of this section keeps its range.
+// Whether what stands at the key of a table of this section keeps its range.
 #[tactic(auto, unfolding(crate::specs::Ranges::in_range))]
 fn in_range(section: Section, entry: &Value, key: Key) -> bool
     ensures { result ≡ in_range section (view entry.now) key }
@@ -105,7 +105,7 @@ fn in_range(section: Section, entry: &Value, key: Key) -> bool
     }
 }
 
-/// The first key whose value is out of its range.
+// The first key whose value is out of its range.
 fn excess_key(section: Section, entry: &Value, fields: &[Field]) -> Option<Key>
     ensures { result ≡ first_failing (λ f. in_range section (view entry.now) f.key) fields.now }
 {
@@ -117,7 +117,7 @@ fn excess_key(section: Section, entry: &Value, fields: &[Field]) -> Option<Key>
     None
 }
 
-/// Finds values and counts that are out of their ranges.
+// Finds values and counts that are out of their ranges.
 #[derive(Drop)]
 pub(crate) struct OutOfRanges;
 

@@ -31,7 +31,7 @@ use std::alloc::Global;
 use teg_net::Net;
 use toml::{Table, Value};
 
-/// Looks at the keys, kinds, names and ranges of the entries.
+// Looks at the keys, kinds, names and ranges of the entries.
 #[tactic(auto, unfolding(crate::specs::Documents::bad_entries))]
 fn look_at_entries(alloc: Global, top: &Value) -> Result<(), ReadRefusal>
     ensures { Finds (bad_entries (view top.now)) result }
@@ -45,7 +45,7 @@ fn look_at_entries(alloc: Global, top: &Value) -> Result<(), ReadRefusal>
     look_at_all(&OutOfRanges, alloc, top)
 }
 
-/// Looks at the graph that the entries make.
+// Looks at the graph that the entries make.
 #[tactic(auto, unfolding(crate::specs::Documents::bad_graph))]
 fn look_at_graph(alloc: Global, names: &IndexSet<&str>, top: &Value) -> Result<(), ReadRefusal>
     requires good { bad_entries (view top.now) ≡ None }
@@ -61,7 +61,7 @@ fn look_at_graph(alloc: Global, names: &IndexSet<&str>, top: &Value) -> Result<(
     look_for_bad_inputs(alloc, names, transitions, list_at(top, Key::Input))
 }
 
-/// Looks at the ready dates and the holds of the places.
+// Looks at the ready dates and the holds of the places.
 #[tactic(auto, unfolding(crate::specs::Documents::bad_places))]
 fn look_at_places(alloc: Global, names: &IndexSet<&str>, top: &Value) -> Result<(), ReadRefusal>
     requires good { bad_entries (view top.now) ≡ None }
@@ -73,7 +73,7 @@ fn look_at_places(alloc: Global, names: &IndexSet<&str>, top: &Value) -> Result<
     look_for_slow_places(alloc, names, list_at(top, Key::Transition), places)
 }
 
-/// The net of a tree.
+// The net of a tree.
 #[tactic(auto, unfolding(crate::specs::Documents::tree_document, crate::specs::Documents::refused))]
 fn read_tree(alloc: Global, top: &Value) -> Result<Net, ReadRefusal>
     ensures { Answers (tree_document (view top.now)) result }
@@ -85,7 +85,7 @@ fn read_tree(alloc: Global, top: &Value) -> Result<Net, ReadRefusal>
     Ok(make_net(alloc, &names, top)?)
 }
 
-/// The net of a table.
+// The net of a table.
 fn read_table(alloc: Global, table: Table) -> Result<Net, ReadRefusal>
     ensures { Answers (tree_document (table_data (table_view table))) result }
 {

@@ -13,7 +13,7 @@ use crate::trees::{is_there, list_at, number_at, text_at};
 use std::alloc::Global;
 use toml::Value;
 
-/// Whether the place has no list of ready dates, or a date for each of its tokens.
+// Whether the place has no list of ready dates, or a date for each of its tokens.
 #[tactic(auto, using(crate::proofs::TreeLemmas::lengths))]
 fn has_ready_for_each(place: &Value) -> bool
     ensures { result ≡ has_ready_for_each (view place.now) }
@@ -22,8 +22,8 @@ fn has_ready_for_each(place: &Value) -> bool
     !is_there(place, Key::Ready) || given == number_at(place, Key::Tokens)
 }
 
-/// Looks whether the place has a ready date for each token. No file has so many dates that their
-/// number is past 32 bits, and the tokens are few; such numbers would be answered as want of memory.
+// Looks whether the place has a ready date for each token. No file has so many dates that their
+// number is past 32 bits, and the tokens are few; such numbers would be answered as want of memory.
 #[tactic(auto, using(crate::proofs::TreeLemmas::lengths), unfolding(crate::specs::ReadyDates::bad_ready))]
 fn look_at_ready(alloc: Global, place: &Value) -> Result<(), ReadRefusal>
     requires { has_good_name (view place.now) ≡ true }
@@ -45,7 +45,7 @@ fn look_at_ready(alloc: Global, place: &Value) -> Result<(), ReadRefusal>
     })
 }
 
-/// Looks for a place that has another number of ready dates than of tokens.
+// Looks for a place that has another number of ready dates than of tokens.
 pub(crate) fn look_for_bad_ready(alloc: Global, places: &[Value]) -> Result<(), ReadRefusal>
     requires { list_all has_good_name (map view places.now) ≡ true }
     ensures { Finds (first_of bad_ready (map view places.now)) result }

@@ -11,8 +11,8 @@ use std::alloc::Global;
 use std::collections::BTreeSet;
 use toml::Value;
 
-/// Looks for a text at the key that an earlier entry has there. The texts are kept in order, since
-/// their number has no limit yet, and a stranger's texts could all fall on one place of a hash.
+// Looks for a text at the key that an earlier entry has there. The texts are kept in order, since
+// their number has no limit yet, and a stranger's texts could all fall on one place of a hash.
 #[tactic(auto, unfolding(crate::specs::Repeats::repeated_at))]
 fn look_for_repeats_at(
     alloc: Global,
@@ -35,7 +35,7 @@ fn look_for_repeats_at(
     Ok(())
 }
 
-/// Looks for names that are an earlier entry's, and for second lists of one transition.
+// Looks for names that are an earlier entry's, and for second lists of one transition.
 #[tactic(auto, unfolding(crate::specs::Repeats::repeated))]
 pub(crate) fn look_for_repeats(alloc: Global, top: &Value) -> Result<(), ReadRefusal>
     ensures { Finds (repeated (view top.now)) result }

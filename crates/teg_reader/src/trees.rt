@@ -6,7 +6,7 @@ ghost use Rattle.teg_reader.specs.Trees.{value_at, is_there, text_of, text_at, e
 use crate::keys::Key;
 use toml::Value;
 
-/// What stands at the key.
+// What stands at the key.
 #[tactic(auto, unfolding(crate::specs::Trees::value_at))]
 pub(crate) fn value_at(entry: &Value, key: Key) -> Option<&Value>
     ensures { option_map (λ v. view v.now) result ≡ value_at key (view entry.now) }
@@ -14,7 +14,7 @@ pub(crate) fn value_at(entry: &Value, key: Key) -> Option<&Value>
     entry.get(key.text())
 }
 
-/// Whether something stands at the key.
+// Whether something stands at the key.
 #[tactic(auto, unfolding(crate::specs::Trees::is_there))]
 pub(crate) fn is_there(entry: &Value, key: Key) -> bool
     ensures { result ≡ is_there key (view entry.now) }
@@ -22,7 +22,7 @@ pub(crate) fn is_there(entry: &Value, key: Key) -> bool
     value_at(entry, key).is_some()
 }
 
-/// The text, or the empty text.
+// The text, or the empty text.
 pub(crate) fn text_of(value: &Value) -> &str
     ensures { result.now ≡ text_of (view value.now) }
 {
@@ -32,7 +32,7 @@ pub(crate) fn text_of(value: &Value) -> &str
     }
 }
 
-/// The text at the key, or the empty text.
+// The text at the key, or the empty text.
 #[tactic(auto, unfolding(crate::specs::Trees::text_at))]
 pub(crate) fn text_at(entry: &Value, key: Key) -> &str
     ensures { result.now ≡ text_at key (view entry.now) }
@@ -43,7 +43,7 @@ pub(crate) fn text_at(entry: &Value, key: Key) -> &str
     }
 }
 
-/// The elements of an array, or nothing where the value is no array.
+// The elements of an array, or nothing where the value is no array.
 #[tactic(auto, using(crate::proofs::TreeLemmas::list_of_view))]
 pub(crate) fn elements_of(value: &Value) -> Option<&[Value]>
     ensures { option_map (λ vs. map view vs.now) result ≡ elements_of (view value.now) }
@@ -54,7 +54,7 @@ pub(crate) fn elements_of(value: &Value) -> Option<&[Value]>
     }
 }
 
-/// The elements of the array at the key, or none.
+// The elements of the array at the key, or none.
 #[tactic(auto, using(crate::proofs::TreeLemmas::list_of_view), unfolding(crate::specs::Trees::list_at))]
 pub(crate) fn list_at(entry: &Value, key: Key) -> &[Value]
     ensures { map view result.now ≡ list_at key (view entry.now) }
@@ -68,7 +68,7 @@ pub(crate) fn list_at(entry: &Value, key: Key) -> &[Value]
     }
 }
 
-/// Whether the value is an integer from low to high.
+// Whether the value is an integer from low to high.
 pub(crate) fn is_between(value: &Value, low: u64, high: u64) -> bool
     ensures { result ≡ is_between low high (view value.now) }
 {
@@ -81,7 +81,7 @@ pub(crate) fn is_between(value: &Value, low: u64, high: u64) -> bool
     }
 }
 
-/// The number of an integer that is not negative, or 0.
+// The number of an integer that is not negative, or 0.
 pub(crate) fn as_number(value: &Value) -> u64
     ensures value { result ≡ as_number (view value.now) }
     ensures small { result < 2 ^ 63 }
@@ -92,7 +92,7 @@ pub(crate) fn as_number(value: &Value) -> u64
     }
 }
 
-/// The number at the key, or 0.
+// The number at the key, or 0.
 #[tactic(auto, unfolding(crate::specs::Trees::number_at))]
 pub(crate) fn number_at(entry: &Value, key: Key) -> u64
     ensures value { result ≡ number_at key (view entry.now) }

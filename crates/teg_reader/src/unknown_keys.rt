@@ -16,7 +16,7 @@ use std::alloc::Global;
 use teg_net::Label;
 use toml::{Table, Value};
 
-/// Whether the text is the key of one of the fields.
+// Whether the text is the key of one of the fields.
 #[tactic(auto, unfolding(crate::specs::UnknownKeys::is_field))]
 fn is_field(text: &str, fields: &[Field]) -> bool
     ensures { result ≡ is_field fields.now text.now }
@@ -24,18 +24,20 @@ fn is_field(text: &str, fields: &[Field]) -> bool
     fields.iter().any(|field| text == field.key.text())
 }
 
-/// The first key of the table that is none of the fields.
+// The first key of the table that is none of the fields.
 fn unlisted_in<'a>(table: &'a Table, fields: &[Field]) -> Option<&'a String>
-    ensures first { option_copied result ≡ find (λ k. not (is_field fields.now (string_bytes k))) (keys_in table.now) }
+    ensures first { option_copied result ≡ find (λ k. not (is_field fields.now (string_bytes k)))
+        (keys_in table.now) }
     ensures ordered { IsStrictlySortedBy string_cmp (keys_in table.now) }
 {
     table.keys().find(|key| !is_field(key.as_str(), fields))
 }
 
-/// The first key, in the table's order, that is none of the fields. A table keeps its keys in
-/// order, so it is the least one.
+// The first key, in the table's order, that is none of the fields. A table keeps its keys in
+// order, so it is the least one.
 fn unlisted_text<'a>(table: &'a Table, fields: &[Field]) -> Option<&'a str>
-    ensures { option_map (λ k. k.now) result ≡ least_of (filter (λ k. not (is_field fields.now k)) (keys_of (table_view table.now))) }
+    ensures { option_map (λ k. k.now) result ≡ least_of
+        (filter (λ k. not (is_field fields.now k)) (keys_of (table_view table.now))) }
 {
     match unlisted_in(table, fields) {
         Some(key) => Some(key.as_str()),
@@ -43,10 +45,11 @@ fn unlisted_text<'a>(table: &'a Table, fields: &[Field]) -> Option<&'a str>
     }
 }
 
-/// The least key of the entry that is none of the fields.
+// The least key of the entry that is none of the fields.
 #[tactic(auto, using(crate::proofs::KeyLemmas::least_of_none), unfolding(crate::specs::UnknownKeys::unlisted_keys))]
 fn unlisted_key<'a>(entry: &'a Value, fields: &[Field]) -> Option<&'a str>
-    ensures { option_map (λ k. k.now) result ≡ least_of (unlisted_keys fields.now (view entry.now)) }
+    ensures { option_map (λ k. k.now) result ≡ least_of
+        (unlisted_keys fields.now (view entry.now)) }
 {
     match entry.as_table() {
         Some(table) => unlisted_text(table, fields),
@@ -54,7 +57,7 @@ fn unlisted_key<'a>(entry: &'a Value, fields: &[Field]) -> Option<&'a str>
     }
 }
 
-/// Whether the file says that it is of the second version.
+// Whether the file says that it is of the second version.
 #[tactic(auto, unfolding(crate::specs::UnknownKeys::is_second))]
 pub(crate) fn is_second(top: &Value) -> bool
     ensures { result ≡ is_second (view top.now) }
@@ -65,7 +68,7 @@ pub(crate) fn is_second(top: &Value) -> bool
     }
 }
 
-/// Finds keys that a table does not list.
+// Finds keys that a table does not list.
 #[derive(Drop)]
 pub(crate) struct UnknownKeys {
     pub(crate) second: bool,

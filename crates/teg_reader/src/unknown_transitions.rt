@@ -15,10 +15,11 @@ use std::alloc::Global;
 use teg_net::Label;
 use toml::Value;
 
-/// The first of the texts that names no transition.
+// The first of the texts that names no transition.
 #[tactic(auto, unfolding(crate::specs::UnknownTransitions::unknown_among))]
 fn unknown_in<'a>(names: &IndexSet<&str>, values: &'a [Value]) -> Option<&'a str>
-    ensures { option_map (λ t. t.now) result ≡ unknown_among (map deref names.now.keys) (map text_of (map view values.now)) }
+    ensures { option_map (λ t. t.now) result ≡ unknown_among (map deref names.now.keys)
+        (map text_of (map view values.now)) }
 {
     for value in values {
         let text = text_of(value);
@@ -29,10 +30,11 @@ fn unknown_in<'a>(names: &IndexSet<&str>, values: &'a [Value]) -> Option<&'a str
     None
 }
 
-/// The text, if it names no transition.
+// The text, if it names no transition.
 #[tactic(auto, unfolding(crate::specs::UnknownTransitions::unknown_among))]
 fn unknown_one<'a>(names: &IndexSet<&str>, text: &'a str) -> Option<&'a str>
-    ensures { option_map (λ t. t.now) result ≡ unknown_among (map deref names.now.keys) (text.now ∷ []) }
+    ensures { option_map (λ t. t.now) result ≡ unknown_among (map deref names.now.keys)
+        (text.now ∷ []) }
 {
     if has_number(names, text) {
         None
@@ -41,10 +43,11 @@ fn unknown_one<'a>(names: &IndexSet<&str>, text: &'a str) -> Option<&'a str>
     }
 }
 
-/// The first text of the value, one or an array, that names no transition.
+// The first text of the value, one or an array, that names no transition.
 #[tactic(auto, using(crate::proofs::UnknownLemmas::none_unknown), unfolding(crate::specs::Trees::texts_of))]
 fn unknown_of<'a>(names: &IndexSet<&str>, value: &'a Value) -> Option<&'a str>
-    ensures { option_map (λ t. t.now) result ≡ unknown_among (map deref names.now.keys) (texts_of (view value.now)) }
+    ensures { option_map (λ t. t.now) result ≡ unknown_among (map deref names.now.keys)
+        (texts_of (view value.now)) }
 {
     match value.as_str() {
         Some(text) => unknown_one(names, text),
@@ -55,10 +58,11 @@ fn unknown_of<'a>(names: &IndexSet<&str>, value: &'a Value) -> Option<&'a str>
     }
 }
 
-/// The first text at the key that names no transition.
+// The first text at the key that names no transition.
 #[tactic(auto, using(crate::proofs::UnknownLemmas::none_unknown), unfolding(crate::specs::Trees::texts_at))]
 fn unknown_at<'a>(names: &IndexSet<&str>, entry: &'a Value, key: Key) -> Option<&'a str>
-    ensures { option_map (λ t. t.now) result ≡ unknown_among (map deref names.now.keys) (texts_at key (view entry.now)) }
+    ensures { option_map (λ t. t.now) result ≡ unknown_among (map deref names.now.keys)
+        (texts_at key (view entry.now)) }
 {
     match value_at(entry, key) {
         Some(value) => unknown_of(names, value),
@@ -66,10 +70,11 @@ fn unknown_at<'a>(names: &IndexSet<&str>, entry: &'a Value, key: Key) -> Option<
     }
 }
 
-/// The first text of the entry that is to name a transition and names none.
+// The first text of the entry that is to name a transition and names none.
 #[tactic(auto, unfolding(crate::specs::UnknownTransitions::unknown_text))]
 fn unknown_text<'a>(names: &IndexSet<&str>, section: Section, entry: &'a Value) -> Option<&'a str>
-    ensures { option_map (λ t. t.now) result ≡ unknown_text (map deref names.now.keys) section (view entry.now) }
+    ensures { option_map (λ t. t.now) result ≡ unknown_text (map deref names.now.keys) section
+        (view entry.now) }
 {
     match section {
         Section::Place => match unknown_at(names, entry, Key::From) {
@@ -81,7 +86,7 @@ fn unknown_text<'a>(names: &IndexSet<&str>, section: Section, entry: &'a Value) 
     }
 }
 
-/// Finds texts that name no transition.
+// Finds texts that name no transition.
 #[derive(Drop)]
 pub(crate) struct UnknownTransitions<'a, 'b> {
     pub(crate) names: &'a IndexSet<&'b str>,

@@ -9,17 +9,17 @@ use crate::trees::list_at;
 use std::alloc::Global;
 use toml::Value;
 
-/// A look at one table, which tells what it finds there.
+// A look at one table, which tells what it finds there.
 pub(crate) trait Pass {
     ghost looks: { Self → Look };
 
-    /// What the look at this table, which stands at this spot, finds.
+    // What the look at this table, which stands at this spot, finds.
     fn look(&self, alloc: Global, spot: Spot, entry: &Value) -> Result<(), ReadRefusal>
         ensures { Finds (looks self.now spot (view entry.now)) result };
 }
 
-/// Looks at each entry of a section in order. No file has so many entries that a position is past
-/// 32 bits; such a one would be answered as want of memory.
+// Looks at each entry of a section in order. No file has so many entries that a position is past
+// 32 bits; such a one would be answered as want of memory.
 pub(crate) fn look_at_each<P: Pass>(
     pass: &P,
     alloc: Global,
@@ -41,7 +41,7 @@ pub(crate) fn look_at_each<P: Pass>(
     Ok(())
 }
 
-/// Looks at the whole tree.
+// Looks at the whole tree.
 #[tactic(auto, unfolding(crate::specs::Walks::finding))]
 pub(crate) fn look_at_all<P: Pass>(pass: &P, alloc: Global, top: &Value) -> Result<(), ReadRefusal>
     ensures { Finds (finding (P.looks pass.now) (view top.now)) result }

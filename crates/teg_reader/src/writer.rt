@@ -15,31 +15,33 @@ use std::alloc::{AllocError, Global};
 use teg_net::{InputList, Net, OutOfMemory, Place, Role, Transition, TransitionId};
 use toml::{Table, Value};
 
-/// A table without keys.
+// A table without keys.
 fn new_table(alloc: Global) -> Table
     ensures { table_view result ≡ no_members }
 {
     Table::new(alloc)
 }
 
-/// Puts a value under a key.
+// Puts a value under a key.
 fn put(alloc: Global, table: &mut Table, key: Key, value: Value) -> Result<(), AllocError>
-    ensures { OnOk result (table_view table.new ≡ with_member (key_text key) (view value) (table_view table.old)) }
+    ensures { OnOk result (table_view table.new ≡ with_member (key_text key) (view value)
+        (table_view table.old)) }
 {
     let key = String::from_str(alloc, key.text())?;
     table.insert(key, value)?;
     Ok(())
 }
 
-/// Puts a text under a key.
+// Puts a text under a key.
 fn put_text(alloc: Global, table: &mut Table, key: Key, text: &str) -> Result<(), AllocError>
-    ensures { OnOk result (table_view table.new ≡ with_member (key_text key) (string text.now) (table_view table.old)) }
+    ensures { OnOk result (table_view table.new ≡ with_member (key_text key) (string text.now)
+        (table_view table.old)) }
 {
     let value = Value::string(alloc, text)?;
     put(alloc, table, key, value)
 }
 
-/// A number as a value.
+// A number as a value.
 fn number_value(number: u64) -> Value
     requires { number < 2 ^ 63 }
     ensures { view result ≡ number_data number }
@@ -47,22 +49,24 @@ fn number_value(number: u64) -> Value
     Value::Integer(number as i64)
 }
 
-/// Puts a number under a key.
+// Puts a number under a key.
 fn put_number(alloc: Global, table: &mut Table, key: Key, number: u64) -> Result<(), AllocError>
     requires { number < 2 ^ 63 }
-    ensures { OnOk result (table_view table.new ≡ with_member (key_text key) (number_data number) (table_view table.old)) }
+    ensures { OnOk result (table_view table.new ≡ with_member (key_text key) (number_data number)
+        (table_view table.old)) }
 {
     put(alloc, table, key, number_value(number))
 }
 
-/// Puts a list under a key, where there is anything in it.
+// Puts a list under a key, where there is anything in it.
 fn put_list(
     alloc: Global,
     table: &mut Table,
     key: Key,
     values: Vec<Value>,
 ) -> Result<(), AllocError>
-    ensures { OnOk result (table_view table.new ≡ with_list key (map view values.items) (table_view table.old)) }
+    ensures { OnOk result (table_view table.new ≡ with_list key (map view values.items)
+        (table_view table.old)) }
 {
     if values.is_empty() {
         return Ok(());
@@ -70,7 +74,7 @@ fn put_list(
     put(alloc, table, key, Value::Array(values))
 }
 
-/// The dates as values.
+// The dates as values.
 fn date_values(alloc: Global, dates: &[u64]) -> Result<Vec<Value>, AllocError>
     requires { All (λ d. d ≤ greatest_date) dates.now }
     ensures { IfOk result (λ vs. map view vs.items ≡ map number_data dates.now) }
@@ -82,7 +86,7 @@ fn date_values(alloc: Global, dates: &[u64]) -> Result<Vec<Value>, AllocError>
     Ok(values)
 }
 
-/// How a role is written.
+// How a role is written.
 fn role_text(role: Role) -> &'static str
     ensures { result.now ≡ role_text role }
 {
@@ -93,7 +97,7 @@ fn role_text(role: Role) -> &'static str
     }
 }
 
-/// The table of a transition.
+// The table of a transition.
 #[tactic(auto, unfolding(crate::specs::Migrated::transition_entry, crate::specs::Keys::key_text))]
 fn transition_value(alloc: Global, transition: &Transition) -> Result<Value, AllocError>
     ensures { IfOk result (λ v. view v ≡ transition_entry transition.now) }
@@ -104,7 +108,7 @@ fn transition_value(alloc: Global, transition: &Transition) -> Result<Value, All
     Ok(Value::Table(table))
 }
 
-/// The tables of the transitions in order.
+// The tables of the transitions in order.
 fn transition_values(alloc: Global, transitions: &[Transition]) -> Result<Vec<Value>, AllocError>
     ensures { IfOk result (λ vs. map view vs.items ≡ map transition_entry transitions.now) }
 {
@@ -115,7 +119,7 @@ fn transition_values(alloc: Global, transitions: &[Transition]) -> Result<Vec<Va
     Ok(values)
 }
 
-/// The name of the transition of this number.
+// The name of the transition of this number.
 fn name_of(transitions: &[Transition], id: TransitionId) -> &str
     requires { id.index < length transitions.now }
     ensures { result.now ≡ name_of transitions.now id }
@@ -123,7 +127,7 @@ fn name_of(transitions: &[Transition], id: TransitionId) -> &str
     transitions[id.index as usize].name.as_str()
 }
 
-/// The table of a place.
+// The table of a place.
 #[tactic(auto, unfolding(crate::specs::Migrated::place_entry, crate::specs::Keys::key_text))]
 fn place_value(alloc: Global, net: &Net, place: &Place) -> Result<Value, AllocError>
     requires { IsPlaceOf net.now place.now }
@@ -146,9 +150,10 @@ fn place_value(alloc: Global, net: &Net, place: &Place) -> Result<Value, AllocEr
     Ok(Value::Table(table))
 }
 
-/// The tables of the places in order.
+// The tables of the places in order.
 fn place_values(alloc: Global, net: &Net) -> Result<Vec<Value>, AllocError>
-    ensures { IfOk result (λ vs. map view vs.items ≡ map (place_entry net.now.transitions) net.now.places) }
+    ensures { IfOk result (λ vs. map view vs.items ≡ map (place_entry net.now.transitions)
+        net.now.places) }
 {
     let mut values = Vec::new(alloc);
     for place in net.places() {
@@ -157,7 +162,7 @@ fn place_values(alloc: Global, net: &Net) -> Result<Vec<Value>, AllocError>
     Ok(values)
 }
 
-/// The table of an input list.
+// The table of an input list.
 #[tactic(auto, unfolding(crate::specs::Migrated::input_entry, crate::specs::Keys::key_text))]
 fn input_value(alloc: Global, net: &Net, input: &InputList) -> Result<Value, AllocError>
     requires { IsInputOf net.now input.now }
@@ -178,9 +183,10 @@ fn input_value(alloc: Global, net: &Net, input: &InputList) -> Result<Value, All
     }
 }
 
-/// The tables of the input lists in order.
+// The tables of the input lists in order.
 fn input_values(alloc: Global, net: &Net) -> Result<Vec<Value>, AllocError>
-    ensures { IfOk result (λ vs. map view vs.items ≡ map (input_entry net.now.transitions) net.now.inputs) }
+    ensures { IfOk result (λ vs. map view vs.items ≡ map (input_entry net.now.transitions)
+        net.now.inputs) }
 {
     let mut values = Vec::new(alloc);
     for input in net.inputs() {
@@ -189,7 +195,7 @@ fn input_values(alloc: Global, net: &Net) -> Result<Vec<Value>, AllocError>
     Ok(values)
 }
 
-/// The table of a net.
+// The table of a net.
 fn net_table(alloc: Global, net: &Net) -> Result<Table, AllocError>
     ensures table { IfOk result (λ t. table_view t ≡ migrated net.now) }
     ensures rules { IfOk result (λ _. IsNet net.now) }

@@ -13,7 +13,7 @@ use crate::walk::Pass;
 use std::alloc::Global;
 use toml::Value;
 
-/// Whether each value is a text.
+// Whether each value is a text.
 fn are_texts(values: &[Value]) -> bool
     ensures { result ≡ list_all is_text (map view values.now) }
 {
@@ -25,7 +25,7 @@ fn are_texts(values: &[Value]) -> bool
     true
 }
 
-/// Whether each value is an integer.
+// Whether each value is an integer.
 fn are_integers(values: &[Value]) -> bool
     ensures { result ≡ list_all is_integer (map view values.now) }
 {
@@ -37,7 +37,7 @@ fn are_integers(values: &[Value]) -> bool
     true
 }
 
-/// Whether each value is a table.
+// Whether each value is a table.
 fn are_tables(values: &[Value]) -> bool
     ensures { result ≡ list_all is_table (map view values.now) }
 {
@@ -49,7 +49,7 @@ fn are_tables(values: &[Value]) -> bool
     true
 }
 
-/// Whether the value is of this kind.
+// Whether the value is of this kind.
 #[tactic(auto, unfolding(crate::specs::WrongKinds::is_kind))]
 fn is_kind(kind: Kind, value: &Value) -> bool
     ensures { result ≡ is_kind kind (view value.now) }
@@ -75,7 +75,7 @@ fn is_kind(kind: Kind, value: &Value) -> bool
     }
 }
 
-/// Whether what stands at the field's key, if anything, is of the field's kind.
+// Whether what stands at the field's key, if anything, is of the field's kind.
 #[tactic(auto, unfolding(crate::specs::WrongKinds::has_kind))]
 fn has_kind(entry: &Value, field: Field) -> bool
     ensures { result ≡ has_kind (view entry.now) field }
@@ -86,7 +86,7 @@ fn has_kind(entry: &Value, field: Field) -> bool
     }
 }
 
-/// The first key at which another kind stands.
+// The first key at which another kind stands.
 fn wrong_key(entry: &Value, fields: &[Field]) -> Option<Key>
     ensures { result ≡ first_failing (has_kind (view entry.now)) fields.now }
 {
@@ -98,7 +98,7 @@ fn wrong_key(entry: &Value, fields: &[Field]) -> Option<Key>
     None
 }
 
-/// Finds keys at which another kind stands.
+// Finds keys at which another kind stands.
 #[derive(Drop)]
 pub(crate) struct WrongKinds;
 

@@ -10,7 +10,7 @@ use Rattle.std.proofs.lemmas.List.Elements.{All-append}
 use Rattle.teg_net.specs.declared.entries.PlaceId.{PlaceId}
 use Rattle.teg_net.specs.Nets.{NetLists}
 use Rattle.teg_net.specs.Ratios.{Fraction}
-use Rattle.teg_net.specs.Circuits.{IsCircuit, time_of, tokens_of}
+use Rattle.teg_net.specs.Circuits.{time_of, tokens_of}
 use Rattle.teg_sizing.specs.Rounds.{value_of, Avoids}
 use Rattle.teg_sizing.specs.Surpluses.{NoneIsAbove, IsAboveApart, NonePasses, IsBestThrough}
 use Rattle.teg_sizing.specs.Sizings.{OthersKeepTarget, IsEnough, IsFewest, IsNeverEnough, IsTurnedLowest}

@@ -47,7 +47,7 @@ rounds_begun net r e first long within = record {
   within = λ k l. (let z : k ≡ 0 = omega arith in rw z within);
 }
 
-round_last : (rounds : List (List Cell)) (after : List Cell) → round_at (rounds ++ (after ∷ [])) (length rounds) ≡ after
+pub round_last : (rounds : List (List Cell)) (after : List Cell) → round_at (rounds ++ (after ∷ [])) (length rounds) ≡ after
 round_last rounds after = let e : length rounds ≡ length rounds + 0 = omega arith in ap (λ (z : ℕ). get_or (rounds ++ (after ∷ [])) z []) e ∙ get_or-append-add rounds (after ∷ []) 0 []
 
 -- one more

@@ -2,6 +2,7 @@ pub mod Values
 pub mod Offers
 pub mod Going
 pub mod Traces
+pub mod Stopping
 pub mod Looping
 pub mod Straightening
 pub mod Enough

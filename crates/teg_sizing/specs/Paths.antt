@@ -1,10 +1,11 @@
 -- Working definitions of the path that rounds tell, and of the first circuit that a path closes.
-use Rattle.std.specs.Prelude.{ℕ, zero, suc, ◌-◌, ◌<◌, ◌≡◌, ◌≢◌, List, [], ◌∷◌, ◌++◌, length, take, drop, Option, Some, None, slice_index_or}
+use Rattle.std.specs.Prelude.{ℕ, zero, suc, ◌+◌, ◌-◌, ◌<◌, ◌≤◌, ◌≡◌, ◌≢◌, List, [], ◌∷◌, ◌++◌, length, take, drop, Option, Some, None, slice_index_or}
 use Rattle.teg_net.specs.declared.entries.PlaceId.{PlaceId}
 use Rattle.teg_net.specs.Nets.{NetLists}
 use Rattle.teg_net.specs.Circuits.{from_of, IsCircuit}
 use Rattle.teg_sizing.specs.declared.rounds.Cell.{Cell}
-use Rattle.teg_sizing.specs.Rounds.{by_at, round_at}
+use Rattle.teg_net.specs.Ratios.{Fraction}
+use Rattle.teg_sizing.specs.Rounds.{by_at, round_at, AreRounds}
 
 -- each round tells of the net's transitions, by its places
 pub record AreOfNet (net : NetLists) (rounds : List (List Cell)) : Type 0 where
@@ -20,6 +21,20 @@ by_place (Some p) same made = made p
 abbrev pub trace_of : NetLists → List (List Cell) → ℕ → ℕ → List PlaceId
 trace_of net rounds zero t = []
 trace_of net rounds (suc k) t = by_place (by_at (round_at rounds k) t) (trace_of net rounds k t) (λ p. trace_of net rounds k (from_of net p) ++ (p ∷ []))
+
+-- the round that comes last
+abbrev pub last_round : List (List Cell) → List Cell
+last_round rounds = round_at rounds (length rounds - 1)
+
+-- after the first round there are so many, or fewer, where the further ones would be as the last and tell no place: so they
+-- have the last round of so many, and the paths that these tell
+pub record HaveToldAll (net : NetLists) (r : Fraction) (except : PlaceId) (first : List Cell) (count : ℕ) (rounds : List (List Cell)) : Type 0 where
+  pub some : 1 ≤ length rounds
+  pub all : List (List Cell)
+  pub are : AreRounds net r except first all
+  pub long : length all ≡ count + 1
+  pub last : last_round rounds ≡ round_at all count
+  pub paths : (t : ℕ) → trace_of net rounds (length rounds) t ≡ trace_of net all (length all) t
 
 -- what stands past the end of a path
 abbrev pub no_id : PlaceId

@@ -1,11 +1,12 @@
 -- The text of an answer, and that it tells the answer.
-use Rattle.std.specs.Prelude.{ℕ, ◌<◌, ◌≡◌, ◌^◌, List, [], ◌∷◌, ◌++◌, length, map, codes, Option, Some, None, ⊤}
+use Rattle.std.specs.Prelude.{ℕ, ◌<◌, ◌≡◌, ◌^◌, List, [], ◌∷◌, ◌++◌, length, codes, Option, Some, None, ⊤}
 use Rattle.std.specs.Fmt.{decimal}
 use Rattle.teg_net.specs.declared.entries.PlaceId.{PlaceId}
 use Rattle.teg_net.specs.Nets.{NetLists, IsNet}
 use Rattle.teg_net.specs.Ratios.{Fraction}
-use Rattle.teg_net.specs.Circuits.{place_at, AreInRange}
+use Rattle.teg_net.specs.Circuits.{AreInRange}
 use Rattle.teg_text.specs.Lines.{phrase, written}
+use Rattle.teg_text.specs.Names.{circuit_line, name_of_place}
 use Rattle.teg_text.specs.Words.{AreBytes, label_word, ratio_word}
 use Rattle.teg_sizing.specs.declared.sizing.Sizing.{Sizing}
 use Rattle.teg_sizing.specs.declared.sizing.Sizing.TheVariants.{Enough, Impossible}
@@ -21,21 +22,13 @@ told (Enough extra None) = EnoughTold extra None
 told (Enough extra (Some circuit)) = EnoughTold extra (Some circuit.places.items)
 told (Impossible circuit) = ImpossibleTold circuit.places.items
 
--- the name of a place
-abbrev pub name_of : NetLists → PlaceId → List ℕ
-name_of net id = (place_at net id).name
-
--- a circuit, by the names of its places in order
-abbrev pub circuit_line : NetLists → List PlaceId → List (List ℕ)
-circuit_line net circuit = codes "circuit" ∷ map (name_of net) circuit
-
 -- the line that says how many further tokens are enough
 abbrev pub enough_line : NetLists → PlaceId → Fraction → ℕ → List (List ℕ)
-enough_line net p r extra = codes "size" ∷ name_of net p ∷ ratio_word r.time r.tokens ∷ codes "extra" ∷ decimal extra ∷ []
+enough_line net p r extra = codes "size" ∷ name_of_place net p ∷ ratio_word r.time r.tokens ∷ codes "extra" ∷ decimal extra ∷ []
 
 -- the line that says that no number of them is enough
 abbrev pub impossible_line : NetLists → PlaceId → Fraction → List (List ℕ)
-impossible_line net p r = codes "size" ∷ name_of net p ∷ ratio_word r.time r.tokens ∷ codes "impossible" ∷ []
+impossible_line net p r = codes "size" ∷ name_of_place net p ∷ ratio_word r.time r.tokens ∷ codes "impossible" ∷ []
 
 -- the lines of an answer about a place and a target
 abbrev pub sizing_lines : NetLists → PlaceId → Fraction → Told → List (List (List ℕ))

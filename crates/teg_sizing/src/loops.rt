@@ -7,7 +7,7 @@ ghost use Rattle.teg_sizing.specs.Paths.{IsLeftAt, IsFirstLoop, NoneLeaves};
 use std::alloc::{AllocError, Global};
 use teg_net::{Net, PlaceId};
 
-/// The position of a place before this one that leaves the same transition.
+// The position of a place before this one that leaves the same transition.
 fn left_before(net: &Net, places: &[PlaceId], position: usize) -> Option<usize>
     requires path { IsPath net.now places.now }
     requires position { position < length places.now }
@@ -24,7 +24,7 @@ fn left_before(net: &Net, places: &[PlaceId], position: usize) -> Option<usize>
     None
 }
 
-/// The first circuit that the path closes.
+// The first circuit that the path closes.
 pub(crate) fn first_loop(
     alloc: Global,
     net: &Net,

@@ -3,21 +3,23 @@
 ghost use Rattle.std.specs.Prelude.{◌+◌, ◌≡◌, ◌≢◌, ◌≤◌, ◌<◌, length, IfOk, IfNone, IfSome, IsTrue, false, Some, None};
 ghost use Rattle.teg_net.specs.Limits.{greatest_hold, most_tokens};
 ghost use Rattle.teg_net.specs.Nets.{IsNet};
+ghost use Rattle.teg_sizing.specs.Paths.{HaveToldAll, last_round};
+ghost use Rattle.teg_sizing.specs.Surpluses.{IsBetter, NoneIsBetter};
 ghost use Rattle.teg_sizing.specs.Rounds.{IsTarget, value_at, weight_of, most_value, AreWithin, IsAtLeast, IsOffered, AreFresh, IsRoundAfter, AreRounds};
 
 use std::alloc::{AllocError, Global};
 use std::marker::Model;
 use teg_net::{Net, Place, PlaceId, Ratio};
 
-/// What is told of a transition: the greatest value of the paths that end there, none where there
-/// is none; and their last place, where they are not those of the round before.
+// What is told of a transition: the greatest value of the paths that end there, none where there
+// is none; and their last place, where they are not those of the round before.
 #[derive(Clone, Copy, Debug, PartialEq, Eq)]
 pub(crate) struct Cell {
     pub(crate) value: Option<i128>,
     pub(crate) by: Option<PlaceId>,
 }
 
-/// What a round tells of each transition. Contracts see the list.
+// What a round tells of each transition. Contracts see the list.
 #[derive(Debug, Drop)]
 pub(crate) struct Round {
     cells: Vec<Cell>,
@@ -33,14 +35,14 @@ impl Model for Round {
 }
 
 impl Round {
-    /// The round that tells this.
+    // The round that tells this.
     pub(crate) fn new(cells: Vec<Cell>) -> Round
         ensures { result ≡ cells.items }
     {
         Round { cells }
     }
 
-    /// What it tells.
+    // What it tells.
     pub(crate) fn cells(&self) -> &[Cell]
         ensures { result.now ≡ self.now }
     {
@@ -48,8 +50,8 @@ impl Round {
     }
 }
 
-/// What a place adds to the value of a path: the target's tokens times its hold, less the target's
-/// time times its tokens.
+// What a place adds to the value of a path: the target's tokens times its hold, less the target's
+// time times its tokens.
 pub(crate) fn weight(target: Ratio, place: &Place) -> i128
     requires target { IsTarget target }
     requires hold { place.now.hold ≤ greatest_hold }
@@ -61,7 +63,7 @@ pub(crate) fn weight(target: Ratio, place: &Place) -> i128
     gain - cost
 }
 
-/// The value of the best path that ends with this place, unless it is the one to be left out.
+// The value of the best path that ends with this place, unless it is the one to be left out.
 fn offer(
     target: Ratio,
     except: PlaceId,
@@ -74,7 +76,8 @@ fn offer(
     requires tokens { place.now.tokens ≤ most_tokens }
     requires from { place.now.from.index < length before.now }
     requires small { AreWithin most_value before.now }
-    ensures none { IfNone result (id.index ≢ except.index → value_at before.now place.now.from.index ≡ None) }
+    ensures none { IfNone result (id.index ≢ except.index → value_at before.now place.now.from.index
+        ≡ None) }
     ensures some { IfSome result (IsOffered target except before.now id place.now) }
 {
     if id.index == except.index {
@@ -84,7 +87,7 @@ fn offer(
     Some(value + weight(target, place))
 }
 
-/// Whether nothing is told yet, or less than is offered.
+// Whether nothing is told yet, or less than is offered.
 fn is_more(offered: i128, told: Option<i128>) -> bool
     ensures more { IsTrue result → IsAtLeast told offered → ⊥ }
     ensures no_more { result ≡ false → IsAtLeast told offered }
@@ -95,7 +98,7 @@ fn is_more(offered: i128, told: Option<i128>) -> bool
     }
 }
 
-/// The same values, by no place yet.
+// The same values, by no place yet.
 fn fresh(alloc: Global, before: &[Cell]) -> Result<Vec<Cell>, AllocError>
     ensures { IfOk result (λ cells. AreFresh before.now cells.items) }
 {
@@ -109,7 +112,7 @@ fn fresh(alloc: Global, before: &[Cell]) -> Result<Vec<Cell>, AllocError>
     Ok(cells)
 }
 
-/// The round after: the paths with one place more.
+// The round after: the paths with one place more.
 fn round_after(
     alloc: Global,
     net: &Net,
@@ -141,7 +144,29 @@ fn round_after(
     Ok(Round::new(after))
 }
 
-/// The first round and so many after it.
+// A transition of which the round tells more than the one before.
+pub(crate) fn better_at(cells: &[Cell]) -> Option<usize>
+    ensures none { IfNone result (NoneIsBetter cells.now) }
+    ensures some { IfSome result (IsBetter cells.now) }
+{
+    for (index, cell) in cells.iter().enumerate() {
+        if cell.by.is_some() {
+            return Some(index);
+        }
+    }
+    None
+}
+
+// What the last round tells.
+pub(crate) fn last_cells(rounds: &[Round]) -> &[Cell]
+    requires { 1 ≤ length rounds.now }
+    ensures { result.now ≡ last_round rounds.now }
+{
+    rounds[rounds.len() - 1].cells()
+}
+
+// The first round and so many after it; fewer where one tells no more than that before it, since
+// those after it would tell no more either.
 pub(crate) fn rounds(
     alloc: Global,
     net: &Net,
@@ -155,13 +180,18 @@ pub(crate) fn rounds(
     requires small { AreWithin 0 first }
     requires count { count ≤ 401 }
     ensures rounds { IfOk result (λ rounds. AreRounds net.now target except first rounds.items) }
-    ensures count { IfOk result (λ rounds. length rounds.items ≡ count + 1) }
+    ensures all { IfOk result (λ rounds. HaveToldAll net.now target except first count
+        rounds.items) }
 {
     let mut rounds = Vec::new(alloc);
     rounds.push(first)?;
     for number in 0..count {
         let after = round_after(alloc, net, target, except, rounds[number].cells())?;
+        let is_last = better_at(after.cells()).is_none();
         rounds.push(after)?;
+        if is_last {
+            return Ok(rounds);
+        }
     }
     Ok(rounds)
 }

@@ -29,7 +29,7 @@ pub enum Sizing {
     },
 }
 
-/// The circuit, told from its lowest numbered transition on.
+// The circuit, told from its lowest numbered transition on.
 fn lowest_first(net: &Net, places: Vec<PlaceId>) -> Circuit
     requires { IsCircuit net.now places.items }
     ensures { IsTurnedLowest net.now places.items result.places.items }
@@ -39,7 +39,7 @@ fn lowest_first(net: &Net, places: Vec<PlaceId>) -> Circuit
     circuit
 }
 
-/// What the best circuit that passes the place tells.
+// What the best circuit that passes the place tells.
 fn sizing_by(net: &Net, target: Ratio, place: PlaceId, best: Through) -> Sizing
     requires target { IsTarget target }
     requires apart { NoneIsAbove net.now target place }

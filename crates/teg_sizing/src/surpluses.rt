@@ -1,22 +1,22 @@
 //! Circuits above the target: those that avoid the place, and the best of those that pass it.
 ghost use Rattle.std.specs.Prelude.{◌<◌, length, IfOk, IfNone, IfSome, Some};
 ghost use Rattle.teg_sizing.specs.Rounds.{IsTarget};
-ghost use Rattle.teg_sizing.specs.Surpluses.{NoneIsAbove, IsAboveApart, StartsEverywhere, StartsAt, IsBetter, NoneIsBetter, NonePasses, IsBestThrough};
+ghost use Rattle.teg_sizing.specs.Surpluses.{NoneIsAbove, IsAboveApart, StartsEverywhere, StartsAt, NonePasses, IsBestThrough};
 
 use crate::loops::first_loop;
-use crate::rounds::{Cell, Round, rounds, weight};
+use crate::rounds::{Cell, Round, better_at, last_cells, rounds, weight};
 use crate::tracing::trace;
 use std::alloc::{AllocError, Global};
 use teg_net::{Net, PlaceId, Ratio, TransitionId};
 
-/// The circuit of greatest value among those that pass a place, and that value.
+// The circuit of greatest value among those that pass a place, and that value.
 #[derive(Debug, Drop)]
 pub(crate) struct Through {
     pub(crate) value: i128,
     pub(crate) places: Vec<PlaceId>,
 }
 
-/// The empty paths from each transition.
+// The empty paths from each transition.
 fn everywhere(alloc: Global, count: usize) -> Result<Round, AllocError>
     ensures { IfOk result (StartsEverywhere count) }
 {
@@ -27,7 +27,7 @@ fn everywhere(alloc: Global, count: usize) -> Result<Round, AllocError>
     Ok(Round::new(vec![in alloc; cell; count]?))
 }
 
-/// The empty path from one transition.
+// The empty path from one transition.
 fn only_at(alloc: Global, count: usize, start: TransitionId) -> Result<Round, AllocError>
     requires { start.index < count }
     ensures { IfOk result (StartsAt count start.index) }
@@ -41,20 +41,7 @@ fn only_at(alloc: Global, count: usize, start: TransitionId) -> Result<Round, Al
     Ok(Round::new(cells))
 }
 
-/// A transition of which the round tells more than the one before.
-fn better_at(cells: &[Cell]) -> Option<usize>
-    ensures none { IfNone result (NoneIsBetter cells.now) }
-    ensures some { IfSome result (IsBetter cells.now) }
-{
-    for (index, cell) in cells.iter().enumerate() {
-        if cell.by.is_some() {
-            return Some(index);
-        }
-    }
-    None
-}
-
-/// A circuit above the target that avoids the place; none where there is none.
+// A circuit above the target that avoids the place; none where there is none.
 pub(crate) fn above_apart(
     alloc: Global,
     net: &Net,
@@ -63,19 +50,20 @@ pub(crate) fn above_apart(
 ) -> Result<Option<Vec<PlaceId>>, AllocError>
     requires target { IsTarget target }
     ensures none { IfOk result (λ found. IfNone found (NoneIsAbove net.now target place)) }
-    ensures some { IfOk result (λ found. IfSome found (λ own. IsAboveApart net.now target place own.items)) }
+    ensures some { IfOk result (λ found. IfSome found (λ own. IsAboveApart net.now target place
+        own.items)) }
 {
     let count = net.transitions().len();
     let first = everywhere(alloc, count)?;
     let all = rounds(alloc, net, target, place, first, count + 1)?;
-    let Some(end) = better_at(all[count + 1].cells()) else {
+    let Some(end) = better_at(last_cells(&all)) else {
         return Ok(None);
     };
     let path = trace(alloc, net, &all, end)?;
     Ok(Some(first_loop(alloc, net, &path)?))
 }
 
-/// The best circuit that passes the place, where none that avoids it is above the target.
+// The best circuit that passes the place, where none that avoids it is above the target.
 pub(crate) fn best_through(
     alloc: Global,
     net: &Net,
@@ -86,14 +74,15 @@ pub(crate) fn best_through(
     requires place { place.index < length net.now.places }
     requires apart { NoneIsAbove net.now target place }
     ensures none { IfOk result (λ best. IfNone best (NonePasses net.now place)) }
-    ensures some { IfOk result (λ best. IfSome best (λ b. IsBestThrough net.now target place b.value b.places.items)) }
+    ensures some { IfOk result (λ best. IfSome best (λ b. IsBestThrough net.now target place b.value
+        b.places.items)) }
 {
     let count = net.transitions().len();
     let own = &net.places()[place.index as usize];
     let first = only_at(alloc, count, own.to)?;
     let all = rounds(alloc, net, target, place, first, count)?;
     let end = own.from.index as usize;
-    let Some(back) = all[count].cells()[end].value else {
+    let Some(back) = last_cells(&all)[end].value else {
         return Ok(None);
     };
     let mut places = trace(alloc, net, &all, end)?;

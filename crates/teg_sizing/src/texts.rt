@@ -1,45 +1,18 @@
 //! The text of an answer: how many further tokens are enough, or that none are, and the circuit
 //! that shows it; or that no place has a name.
-ghost use Rattle.std.specs.Prelude.{◌≡◌, ◌++◌, ◌∷◌, ◌<◌, [], flat_map, length, IfOk, string_bytes};
-ghost use Rattle.teg_net.specs.Circuits.{AreInRange};
+ghost use Rattle.std.specs.Prelude.{◌≡◌, ◌++◌, ◌<◌, [], length, IfOk, string_bytes};
 ghost use Rattle.teg_text.specs.Lines.{line_then, written};
 ghost use Rattle.teg_text.specs.Words.{AreBytes};
 ghost use Rattle.teg_sizing.specs.Rounds.{IsTarget};
 ghost use Rattle.teg_sizing.specs.Sizings.{IsSizing};
-ghost use Rattle.teg_sizing.specs.Texts.{TextsOfSizingsDiffer, circuit_line, enough_line, impossible_line, name_of, no_place_lines, sizing_lines, told, HasCircuitIn, HasNumberIn, IsToldOf};
+ghost use Rattle.teg_sizing.specs.Texts.{TextsOfSizingsDiffer, enough_line, impossible_line, no_place_lines, sizing_lines, told, HasCircuitIn, HasNumberIn, IsToldOf};
 
 use crate::sizing::Sizing;
 use std::alloc::{AllocError, Global};
-use teg_net::{Circuit, Net, OutOfMemory, PlaceId, Ratio};
-use teg_text::push_label;
+use teg_net::{Net, OutOfMemory, PlaceId, Ratio};
+use teg_text::{push_circuit, push_label};
 
-/// Appends the names of the places of a circuit in their order, each behind a blank.
-fn push_names(text: &mut String, net: &Net, circuit: &Circuit) -> Result<(), AllocError>
-    requires { AreInRange net.now circuit.now.places.items }
-    ensures { IfOk result (λ _. string_bytes text.new ≡
-        string_bytes text.old ++ flat_map (λ id. 32 ∷ name_of net.now id) circuit.now.places.items) }
-{
-    let places = net.places();
-    for id in &circuit.places {
-        text.push(' ')?;
-        text.push_str(places[id.index as usize].name.as_str())?;
-    }
-    Ok(())
-}
-
-/// Appends the line of a circuit.
-fn push_circuit(text: &mut String, net: &Net, circuit: &Circuit) -> Result<(), AllocError>
-    requires { AreInRange net.now circuit.now.places.items }
-    ensures { IfOk result (λ _. string_bytes text.new ≡
-        string_bytes text.old ++ line_then (circuit_line net.now circuit.now.places.items) []) }
-{
-    text.push_str("circuit")?;
-    push_names(text, net, circuit)?;
-    text.push('\n')?;
-    Ok(())
-}
-
-/// Appends the line of a number that is enough.
+// Appends the line of a number that is enough.
 fn push_enough(
     text: &mut String,
     net: &Net,
@@ -57,7 +30,7 @@ fn push_enough(
     write!(text, "size {name} {time}/{tokens} extra {extra}\n")
 }
 
-/// Appends the line that no number is.
+// Appends the line that no number is.
 fn push_impossible(
     text: &mut String,
     net: &Net,
@@ -74,8 +47,8 @@ fn push_impossible(
     write!(text, "size {name} {time}/{tokens} impossible\n")
 }
 
-/// The lines of an answer: one with the place, the target and the number or `impossible`, and one of
-/// the circuit where one is told.
+// The lines of an answer: one with the place, the target and the number or `impossible`, and one of
+// the circuit where one is told.
 fn told_text(
     alloc: Global,
     net: &Net,
@@ -85,7 +58,8 @@ fn told_text(
 ) -> Result<String, AllocError>
     requires place { place.index < length net.now.places }
     requires circuit { HasCircuitIn net.now (told sizing.now) }
-    ensures text { IfOk result (λ text. string_bytes text ≡ written (sizing_lines net.now place target.now (told sizing.now))) }
+    ensures text { IfOk result (λ text. string_bytes text
+        ≡ written (sizing_lines net.now place target.now (told sizing.now))) }
     ensures number { IfOk result (λ _. HasNumberIn (told sizing.now)) }
 {
     let mut text = String::new(alloc);
@@ -117,7 +91,8 @@ pub fn sizing_text(
     requires place { place.index < length net.now.places }
     requires target { IsTarget target.now }
     requires sizing { IsSizing net.now target.now place sizing.now }
-    ensures text { IfOk result (λ text. string_bytes text ≡ written (sizing_lines net.now place target.now (told sizing.now))) }
+    ensures text { IfOk result (λ text. string_bytes text
+        ≡ written (sizing_lines net.now place target.now (told sizing.now))) }
     ensures told { IfOk result (λ _. IsToldOf net.now place target.now (told sizing.now)) }
 {
     Ok(told_text(alloc, net, place, target, sizing)?)

@@ -6,7 +6,7 @@ use crate::rounds::Round;
 use std::alloc::{AllocError, Global};
 use teg_net::{Net, PlaceId};
 
-/// The places by which the rounds came to the transition, from the first on.
+// The places by which the rounds came to the transition, from the first on.
 pub(crate) fn trace(
     alloc: Global,
     net: &Net,
@@ -15,7 +15,8 @@ pub(crate) fn trace(
 ) -> Result<Vec<PlaceId>, AllocError>
     requires rounds { AreOfNet net.now rounds.now }
     requires end { end < length net.now.transitions }
-    ensures { IfOk result (λ places. places.items ≡ trace_of net.now rounds.now (length rounds.now) end) }
+    ensures { IfOk result (λ places. places.items ≡ trace_of net.now rounds.now (length rounds.now)
+        end) }
 {
     let mut places = Vec::new(alloc);
     let mut at = end;

@@ -33,7 +33,8 @@ fn machines(alloc: Global, count: u32) -> Result<Vec<Transition>, OutOfMemory>
 // Appends the own places of the first machines.
 fn push_own(alloc: Global, places: &mut Vec<Place>, count: u32) -> Result<(), OutOfMemory>
     requires { count ≤ 400 }
-    ensures { IfOk result (λ _. places.new.items ≡ places.old.items ++ map own_place (range_with_len 1 count)) }
+    ensures { IfOk result (λ _. places.new.items ≡ places.old.items ++ map own_place
+        (range_with_len 1 count)) }
 {
     for before in 0..count {
         let place = own_place(alloc, before + 1)?;
@@ -45,7 +46,8 @@ fn push_own(alloc: Global, places: &mut Vec<Place>, count: u32) -> Result<(), Ou
 // Appends the places by which the first machines hand on.
 fn push_feeds(alloc: Global, places: &mut Vec<Place>, count: u32) -> Result<(), OutOfMemory>
     requires { count ≤ 400 }
-    ensures { IfOk result (λ _. places.new.items ≡ places.old.items ++ map feed_place (range_with_len 1 count)) }
+    ensures { IfOk result (λ _. places.new.items ≡ places.old.items ++ map feed_place
+        (range_with_len 1 count)) }
 {
     for before in 0..count {
         let place = feed_place(alloc, before + 1)?;
@@ -57,7 +59,8 @@ fn push_feeds(alloc: Global, places: &mut Vec<Place>, count: u32) -> Result<(), 
 // Appends the places of the cards of the first machines.
 fn push_cards(alloc: Global, places: &mut Vec<Place>, count: u32) -> Result<(), OutOfMemory>
     requires { count ≤ 400 }
-    ensures { IfOk result (λ _. places.new.items ≡ places.old.items ++ map card_place (range_with_len 1 count)) }
+    ensures { IfOk result (λ _. places.new.items ≡ places.old.items ++ map card_place
+        (range_with_len 1 count)) }
 {
     for before in 0..count {
         let place = card_place(alloc, before + 1)?;

@@ -1,4 +1,5 @@
 use Rattle.std.proofs.Common.{ℕ, ◌+◌, ◌<◌, ◌≡◌, length, sym, ap, arith, ◌∙◌}
+use Rattle.std.proofs.lemmas.List.{length-set}
 use Rattle.teg_net.specs.Nets.{IsNet}
 use Rattle.teg_dates.specs.Tables.{cell_of}
 use Rattle.teg_jit.specs.Plans.{latest_in}
@@ -15,9 +16,12 @@ loop-index-preserved c =
     let width = c.transitions-width.ensures.value in
     let ok : IsNet net = c.transitions-width.ensures.rules in
     let l : i < n = rw width at c.loop-index-test.true in
-    let read : c.date_at.result ≡ date_there (latest_in n c.loop-index.dates i (c.args.number + 1)) = rw width at c.date_at.ensures in
+    let read : c.date_at.result ≡ date_there (latest_in n c.loop-index.dates i (c.args.number + 1)) = rw width at c.date_at.ensures.date in
     record {
-      full = c.match-date_at.auto.dates ∙ c.loop-index.invariant.full;
+      full = elim c.match-date_at.branch [
+        | in-Some w ↦ rw (w.dates-is, w.lower.ensures) (length-set _ _ _ ∙ c.loop-index.invariant.full)
+        | in-None w ↦ rw w.dates-is c.loop-index.invariant.full
+      ];
       passed = λ due s order.
           elim c.match-date_at.branch [
             | in-Some w ↦

@@ -1,0 +1,36 @@
+//! Latest inputs by the call for those who have the standard form.
+use std::alloc::Global;
+use std::test::Fail;
+use teg_check::check;
+use teg_due::read_due;
+use teg_form::standard_form;
+use teg_jit::{LatestDate, Onward, latest};
+use teg_net::{Net, PlaceId, TransitionId};
+use teg_reader::read_net;
+
+// A loop from a to b with hold 3, and back with hold 2 and a token.
+const LOOP: &[u8] =
+    b"transition = [{name = 'a'}, {name = 'b'}]\nplace = [{name = 'ab', from = 'a', to = 'b', hold = 3}, {name = 'ba', from = 'b', to = 'a', hold = 2, tokens = 1}]\n";
+
+// The latest date of a's first firing, where b's second is due at 20.
+fn first_of_a(alloc: Global, net: &Net) -> Result<Option<LatestDate>, Fail> {
+    let live = check(alloc, net)?;
+    let form = standard_form(alloc, net, &live)?;
+    let due = read_due(alloc, net, b"b,2,20\n")?;
+    let plan = latest(alloc, net, &live, &form, &due)?;
+    if net.transitions().len() < 2 || plan.numbers() < 1 {
+        return Ok(None);
+    }
+    Ok(Some(plan.latest(TransitionId { index: 0 }, 1)))
+}
+
+#[test]
+fn latest_inputs_with_the_form(rt: HostRuntime) -> Result<(), Fail> {
+    let net = read_net(rt.alloc(), LOOP)?;
+    let first = LatestDate::At {
+        date: 12,
+        onward: Onward::By(PlaceId { index: 0 }),
+    };
+    assert!(rt; first_of_a(rt.alloc(), &net)? == Some(first));
+    Ok(())
+}

@@ -1,0 +1,9 @@
+use Rattle.teg_dates.specs.Streams.{AreFirstRowsOf}
+use Rattle.teg_jit.proofs.DueNumbers.{TakenTo}
+use Rattle.teg_jit.proofs.due_numbers.take_dates.Given as goal
+
+abbrev pub invariant-loop-at : goal.invariant-loop-at
+invariant-loop-at l = record {
+  stands : AreFirstRowsOf l.net l.first;
+  taken : TakenTo l.net l.rows l.order l.first.window.number l.cells l.dates l.at-index;
+}

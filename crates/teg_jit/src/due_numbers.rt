@@ -1,0 +1,100 @@
+//! The least dates at the firings of a due list, taken from one row of dates after another.
+ghost use Rattle.std.specs.Prelude.{◌≡◌, ◌≤◌, ℕ, length, All, IfOk};
+ghost use Rattle.dioid.specs.declared.dates.Date.{Date};
+ghost use Rattle.teg_check.specs.Ranks.{IsRanking};
+ghost use Rattle.teg_model.specs.Datings.{IsLeastDating};
+ghost use Rattle.teg_dates.specs.Streams.{AreFirstRowsOf};
+ghost use Rattle.teg_dates.specs.Tables.{most_numbers};
+ghost use Rattle.teg_jit.specs.DueDates.{NameFirings};
+ghost use Rattle.teg_jit.specs.DueNumbers.{AreNumbered, HaveRow, AreDatesOfRows};
+
+use std::alloc::{AllocError, Global};
+use teg_check::Live;
+use teg_dates::FirstRows;
+use teg_due::DueRow;
+use teg_net::{Net, OutOfMemory};
+
+// The number of the firing that a row names, and the index of the row.
+#[derive(Clone, Copy, Debug, Drop)]
+pub(crate) struct Numbered {
+    pub(crate) number: u32,
+    pub(crate) index: usize,
+}
+
+// The rows in the order of their numbers.
+fn by_number(alloc: Global, rows: &[DueRow]) -> Result<Vec<Numbered>, AllocError>
+    ensures { IfOk result (λ order. AreNumbered rows.now order.items) }
+{
+    let mut order = Vec::new(alloc);
+    for (index, row) in rows.iter().enumerate() {
+        order.push(Numbered {
+            number: row.number,
+            index,
+        })?;
+    }
+    order.sort_by_key(|o| o.number)?;
+    Ok(order)
+}
+
+// Goes on to the dates of this number.
+fn go_on(net: &Net, first: &mut FirstRows, cells: &mut [u64], number: u32)
+    requires stands { AreFirstRowsOf net.now first.old }
+    requires number { first.old.window.number ≤ number }
+    requires few { number ≤ most_numbers }
+    requires full { length cells.old ≡ length net.now.transitions }
+    requires row { HaveRow net.now first.old.window.number cells.old }
+    ensures stands { AreFirstRowsOf net.now first.new }
+    ensures number { first.new.window.number ≡ number }
+    ensures row { HaveRow net.now number cells.new }
+{
+    for _done in first.number()..u64::from(number) {
+        first.next_row(net, cells);
+    }
+}
+
+// Takes the date of each row's firing from the row of dates of its number.
+fn take_dates(
+    net: &Net,
+    first: &mut FirstRows,
+    order: &[Numbered],
+    rows: &[DueRow],
+    cells: &mut [u64],
+    dates: &mut [u64],
+)
+    requires stands { AreFirstRowsOf net.now first.old }
+    requires begins { first.old.window.number ≡ 0 }
+    requires order { AreNumbered rows.now order.now }
+    requires due { NameFirings net.now rows.now }
+    requires few { All (λ r. r.number ≤ most_numbers) rows.now }
+    requires cells { length cells.old ≡ length net.now.transitions }
+    requires dates { length dates.old ≡ length rows.now }
+    ensures { (x : ℕ → ℕ → Date) → IsLeastDating net.now x → AreDatesOfRows x rows.now dates.new }
+{
+    for at in order {
+        let row = rows[at.index];
+        go_on(net, first, cells, row.number);
+        dates[at.index] = cells[row.transition.index as usize];
+    }
+}
+
+// The dates of the rows' firings by the least dating of the net: cells of eight bytes.
+pub(crate) fn dates_of_rows(
+    alloc: Global,
+    net: &Net,
+    live: &Live,
+    rows: &[DueRow],
+) -> Result<Vec<u64>, OutOfMemory>
+    requires stands { IsRanking net.now live.now }
+    requires due { NameFirings net.now rows.now }
+    requires few { All (λ r. r.number ≤ most_numbers) rows.now }
+    ensures dates { IfOk result (λ dates. (x : ℕ → ℕ → Date) → IsLeastDating net.now x
+        → AreDatesOfRows x rows.now dates.items) }
+    ensures exists { IfOk result (λ _. (x : ℕ → ℕ → Date) × IsLeastDating net.now x) }
+{
+    let order = by_number(alloc, rows)?;
+    let mut first = FirstRows::new(alloc, net, live)?;
+    let mut cells = vec![in alloc; 0u64; net.transitions().len()]?;
+    let mut dates = vec![in alloc; 0u64; rows.len()]?;
+    take_dates(net, &mut first, &order, rows, &mut cells, &mut dates);
+    Ok(dates)
+}
