@@ -1,19 +1,13 @@
 -- The line of a series, piece by piece.
-use Rattle.std.proofs.Common.{◌≡◌, refl, ap, sym, ◌∙◌, ℕ, ℤ, List, [], ◌∷◌, ◌++◌, map, codes, append_assoc}
+use Rattle.std.proofs.Common.{◌≡◌, ap, sym, ◌∙◌, ℕ, ℤ, List, [], ◌∷◌, ◌++◌, codes, append_assoc}
 use Rattle.std.specs.List.{flat_map}
 use Rattle.std.specs.Fmt.{decimal, signed_decimal}
 use Rattle.dioid.specs.declared.dates.Date.{Date}
 use Rattle.series_laws.specs.Forms.{form_with}
-use Rattle.teg_text.specs.Lines.{further_then, written}
+use Rattle.teg_text.specs.Lines.{written}
 use Rattle.teg_text.specs.Words.{date_word}
+use Rattle.teg_text.proofs.Joining.{further_both}
 use Rattle.teg_calc.specs.Printing.{series_line}
-
--- words behind blanks, before others
-further_both : {A : Type 0} (f : A → List ℕ) (l : List A) (words : List (List ℕ)) (rest : List ℕ) → further_then (map f l ++ words) rest ≡ flat_map (λ x. 32 ∷ f x) l ++ further_then words rest
-further_both f [] words rest = refl
-further_both {A} f (x ∷ l) words rest =
-    ap (λ (t : List ℕ). 32 ∷ (f x ++ t)) (further_both f l words rest)
-    ∙ sym (append_assoc (32 ∷ f x) (flat_map (λ (y : A). 32 ∷ f y) l) (further_then words rest))
 
 -- the line is the word, the dates, and the period and the step
 pub line_is : (values : List Date) (period : ℕ) (step : ℤ) → (codes "series" ++ flat_map (λ date. 32 ∷ date_word date) values) ++ (codes " period " ++ (decimal period ++ (codes " step " ++ (signed_decimal step ++ (10 ∷ [])))))

@@ -6,7 +6,7 @@ ghost use Rattle.teg_calc.specs.Readers.{closed, joined, level_of, multiplied, o
 use crate::expressions::Expr;
 use std::alloc::{AllocError, Global};
 
-/// What a bracket is opened for. The whole text counts as a bracket that never closes.
+// What a bracket is opened for. The whole text counts as a bracket that never closes.
 #[derive(Clone, Copy)]
 pub(crate) enum Call {
     Text,
@@ -16,8 +16,8 @@ pub(crate) enum Call {
     Left,
 }
 
-/// What stands in an open bracket before the operand that is read: the first operand of a call and
-/// its comma, the terms and their `+`, the factors and their `.`.
+// What stands in an open bracket before the operand that is read: the first operand of a call and
+// its comma, the terms and their `+`, the factors and their `.`.
 #[derive(Drop)]
 pub(crate) struct Bracket {
     pub(crate) call: Call,
@@ -26,7 +26,7 @@ pub(crate) struct Bracket {
     pub(crate) product: Option<Expr>,
 }
 
-/// A bracket in which nothing stands.
+// A bracket in which nothing stands.
 pub(crate) fn opened(call: Call) -> Bracket
     ensures { level_of result ≡ opened call }
 {
@@ -38,7 +38,7 @@ pub(crate) fn opened(call: Call) -> Bracket
     }
 }
 
-/// The sum so far, with one more term.
+// The sum so far, with one more term.
 pub(crate) fn joined(alloc: Global, sum: Option<Expr>, term: Expr) -> Result<Expr, AllocError>
     ensures { IfOk result (λ expr. tree_of expr ≡ joined (tree_in sum) (tree_of term)) }
 {
@@ -52,7 +52,7 @@ pub(crate) fn joined(alloc: Global, sum: Option<Expr>, term: Expr) -> Result<Exp
     }
 }
 
-/// The product so far, with one more factor.
+// The product so far, with one more factor.
 pub(crate) fn multiplied(
     alloc: Global,
     product: Option<Expr>,
@@ -70,7 +70,7 @@ pub(crate) fn multiplied(
     }
 }
 
-/// The factor that a bracket is, closed behind its last operand; none where it does not close there.
+// The factor that a bracket is, closed behind its last operand; none where it does not close there.
 pub(crate) fn closed(
     alloc: Global,
     call: Call,
@@ -96,7 +96,7 @@ pub(crate) fn closed(
     }
 }
 
-/// Whether a comma may come in this bracket: behind the first operand of a call of two.
+// Whether a comma may come in this bracket: behind the first operand of a call of two.
 pub(crate) fn takes_comma(call: Call, first: &Option<Expr>) -> bool
     ensures { result ≡ takes_comma call (tree_in first.now) }
 {

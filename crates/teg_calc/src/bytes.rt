@@ -2,7 +2,7 @@
 ghost use Rattle.std.specs.Prelude.{◌≡◌, ◌<◌, IfSome};
 ghost use Rattle.teg_calc.specs.Readers.{digit_of, sign_of};
 
-/// The signs of the grammar.
+// The signs of the grammar.
 #[derive(Clone, Copy)]
 pub(crate) enum Sign {
     Blank,
@@ -11,11 +11,11 @@ pub(crate) enum Sign {
     Comma,
     Plus,
     Dot,
-    /// Any other byte.
+    // Any other byte.
     Other,
 }
 
-/// The sign that a byte is.
+// The sign that a byte is.
 pub(crate) fn sign_of(byte: u8) -> Sign
     ensures { result ≡ sign_of byte }
 {
@@ -30,7 +30,7 @@ pub(crate) fn sign_of(byte: u8) -> Sign
     }
 }
 
-/// The value of a decimal digit.
+// The value of a decimal digit.
 pub(crate) fn digit_of(byte: u8) -> Option<u64>
     ensures value { result ≡ digit_of byte }
     ensures digit { IfSome result (λ digit. digit < 10) }

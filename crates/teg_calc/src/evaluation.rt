@@ -54,7 +54,7 @@ pub fn evaluate(alloc: Global, expr: &Expr) -> Result<Series, SeriesRefused>
     }
 }
 
-/// The monomial of a shift and a date with its sign.
+// The monomial of a shift and a date with its sign.
 fn monomial(alloc: Global, shift: u64, minus: bool, date: u64) -> Result<Series, SeriesRefused>
     requires shift { shift < 10 ^ 19 }
     requires date { date < 10 ^ 19 }
@@ -65,7 +65,7 @@ fn monomial(alloc: Global, shift: u64, minus: bool, date: u64) -> Result<Series,
     Series::monomial(alloc, shift, date)
 }
 
-/// A date with its sign.
+// A date with its sign.
 fn signed(minus: bool, date: u64) -> i128
     ensures value { result ≡ signed_date minus date }
     ensures size { unsigned_abs result ≡ date }

@@ -36,7 +36,7 @@ pub fn parse(alloc: Global, text: &[u8]) -> Result<Expr, ParseRefused>
     }
 }
 
-/// The refusal at an offset.
+// The refusal at an offset.
 fn refused(stop: Stop, at: u32) -> ParseRefused
     ensures { result ≡ refused_at at stop }
 {

@@ -10,18 +10,18 @@ use crate::refusals::Stop;
 use crate::tokens::{Part, Word, begun_by, letters};
 use std::alloc::Global;
 
-/// Where the next byte stands.
+// Where the next byte stands.
 #[derive(Drop)]
 pub(crate) enum Place {
-    /// Where an operand begins.
+    // Where an operand begins.
     Operand,
-    /// Inside a token or behind it.
+    // Inside a token or behind it.
     Within(Part),
-    /// Behind this term.
+    // Behind this term.
     Operator(Expr),
 }
 
-/// What was read so far: the outer open brackets, the innermost one, and where the next byte stands.
+// What was read so far: the outer open brackets, the innermost one, and where the next byte stands.
 #[derive(Drop)]
 pub(crate) struct Reader {
     pub(crate) outer: Vec<Bracket>,
@@ -30,7 +30,7 @@ pub(crate) struct Reader {
 }
 
 impl Reader {
-    /// Before the first byte.
+    // Before the first byte.
     pub(crate) fn new(alloc: Global) -> Reader
         ensures { state_of result ≡ start }
     {
@@ -41,7 +41,7 @@ impl Reader {
         }
     }
 
-    /// The reader after one more byte.
+    // The reader after one more byte.
     pub(crate) fn after(self, alloc: Global, byte: u8) -> Result<Reader, Stop>
         requires { StandsWell (stand_of self.place) }
         ensures { GoesOn (step (state_of self) byte) (length self.outer.items) byte result }
@@ -58,7 +58,7 @@ impl Reader {
         }
     }
 
-    /// The tree of what was read; Unexpected where that is no whole expression.
+    // The tree of what was read; Unexpected where that is no whole expression.
     pub(crate) fn finish(self, alloc: Global) -> Result<Expr, Stop>
         ensures { Finishes (finish (state_of self)) result }
     {
@@ -90,7 +90,7 @@ impl Reader {
     }
 }
 
-/// The brackets once one more is opened.
+// The brackets once one more is opened.
 fn nested(mut outer: Vec<Bracket>, inner: Bracket, call: Call) -> Result<Reader, Stop>
     ensures { Goes (λ o i _. Some (nested o i call)) outer.items inner 40 result }
 {
@@ -105,7 +105,7 @@ fn nested(mut outer: Vec<Bracket>, inner: Bracket, call: Call) -> Result<Reader,
     })
 }
 
-/// One byte more, where an operand begins.
+// One byte more, where an operand begins.
 fn operand(outer: Vec<Bracket>, inner: Bracket, byte: u8) -> Result<Reader, Stop>
     ensures { Goes operand_step outer.items inner byte result }
 {
@@ -127,7 +127,7 @@ fn operand(outer: Vec<Bracket>, inner: Bracket, byte: u8) -> Result<Reader, Stop
     }
 }
 
-/// Behind one more factor.
+// Behind one more factor.
 fn factored(
     alloc: Global,
     outer: Vec<Bracket>,
@@ -155,7 +155,7 @@ fn factored(
     })
 }
 
-/// The innermost bracket closed behind a term.
+// The innermost bracket closed behind a term.
 fn close(alloc: Global, mut outer: Vec<Bracket>, inner: Bracket, term: Expr) -> Result<Reader, Stop>
     ensures { Reaches (λ o i. close_step o i (tree_of term)) outer.items inner result }
 {
@@ -175,7 +175,7 @@ fn close(alloc: Global, mut outer: Vec<Bracket>, inner: Bracket, term: Expr) -> 
     }
 }
 
-/// One byte more behind a term.
+// One byte more behind a term.
 fn operator(
     alloc: Global,
     outer: Vec<Bracket>,
@@ -199,7 +199,7 @@ fn operator(
     }
 }
 
-/// Behind a term and a `+`.
+// Behind a term and a `+`.
 fn summed(alloc: Global, outer: Vec<Bracket>, inner: Bracket, term: Expr) -> Result<Reader, Stop>
     ensures { Reaches (λ o i. operator_by Sign.Plus o i (tree_of term)) outer.items inner result }
 {
@@ -222,7 +222,7 @@ fn summed(alloc: Global, outer: Vec<Bracket>, inner: Bracket, term: Expr) -> Res
     })
 }
 
-/// Behind a term and a `.`.
+// Behind a term and a `.`.
 fn before_factor(outer: Vec<Bracket>, inner: Bracket, term: Expr) -> Reader
     ensures { IsAt (λ o i. operator_by Sign.Dot o i (tree_of term)) outer.items inner result }
 {
@@ -244,7 +244,7 @@ fn before_factor(outer: Vec<Bracket>, inner: Bracket, term: Expr) -> Reader
     }
 }
 
-/// Behind the first operand of a call and a comma.
+// Behind the first operand of a call and a comma.
 fn comma(alloc: Global, outer: Vec<Bracket>, inner: Bracket, term: Expr) -> Result<Reader, Stop>
     ensures { Reaches (λ o i. comma_step o i (tree_of term)) outer.items inner result }
 {
@@ -270,7 +270,7 @@ fn comma(alloc: Global, outer: Vec<Bracket>, inner: Bracket, term: Expr) -> Resu
     })
 }
 
-/// The factor that a token is, where it may end there.
+// The factor that a token is, where it may end there.
 fn factor_of(part: Part) -> Option<Expr>
     ensures { tree_in result ≡ factor_of part }
 {
@@ -296,7 +296,7 @@ fn factor_of(part: Part) -> Option<Expr>
     }
 }
 
-/// One byte more in a token or behind it.
+// One byte more in a token or behind it.
 fn within(
     alloc: Global,
     outer: Vec<Bracket>,
@@ -324,7 +324,7 @@ fn within(
     }
 }
 
-/// One byte more behind a factor that ends before it.
+// One byte more behind a factor that ends before it.
 fn behind(
     alloc: Global,
     outer: Vec<Bracket>,
@@ -332,7 +332,8 @@ fn behind(
     factor: Expr,
     byte: u8,
 ) -> Result<Reader, Stop>
-    ensures { Goes (λ o i b. behind_step o i (Some (tree_of factor)) b) outer.items inner byte result }
+    ensures { Goes (λ o i b. behind_step o i (Some (tree_of factor)) b) outer.items inner byte
+        result }
 {
     let Bracket {
         call,
@@ -355,7 +356,7 @@ fn behind(
     )
 }
 
-/// A token with one byte more, where it goes on by that byte.
+// A token with one byte more, where it goes on by that byte.
 fn gone_on(part: Part, byte: u8) -> Option<Part>
     requires { HasFewDigits part }
     ensures value { result ≡ gone_on part byte }
@@ -396,7 +397,7 @@ fn gone_on(part: Part, byte: u8) -> Option<Part>
     }
 }
 
-/// The shift of a monomial with one byte more.
+// The shift of a monomial with one byte more.
 fn shift_on(count: u8, value: u64, byte: u8) -> Option<Part>
     requires { HasFewDigits (Part.Shift count value) }
     ensures value { result ≡ gone_on (Part.Shift count value) byte }
@@ -422,7 +423,7 @@ fn shift_on(count: u8, value: u64, byte: u8) -> Option<Part>
     }
 }
 
-/// The date of a monomial with one byte more.
+// The date of a monomial with one byte more.
 fn date_on(shift: u64, minus: bool, count: u8, value: u64, byte: u8) -> Option<Part>
     requires { HasFewDigits (Part.Date shift minus count value) }
     ensures value { result ≡ date_on shift minus count value byte }
@@ -443,7 +444,7 @@ fn date_on(shift: u64, minus: bool, count: u8, value: u64, byte: u8) -> Option<P
     }
 }
 
-/// One byte more in a word.
+// One byte more in a word.
 fn letter(
     alloc: Global,
     outer: Vec<Bracket>,
@@ -477,7 +478,7 @@ fn letter(
     }
 }
 
-/// Behind the name of a call.
+// Behind the name of a call.
 fn before_bracket(outer: Vec<Bracket>, inner: Bracket, call: Call) -> Reader
     ensures { IsAt (λ o i. Some (state o i (within (Part.Name call)))) outer.items inner result }
 {
@@ -488,7 +489,7 @@ fn before_bracket(outer: Vec<Bracket>, inner: Bracket, call: Call) -> Reader
     }
 }
 
-/// One byte more behind the name of a call.
+// One byte more behind the name of a call.
 fn named(outer: Vec<Bracket>, inner: Bracket, call: Call, byte: u8) -> Result<Reader, Stop>
     ensures { Goes (within_step (Part.Name call)) outer.items inner byte result }
 {

@@ -19,12 +19,12 @@ pub enum ParseRefused {
     OutOfMemory,
 }
 
-/// Why a reader does not go on by a byte.
+// Why a reader does not go on by a byte.
 #[derive(Clone, Copy, Drop)]
 pub(crate) enum Stop {
-    /// No expression goes on by this byte.
+    // No expression goes on by this byte.
     Unexpected,
-    /// The byte opens a bracket while 64 are open.
+    // The byte opens a bracket while 64 are open.
     TooDeep,
     OutOfMemory,
 }

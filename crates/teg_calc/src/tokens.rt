@@ -4,7 +4,7 @@ ghost use Rattle.teg_calc.specs.Readers.{HasFewDigits, begun_by, letters_of};
 
 use crate::brackets::Call;
 
-/// A word of more than one letter.
+// A word of more than one letter.
 #[derive(Clone, Copy)]
 pub(crate) enum Word {
     Eps,
@@ -14,30 +14,30 @@ pub(crate) enum Word {
     Left,
 }
 
-/// What is read of a token that is not whole, or that may go on.
+// What is read of a token that is not whole, or that may go on.
 #[derive(Clone, Copy)]
 pub(crate) enum Part {
-    /// The first letters of a word.
+    // The first letters of a word.
     Letters {
         word: Word,
         read: usize,
     },
-    /// `e`, which may go on to `eps`.
+    // `e`, which may go on to `eps`.
     Unit,
-    /// The name of a call, whose bracket comes next.
+    // The name of a call, whose bracket comes next.
     Name {
         call: Call,
     },
-    /// `g` and the digits of a shift so far.
+    // `g` and the digits of a shift so far.
     Shift {
         count: u8,
         value: u64,
     },
-    /// A monomial up to its `d`.
+    // A monomial up to its `d`.
     Delta {
         shift: u64,
     },
-    /// A monomial up to the digits of its date so far.
+    // A monomial up to the digits of its date so far.
     Date {
         shift: u64,
         minus: bool,
@@ -46,7 +46,7 @@ pub(crate) enum Part {
     },
 }
 
-/// The letters of a word.
+// The letters of a word.
 pub(crate) fn letters(word: Word) -> &'static [u8]
     ensures { result.now ≡ letters_of word }
 {
@@ -59,7 +59,7 @@ pub(crate) fn letters(word: Word) -> &'static [u8]
     }
 }
 
-/// What the first letter of a word or a monomial begins.
+// What the first letter of a word or a monomial begins.
 pub(crate) fn begun_by(byte: u8) -> Option<Part>
     ensures value { result ≡ begun_by byte }
     ensures short { IfSome result HasFewDigits }
@@ -75,7 +75,7 @@ pub(crate) fn begun_by(byte: u8) -> Option<Part>
     }
 }
 
-/// The first letter of a word.
+// The first letter of a word.
 fn letter(word: Word) -> Part
     ensures { result ≡ Part.Letters word 1 }
 {

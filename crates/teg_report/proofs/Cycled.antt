@@ -12,15 +12,16 @@ use Rattle.teg_net.specs.declared.answers.Potential.{Potential}
 use Rattle.teg_net.specs.declared.entries.TransitionId.{TransitionId}
 use Rattle.teg_net.specs.Nets.{NetLists, IsNet}
 use Rattle.teg_net.specs.Ratios.{Fraction}
-use Rattle.teg_report.specs.Answering.{transition_in, ratio_in, potential_in, part_in, members_in, is_first_round, is_member, is_part, is_part_line, told_in, parts_in, round_in, rounds_in, some_runs, cycle_in, answer_of}
+use Rattle.teg_report.specs.Answering.{potential_in, part_in, members_in, is_first_round, is_member, is_part, is_part_line, told_in, parts_in, round_in, rounds_in, some_runs, cycle_in, answer_of}
 use Rattle.teg_report.specs.Answers.{Cycle}
 use Rattle.teg_report.specs.Cycles.{CycleLists, PartLists, NoCircuitIn, BestOf, members_from, member_line, potential_line, part_lines, part_at, best_lines, cycle_lines, IsPotentialIn, IsPartTold, has_ratio, IsFirstOf, IsCycleTold}
 use Rattle.teg_report.specs.Kept.{IsRunKept}
 use Rattle.teg_report.specs.Rounds.{RoundLists, AreRoundsTold, circuits_in, runs_lines, told_runs}
 use Rattle.teg_report.proofs.IsRead.{IsRead}
-use Rattle.teg_report.proofs.Rounded.{all_pass, those_all, those_none, those_append, ratio_back, circuit_read, round_blocks, runs_read, rounds_told, rounds_back}
-use Rattle.teg_report.proofs.Words.{transition_is_word, transition_back}
+use Rattle.teg_report.proofs.Rounded.{all_pass, those_all, those_none, those_append, round_blocks, runs_read, rounds_told, rounds_back}
+use Rattle.teg_text.proofs.NamesRead.{circuits, ratio_back, transition_back, transition_is_word}
 use Rattle.teg_text.specs.Lines.{is_line, are_lines}
+use Rattle.teg_text.specs.Names.{ratio_in, transition_in}
 use Rattle.teg_text.specs.Reading.{line_at, word}
 use Rattle.teg_text.specs.Rows.{Blocks, is_block, blocks_in, first_where, those}
 use Rattle.teg_text.proofs.Back.{signed_back, ratio_is_word}
@@ -76,7 +77,7 @@ part_read net part_of n NoCircuitIn rules full h =
       members = map_back (λ t. t.index < length net.transitions) (member_line net) (λ line. transition_in net (word 1 line)) (λ t l. transition_back net t rules l) (members_from 0 part_of n) within;
     }
 part_read net part_of n (BestOf ratio circuit potentials) rules full h =
-    let places = rows _ _ _ _ (circuit_read net rules) in
+    let places = circuits net rules in
     let values = rows _ _ _ _ (potential_read net rules) in
     record {
       words = rw (decimal_is_word (n + 1), ratio_is_word ratio.time ratio.tokens, places.passes circuit h.circuit_in) (values.passes potentials h.potentials_in);
@@ -90,7 +91,7 @@ best_read : (net : NetLists) (parts : List PartLists) (best : ℕ) (part : PartL
     (are_lines (best_lines net part) ≡ true) × (drop 2 (best_lines net part ++ rest) ≡ rest) × (first_where (has_ratio (ratio_in (word 2 (line_at 0 (best_lines net part ++ rest))))) parts ≡ best)
 best_read net parts best NoCircuitIn members rest rules l e first h = absurd first
 best_read net parts best (BestOf ratio circuit potentials) members rest rules l e first h =
-    let places = rows _ _ _ _ (circuit_read net rules) in
+    let places = circuits net rules in
     let same_time : (ratio.time == ratio.time) ≡ true = eq-eqb ratio.time ratio.time refl in
     let same_tokens : (ratio.tokens == ratio.tokens) ≡ true = eq-eqb ratio.tokens ratio.tokens refl in
     let here : has_ratio ratio (part_at parts best) ≡ true = ap (has_ratio ratio) e ∙ rw (same_time, same_tokens) refl in (

@@ -20,15 +20,15 @@ use Rattle.teg_net.specs.Nets.{NetLists, IsNet}
 use Rattle.teg_net.specs.Walks.{Walks}
 use Rattle.teg_report.specs.Answering.{latest_in, late_in, onward_in, planned_in, steps_in}
 use Rattle.teg_report.specs.Answers.{Jit, Late}
-use Rattle.teg_report.specs.Forms.{name_of_transition, no_transition}
 use Rattle.teg_report.specs.Kept.{AreLateNumbers, AreLatestKept, IsLateKept, IsLatestKept}
 use Rattle.teg_report.specs.Plans.{IsLateIn, IsLateTold, IsLatestIn, IsOnwardIn, IsPlanIn, LateLists, late_line, late_lines, latest_words, onward_words, path_line, plan_lines, planned_line, planned_lines, role_word, steps_words}
 use Rattle.teg_report.proofs.IsRead.{IsRead}
-use Rattle.teg_report.proofs.Words.{place_is_word, place_back, transition_is_word, transition_back}
+use Rattle.teg_text.proofs.NamesRead.{place_back, place_is_word, transition_back, transition_is_word}
 use Rattle.teg_text.specs.Lines.{is_line, is_word}
 use Rattle.teg_text.proofs.Back.{number_back, word32_back, word64_back}
 use Rattle.teg_text.proofs.Rows.{grid_passes, numbered_back}
 use Rattle.teg_text.proofs.Words.{decimal_is_word, decimal_is_numeral}
+use Rattle.teg_text.specs.Names.{name_of_transition, no_transition}
 
 -- latest dates
 

@@ -1,5 +1,5 @@
 -- Lines of latest dates and of walks, as their parts.
-use Rattle.std.proofs.Common.{◌≡◌, ℕ, ◌+◌, ◌<◌, ◌≤◌, List, [], ◌∷◌, ◌++◌, decimal, length, get_or, drop, refl, sym, subst, ap, ◌∙◌, append_assoc, arith}
+use Rattle.std.proofs.Common.{◌≡◌, ℕ, ◌+◌, ◌<◌, ◌≤◌, List, [], ◌∷◌, ◌++◌, length, get_or, drop, refl, sym, subst, ap, ◌∙◌, append_assoc, arith}
 use Rattle.std.proofs.lemmas.List.Elements.{All-tail}
 use Rattle.std.specs.List.{flat_map}
 use Rattle.std.proofs.Math.ListN.{drop_of_length-le}
@@ -15,18 +15,6 @@ use Rattle.teg_net.specs.Walks.{numbers_of, IsStepOf}
 use Rattle.teg_report.specs.Plans.{IsPathIn, step_number, step_to, step_words, steps_words}
 use Rattle.teg_text.specs.Lines.{further_then, line_then, written}
 use Rattle.teg_text.proofs.Joining.{line_append, written_append}
-
--- the words of a line, before further ones
-pub latest_begins : (word name : List ℕ) (k date : ℕ) (words : List (List ℕ)) (before text : List ℕ) →
-    text ≡ before ++ (word ++ 32 ∷ (name ++ 32 ∷ (decimal k ++ 32 ∷ decimal date))) →
-    text ++ further_then words [] ≡ before ++ line_then (word ∷ name ∷ decimal k ∷ decimal date ∷ words) []
-latest_begins word name k date words before text e =
-    let end = further_then words [] in
-    ap (λ (l : List ℕ). l ++ end) e
-    ∙ (append_assoc before _ end
-    ∙ ap (λ (l : List ℕ). before ++ l)
-    (append_assoc word _ end ∙ ap (λ (l : List ℕ). word ++ 32 ∷ l)
-    (append_assoc name _ end ∙ ap (λ (l : List ℕ). name ++ 32 ∷ l) (append_assoc (decimal k) (32 ∷ decimal date) end))))
 
 -- words behind others
 further_more : (words more : List (List ℕ)) → further_then (words ++ more) [] ≡ flat_map (λ word. 32 ∷ word) words ++ further_then more []

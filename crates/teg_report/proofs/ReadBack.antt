@@ -1,5 +1,5 @@
 -- Each answer that is told is read back from its text.
-use Rattle.std.proofs.Common.{◌≡◌, ℕ, ◌<◌, refl, ap, ◌∙◌, Option, None, Some, length, ◌∷◌, []}
+use Rattle.std.proofs.Common.{◌≡◌, ℕ, ◌<◌, refl, Option, None, Some, length, ◌∷◌, []}
 use Rattle.dioid.specs.declared.dates.Date.{Date as DateOf}
 use Rattle.teg_net.specs.declared.entries.TransitionId.{TransitionId}
 use Rattle.teg_net.specs.Nets.{NetLists, IsNet}
@@ -7,7 +7,6 @@ use Rattle.teg_report.specs.declared.answer.Which.{Which}
 use Rattle.teg_report.specs.declared.answer.Which.TheVariants.{Net as NetFile, Due as DueFile, Log as LogFile, Timetable as TimetableFile}
 use Rattle.teg_report.specs.Answering.{answer_of, answer_in, AreOfOneNet, IsNamedBy}
 use Rattle.teg_report.specs.Answers.{Answer, Usage, Live, Listed, Form, NoCircuit, Cycle, Dates, Date, Jit, Late, Slack, Transfer, Replayed, Refused, Calc, Trial, Read, TooLarge, TokenFree, NoTransition, Due, Log, TooLong, Parse, Series, Fault}
-use Rattle.teg_report.specs.Forms.{name_of_transition}
 use Rattle.teg_report.specs.Kept.{IsTold, IsWord64}
 use Rattle.teg_report.specs.Reports.{lines_of, names_of, text_of}
 use Rattle.teg_report.specs.Texts.{date_line}
@@ -20,10 +19,11 @@ use Rattle.teg_report.proofs.RowsRead.{due_read, log_read, refused_read, replaye
 use Rattle.teg_report.proofs.SeriesRead.{series_read, parse_read, series_refused_read}
 use Rattle.teg_report.proofs.SettledRead.{settled_read, transfer_read}
 use Rattle.teg_report.proofs.SlacksRead.{slack_read, trial_read}
-use Rattle.teg_report.proofs.Words.{transition_is_word, transition_back}
+use Rattle.teg_text.proofs.NamesRead.{transition_back, transition_is_word}
+use Rattle.teg_text.specs.Names.{name_of_transition}
 use Rattle.teg_text.specs.Words.{IsDate}
 use Rattle.teg_text.proofs.Back.{word32_back, word64_back, date_back, label_back}
-use Rattle.teg_text.proofs.Reading.{written_read}
+use Rattle.teg_text.proofs.Telling.{text_back}
 use Rattle.teg_text.proofs.Words.{decimal_is_word, date_is_word, label_is_word}
 
 -- files
@@ -79,9 +79,7 @@ lines_read net names e (Series refusal) h = series_refused_read names refusal h.
 lines_read net names e (Fault file) h = fault_read names (names_of net) file
 
 pub told_read : (net : Option NetLists) (names : NetLists) → IsNamedBy net names → (answer : Answer) → IsTold net answer → answer_in names (text_of net answer) ≡ answer
-told_read net names e answer h =
-    let read = lines_read net names e answer h in
-    ap (answer_of names) (written_read (lines_of (names_of net) answer) read.words) ∙ read.back
+told_read net names e answer h = text_back (answer_of names) (lines_of (names_of net) answer) answer (lines_read net names e answer h)
 
 -- the one net of two answers
 pub one_net : (one two : Option NetLists) → AreOfOneNet one two → (names : NetLists) × IsNamedBy one names × IsNamedBy two names

@@ -7,21 +7,17 @@ use Rattle.std.proofs.lemmas.List.Folds.{flat_map-map}
 use Rattle.std.proofs.lemmas.List.Concat.{flat_map-append}
 use Rattle.std.proofs.lemmas.List.FromFn.{get_or-range_with_len, length-range_with_len}
 use Rattle.std.specs.List.{flat_map, list_all, range_with_len}
-use Rattle.teg_net.specs.declared.entries.PlaceId.{PlaceId}
 use Rattle.teg_net.specs.declared.rounds.Choice.{Choice}
 use Rattle.teg_net.specs.Nets.{NetLists, IsNet}
-use Rattle.teg_net.specs.Ratios.{Fraction}
-use Rattle.teg_report.specs.Answering.{choice_in, is_first_round, is_part, is_part_line, place_in, ratio_in, round_in, some_runs}
+use Rattle.teg_report.specs.Answering.{choice_in, is_first_round, is_part, is_part_line, round_in, some_runs}
 use Rattle.teg_report.specs.Cycles.{PartLists, NoCircuitIn, BestOf}
 use Rattle.teg_report.specs.Kept.{IsChoiceKept, IsRoundKept, IsRunKept}
 use Rattle.teg_report.specs.Rounds.{RoundLists, Run, no_round, choice_line, round_lines, run_lines, runs_lines, circuits_in, runs_from, told_runs, IsChoiceIn, IsRoundIn, IsRunIn, AreRoundsTold}
-use Rattle.teg_report.specs.Texts.{name_of_place}
-use Rattle.teg_report.proofs.Words.{transition_is_word, place_is_word, transition_back, place_back}
-use Rattle.teg_text.specs.Lines.{is_word, is_line, are_lines}
+use Rattle.teg_text.proofs.NamesRead.{circuits, place_back, place_is_word, ratio_back, transition_back, transition_is_word}
+use Rattle.teg_text.specs.Lines.{is_line, are_lines}
 use Rattle.teg_text.specs.Reading.{number_in}
 use Rattle.teg_text.specs.Rows.{Blocks, is_block, blocks_in, those}
-use Rattle.teg_text.specs.Words.{ratio_word}
-use Rattle.teg_text.proofs.Back.{number_back, signed_back, time_back, tokens_back, ratio_is_word}
+use Rattle.teg_text.proofs.Back.{number_back, signed_back, ratio_is_word}
 use Rattle.teg_text.proofs.Rows.{IsReadBack, rows, map_passes, blocks_back, flat_passes, range_all, row_back}
 use Rattle.teg_text.proofs.Words.{decimal_is_word, signed_is_word}
 
@@ -52,14 +48,6 @@ map_same : {A B : Type 0} (P : A → Type 0) (f g : A → B) → ((a : A) → P 
 map_same P f g same [] h = refl
 map_same P f g same (x ∷ xs) h = ap₂ (λ (y : _) (ys : List _). y ∷ ys) (same x (All-head P x xs h)) (map_same P f g same xs (All-tail P x xs h))
 
--- ratios and circuits
-
-pub ratio_back : (ratio : Fraction) → ratio.time < 2 ^ 64 → ratio.tokens < 2 ^ 64 → ratio_in (ratio_word ratio.time ratio.tokens) ≡ ratio
-ratio_back ratio h k = λ i. record { time = time_back ratio.time ratio.tokens h i; tokens = tokens_back ratio.time ratio.tokens k i }
-
-pub circuit_read : (net : NetLists) → IsNet net → IsReadBack (λ (p : PlaceId). p.index < length net.places) is_word (name_of_place net) (place_in net)
-circuit_read net rules = record { passes = λ p l. place_is_word net p rules l; back = λ p l. place_back net p rules l }
-
 -- a round
 
 record IsChoiceTold (net : NetLists) (c : Choice) : Type 0 where
@@ -79,7 +67,7 @@ record IsRoundRead (net : NetLists) (part k : ℕ) (r : RoundLists) : Type 0 whe
 
 round_read : (net : NetLists) (part k : ℕ) (r : RoundLists) → IsNet net → IsRoundIn net r → IsRoundKept r → IsRoundRead net part k r
 round_read net part k r rules h kept =
-    let places = rows _ _ _ _ (circuit_read net rules) in
+    let places = circuits net rules in
     let choices = rows _ _ _ _ (choice_read net rules) in
     let all : All (IsChoiceTold net) r.choices = λ i d l. record { inside = h.choices i d l; kept = kept.choices i d l } in
     record {

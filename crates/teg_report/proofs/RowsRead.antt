@@ -16,7 +16,7 @@ use Rattle.teg_report.specs.FileRows.{IsFailureIn, IsOneLine, due_line, log_line
 use Rattle.teg_report.specs.Kept.{IsDueKept, IsLogKept, IsWord32, IsWord64}
 use Rattle.teg_report.specs.Reports.{names_of}
 use Rattle.teg_report.proofs.IsRead.{IsRead, with_net}
-use Rattle.teg_report.proofs.Words.{place_is_word, place_back}
+use Rattle.teg_text.proofs.NamesRead.{place_back, place_is_word}
 use Rattle.teg_text.specs.Lines.{are_lines, is_line, phrase}
 use Rattle.teg_text.specs.Reading.{phrase_in}
 use Rattle.teg_text.proofs.Back.{word32_back, word64_back}

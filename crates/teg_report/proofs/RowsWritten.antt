@@ -1,24 +1,11 @@
--- Lines of refused rows, and lines of monitors, as their parts.
-use Rattle.std.proofs.Common.{◌≡◌, ℕ, ◌+◌, ◌<◌, ◌≤◌, List, [], ◌∷◌, ◌++◌, decimal, subst, refl, sym, ap, ◌∙◌, append-nil, codes, map, take, length, get_or}
+-- Lines of monitors as their parts.
+use Rattle.std.proofs.Common.{◌≡◌, ℕ, ◌+◌, ◌<◌, ◌≤◌, List, [], ◌∷◌, ◌++◌, refl, sym, ap, ◌∙◌, map, take, length, get_or}
 use Rattle.std.specs.List.{flat_map}
 use Rattle.std.proofs.lemmas.List.{take_all}
 use Rattle.std.proofs.lemmas.Simd.{map-map}
-use Rattle.teg_report.specs.FileRows.{row_line}
 use Rattle.teg_text.specs.Lines.{phrase, further_then, line_then, written}
-use Rattle.teg_text.proofs.Joining.{further_phrase, lines_end, phrase_some}
+use Rattle.teg_text.proofs.Joining.{phrase_behind, lines_end, phrase_some}
 use Rattle.teg_text.proofs.Listing.{more_items}
-
--- a phrase behind a blank
-phrase_behind : (text : List ℕ) → further_then (phrase text) [] ≡ 32 ∷ (text ++ 10 ∷ [])
-phrase_behind text = subst (λ (words : List (List ℕ)). further_then words [] ≡ 32 ∷ (text ++ 10 ∷ [])) (append-nil (phrase text)) (further_phrase text [] [])
-
--- what is wrong at a row
-pub row_written : (file fault : List ℕ) (row : ℕ) →
-    line_then (row_line file row (phrase fault)) [] ≡ codes "refused: " ++ (file ++ (codes " row " ++ (decimal row ++ (32 ∷ (fault ++ 10 ∷ [])))))
-row_written file fault row =
-    ap (λ (t : List ℕ). codes "refused:" ++ t)
-    (further_phrase file (codes "row" ∷ decimal row ∷ phrase fault) []
-    ∙ ap (λ (t : List ℕ). 32 ∷ (file ++ (codes " row " ++ (decimal row ++ t)))) (phrase_behind fault))
 
 -- a line that is a phrase
 line_of : (line : List (List ℕ)) (word text : List ℕ) (words : List (List ℕ)) → line ≡ word ∷ words → further_then line [] ≡ 32 ∷ text → line_then line [] ≡ text

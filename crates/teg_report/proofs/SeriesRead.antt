@@ -23,17 +23,8 @@ use Rattle.teg_text.specs.Lines.{is_word}
 use Rattle.teg_text.specs.Reading.{date_in, number_in, signed_in}
 use Rattle.teg_text.specs.Words.{IsDate, date_word}
 use Rattle.teg_text.proofs.Back.{number_back, word32_back, word64_back, signed_back, date_back}
-use Rattle.teg_text.proofs.Rows.{map_back, map_passes}
+use Rattle.teg_text.proofs.Rows.{before_back, behind_back, map_back, map_passes}
 use Rattle.teg_text.proofs.Words.{all_append, decimal_is_word, date_is_word, signed_is_word}
-
--- the words before and those behind
-pub before_back : (words more : List (List ℕ)) → take (length words) (words ++ more) ≡ words
-before_back [] more = refl
-before_back (w ∷ words) more = ap (λ (l : List (List ℕ)). w ∷ l) (before_back words more)
-
-pub behind_back : (words more : List (List ℕ)) (i : ℕ) → get_or (words ++ more) (length words + i) [] ≡ get_or more i []
-behind_back [] more i = let same : 0 + i ≡ i = omega arith in ap (λ (j : ℕ). get_or more j []) same
-behind_back (w ∷ words) more i = let same : suc (length words) + i ≡ suc (length words + i) = omega arith in ap (λ (j : ℕ). get_or (w ∷ (words ++ more)) j []) same ∙ behind_back words more i
 
 abbrev told_values : SeriesForm → List (List ℕ)
 told_values f = map date_word f.values
@@ -52,10 +43,10 @@ series_back f h =
     ∙ (ap (map date_in) (before_back (told_values f) (told_numbers f)) ∙ map_back IsDate date_word date_in date_back f.values h.values) in
     let period : number_in (get_or (series_line f) (length (series_line f) - 3) []) ≡ f.period =
     ap (λ (k : ℕ). number_in (get_or (series_line f) k [])) third
-    ∙ (ap number_in (behind_back (told_values f) (told_numbers f) 1) ∙ word64_back f.period h.period) in
+    ∙ (ap number_in (behind_back (told_values f) (told_numbers f) 1 []) ∙ word64_back f.period h.period) in
     let step : signed_in (get_or (series_line f) (length (series_line f) - 1) []) ≡ f.step =
     ap (λ (k : ℕ). signed_in (get_or (series_line f) k [])) last
-    ∙ (ap signed_in (behind_back (told_values f) (told_numbers f) 3) ∙ signed_back f.step h.step) in
+    ∙ (ap signed_in (behind_back (told_values f) (told_numbers f) 3 []) ∙ signed_back f.step h.step) in
     λ i. record { values = values i; period = period i; step = step i }
 
 pub series_read : (names : NetLists) (f : SeriesForm) → IsSeriesKept f → IsRead names (series_line f ∷ []) (Calc f)

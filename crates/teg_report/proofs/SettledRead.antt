@@ -10,18 +10,17 @@ use Rattle.settled_laws.specs.Forms.{SettledForm, row_of, step_of}
 use Rattle.teg_net.specs.Nets.{NetLists, IsNet}
 use Rattle.teg_report.specs.Answering.{is_from, row_dates_in, row_step_in, times_to_in, times_from_in}
 use Rattle.teg_report.specs.Answers.{Dates, Transfer}
-use Rattle.teg_report.specs.Forms.{name_of_transition}
 use Rattle.teg_report.specs.Kept.{AreTimesKept, AreTimesToKept, IsSettledKept}
-use Rattle.teg_report.specs.SettledTexts.{AreTimesIn, TimesFrom, TimesTo, from_line, from_lines, output_count, row_words, settled_line, settled_lines, settled_words, to_line, transfer_lines}
+use Rattle.teg_report.specs.SettledTexts.{AreTimesIn, TimesFrom, TimesTo, from_line, from_lines, output_count, row_words, settled_line, settled_lines, to_line, transfer_lines}
 use Rattle.teg_report.proofs.IsRead.{IsRead}
-use Rattle.teg_report.proofs.SeriesRead.{before_back, behind_back}
-use Rattle.teg_report.proofs.Words.{transition_is_word, transition_back}
+use Rattle.teg_text.proofs.NamesRead.{settled_are_words, transition_back, transition_is_word}
 use Rattle.teg_text.specs.Lines.{is_line, is_word}
+use Rattle.teg_text.specs.Names.{name_of_transition}
 use Rattle.teg_text.specs.Reading.{date_in, signed_in}
 use Rattle.teg_text.specs.Rows.{Blocks, blocks_in, is_block}
 use Rattle.teg_text.specs.Words.{IsDate, date_word}
 use Rattle.teg_text.proofs.Back.{date_back, signed_back, word64_back}
-use Rattle.teg_text.proofs.Rows.{IsReadBack, blocks_back, flat_passes, map_back, map_passes, range_all, row_back, rows}
+use Rattle.teg_text.proofs.Rows.{IsReadBack, before_back, behind_back, blocks_back, flat_passes, map_back, map_passes, range_all, row_back, rows}
 use Rattle.teg_text.proofs.Words.{all_append, date_is_word, decimal_is_word, signed_is_word}
 
 -- dates and a step
@@ -45,10 +44,7 @@ step_back a b dates step h =
     let more = codes "step" ∷ signed_decimal step ∷ [] in
     let last : length (a ∷ b ∷ (told ++ more)) - 1 ≡ suc (suc (length told + 1)) = omega (arith, length-append told more) in
     ap (λ (n : ℕ). signed_in (get_or (a ∷ b ∷ (told ++ more)) n [])) last
-    ∙ (ap signed_in (behind_back told more 1) ∙ signed_back step h)
-
-settled_is_words : (after period : ℕ) → list_all is_word (settled_words after period) ≡ true
-settled_is_words after period = rw (decimal_is_word after, decimal_is_word period) refl
+    ∙ (ap signed_in (behind_back told more 1 []) ∙ signed_back step h)
 
 -- a settled form
 
@@ -67,7 +63,7 @@ settled_read f h net rules full =
     let after = word64_back f.after h.after in
     let period = word64_back f.period h.period in
     record {
-      words = and_from _ _ (settled_is_words f.after f.period) all;
+      words = and_from _ _ (settled_are_words f.after f.period) all;
       back = λ i. Dates (record { after = after i; period = period i; rows = dates i; steps = steps i });
     }
 

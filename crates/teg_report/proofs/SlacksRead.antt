@@ -6,23 +6,18 @@ use Rattle.teg_critical.specs.declared.slacks.Slack.{Slack}
 use Rattle.teg_critical.specs.declared.slacks.Slack.TheVariants.{NoCircuit, Critical, Rise}
 use Rattle.teg_net.specs.Nets.{NetLists, IsNet}
 use Rattle.teg_net.specs.Ratios.{Fraction}
-use Rattle.teg_report.specs.Answering.{answer_of, ratio_in, slack_in}
+use Rattle.teg_report.specs.Answering.{answer_of, slack_in}
 use Rattle.teg_report.specs.Answers.{Slack as SlackAnswer, Trial}
 use Rattle.teg_report.specs.Kept.{IsRatioKept, IsSlackKept, IsTrialKept}
 use Rattle.teg_report.specs.Slacks.{slack_line, slack_lines, slack_words, trial_lines}
 use Rattle.teg_report.proofs.IsRead.{IsRead}
-use Rattle.teg_report.proofs.Words.{place_is_word}
+use Rattle.teg_text.proofs.NamesRead.{place_is_word, ratio_back}
 use Rattle.teg_text.specs.Lines.{is_line, is_word}
+use Rattle.teg_text.specs.Names.{ratio_in}
 use Rattle.teg_text.specs.Words.{ratio_word}
-use Rattle.teg_text.proofs.Back.{word32_back, word64_back, date_back, time_back, tokens_back, ratio_is_word}
+use Rattle.teg_text.proofs.Back.{word32_back, word64_back, date_back, ratio_is_word}
 use Rattle.teg_text.proofs.Rows.{map_passes, range_all, row_back}
 use Rattle.teg_text.proofs.Words.{decimal_is_word, date_is_word}
-
-ratio_back : (ratio : Fraction) → IsRatioKept ratio → ratio_in (ratio_word ratio.time ratio.tokens) ≡ ratio
-ratio_back ratio h =
-    let time = time_back ratio.time ratio.tokens h.0 in
-    let tokens = tokens_back ratio.time ratio.tokens h.1 in
-    λ i. record { time = time i; tokens = tokens i }
 
 words_are_words : (slack : Slack) → list_all is_word (slack_words slack) ≡ true
 words_are_words NoCircuit = refl
@@ -54,12 +49,12 @@ slack_read ratio slacks kept net rules full =
     row_back slack_in line (length slacks) slacks NoCircuit refl (λ i l. slack_back net i (slice_index_or slacks i NoCircuit) (kept.1 i NoCircuit l)) in
     record {
       words = rw (ratio_is_word ratio.time ratio.tokens) lines;
-      back = timed_back net ratio slacks ∙ ap₂ SlackAnswer (ratio_back ratio kept.0) back;
+      back = timed_back net ratio slacks ∙ ap₂ SlackAnswer (ratio_back ratio kept.0.0 kept.0.1) back;
     }
 
 pub trial_read : (names : NetLists) (machines places : ℕ) (ratio : Fraction) (critical : ℕ) (last : Date) → IsTrialKept machines places ratio critical last →
     IsRead names (trial_lines machines places ratio critical last) (Trial machines places ratio critical last)
 trial_read names machines places ratio critical last h = record {
   words = rw (decimal_is_word machines, decimal_is_word places, ratio_is_word ratio.time ratio.tokens, decimal_is_word critical, date_is_word last) refl;
-  back = rw (word32_back machines h.0, word32_back places h.1, ratio_back ratio h.2, word32_back critical h.3, date_back last h.4) refl;
+  back = rw (word32_back machines h.0, word32_back places h.1, ratio_back ratio h.2.0 h.2.1, word32_back critical h.3, date_back last h.4) refl;
 }

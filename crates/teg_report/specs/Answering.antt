@@ -6,11 +6,9 @@ use Rattle.teg_form.specs.declared.form.Entry.{Entry}
 use Rattle.teg_form.specs.declared.form.StarEntry.{StarEntry}
 use Rattle.teg_form.specs.Forms.{FormLists}
 use Rattle.teg_net.specs.declared.answers.Potential.{Potential}
-use Rattle.teg_net.specs.declared.entries.PlaceId.{PlaceId}
 use Rattle.teg_net.specs.declared.entries.TransitionId.{TransitionId}
 use Rattle.teg_net.specs.declared.rounds.Choice.{Choice}
 use Rattle.teg_net.specs.Nets.{NetLists}
-use Rattle.teg_net.specs.Ratios.{Fraction}
 use Rattle.teg_reader.specs.declared.keys.Key.{Key}
 use Rattle.teg_reader.specs.declared.keys.Key.TheVariants.{Version, Transition as TransitionKey, Place as PlaceKey, Input as InputKey, Name, Role, Duration, From, To, Hold, Tokens, Ready, Dates, Every, Gap}
 use Rattle.teg_reader.specs.declared.refusals.ReadRefusal.{ReadRefusal}
@@ -44,16 +42,9 @@ use Rattle.teg_report.specs.Answers.{Answer, Usage, Live, Listed, Form, NoCircui
 use Rattle.teg_report.specs.Cycles.{PartLists, NoCircuitIn, BestOf, CycleLists, has_ratio}
 use Rattle.teg_report.specs.Rounds.{RoundLists}
 use Rattle.teg_report.specs.SettledTexts.{TimesFrom, TimesTo}
-use Rattle.teg_text.specs.Reading.{lines_in, line_at, word, stands_at, number_in, is_numeral, signed_in, before_slash, behind_slash, date_in, label_in, index_in, phrase_in}
+use Rattle.teg_text.specs.Names.{transition_in, place_in, ratio_in}
+use Rattle.teg_text.specs.Reading.{lines_in, line_at, word, stands_at, number_in, is_numeral, signed_in, date_in, label_in, phrase_in}
 use Rattle.teg_text.specs.Rows.{those, first_where, blocks_in, cell_in}
-
--- the transition of this name
-abbrev pub transition_in : NetLists → List ℕ → TransitionId
-transition_in net name = record { index = index_in (λ t. t.name) net.transitions name }
-
--- the place of this name
-abbrev pub place_in : NetLists → List ℕ → PlaceId
-place_in net name = record { index = index_in (λ p. p.name) net.places name }
 
 -- a list of dates
 abbrev pub table_in : NetLists → List (List (List ℕ)) → TableDates
@@ -78,10 +69,6 @@ is_star line = stands_at 0 line (codes "star")
 -- a standard form
 abbrev pub form_in : NetLists → List (List (List ℕ)) → FormLists
 form_in net lines = record { stars = map (star_in net) (those is_star (drop 1 lines)); entries = map (entry_in net) (those (λ line. not (is_star line)) (drop 1 lines)) }
-
--- a ratio
-abbrev pub ratio_in : List ℕ → Fraction
-ratio_in word = record { time = number_in (before_slash word); tokens = number_in (behind_slash word) }
 
 -- a potential
 abbrev pub potential_in : NetLists → List (List ℕ) → Potential

@@ -9,8 +9,7 @@ use Rattle.teg_net.specs.declared.entries.TransitionId.{TransitionId}
 use Rattle.teg_net.specs.Circuits.{AreInRange}
 use Rattle.teg_net.specs.Nets.{NetLists}
 use Rattle.teg_net.specs.Ratios.{Fraction}
-use Rattle.teg_report.specs.Forms.{name_of_transition}
-use Rattle.teg_report.specs.Texts.{name_of_place}
+use Rattle.teg_text.specs.Names.{circuit_line, name_of_transition}
 use Rattle.teg_text.specs.Words.{ratio_word}
 
 -- what is told of a part: that no circuit lies in it, or its greatest ratio, a circuit and potentials
@@ -32,10 +31,6 @@ part_at parts n = slice_index_or parts n NoCircuitIn
 abbrev pub members_from : ℕ → List ℕ → ℕ → List TransitionId
 members_from k [] part = []
 members_from k (p ∷ ps) part = if p == part then record { index = k } ∷ members_from (k + 1) ps part else members_from (k + 1) ps part
-
--- a circuit, by the names of its places in order
-abbrev pub circuit_line : NetLists → List PlaceId → List (List ℕ)
-circuit_line net circuit = codes "circuit" ∷ map (name_of_place net) circuit
 
 -- a transition of a part without a circuit
 abbrev pub member_line : NetLists → TransitionId → List (List ℕ)

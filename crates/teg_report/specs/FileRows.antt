@@ -1,5 +1,5 @@
 -- The lines of due files and logs that are refused, and of recorded runs.
-use Rattle.std.specs.Prelude.{ℕ, ◌≡◌, ◌==◌, ◌<◌, false, List, [], ◌∷◌, ◌++◌, Option, IsSomeAnd, map, length, codes, ⊤}
+use Rattle.std.specs.Prelude.{ℕ, ◌≡◌, ◌==◌, ◌<◌, false, List, [], ◌∷◌, Option, IsSomeAnd, map, length, codes, ⊤}
 use Rattle.std.specs.Fmt.{decimal}
 use Rattle.std.specs.List.{list_any}
 use Rattle.teg_due.specs.declared.rows.DueRefusal.{DueRefusal}
@@ -9,12 +9,9 @@ use Rattle.teg_due.specs.declared.rows.LogRefusal.TheVariants.{BadRow as BadLogR
 use Rattle.teg_net.specs.Nets.{NetLists}
 use Rattle.teg_report.specs.declared.answer.Failure.{Failure}
 use Rattle.teg_report.specs.declared.answer.Failure.TheVariants.{Illegal, BackInTime, BeforeRelease}
-use Rattle.teg_report.specs.Texts.{name_of_place}
+use Rattle.teg_text.specs.Faults.{row_line}
 use Rattle.teg_text.specs.Lines.{phrase}
-
--- what is wrong at a row of a file
-abbrev pub row_line : List ℕ → ℕ → List (List ℕ) → List (List ℕ)
-row_line file row words = codes "refused:" ∷ (phrase file ++ codes "row" ∷ decimal row ∷ words)
+use Rattle.teg_text.specs.Names.{name_of_place}
 
 -- why a file is no due file; nothing is told of want of memory
 abbrev pub due_line : DueRefusal → List (List ℕ)

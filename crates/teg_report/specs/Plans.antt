@@ -16,8 +16,7 @@ use Rattle.teg_net.specs.Circuits.{place_at}
 use Rattle.teg_net.specs.Limits.{greatest_number}
 use Rattle.teg_net.specs.Nets.{NetLists}
 use Rattle.teg_net.specs.Walks.{Walks, numbers_of}
-use Rattle.teg_report.specs.Forms.{name_of_transition, no_transition}
-use Rattle.teg_report.specs.Texts.{name_of_place}
+use Rattle.teg_text.specs.Names.{name_of_place, name_of_transition, no_transition}
 
 -- the first step of a walk by which a latest date is attained
 abbrev pub onward_words : NetLists → Onward → List (List ℕ)

@@ -14,11 +14,12 @@ use Rattle.teg_report.specs.Answers.{Answer, Usage, Live, Listed, Form, NoCircui
 use Rattle.teg_report.specs.Cycles.{IsCycleTold, cycle_lines}
 use Rattle.teg_report.specs.Rounds.{AreRoundsTold, runs_lines, told_runs}
 use Rattle.teg_report.specs.FileRows.{IsFailureIn, IsOneLine, due_line, log_line, refused_lines, replayed_lines}
-use Rattle.teg_report.specs.Forms.{IsFormWithin, form_lines, name_of_transition}
+use Rattle.teg_report.specs.Forms.{IsFormWithin, form_lines}
 use Rattle.teg_report.specs.Plans.{IsLateTold, IsPlanIn, late_lines, plan_lines}
 use Rattle.teg_report.specs.SettledTexts.{AreTimesIn, settled_lines, transfer_lines}
 use Rattle.teg_report.specs.Slacks.{slack_lines, trial_lines}
 use Rattle.teg_text.specs.Lines.{written}
+use Rattle.teg_text.specs.Names.{name_of_transition}
 use Rattle.teg_report.specs.Lists.{list_lines}
 use Rattle.teg_report.specs.Refusals.{read_line}
 use Rattle.teg_report.specs.Texts.{usage_lines, live_lines, no_circuit_line, too_large_line, read_fault_line, token_free_line, no_transition_line, too_long_line, date_line}

@@ -7,9 +7,8 @@ use Rattle.teg_net.specs.declared.rounds.Choice.{Choice}
 use Rattle.teg_net.specs.Circuits.{AreInRange}
 use Rattle.teg_net.specs.Nets.{NetLists}
 use Rattle.teg_net.specs.Ratios.{Fraction}
-use Rattle.teg_report.specs.Cycles.{PartLists, NoCircuitIn, BestOf, circuit_line}
-use Rattle.teg_report.specs.Forms.{name_of_transition}
-use Rattle.teg_report.specs.Texts.{name_of_place}
+use Rattle.teg_report.specs.Cycles.{PartLists, NoCircuitIn, BestOf}
+use Rattle.teg_text.specs.Names.{circuit_line, name_of_place, name_of_transition}
 use Rattle.teg_text.specs.Words.{ratio_word}
 
 -- a round: its ratio, its circuit, and for each member the place that enters it and its potential

@@ -8,7 +8,7 @@ use Rattle.teg_net.specs.declared.entries.Role.{Role}
 use Rattle.teg_net.specs.declared.entries.Role.TheVariants.{Internal, Input, Output}
 use Rattle.teg_net.specs.declared.entries.TransitionId.{TransitionId}
 use Rattle.teg_net.specs.Nets.{NetLists}
-use Rattle.teg_report.specs.Forms.{name_of_transition}
+use Rattle.teg_text.specs.Names.{name_of_transition, settled_words}
 use Rattle.teg_text.specs.Words.{date_word}
 
 -- from one input to one output: the greatest times of walks from its first firing, and by how much they go on in a period
@@ -23,10 +23,6 @@ pub record TimesFrom : Type 0 where
   pub after : ℕ
   pub period : ℕ
   pub lines : List TimesTo
-
--- past which number the dates go on, and in how many numbers by a step
-abbrev pub settled_words : ℕ → ℕ → List (List ℕ)
-settled_words after period = codes "settled" ∷ codes "after" ∷ decimal after ∷ codes "period" ∷ decimal period ∷ []
 
 -- dates, and the step by which they go on
 abbrev pub row_words : List Date → ℤ → List (List ℕ)

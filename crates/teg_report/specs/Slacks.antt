@@ -7,8 +7,9 @@ use Rattle.teg_critical.specs.declared.slacks.Slack.{Slack}
 use Rattle.teg_critical.specs.declared.slacks.Slack.TheVariants.{NoCircuit, Critical, Rise}
 use Rattle.teg_net.specs.Nets.{NetLists}
 use Rattle.teg_net.specs.Ratios.{Fraction}
-use Rattle.teg_report.specs.Texts.{counted, name_of_place}
+use Rattle.teg_report.specs.Texts.{counted}
 use Rattle.teg_text.specs.Lines.{phrase}
+use Rattle.teg_text.specs.Names.{name_of_place}
 use Rattle.teg_text.specs.Words.{date_word, ratio_word}
 
 -- the greatest ratio of a net

@@ -4,10 +4,10 @@ use Rattle.std.specs.Fmt.{decimal}
 use Rattle.dioid.specs.declared.dates.Date.{Date}
 use Rattle.teg_net.specs.declared.entries.PlaceId.{PlaceId}
 use Rattle.teg_net.specs.Nets.{NetLists}
-use Rattle.teg_net.specs.Circuits.{place_at}
 use Rattle.teg_report.specs.declared.answer.Which.{Which}
 use Rattle.teg_report.specs.declared.answer.Which.TheVariants.{Net as NetFile, Due as DueFile, Log as LogFile, Timetable as TimetableFile}
 use Rattle.teg_text.specs.Lines.{phrase}
+use Rattle.teg_text.specs.Names.{name_of_place}
 use Rattle.teg_text.specs.Words.{date_word, label_word}
 
 -- the commands, each with what follows it
@@ -71,10 +71,6 @@ too_large_line file = phrase (codes "refused:") ++ (file_words file ++ phrase (c
 -- that a file could not be read
 abbrev pub read_fault_line : Which → List (List ℕ)
 read_fault_line file = phrase (codes "fault: cannot read") ++ file_words file
-
--- the name of a place
-abbrev pub name_of_place : NetLists → PlaceId → List ℕ
-name_of_place net id = (place_at net id).name
 
 -- a circuit without tokens, as the names of its places in order
 abbrev pub token_free_line : NetLists → List PlaceId → List (List ℕ)

@@ -2,35 +2,18 @@
 //! part, and then the rounds that led to them, where they are given.
 ghost use Rattle.std.specs.Prelude.{◌≡◌, ◌++◌, ◌<◌, ◌^◌, [], All, IfOk, IfSome, length, map, string_bytes};
 ghost use Rattle.std.specs.Option.{option_copied, option_map};
-ghost use Rattle.teg_net.specs.Circuits.{AreInRange};
-ghost use Rattle.teg_report.specs.Cycles.{HasCircuitIn, IsCycleTold, IsPartTold, IsPotentialIn, best_lines, best_of, circuit_line, cycle_lines, member_line, members_from, part_lines, potential_line, ratio_line};
+ghost use Rattle.teg_report.specs.Cycles.{HasCircuitIn, IsCycleTold, IsPartTold, IsPotentialIn, best_lines, best_of, cycle_lines, member_line, members_from, part_lines, potential_line, ratio_line};
 ghost use Rattle.teg_report.specs.Kept.{IsRunKept};
 ghost use Rattle.teg_report.specs.Meanings.{cycle_lists, part_lists, runs_lists};
 ghost use Rattle.teg_report.specs.Rounds.{AreRoundsTold, runs_lines as runs_text, told_runs};
 ghost use Rattle.teg_text.specs.Lines.{line_then, written};
 
-use crate::circuits::push_circuit;
 use crate::rounds::push_runs;
 use std::alloc::{AllocError, Global};
-use teg_net::{Circuit, CycleAnswer, Net, OutOfMemory, PartAnswer, Potential, Ratio, Round};
+use teg_net::{CycleAnswer, Net, OutOfMemory, PartAnswer, Potential, Ratio, Round};
+use teg_text::push_circuit;
 
-/// Appends the line of a circuit.
-pub(crate) fn push_circuit_line(
-    text: &mut String,
-    net: &Net,
-    circuit: &Circuit,
-) -> Result<(), AllocError>
-    requires { AreInRange net.now circuit.now.places.items }
-    ensures { IfOk result (λ _. string_bytes text.new ≡
-        string_bytes text.old ++ line_then (circuit_line net.now circuit.now.places.items) []) }
-{
-    text.push_str("circuit")?;
-    push_circuit(text, net, circuit)?;
-    text.push('\n')?;
-    Ok(())
-}
-
-/// Appends the line of a potential.
+// Appends the line of a potential.
 fn push_potential(text: &mut String, net: &Net, potential: &Potential) -> Result<(), AllocError>
     requires { IsPotentialIn net.now potential.now }
     ensures { IfOk result (λ _. string_bytes text.new ≡
@@ -43,7 +26,7 @@ fn push_potential(text: &mut String, net: &Net, potential: &Potential) -> Result
     write!(text, "potential {name} {value}\n")
 }
 
-/// Appends the lines of potentials.
+// Appends the lines of potentials.
 #[tactic(auto, using(teg_text::proofs::Joining::written_map))]
 fn push_potentials(text: &mut String, net: &Net, potentials: &[Potential]) -> Result<(), AllocError>
     requires { All (IsPotentialIn net.now) potentials.now }
@@ -56,7 +39,7 @@ fn push_potentials(text: &mut String, net: &Net, potentials: &[Potential]) -> Re
     Ok(())
 }
 
-/// Appends the line of a transition of a part without a circuit.
+// Appends the line of a transition of a part without a circuit.
 fn push_member(text: &mut String, net: &Net, index: usize) -> Result<(), AllocError>
     requires { index < length net.now.transitions }
     ensures { IfOk result (λ _. string_bytes text.new ≡
@@ -66,7 +49,7 @@ fn push_member(text: &mut String, net: &Net, index: usize) -> Result<(), AllocEr
     write!(text, "member {name}\n")
 }
 
-/// Appends the lines of the transitions of a part without a circuit.
+// Appends the lines of the transitions of a part without a circuit.
 fn push_members(
     text: &mut String,
     net: &Net,
@@ -85,7 +68,7 @@ fn push_members(
     Ok(())
 }
 
-/// Appends the first line of a part with a circuit.
+// Appends the first line of a part with a circuit.
 fn push_ratio(text: &mut String, number: usize, ratio: &Ratio) -> Result<(), AllocError>
     requires { number < 2 ^ 63 }
     ensures { IfOk result (λ _. string_bytes text.new ≡
@@ -97,7 +80,7 @@ fn push_ratio(text: &mut String, number: usize, ratio: &Ratio) -> Result<(), All
     write!(text, "part {told} ratio {time}/{tokens}\n")
 }
 
-/// Appends the lines of the part of this number.
+// Appends the lines of the part of this number.
 fn push_part(
     text: &mut String,
     net: &Net,
@@ -123,29 +106,30 @@ fn push_part(
             potentials,
         } => {
             push_ratio(text, number, ratio)?;
-            push_circuit_line(text, net, circuit)?;
+            push_circuit(text, net, circuit)?;
             push_potentials(text, net, potentials)?;
         }
     }
     Ok(())
 }
 
-/// The lines of the greatest ratio, that of this part.
+// The lines of the greatest ratio, that of this part.
 fn best(alloc: Global, net: &Net, part: &PartAnswer) -> Result<String, AllocError>
     requires { HasCircuitIn net.now (part_lists part.now) }
-    ensures { IfOk result (λ text. string_bytes text ≡ written (best_lines net.now (part_lists part.now))) }
+    ensures { IfOk result (λ text. string_bytes text ≡ written
+        (best_lines net.now (part_lists part.now))) }
 {
     let mut text = String::new(alloc);
     if let PartAnswer::Best { ratio, circuit, .. } = part {
         let time = ratio.time();
         let tokens = ratio.tokens();
         write!(text, "cycle time {time}/{tokens}\n")?;
-        push_circuit_line(&mut text, net, circuit)?;
+        push_circuit(&mut text, net, circuit)?;
     }
     Ok(text)
 }
 
-/// The lines of the part that is told first.
+// The lines of the part that is told first.
 fn head(alloc: Global, net: &Net, answer: &CycleAnswer) -> Result<String, AllocError>
     requires { IsCycleTold net.now (cycle_lists answer.now) }
     ensures { IfOk result (λ text. string_bytes text ≡
@@ -157,10 +141,11 @@ fn head(alloc: Global, net: &Net, answer: &CycleAnswer) -> Result<String, AllocE
     }
 }
 
-/// The cycle time and a circuit that has it, and then the lines of each part.
+// The cycle time and a circuit that has it, and then the lines of each part.
 fn cycle_times(alloc: Global, net: &Net, answer: &CycleAnswer) -> Result<String, AllocError>
     requires { IsCycleTold net.now (cycle_lists answer.now) }
-    ensures { IfOk result (λ text. string_bytes text ≡ written (cycle_lines net.now (cycle_lists answer.now))) }
+    ensures { IfOk result (λ text. string_bytes text ≡ written
+        (cycle_lines net.now (cycle_lists answer.now))) }
 {
     let mut text = head(alloc, net, answer)?;
     for number in 0..answer.parts.len() {
@@ -175,7 +160,7 @@ fn cycle_times(alloc: Global, net: &Net, answer: &CycleAnswer) -> Result<String,
     Ok(text)
 }
 
-/// The cycle times, and then the rounds, part by part, where they are given.
+// The cycle times, and then the rounds, part by part, where they are given.
 pub(crate) fn cycle(
     alloc: Global,
     net: &Net,
@@ -183,10 +168,12 @@ pub(crate) fn cycle(
     rounds: Option<&[Vec<Round>]>,
 ) -> Result<Vec<u8>, OutOfMemory>
     requires answer { IsCycleTold net.now (cycle_lists answer.now) }
-    requires rounds { AreRoundsTold net.now (cycle_lists answer.now).parts (option_map runs_lists (option_copied rounds)) }
+    requires rounds { AreRoundsTold net.now (cycle_lists answer.now).parts
+        (option_map runs_lists (option_copied rounds)) }
     ensures text { IfOk result (λ text. text.items ≡ written (cycle_lines net.now (cycle_lists answer.now)
         ++ runs_text net.now (told_runs (cycle_lists answer.now).parts (option_map runs_lists (option_copied rounds.entry))))) }
-    ensures kept { IfOk result (λ _. IfSome (option_map runs_lists (option_copied rounds.entry)) (λ runs. All IsRunKept runs)) }
+    ensures kept { IfOk result (λ _. IfSome (option_map runs_lists (option_copied rounds.entry))
+        (λ runs. All IsRunKept runs)) }
 {
     let mut text = cycle_times(alloc, net, answer)?;
     match rounds {

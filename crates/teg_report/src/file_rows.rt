@@ -3,62 +3,55 @@ ghost use Rattle.std.specs.Prelude.{◌≡◌, ◌≢◌, ◌++◌, ◌∷◌, [
 ghost use Rattle.std.specs.Option.{option_copied};
 ghost use Rattle.teg_due.specs.declared.rows.DueRefusal.TheVariants.{OutOfMemory as NoDueRoom};
 ghost use Rattle.teg_due.specs.declared.rows.LogRefusal.TheVariants.{OutOfMemory as NoLogRoom};
-ghost use Rattle.teg_report.specs.FileRows.{IsFailureIn, due_line, failure_words, log_line, refused_lines, replayed_lines, row_line};
+ghost use Rattle.teg_report.specs.FileRows.{IsFailureIn, due_line, failure_words, log_line, refused_lines, replayed_lines};
 ghost use Rattle.teg_report.specs.Kept.{IsDueKept, IsLogKept, IsWord32, IsWord64};
 ghost use Rattle.teg_report.specs.Reports.{names_of};
+ghost use Rattle.teg_text.specs.Faults.{row_line};
 ghost use Rattle.teg_text.specs.Lines.{line_then, phrase, written};
 
 use crate::answer::Failure;
 use std::alloc::{AllocError, Global};
 use teg_due::{DueRefusal, LogRefusal};
 use teg_net::{Net, OutOfMemory};
+use teg_text::row_fault;
 
-/// What is wrong at a row of a file.
-#[tactic(auto, using(crate::proofs::RowsWritten::row_written))]
-fn fault_at(alloc: Global, file: &str, row: u32, fault: &str) -> Result<String, AllocError>
-    ensures text { IfOk result (λ text. string_bytes text ≡ line_then (row_line file.now row (phrase fault.now)) []) }
-    ensures kept { IsWord32 row }
-{
-    format!(in alloc; "refused: {file} row {row} {fault}\n")
-}
-
-/// Why a file is no due file.
+// Why a file is no due file.
 pub(crate) fn due(alloc: Global, refusal: &DueRefusal) -> Result<Vec<u8>, OutOfMemory>
     requires { refusal.now ≢ NoDueRoom }
     ensures text { IfOk result (λ text. text.items ≡ written (due_line refusal.now ∷ [])) }
     ensures kept { IsDueKept refusal.now }
 {
     let text = match refusal {
-        DueRefusal::BadRow { row } => fault_at(alloc, "due", *row, "is not a due date")?,
+        DueRefusal::BadRow { row } => row_fault(alloc, "due", *row, "is not a due date")?,
         DueRefusal::UnknownTransition { row } => {
-            fault_at(alloc, "due", *row, "unknown transition")?
+            row_fault(alloc, "due", *row, "unknown transition")?
         }
-        DueRefusal::NotDue { row } => fault_at(alloc, "due", *row, "input transition")?,
-        DueRefusal::RepeatedDue { row } => fault_at(alloc, "due", *row, "repeated")?,
-        DueRefusal::OutOfRange { row } => fault_at(alloc, "due", *row, "out of range")?,
+        DueRefusal::NotDue { row } => row_fault(alloc, "due", *row, "input transition")?,
+        DueRefusal::RepeatedDue { row } => row_fault(alloc, "due", *row, "repeated")?,
+        DueRefusal::OutOfRange { row } => row_fault(alloc, "due", *row, "out of range")?,
         DueRefusal::OutOfMemory => unreachable!(),
     };
     Ok(text.into_bytes())
 }
 
-/// Why a file is no log.
+// Why a file is no log.
 pub(crate) fn log(alloc: Global, refusal: &LogRefusal) -> Result<Vec<u8>, OutOfMemory>
     requires { refusal.now ≢ NoLogRoom }
     ensures text { IfOk result (λ text. text.items ≡ written (log_line refusal.now ∷ [])) }
     ensures kept { IsLogKept refusal.now }
 {
     let text = match refusal {
-        LogRefusal::BadRow { row } => fault_at(alloc, "log", *row, "is not a firing")?,
+        LogRefusal::BadRow { row } => row_fault(alloc, "log", *row, "is not a firing")?,
         LogRefusal::UnknownTransition { row } => {
-            fault_at(alloc, "log", *row, "unknown transition")?
+            row_fault(alloc, "log", *row, "unknown transition")?
         }
-        LogRefusal::OutOfRange { row } => fault_at(alloc, "log", *row, "out of range")?,
+        LogRefusal::OutOfRange { row } => row_fault(alloc, "log", *row, "out of range")?,
         LogRefusal::OutOfMemory => unreachable!(),
     };
     Ok(text.into_bytes())
 }
 
-/// Appends lines, each with its line feed.
+// Appends lines, each with its line feed.
 fn push_lines(text: &mut String, lines: &[String]) -> Result<(), AllocError>
     ensures { IfOk result (λ _. string_bytes text.new ≡
         string_bytes text.old ++ written (map phrase (map string_bytes lines.now))) }
@@ -70,13 +63,14 @@ fn push_lines(text: &mut String, lines: &[String]) -> Result<(), AllocError>
     Ok(())
 }
 
-/// How many firings of a log were accepted, and a line of each monitor.
+// How many firings of a log were accepted, and a line of each monitor.
 pub(crate) fn replayed(
     alloc: Global,
     accepted: u64,
     lines: &[String],
 ) -> Result<Vec<u8>, OutOfMemory>
-    ensures text { IfOk result (λ text. text.items ≡ written (replayed_lines accepted (map string_bytes lines.now))) }
+    ensures text { IfOk result (λ text. text.items ≡ written
+        (replayed_lines accepted (map string_bytes lines.now))) }
     ensures kept { IsWord64 accepted }
 {
     let mut text = format!(in alloc; "replayed {accepted} firings\n")?;
@@ -84,7 +78,7 @@ pub(crate) fn replayed(
     Ok(text.into_bytes())
 }
 
-/// The line of a row of a log whose firing is refused.
+// The line of a row of a log whose firing is refused.
 fn failure_at(
     alloc: Global,
     net: Option<&Net>,
@@ -102,12 +96,12 @@ fn failure_at(
             format!(in alloc; "refused: log row {row} illegal place {name}\n")
         }
         (Failure::Illegal { .. }, None) => unreachable!(),
-        (Failure::BackInTime, _) => fault_at(alloc, "log", row, "back in time"),
-        (Failure::BeforeRelease, _) => fault_at(alloc, "log", row, "before release"),
+        (Failure::BackInTime, _) => row_fault(alloc, "log", row, "back in time"),
+        (Failure::BeforeRelease, _) => row_fault(alloc, "log", row, "before release"),
     }
 }
 
-/// Why a row of a log is refused, and a line of each monitor.
+// Why a row of a log is refused, and a line of each monitor.
 pub(crate) fn refused(
     alloc: Global,
     net: Option<&Net>,

@@ -20,7 +20,7 @@ pub fn room_of_row(dates: usize) -> usize
     (dates + 1) * 41
 }
 
-/// Writes these bytes so that they end there, and answers where they begin.
+// Writes these bytes so that they end there, and answers where they begin.
 fn put_before(line: &mut [u8], end: usize, bytes: &[u8]) -> usize
     requires room { length bytes.now ≤ end }
     requires within { end ≤ length line.old }
@@ -33,7 +33,7 @@ fn put_before(line: &mut [u8], end: usize, bytes: &[u8]) -> usize
     start
 }
 
-/// Writes a number so that it ends there, and answers where it begins.
+// Writes a number so that it ends there, and answers where it begins.
 fn number_before(line: &mut [u8], end: usize, number: u64) -> usize
     requires room { 20 ≤ end }
     requires within { end ≤ length line.old }
@@ -44,7 +44,7 @@ fn number_before(line: &mut [u8], end: usize, number: u64) -> usize
     write_digits(number, line, end)
 }
 
-/// Writes a date so that it ends there, and answers where it begins.
+// Writes a date so that it ends there, and answers where it begins.
 fn date_before(line: &mut [u8], end: usize, date: Date) -> usize
     requires room { 40 ≤ end }
     requires within { end ≤ length line.old }
@@ -62,7 +62,7 @@ fn date_before(line: &mut [u8], end: usize, date: Date) -> usize
     }
 }
 
-/// Writes a byte so that it ends there, and answers where it stands.
+// Writes a byte so that it ends there, and answers where it stands.
 fn byte_before(line: &mut [u8], end: usize, byte: u8) -> usize
     requires room { 1 ≤ end }
     requires within { end ≤ length line.old }
@@ -74,8 +74,8 @@ fn byte_before(line: &mut [u8], end: usize, byte: u8) -> usize
     end - 1
 }
 
-/// Writes the line of a number so that it ends with the room for it, and answers where it begins: so
-/// no digit is written twice. It takes no memory, and time of the order of the line.
+// Writes the line of a number so that it ends with the room for it, and answers where it begins: so
+// no digit is written twice. It takes no memory, and time of the order of the line.
 fn end_row<C: DateCell>(line: &mut [u8], number: u64, row: &[C]) -> usize
     requires { (length row.now + 1) * 41 ≤ length line.old }
     ensures text { drop result line.new ≡ row_text number (map C.held row.now) }
@@ -106,7 +106,8 @@ pub fn put_row<C: DateCell>(
     requires block { at + (length row.now + 1) * 41 ≤ length block.old }
     requires line { (length row.now + 1) * 41 ≤ length line.old }
     // The line stands behind what stood before it.
-    ensures text { take result block.new ≡ take at block.old ++ row_text number (map C.held row.now) }
+    ensures text { take result block.new ≡ take at block.old ++ row_text number
+        (map C.held row.now) }
     // What stands behind it is as it was.
     ensures rest { drop result block.new ≡ drop result block.old }
     ensures end { result ≤ at + (length row.now + 1) * 41 }

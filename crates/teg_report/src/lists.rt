@@ -11,14 +11,15 @@ use teg_dates::Table;
 use teg_net::{Net, OutOfMemory, TransitionId};
 use teg_text::push_date;
 
-/// Appends the line of a number.
+// Appends the line of a number.
 #[tactic(auto, using(teg_text::proofs::Joining::further_map))]
 fn push_line(text: &mut String, table: &Table, width: usize, number: u64) -> Result<(), AllocError>
     requires width { width ≡ table.now.width }
     requires few { width ≤ most_transitions }
     requires number { 1 ≤ number }
     requires last { number ≤ table.now.count }
-    ensures text { IfOk result (λ _. string_bytes text.new ≡ string_bytes text.old ++ line_then (number_line width (date_at table.now) number) []) }
+    ensures text { IfOk result (λ _. string_bytes text.new
+        ≡ string_bytes text.old ++ line_then (number_line width (date_at table.now) number) []) }
     ensures kept { IfOk result (λ _. (t : ℕ) → t < width → IsDate (date_at table.now t number)) }
 {
     write!(text, "{number}")?;
@@ -33,10 +34,11 @@ fn push_line(text: &mut String, table: &Table, width: usize, number: u64) -> Res
     Ok(())
 }
 
-/// The lines before the dates.
+// The lines before the dates.
 #[tactic(auto, using(teg_text::proofs::Joining::further_map))]
 pub(crate) fn head(alloc: Global, net: &Net, count: u32) -> Result<String, AllocError>
-    ensures { IfOk result (λ text. string_bytes text ≡ line_then (count_line count) (line_then (names_line net.now) [])) }
+    ensures { IfOk result (λ text. string_bytes text ≡ line_then (count_line count)
+        (line_then (names_line net.now) [])) }
 {
     let mut text = format!(in alloc; "dates of {count} firings\ntransition")?;
     for transition in net.transitions() {
@@ -47,11 +49,12 @@ pub(crate) fn head(alloc: Global, net: &Net, count: u32) -> Result<String, Alloc
     Ok(text)
 }
 
-/// The dates of the table, one line for each of its numbers.
+// The dates of the table, one line for each of its numbers.
 #[tactic(auto, using(teg_text::proofs::Joining::written_map))]
 pub(crate) fn list(alloc: Global, net: &Net, table: &Table) -> Result<Vec<u8>, OutOfMemory>
     requires { table.now.width ≡ length net.now.transitions }
-    ensures text { IfOk result (λ text. text.items ≡ written (list_lines net.now (date_at table.now) table.now.count)) }
+    ensures text { IfOk result (λ text. text.items ≡ written
+        (list_lines net.now (date_at table.now) table.now.count)) }
     ensures limits { IfOk result (λ _. IsTable table.now) }
     ensures kept { IfOk result (λ _. All IsDate table.now.dates) }
 {

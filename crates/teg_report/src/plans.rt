@@ -12,7 +12,7 @@ use std::alloc::{AllocError, Global};
 use teg_jit::{JitRefusal, LatestDate, Onward, Plan};
 use teg_net::{Net, OutOfMemory, Role, Step, TransitionId, Walk};
 
-/// How lines of a transition begin.
+// How lines of a transition begin.
 fn role_word(role: Role) -> &'static str
     ensures { result.now ≡ role_word role }
 {
@@ -22,7 +22,7 @@ fn role_word(role: Role) -> &'static str
     }
 }
 
-/// Ends a line with the first step by which a latest date is attained.
+// Ends a line with the first step by which a latest date is attained.
 fn end_onward(text: &mut String, net: &Net, onward: Onward) -> Result<(), AllocError>
     requires { IsOnwardIn net.now onward }
     ensures { IfOk result (λ _. string_bytes text.new ≡
@@ -38,7 +38,7 @@ fn end_onward(text: &mut String, net: &Net, onward: Onward) -> Result<(), AllocE
     }
 }
 
-/// Appends the line of a firing of the transition of this number, counted from 0.
+// Appends the line of a firing of the transition of this number, counted from 0.
 fn push_latest(
     text: &mut String,
     net: &Net,
@@ -64,7 +64,7 @@ fn push_latest(
     }
 }
 
-/// Appends the lines of a transition, one for each number.
+// Appends the lines of a transition, one for each number.
 fn push_transition(
     text: &mut String,
     net: &Net,
@@ -75,7 +75,8 @@ fn push_transition(
     requires plan { IsPlanIn net.now plan.now }
     ensures text { IfOk result (λ _. string_bytes text.new ≡
         string_bytes text.old ++ written (planned_lines net.now plan.now index)) }
-    ensures kept { IfOk result (λ _. (k : ℕ) → k < plan.now.numbers → IsLatestKept (latest_at plan.now index (k + 1))) }
+    ensures kept { IfOk result (λ _. (k : ℕ) → k < plan.now.numbers
+        → IsLatestKept (latest_at plan.now index (k + 1))) }
 {
     // That the net keeps its rules, and so has few transitions.
     net.transitions();
@@ -89,7 +90,7 @@ fn push_transition(
     Ok(())
 }
 
-/// How many numbers there are, and then the latest dates of each transition.
+// How many numbers there are, and then the latest dates of each transition.
 pub(crate) fn jit(alloc: Global, net: &Net, plan: &Plan) -> Result<Vec<u8>, OutOfMemory>
     requires { IsPlanIn net.now plan.now }
     ensures text { IfOk result (λ text. text.items ≡ written (plan_lines net.now plan.now)) }
@@ -103,7 +104,7 @@ pub(crate) fn jit(alloc: Global, net: &Net, plan: &Plan) -> Result<Vec<u8>, OutO
     Ok(text.into_bytes())
 }
 
-/// Appends a step, and gives the firing to which it leads.
+// Appends a step, and gives the firing to which it leads.
 fn push_step(
     text: &mut String,
     net: &Net,
@@ -137,7 +138,7 @@ fn push_step(
     }
 }
 
-/// Ends a line with the steps of a walk.
+// Ends a line with the steps of a walk.
 fn end_steps(text: &mut String, net: &Net, walk: &Walk) -> Result<(), AllocError>
     requires { IsPathIn net.now walk.now.start walk.now.number walk.now.steps.items }
     ensures { IfOk result (λ _. string_bytes text.new ≡
@@ -154,7 +155,7 @@ fn end_steps(text: &mut String, net: &Net, walk: &Walk) -> Result<(), AllocError
     Ok(())
 }
 
-/// Appends the line of a walk.
+// Appends the line of a walk.
 fn push_path(text: &mut String, net: &Net, walk: &Walk) -> Result<(), AllocError>
     requires { IsPathIn net.now walk.now.start walk.now.number walk.now.steps.items }
     ensures text { IfOk result (λ _. string_bytes text.new ≡
@@ -168,9 +169,10 @@ fn push_path(text: &mut String, net: &Net, walk: &Walk) -> Result<(), AllocError
     Ok(())
 }
 
-/// Appends the line of a start, where it is above 0.
+// Appends the line of a start, where it is above 0.
 fn push_start(text: &mut String, start: u64) -> Result<(), AllocError>
-    ensures text { IfOk result (λ _. string_bytes text.new ≡ string_bytes text.old ++ written (start_lines start)) }
+    ensures text { IfOk result (λ _. string_bytes text.new
+        ≡ string_bytes text.old ++ written (start_lines start)) }
     ensures kept { IsWord64 start }
 {
     if start == 0 {
@@ -179,7 +181,7 @@ fn push_start(text: &mut String, start: u64) -> Result<(), AllocError>
     write!(text, "from date {start}\n")
 }
 
-/// The line of a firing that is later than due.
+// The line of a firing that is later than due.
 fn late_line(
     alloc: Global,
     net: &Net,
@@ -189,17 +191,19 @@ fn late_line(
     least: u128,
 ) -> Result<String, AllocError>
     requires { transition.index < length net.now.transitions }
-    ensures text { IfOk result (λ text. string_bytes text ≡ line_then (late_line net.now transition number due least) []) }
+    ensures text { IfOk result (λ text. string_bytes text
+        ≡ line_then (late_line net.now transition number due least) []) }
     ensures kept { IsWord32 number × IsWord64 due × (least < 2 ^ 128) }
 {
     let name = net.transitions()[transition.index as usize].name.as_str();
     format!(in alloc; "late {name} {number} due {due} least {least}\n")
 }
 
-/// A firing that is later than due, and a walk that shows it.
+// A firing that is later than due, and a walk that shows it.
 pub(crate) fn late(alloc: Global, net: &Net, refusal: &JitRefusal) -> Result<Vec<u8>, OutOfMemory>
     requires { IsLateTold net.now (late_lists refusal.now) }
-    ensures text { IfOk result (λ text. text.items ≡ written (late_lines net.now (late_lists refusal.now))) }
+    ensures text { IfOk result (λ text. text.items ≡ written
+        (late_lines net.now (late_lists refusal.now))) }
     ensures kept { IfOk result (λ _. IsLateKept (late_lists refusal.now)) }
 {
     match refusal {

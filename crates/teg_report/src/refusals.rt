@@ -14,7 +14,7 @@ use teg_net::{Label, Name, OutOfMemory};
 use teg_reader::{ReadRefusal, Section, Spot};
 use teg_text::push_label;
 
-/// A table of the file.
+// A table of the file.
 fn spot_text(alloc: Global, spot: &Spot) -> Result<String, OutOfMemory>
     ensures text { IfOk result (λ text. string_bytes text ≡ spot_text spot.now) }
     ensures kept { IsWord32 spot.now.position }
@@ -28,7 +28,7 @@ fn spot_text(alloc: Global, spot: &Spot) -> Result<String, OutOfMemory>
     }
 }
 
-/// A label, byte by byte.
+// A label, byte by byte.
 fn label_word(alloc: Global, label: &Label) -> Result<String, OutOfMemory>
     ensures text { IfOk result (λ text. string_bytes text ≡ label_word label.now) }
     ensures kept { IfOk result (λ _. AreBytes label.now) }
@@ -38,10 +38,11 @@ fn label_word(alloc: Global, label: &Label) -> Result<String, OutOfMemory>
     Ok(text)
 }
 
-/// What is wrong at a table.
+// What is wrong at a table.
 #[tactic(auto, using(crate::proofs::Joining::fault_written))]
 fn fault_at(alloc: Global, spot: &Spot, fault: &str) -> Result<Vec<u8>, OutOfMemory>
-    ensures text { IfOk result (λ text. text.items ≡ written (fault_line spot.now fault.now [] ∷ [])) }
+    ensures text { IfOk result (λ text. text.items ≡ written
+        (fault_line spot.now fault.now [] ∷ [])) }
     ensures kept { IsWord32 spot.now.position }
 {
     let spot = spot_text(alloc, spot)?;
@@ -49,10 +50,11 @@ fn fault_at(alloc: Global, spot: &Spot, fault: &str) -> Result<Vec<u8>, OutOfMem
     Ok(text.into_bytes())
 }
 
-/// What is wrong at a table, and with which key or text.
+// What is wrong at a table, and with which key or text.
 #[tactic(auto, using(crate::proofs::Joining::fault_written))]
 fn fault_with(alloc: Global, spot: &Spot, fault: &str, about: &str) -> Result<Vec<u8>, OutOfMemory>
-    ensures text { IfOk result (λ text. text.items ≡ written (fault_line spot.now fault.now (about.now ∷ []) ∷ [])) }
+    ensures text { IfOk result (λ text. text.items ≡ written
+        (fault_line spot.now fault.now (about.now ∷ []) ∷ [])) }
     ensures kept { IsWord32 spot.now.position }
 {
     let spot = spot_text(alloc, spot)?;
@@ -60,23 +62,25 @@ fn fault_with(alloc: Global, spot: &Spot, fault: &str, about: &str) -> Result<Ve
     Ok(text.into_bytes())
 }
 
-/// What is wrong at a table, and with which text.
+// What is wrong at a table, and with which text.
 fn fault_with_label(
     alloc: Global,
     spot: &Spot,
     fault: &str,
     label: &Label,
 ) -> Result<Vec<u8>, OutOfMemory>
-    ensures text { IfOk result (λ text. text.items ≡ written (fault_line spot.now fault.now (label_word label.now ∷ []) ∷ [])) }
+    ensures text { IfOk result (λ text. text.items ≡ written
+        (fault_line spot.now fault.now (label_word label.now ∷ []) ∷ [])) }
     ensures kept { IfOk result (λ _. IsWord32 spot.now.position × AreBytes label.now) }
 {
     let label = label_word(alloc, label)?;
     fault_with(alloc, spot, fault, label.as_str())
 }
 
-/// How many producers and consumers a place has.
+// How many producers and consumers a place has.
 fn ends(alloc: Global, place: &Name, producers: u32, consumers: u32) -> Result<Vec<u8>, OutOfMemory>
-    ensures text { IfOk result (λ text. text.items ≡ written (ends_line place.now producers consumers ∷ [])) }
+    ensures text { IfOk result (λ text. text.items ≡ written
+        (ends_line place.now producers consumers ∷ [])) }
     ensures kept { IsTrue (is_name place.now) × IsWord32 producers × IsWord32 consumers }
 {
     let place = place.as_str();
@@ -86,7 +90,7 @@ fn ends(alloc: Global, place: &Name, producers: u32, consumers: u32) -> Result<V
     Ok(text.into_bytes())
 }
 
-/// That a place leads to an input.
+// That a place leads to an input.
 fn entered(alloc: Global, place: &Name) -> Result<Vec<u8>, OutOfMemory>
     ensures text { IfOk result (λ text. text.items ≡ written (entered_line place.now ∷ [])) }
     ensures kept { IsTrue (is_name place.now) }
@@ -96,9 +100,10 @@ fn entered(alloc: Global, place: &Name) -> Result<Vec<u8>, OutOfMemory>
     Ok(text.into_bytes())
 }
 
-/// Where the list of an input is faulty.
+// Where the list of an input is faulty.
 fn input(alloc: Global, transition: &Name, position: u32) -> Result<Vec<u8>, OutOfMemory>
-    ensures text { IfOk result (λ text. text.items ≡ written (input_line transition.now position ∷ [])) }
+    ensures text { IfOk result (λ text. text.items ≡ written
+        (input_line transition.now position ∷ [])) }
     ensures kept { IsTrue (is_name transition.now) × IsWord32 position }
 {
     let transition = transition.as_str();
@@ -106,9 +111,10 @@ fn input(alloc: Global, transition: &Name, position: u32) -> Result<Vec<u8>, Out
     Ok(text.into_bytes())
 }
 
-/// How many ready dates a place has, and how many tokens.
+// How many ready dates a place has, and how many tokens.
 fn ready(alloc: Global, place: &Name, given: u32, tokens: u32) -> Result<Vec<u8>, OutOfMemory>
-    ensures text { IfOk result (λ text. text.items ≡ written (ready_line place.now given tokens ∷ [])) }
+    ensures text { IfOk result (λ text. text.items ≡ written
+        (ready_line place.now given tokens ∷ [])) }
     ensures kept { IsTrue (is_name place.now) × IsWord32 given × IsWord32 tokens }
 {
     let place = place.as_str();
@@ -118,7 +124,7 @@ fn ready(alloc: Global, place: &Name, given: u32, tokens: u32) -> Result<Vec<u8>
     Ok(text.into_bytes())
 }
 
-/// That the hold of a place is too great.
+// That the hold of a place is too great.
 fn hold(alloc: Global, place: &Name) -> Result<Vec<u8>, OutOfMemory>
     ensures text { IfOk result (λ text. text.items ≡ written (hold_line place.now ∷ [])) }
     ensures kept { IsTrue (is_name place.now) }
@@ -128,7 +134,7 @@ fn hold(alloc: Global, place: &Name) -> Result<Vec<u8>, OutOfMemory>
     Ok(text.into_bytes())
 }
 
-/// Why the bytes of a file say no net.
+// Why the bytes of a file say no net.
 pub(crate) fn read(alloc: Global, refusal: &ReadRefusal) -> Result<Vec<u8>, OutOfMemory>
     ensures text { IfOk result (λ text. text.items ≡ written (read_line refusal.now ∷ [])) }
     ensures kept { IfOk result (λ _. HasPlainSpot refusal.now → IsRefusal refusal.now) }

@@ -3,7 +3,7 @@ ghost use Rattle.std.specs.Prelude.{◌≡◌, None, Some, IfOk, IfSome};
 ghost use Rattle.std.specs.Option.{option_copied};
 ghost use Rattle.teg_net.specs.Nets.{IsNet};
 ghost use Rattle.teg_report.specs.Answering.{AreOfOneNet, IsReadFrom};
-ghost use Rattle.teg_report.specs.Kept.{IsKept, IsPlain};
+ghost use Rattle.teg_report.specs.Kept.{IsKept, IsPlain, IsTold};
 ghost use Rattle.teg_report.specs.Meanings.{meant};
 ghost use Rattle.teg_report.specs.Reports.{IsAbout, text_of};
 
@@ -12,7 +12,7 @@ use crate::{cycles, file_rows, forms, lists, plans, refusals, series, settled, s
 use std::alloc::Global;
 use teg_net::{Net, OutOfMemory};
 
-/// The text of an answer that names nothing of a net.
+// The text of an answer that names nothing of a net.
 fn alone(alloc: Global, answer: &Answer<'_>) -> Result<Vec<u8>, OutOfMemory>
     requires { IsAbout None (meant answer.now) }
     ensures text { IfOk result (λ text. text.items ≡ text_of None (meant answer.now)) }
@@ -52,7 +52,7 @@ fn alone(alloc: Global, answer: &Answer<'_>) -> Result<Vec<u8>, OutOfMemory>
     }
 }
 
-/// The text of an answer about this net.
+// The text of an answer about this net.
 fn about(alloc: Global, net: &Net, answer: &Answer<'_>) -> Result<Vec<u8>, OutOfMemory>
     requires { IsAbout (Some net.now) (meant answer.now) }
     ensures text { IfOk result (λ text. text.items ≡ text_of (Some net.now) (meant answer.now)) }
@@ -82,10 +82,11 @@ fn about(alloc: Global, net: &Net, answer: &Answer<'_>) -> Result<Vec<u8>, OutOf
     }
 }
 
-/// The text of an answer, whose values keep what their types keep.
+// The text of an answer, whose values keep what their types keep.
 fn text(alloc: Global, net: Option<&Net>, answer: &Answer<'_>) -> Result<Vec<u8>, OutOfMemory>
     requires { IsAbout (option_copied net) (meant answer.now) }
-    ensures text { IfOk result (λ text. text.items ≡ text_of (option_copied net.entry) (meant answer.now)) }
+    ensures text { IfOk result (λ text. text.items ≡ text_of (option_copied net.entry)
+        (meant answer.now)) }
     ensures kept { IfOk result (λ _. IsPlain (meant answer.now) → IsKept (meant answer.now)) }
 {
     match net {
@@ -94,7 +95,7 @@ fn text(alloc: Global, net: Option<&Net>, answer: &Answer<'_>) -> Result<Vec<u8>
     }
 }
 
-/// That a net which is given keeps its rules.
+// That a net which is given keeps its rules.
 fn know_rules(net: Option<&Net>)
     ensures { IfSome (option_copied net.entry) IsNet }
 {
@@ -118,7 +119,11 @@ fn know_rules(net: Option<&Net>)
 pub fn report(alloc: Global, net: Option<&Net>, answer: &Answer<'_>) -> Result<Vec<u8>, OutOfMemory>
     requires { IsAbout (option_copied net) (meant answer.now) }
     // The bytes are the text of the answer.
-    ensures text { IfOk result (λ text. text.items ≡ text_of (option_copied net.entry) (meant answer.now)) }
+    ensures text { IfOk result (λ text. text.items ≡ text_of (option_copied net.entry)
+        (meant answer.now)) }
+    // The answer is told: the net keeps its rules, and its numbers have the bits of their types.
+    ensures told { IfOk result (λ _. IsPlain (meant answer.now)
+        → IsTold (option_copied net.entry) (meant answer.now)) }
     // The answer is read back from its bytes, by the names of its net: so answers with the same bytes are one.
     ensures read_back { IfOk result (λ text. IsPlain (meant answer.now) →
         IsReadFrom (option_copied net.entry) (meant answer.now) text.items) }
@@ -141,8 +146,10 @@ pub fn report_both(
     requires one_net { AreOfOneNet (option_copied first_net) (option_copied second_net) }
     requires first { IsAbout (option_copied first_net) (meant first.now) }
     requires second { IsAbout (option_copied second_net) (meant second.now) }
-    ensures first { IfOk result (λ texts. texts.0.items ≡ text_of (option_copied first_net.entry) (meant first.now)) }
-    ensures second { IfOk result (λ texts. texts.1.items ≡ text_of (option_copied second_net.entry) (meant second.now)) }
+    ensures first { IfOk result (λ texts. texts.0.items
+        ≡ text_of (option_copied first_net.entry) (meant first.now)) }
+    ensures second { IfOk result (λ texts. texts.1.items
+        ≡ text_of (option_copied second_net.entry) (meant second.now)) }
     // Different answers have different bytes.
     ensures different { IfOk result (λ texts. IsPlain (meant first.now) → IsPlain (meant second.now) →
         texts.0.items ≡ texts.1.items → meant first.now ≡ meant second.now) }

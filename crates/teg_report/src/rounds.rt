@@ -6,11 +6,11 @@ ghost use Rattle.teg_report.specs.Meanings.{part_lists, round_lists, runs_lists}
 ghost use Rattle.teg_report.specs.Rounds.{AreRunsTold, IsChoiceIn, IsRoundIn, IsRunIn, choice_line, round_lines, run_lines, runs_from, runs_lines as runs_text, turn_line};
 ghost use Rattle.teg_text.specs.Lines.{line_then, written};
 
-use crate::cycles::push_circuit_line;
 use std::alloc::AllocError;
 use teg_net::{Choice, Net, PartAnswer, Ratio, Round};
+use teg_text::push_circuit;
 
-/// Appends the line of a choice.
+// Appends the line of a choice.
 fn push_choice(text: &mut String, net: &Net, choice: &Choice) -> Result<(), AllocError>
     requires { IsChoiceIn net.now choice.now }
     ensures text { IfOk result (λ _. string_bytes text.new ≡
@@ -25,7 +25,7 @@ fn push_choice(text: &mut String, net: &Net, choice: &Choice) -> Result<(), Allo
     write!(text, "choice {transition} {place} {value}\n")
 }
 
-/// Appends the lines of choices.
+// Appends the lines of choices.
 #[tactic(auto, using(teg_text::proofs::Joining::written_map))]
 fn push_choices(text: &mut String, net: &Net, choices: &[Choice]) -> Result<(), AllocError>
     requires { All (IsChoiceIn net.now) choices.now }
@@ -39,7 +39,7 @@ fn push_choices(text: &mut String, net: &Net, choices: &[Choice]) -> Result<(), 
     Ok(())
 }
 
-/// Appends the first line of a round.
+// Appends the first line of a round.
 fn push_turn(text: &mut String, part: usize, turn: usize, ratio: &Ratio) -> Result<(), AllocError>
     requires parts { part < 2 ^ 63 }
     requires turns { turn < 2 ^ 63 }
@@ -58,7 +58,7 @@ fn push_turn(text: &mut String, part: usize, turn: usize, ratio: &Ratio) -> Resu
     )
 }
 
-/// Appends the lines of a round.
+// Appends the lines of a round.
 fn push_round(
     text: &mut String,
     net: &Net,
@@ -74,12 +74,12 @@ fn push_round(
     ensures kept { IfOk result (λ _. IsRoundKept (round_lists round.now)) }
 {
     push_turn(text, part, turn, &round.ratio)?;
-    push_circuit_line(text, net, &round.circuit)?;
+    push_circuit(text, net, &round.circuit)?;
     push_choices(text, net, &round.choices)?;
     Ok(())
 }
 
-/// Appends the lines of the rounds of a part.
+// Appends the lines of the rounds of a part.
 fn push_run(text: &mut String, net: &Net, part: usize, rounds: &[Round]) -> Result<(), AllocError>
     requires parts { part < 2 ^ 63 }
     requires rounds { IsRunIn net.now (map round_lists rounds.now) }
@@ -93,7 +93,7 @@ fn push_run(text: &mut String, net: &Net, part: usize, rounds: &[Round]) -> Resu
     Ok(())
 }
 
-/// Appends the lines of all rounds, of which each part with a circuit has a list.
+// Appends the lines of all rounds, of which each part with a circuit has a list.
 pub(crate) fn push_runs(
     text: &mut String,
     net: &Net,

@@ -13,7 +13,7 @@ use std::alloc::Global;
 use teg_calc::{ParseRefused, print};
 use teg_net::OutOfMemory;
 
-/// A series.
+// A series.
 pub(crate) fn calc(alloc: Global, series: &Series) -> Result<Vec<u8>, OutOfMemory>
     ensures text { IfOk result (λ text. text.items ≡ written (series_line series.now ∷ [])) }
     ensures kept { IfOk result (λ _. IsSeriesKept series.now) }
@@ -24,7 +24,7 @@ pub(crate) fn calc(alloc: Global, series: &Series) -> Result<Vec<u8>, OutOfMemor
     Ok(text)
 }
 
-/// That the text is no expression from here on.
+// That the text is no expression from here on.
 fn syntax(alloc: Global, at: u32) -> Result<Vec<u8>, OutOfMemory>
     ensures text { IfOk result (λ text. text.items ≡ written (parse_line (Syntax at) ∷ [])) }
     ensures kept { IsWord32 at }
@@ -33,7 +33,7 @@ fn syntax(alloc: Global, at: u32) -> Result<Vec<u8>, OutOfMemory>
     Ok(text.into_bytes())
 }
 
-/// That the text opens a bracket too deep here.
+// That the text opens a bracket too deep here.
 fn too_deep(alloc: Global, at: u32) -> Result<Vec<u8>, OutOfMemory>
     ensures text { IfOk result (λ text. text.items ≡ written (parse_line (TooDeep at) ∷ [])) }
     ensures kept { IsWord32 at }
@@ -42,25 +42,27 @@ fn too_deep(alloc: Global, at: u32) -> Result<Vec<u8>, OutOfMemory>
     Ok(text.into_bytes())
 }
 
-/// That a series needs so long a list.
+// That a series needs so long a list.
 fn too_long(alloc: Global, need: u128) -> Result<Vec<u8>, OutOfMemory>
-    ensures text { IfOk result (λ text. text.items ≡ written (series_refused_line (TooLong need) ∷ [])) }
+    ensures text { IfOk result (λ text. text.items ≡ written
+        (series_refused_line (TooLong need) ∷ [])) }
     ensures kept { need < 2 ^ 128 }
 {
     let text = format!(in alloc; "refused: series needs {need}\n")?;
     Ok(text.into_bytes())
 }
 
-/// That a series has so great a number.
+// That a series has so great a number.
 fn too_great(alloc: Global, value: i128) -> Result<Vec<u8>, OutOfMemory>
-    ensures text { IfOk result (λ text. text.items ≡ written (series_refused_line (TooGreat value) ∷ [])) }
+    ensures text { IfOk result (λ text. text.items ≡ written
+        (series_refused_line (TooGreat value) ∷ [])) }
     ensures kept { unsigned_abs value < 2 ^ 128 }
 {
     let text = format!(in alloc; "refused: number {value}\n")?;
     Ok(text.into_bytes())
 }
 
-/// Why a text is no expression.
+// Why a text is no expression.
 pub(crate) fn parse(alloc: Global, refusal: &ParseRefused) -> Result<Vec<u8>, OutOfMemory>
     requires { refusal.now ≢ NoText }
     ensures text { IfOk result (λ text. text.items ≡ written (parse_line refusal.now ∷ [])) }
@@ -73,10 +75,11 @@ pub(crate) fn parse(alloc: Global, refusal: &ParseRefused) -> Result<Vec<u8>, Ou
     }
 }
 
-/// Why an operation has no series.
+// Why an operation has no series.
 pub(crate) fn refused(alloc: Global, refusal: &SeriesRefused) -> Result<Vec<u8>, OutOfMemory>
     requires { refusal.now ≢ NoRoom }
-    ensures text { IfOk result (λ text. text.items ≡ written (series_refused_line refusal.now ∷ [])) }
+    ensures text { IfOk result (λ text. text.items ≡ written
+        (series_refused_line refusal.now ∷ [])) }
     ensures kept { IsSeriesRefusalKept refusal.now }
 {
     match refusal {

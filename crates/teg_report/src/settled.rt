@@ -3,11 +3,11 @@
 ghost use Rattle.std.specs.Prelude.{◌≡◌, ◌++◌, ◌∷◌, ◌<◌, ◌^◌, [], All, IfOk, length, map, string_bytes};
 ghost use Rattle.std.specs.Int.RustNames.{unsigned_abs};
 ghost use Rattle.settled_laws.specs.Forms.{row_of, step_of};
-ghost use Rattle.teg_report.specs.Forms.{name_of_transition};
 ghost use Rattle.teg_report.specs.Kept.{IsSettledKept, AreTimesKept, AreTimesToKept, IsWord64};
 ghost use Rattle.teg_report.specs.Meanings.{times_from, times_to};
 ghost use Rattle.teg_report.specs.SettledTexts.{AreTimesIn, from_line, from_lines, output_count, row_words, settled_line, settled_lines, to_line, transfer_lines};
 ghost use Rattle.teg_text.specs.Lines.{further_then, line_then, written};
+ghost use Rattle.teg_text.specs.Names.{name_of_transition};
 ghost use Rattle.teg_text.specs.Words.{IsDate};
 
 use crate::answer::{TransferFrom, TransferLine};
@@ -17,7 +17,7 @@ use teg_net::{Net, OutOfMemory, Role, TransitionId};
 use teg_settle::Settled;
 use teg_text::push_dates;
 
-/// Ends a line with dates and the step by which they go on.
+// Ends a line with dates and the step by which they go on.
 fn end_row(text: &mut String, dates: &[Date], step: i128) -> Result<(), AllocError>
     ensures text { IfOk result (λ _. string_bytes text.new ≡
         string_bytes text.old ++ further_then (row_words dates.now step) []) }
@@ -29,7 +29,7 @@ fn end_row(text: &mut String, dates: &[Date], step: i128) -> Result<(), AllocErr
     Ok(())
 }
 
-/// Begins a line with a word and the name of a transition.
+// Begins a line with a word and the name of a transition.
 fn begin_row(
     text: &mut String,
     net: &Net,
@@ -44,7 +44,7 @@ fn begin_row(
     write!(text, "{word} {name}")
 }
 
-/// Appends the line of the transition of this number, counted from 0.
+// Appends the line of the transition of this number, counted from 0.
 fn push_row(text: &mut String, net: &Net, settled: &Settled, index: usize) -> Result<(), AllocError>
     requires index { index < length net.now.transitions }
     requires full { length settled.now.rows ≡ length net.now.transitions }
@@ -63,8 +63,8 @@ fn push_row(text: &mut String, net: &Net, settled: &Settled, index: usize) -> Re
     Ok(())
 }
 
-/// Past which number the dates of a net go on, and in how many numbers by a step; then the dates of
-/// each transition up to there.
+// Past which number the dates of a net go on, and in how many numbers by a step; then the dates of
+// each transition up to there.
 pub(crate) fn dates(alloc: Global, net: &Net, settled: &Settled) -> Result<Vec<u8>, OutOfMemory>
     requires { length settled.now.rows ≡ length net.now.transitions }
     ensures text { IfOk result (λ text. text.items ≡ written (settled_lines net.now settled.now)) }
@@ -79,7 +79,7 @@ pub(crate) fn dates(alloc: Global, net: &Net, settled: &Settled) -> Result<Vec<u
     Ok(text.into_bytes())
 }
 
-/// Appends the line of an output.
+// Appends the line of an output.
 fn push_to(text: &mut String, net: &Net, line: &TransferLine) -> Result<(), AllocError>
     requires { line.now.to.index < length net.now.transitions }
     ensures text { IfOk result (λ _. string_bytes text.new ≡
@@ -91,7 +91,7 @@ fn push_to(text: &mut String, net: &Net, line: &TransferLine) -> Result<(), Allo
     Ok(())
 }
 
-/// Appends the first line of an input.
+// Appends the first line of an input.
 fn push_from_line(text: &mut String, net: &Net, from: &TransferFrom) -> Result<(), AllocError>
     requires { from.now.from.index < length net.now.transitions }
     ensures text { IfOk result (λ _. string_bytes text.new ≡
@@ -105,7 +105,7 @@ fn push_from_line(text: &mut String, net: &Net, from: &TransferFrom) -> Result<(
     write!(text, "from {name} settled after {after} period {period}\n")
 }
 
-/// Appends the lines of outputs.
+// Appends the lines of outputs.
 fn push_tos(text: &mut String, net: &Net, lines: &[TransferLine]) -> Result<(), AllocError>
     requires { All (λ l. l.to.index < length net.now.transitions) (map times_to lines.now) }
     ensures text { IfOk result (λ _. string_bytes text.new ≡
@@ -118,7 +118,7 @@ fn push_tos(text: &mut String, net: &Net, lines: &[TransferLine]) -> Result<(), 
     Ok(())
 }
 
-/// Appends the lines of an input.
+// Appends the lines of an input.
 fn push_from(text: &mut String, net: &Net, from: &TransferFrom) -> Result<(), AllocError>
     requires { AreTimesIn net.now (times_from from.now) }
     ensures text { IfOk result (λ _. string_bytes text.new ≡
@@ -130,7 +130,7 @@ fn push_from(text: &mut String, net: &Net, from: &TransferFrom) -> Result<(), Al
     Ok(())
 }
 
-/// How many outputs the net has.
+// How many outputs the net has.
 fn outputs(net: &Net) -> usize
     ensures { result ≡ output_count net.now }
 {
@@ -140,14 +140,15 @@ fn outputs(net: &Net) -> usize
         .count()
 }
 
-/// How many inputs and outputs there are, and then the lines of each input.
+// How many inputs and outputs there are, and then the lines of each input.
 pub(crate) fn transfer(
     alloc: Global,
     net: &Net,
     inputs: &[TransferFrom],
 ) -> Result<Vec<u8>, OutOfMemory>
     requires { All (AreTimesIn net.now) (map times_from inputs.now) }
-    ensures text { IfOk result (λ text. text.items ≡ written (transfer_lines net.now (map times_from inputs.now))) }
+    ensures text { IfOk result (λ text. text.items ≡ written
+        (transfer_lines net.now (map times_from inputs.now))) }
     ensures kept { IfOk result (λ _. All AreTimesKept (map times_from inputs.now)) }
 {
     let count = inputs.len();

@@ -10,9 +10,10 @@ use teg_critical::{Slack, Slacks};
 use teg_net::{Net, OutOfMemory, PlaceId, Ratio};
 use teg_text::push_date;
 
-/// Appends the line of the greatest ratio.
+// Appends the line of the greatest ratio.
 fn push_cycle_time(text: &mut String, ratio: Ratio) -> Result<(), AllocError>
-    ensures text { IfOk result (λ _. string_bytes text.new ≡ string_bytes text.old ++ line_then (cycle_time_line ratio) []) }
+    ensures text { IfOk result (λ _. string_bytes text.new
+        ≡ string_bytes text.old ++ line_then (cycle_time_line ratio) []) }
     ensures kept { IfOk result (λ _. IsRatioKept ratio) }
 {
     let time = ratio.time();
@@ -20,7 +21,7 @@ fn push_cycle_time(text: &mut String, ratio: Ratio) -> Result<(), AllocError>
     write!(text, "cycle time {time}/{tokens}\n")
 }
 
-/// Appends the line of the place of this number, counted from 0.
+// Appends the line of the place of this number, counted from 0.
 fn push_slack(text: &mut String, net: &Net, index: usize, slack: Slack) -> Result<(), AllocError>
     requires { index < length net.now.places }
     ensures text { IfOk result (λ _. string_bytes text.new ≡
@@ -35,7 +36,7 @@ fn push_slack(text: &mut String, net: &Net, index: usize, slack: Slack) -> Resul
     }
 }
 
-/// The greatest ratio, and one line for each place.
+// The greatest ratio, and one line for each place.
 pub(crate) fn slack(
     alloc: Global,
     net: &Net,
@@ -43,7 +44,8 @@ pub(crate) fn slack(
     slacks: &Slacks,
 ) -> Result<Vec<u8>, OutOfMemory>
     requires { length slacks.now ≡ length net.now.places }
-    ensures text { IfOk result (λ text. text.items ≡ written (slack_lines net.now ratio slacks.now)) }
+    ensures text { IfOk result (λ text. text.items ≡ written
+        (slack_lines net.now ratio slacks.now)) }
     ensures ratio { IfOk result (λ _. IsRatioKept ratio) }
     ensures slacks { IfOk result (λ _. All IsSlackKept slacks.now) }
 {
@@ -58,7 +60,7 @@ pub(crate) fn slack(
     Ok(text.into_bytes())
 }
 
-/// The summary of a net that was made.
+// The summary of a net that was made.
 pub(crate) fn trial(
     alloc: Global,
     machines: u32,
@@ -67,7 +69,8 @@ pub(crate) fn trial(
     critical: u32,
     last: Date,
 ) -> Result<Vec<u8>, OutOfMemory>
-    ensures text { IfOk result (λ text. text.items ≡ written (trial_lines machines places ratio critical last)) }
+    ensures text { IfOk result (λ text. text.items ≡ written
+        (trial_lines machines places ratio critical last)) }
     ensures kept { IfOk result (λ _. IsTrialKept machines places ratio critical last) }
 {
     let mut text = format!(in alloc; "trial {machines}\nplaces {places}\n")?;

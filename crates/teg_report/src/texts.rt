@@ -2,26 +2,25 @@
 ghost use Rattle.std.specs.Prelude.{◌≡◌, ◌<◌, [], ◌∷◌, IfOk, length};
 ghost use Rattle.teg_net.specs.Circuits.{AreInRange};
 ghost use Rattle.teg_report.specs.Kept.{IsWord32, IsWord64};
-ghost use Rattle.teg_report.specs.Forms.{name_of_transition};
 ghost use Rattle.teg_report.specs.Texts.{usage_lines, live_lines, no_circuit_line, too_large_line, read_fault_line, token_free_line, no_transition_line, too_long_line, date_line};
 ghost use Rattle.teg_text.specs.Lines.{written};
+ghost use Rattle.teg_text.specs.Names.{name_of_transition};
 ghost use Rattle.teg_text.specs.Words.{AreBytes, IsDate};
 
 use crate::answer::Which;
-use crate::circuits::push_circuit;
 use dioid::Date;
 use std::alloc::Global;
 use teg_net::{Circuit, Label, Net, OutOfMemory, TransitionId};
-use teg_text::{push_date, push_label};
+use teg_text::{push_date, push_label, push_places};
 
-/// The bytes of a text.
+// The bytes of a text.
 pub(crate) fn bytes_of(alloc: Global, text: &str) -> Result<Vec<u8>, OutOfMemory>
     ensures { IfOk result (λ bytes. bytes.items ≡ text.now) }
 {
     Ok(Vec::from_slice(alloc, text.as_bytes())?)
 }
 
-/// One line for each command.
+// One line for each command.
 pub(crate) fn usage(alloc: Global) -> Result<Vec<u8>, OutOfMemory>
     ensures { IfOk result (λ text. text.items ≡ written usage_lines) }
 {
@@ -49,7 +48,7 @@ pub(crate) fn usage(alloc: Global) -> Result<Vec<u8>, OutOfMemory>
     )
 }
 
-/// That a net of this size is live.
+// That a net of this size is live.
 pub(crate) fn live(alloc: Global, transitions: u32, places: u32) -> Result<Vec<u8>, OutOfMemory>
     ensures text { IfOk result (λ text. text.items ≡ written (live_lines transitions places)) }
     ensures kept { IsWord32 transitions × IsWord32 places }
@@ -58,29 +57,30 @@ pub(crate) fn live(alloc: Global, transitions: u32, places: u32) -> Result<Vec<u
     Ok(text.into_bytes())
 }
 
-/// That a net has no circuit.
+// That a net has no circuit.
 pub(crate) fn no_circuit(alloc: Global) -> Result<Vec<u8>, OutOfMemory>
     ensures { IfOk result (λ text. text.items ≡ written (no_circuit_line ∷ [])) }
 {
     bytes_of(alloc, "no circuit\n")
 }
 
-/// The circuit for whose sake a net is not live.
+// The circuit for whose sake a net is not live.
 pub(crate) fn token_free(
     alloc: Global,
     net: &Net,
     circuit: &Circuit,
 ) -> Result<Vec<u8>, OutOfMemory>
     requires { AreInRange net.now circuit.now.places.items }
-    ensures { IfOk result (λ text. text.items ≡ written (token_free_line net.now circuit.now.places.items ∷ [])) }
+    ensures { IfOk result (λ text. text.items ≡ written
+        (token_free_line net.now circuit.now.places.items ∷ [])) }
 {
     let mut text = String::from_str(alloc, "refused: token-free circuit")?;
-    push_circuit(&mut text, net, circuit)?;
+    push_places(&mut text, net, circuit)?;
     text.push('\n')?;
     Ok(text.into_bytes())
 }
 
-/// That a file is longer than a file may be.
+// That a file is longer than a file may be.
 pub(crate) fn too_large(alloc: Global, file: Which) -> Result<Vec<u8>, OutOfMemory>
     ensures { IfOk result (λ text. text.items ≡ written (too_large_line file ∷ [])) }
 {
@@ -98,7 +98,7 @@ pub(crate) fn too_large(alloc: Global, file: Which) -> Result<Vec<u8>, OutOfMemo
     }
 }
 
-/// That a file could not be read.
+// That a file could not be read.
 pub(crate) fn fault(alloc: Global, file: Which) -> Result<Vec<u8>, OutOfMemory>
     ensures { IfOk result (λ text. text.items ≡ written (read_fault_line file ∷ [])) }
 {
@@ -110,7 +110,7 @@ pub(crate) fn fault(alloc: Global, file: Which) -> Result<Vec<u8>, OutOfMemory>
     }
 }
 
-/// That no transition has this name.
+// That no transition has this name.
 pub(crate) fn no_transition(alloc: Global, word: &Label) -> Result<Vec<u8>, OutOfMemory>
     ensures text { IfOk result (λ text. text.items ≡ written (no_transition_line word.now ∷ [])) }
     ensures kept { IfOk result (λ _. AreBytes word.now) }
@@ -121,7 +121,7 @@ pub(crate) fn no_transition(alloc: Global, word: &Label) -> Result<Vec<u8>, OutO
     Ok(text.into_bytes())
 }
 
-/// That no settled form is as short as this.
+// That no settled form is as short as this.
 pub(crate) fn too_long(alloc: Global, limit: u32) -> Result<Vec<u8>, OutOfMemory>
     ensures text { IfOk result (λ text. text.items ≡ written (too_long_line limit ∷ [])) }
     ensures kept { IsWord32 limit }
@@ -130,7 +130,7 @@ pub(crate) fn too_long(alloc: Global, limit: u32) -> Result<Vec<u8>, OutOfMemory
     Ok(text.into_bytes())
 }
 
-/// The date of a firing.
+// The date of a firing.
 pub(crate) fn date(
     alloc: Global,
     net: &Net,
@@ -139,7 +139,8 @@ pub(crate) fn date(
     date: Date,
 ) -> Result<Vec<u8>, OutOfMemory>
     requires { transition.index < length net.now.transitions }
-    ensures text { IfOk result (λ text. text.items ≡ written (date_line (name_of_transition net.now transition) number date ∷ [])) }
+    ensures text { IfOk result (λ text. text.items ≡ written
+        (date_line (name_of_transition net.now transition) number date ∷ [])) }
     ensures number { IsWord64 number }
     ensures date { IfOk result (λ _. IsDate date) }
 {

@@ -1,5 +1,5 @@
 -- Lists of fields, of rows and of blocks of rows are read back.
-use Rattle.std.proofs.Common.{◌≤◌, subst, ◌≡◌, ℕ, suc, ◌+◌, ◌-◌, ◌*◌, ◌/◌, ◌%◌, ◌<◌, Bool, true, false, not, List, [], ◌∷◌, ◌++◌, All, map, refl, ap, ap₂, sym, ◌∙◌, length, get_or, drop, zero, arith, append-nil, div-add-mod', div-lt_iff_lt-mul, mod-lt, ext_get_or}
+use Rattle.std.proofs.Common.{◌≤◌, subst, ◌≡◌, ℕ, suc, ◌+◌, ◌-◌, ◌*◌, ◌/◌, ◌%◌, ◌<◌, Bool, true, false, not, List, [], ◌∷◌, ◌++◌, All, map, refl, ap, ap₂, sym, ◌∙◌, length, get_or, take, drop, zero, arith, append-nil, div-add-mod', div-lt_iff_lt-mul, mod-lt, ext_get_or}
 use Rattle.std.proofs.lemmas.Bool.{and_parts, and_from, not-true}
 use Rattle.std.proofs.lemmas.List.{get_or_default}
 use Rattle.std.proofs.lemmas.List.Elements.{All-head, All-tail}
@@ -25,6 +25,15 @@ map_passes P test f passes (x ∷ xs) h = and_from (test (f x)) (list_all test (
 
 pub rows : {A B : Type 0} (P : A → Type 0) (test : B → Bool) (f : A → B) (g : B → A) → IsReadBack P test f g → IsReadBack (All P) (list_all test) (map f) (map g)
 rows P test f g r = record { passes = map_passes P test f r.passes; back = map_back P f g r.back }
+
+-- what stands before others, and what stands behind
+pub before_back : {A : Type 0} (xs ys : List A) → take (length xs) (xs ++ ys) ≡ xs
+before_back [] ys = refl
+before_back (x ∷ xs) ys = ap (λ (l : List _). x ∷ l) (before_back xs ys)
+
+pub behind_back : {A : Type 0} (xs ys : List A) (i : ℕ) (d : A) → get_or (xs ++ ys) (length xs + i) d ≡ get_or ys i d
+behind_back [] ys i d = let same : 0 + i ≡ i = omega arith in ap (λ (j : ℕ). get_or ys j d) same
+behind_back (x ∷ xs) ys i d = let same : suc (length xs) + i ≡ suc (length xs + i) = omega arith in ap (λ (j : ℕ). get_or (x ∷ (xs ++ ys)) j d) same ∙ behind_back xs ys i d
 
 -- blocks of rows
 

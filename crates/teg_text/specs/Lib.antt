@@ -1,4 +1,6 @@
+pub mod Faults
 pub mod Lines
+pub mod Names
 pub mod Reading
 pub mod Rows
 pub mod Words

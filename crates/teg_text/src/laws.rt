@@ -1,4 +1,5 @@
 //! The laws of texts: what is written can be read back.
+ghost use Rattle.teg_text.specs.Names.{PlacesAreRead, TransitionsAreRead};
 ghost use Rattle.teg_text.specs.Reading.{DatesAreRead, LabelsAreRead, LinesAreRead, NumbersAreRead, RatiosAreRead};
 
 /// The law that lines of words are read back from their text. It does nothing when it runs.
@@ -13,4 +14,11 @@ pub fn words_are_read()
     ensures dates { DatesAreRead }
     ensures ratios { RatiosAreRead }
     ensures labels { LabelsAreRead }
+{}
+
+/// The law that transitions and places of a net are read back from their names. It does nothing when
+/// it runs.
+pub fn names_are_read()
+    ensures transitions { TransitionsAreRead }
+    ensures places { PlacesAreRead }
 {}

@@ -7,7 +7,8 @@ use std::alloc::AllocError;
 
 /// Appends a date: its number, `epsilon` where it is before all numbers and `never` after them.
 pub fn push_date(text: &mut String, date: Date) -> Result<(), AllocError>
-    ensures text { IfOk result (λ _. string_bytes text.new ≡ string_bytes text.old ++ date_word date) }
+    ensures text { IfOk result (λ _. string_bytes text.new
+        ≡ string_bytes text.old ++ date_word date) }
     ensures kept { IfOk result (λ _. IsDate date) }
 {
     match date {
@@ -19,7 +20,8 @@ pub fn push_date(text: &mut String, date: Date) -> Result<(), AllocError>
 
 /// Appends dates in their order, each behind a blank.
 pub fn push_dates(text: &mut String, dates: &[Date]) -> Result<(), AllocError>
-    ensures text { IfOk result (λ _. string_bytes text.new ≡ string_bytes text.old ++ flat_map (λ date. 32 ∷ date_word date) dates.now) }
+    ensures text { IfOk result (λ _. string_bytes text.new
+        ≡ string_bytes text.old ++ flat_map (λ date. 32 ∷ date_word date) dates.now) }
     ensures kept { IfOk result (λ _. All IsDate dates.now) }
 {
     for date in dates {
@@ -29,7 +31,7 @@ pub fn push_dates(text: &mut String, dates: &[Date]) -> Result<(), AllocError>
     Ok(())
 }
 
-/// The byte of a hexadecimal digit.
+// The byte of a hexadecimal digit.
 fn hex_digit(digit: u8) -> u8
     requires { digit < 16 }
     ensures result { result ≡ hex_digit digit }
@@ -38,7 +40,7 @@ fn hex_digit(digit: u8) -> u8
     if 10 <= digit { 87 + digit } else { 48 + digit }
 }
 
-/// Appends a byte of a label.
+// Appends a byte of a label.
 fn push_label_byte(text: &mut String, byte: u8) -> Result<(), AllocError>
     ensures { IfOk result (λ _. string_bytes text.new ≡ string_bytes text.old ++ label_byte byte) }
 {
@@ -56,7 +58,8 @@ fn push_label_byte(text: &mut String, byte: u8) -> Result<(), AllocError>
 /// Appends a label, byte by byte: a visible byte as it is, a backslash twice, and any other as `\x`
 /// and its two hexadecimal digits. So it has no blank and no line feed.
 pub fn push_label(text: &mut String, label: &str) -> Result<(), AllocError>
-    ensures text { IfOk result (λ _. string_bytes text.new ≡ string_bytes text.old ++ label_word label.now) }
+    ensures text { IfOk result (λ _. string_bytes text.new
+        ≡ string_bytes text.old ++ label_word label.now) }
     ensures kept { AreBytes label.now }
 {
     for byte in label.as_bytes() {

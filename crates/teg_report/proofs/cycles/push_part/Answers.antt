@@ -1,8 +1,9 @@
 use Rattle.std.proofs.Common.{[], ◌∷◌, ◌++◌, List, ℕ, map, ap, ◌∙◌, string_bytes}
 use Rattle.teg_net.specs.declared.answers.Potential.{Potential}
-use Rattle.teg_report.specs.Cycles.{circuit_line, potential_line, ratio_line}
+use Rattle.teg_report.specs.Cycles.{potential_line, ratio_line}
 use Rattle.teg_text.specs.Lines.{line_then, written}
 use Rattle.teg_text.proofs.Joining.{two_then}
+use Rattle.teg_text.specs.Names.{circuit_line}
 use Rattle.teg_report.proofs.cycles.push_part.Goals as goal
 
 pub returns-in_ok-push_potentials-in-Best : goal.returns-in_ok-push_potentials-in-Best
@@ -14,6 +15,6 @@ returns-in_ok-push_potentials-in-Best c =
     let told = map (potential_line net) c.deref.result.now in
     rw c.in-Best.is
     (c.in_ok-push_potentials-in-Best.ensures
-    ∙ (ap (λ (l : List ℕ). l ++ written told) (c.in_ok-push_circuit_line-in-Best.ensures ∙ ap (λ (l : List ℕ). l ++ line_then circuit []) c.in_ok-push_ratio-in-Best.ensures)
+    ∙ (ap (λ (l : List ℕ). l ++ written told) (c.in_ok-push_circuit-in-Best.ensures ∙ ap (λ (l : List ℕ). l ++ line_then circuit []) c.in_ok-push_ratio-in-Best.ensures)
     ∙ (two_then before ratio circuit told
     ∙ ap (λ (vs : List Potential). before ++ written (ratio ∷ circuit ∷ map (potential_line net) vs)) c.deref.ensures.value)))

@@ -1,6 +1,7 @@
 use Rattle.std.proofs.Common.{rules, ◌≡◌, ◌++◌, List, ℕ, codes, map, ap, sym, ◌∙◌, string_bytes}
 use Rattle.std.specs.Option.{option_copied}
-use Rattle.teg_report.specs.FileRows.{failure_words, row_line}
+use Rattle.teg_report.specs.FileRows.{failure_words}
+use Rattle.teg_text.specs.Faults.{row_line}
 use Rattle.teg_report.specs.Reports.{names_of}
 use Rattle.teg_text.specs.Lines.{phrase, written}
 use Rattle.teg_text.proofs.Joining.{line_append}

@@ -2,8 +2,9 @@ use Rattle.std.proofs.Common.{rules, ◌≡◌, ◌<◌, ◌^◌, [], ◌++◌, 
 use Rattle.std.proofs.lemmas.List.{get_or_default}
 use Rattle.std.specs.List.{range_with_len}
 use Rattle.settled_laws.specs.Forms.{row_of, step_of}
-use Rattle.teg_report.specs.SettledTexts.{settled_line, settled_words}
+use Rattle.teg_report.specs.SettledTexts.{settled_line}
 use Rattle.teg_text.specs.Lines.{line_then, written}
+use Rattle.teg_text.specs.Names.{settled_words}
 use Rattle.teg_text.specs.Words.{IsDate}
 use Rattle.teg_text.proofs.Joining.{line_append, lines_end}
 use Rattle.teg_text.proofs.Listing.{all_below, more_after}

@@ -1,7 +1,7 @@
 use Rattle.std.proofs.Common.{rules, ◌≡◌, [], ◌++◌, List, ℕ, map, ap, ◌∙◌, string_bytes}
 use Rattle.teg_text.specs.Lines.{further_then}
 use Rattle.teg_text.proofs.Joining.{line_ends}
-use Rattle.teg_report.specs.Texts.{name_of_place}
+use Rattle.teg_text.specs.Names.{name_of_place}
 use Rattle.teg_report.proofs.texts.token_free.Goals as goal
 
 pub returns : goal.returns
@@ -10,5 +10,5 @@ returns c =
     let name = name_of_place c.args.net.now in
     let places = c.args.circuit.now.places.items in
     let bytes : c.into_bytes.result.items ≡ string_bytes c.push.new.self = search rules in
-    bytes ∙ (line_ends name places (string_bytes c.in_ok-text.text) _ _ c.in_ok-push_circuit.ensures c.in_ok-push.ensures.bytes
+    bytes ∙ (line_ends name places (string_bytes c.in_ok-text.text) _ _ c.in_ok-push_places.ensures c.in_ok-push.ensures.bytes
     ∙ ap (λ (l : List ℕ). l ++ further_then (map name places) []) c.in_ok-text.ensures.ok)

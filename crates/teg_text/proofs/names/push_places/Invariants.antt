@@ -1,7 +1,7 @@
 use Rattle.std.proofs.Common.{◌≡◌, ◌++◌, ◌∷◌, take, string_bytes}
 use Rattle.std.specs.List.{flat_map}
-use Rattle.teg_report.specs.Texts.{name_of_place}
-use Rattle.teg_report.proofs.circuits.push_circuit.Given as goal
+use Rattle.teg_text.specs.Names.{name_of_place}
+use Rattle.teg_text.proofs.names.push_places.Given as goal
 
 abbrev pub invariant-loop-id : goal.invariant-loop-id
 invariant-loop-id l =
