@@ -41,16 +41,21 @@ one_time net input t k d e h m = same_by_at_most d e (time_below net input t k d
 same_gain : (a b : Gain) → a.series ≡ b.series → a ≡ b
 same_gain a b e = ap gain_of e
 
+-- there is one series of walk times to a transition
+pub one_walk : (net : NetLists) (input t : ℕ) (a b : Gain) → IsWalkSeries net input t a.series → IsWalkSeries net input t b.series → a ≡ b
+one_walk net input t a b h m =
+    same_gain a b (one_canonical a.series b.series h.canonical m.canonical
+    (λ k. one_time net input t (k + 1) (value_at a.series k) (value_at b.series k) (h.times k) (m.times k)))
+
+-- and one of the due dates of a row
+pub one_due : (r : EndlessRow) (a b : Gain) → IsDueSeries r a.series → IsDueSeries r b.series → a ≡ b
+one_due r a b h m = same_gain a b (one_canonical a.series b.series h.canonical m.canonical (λ k. h.dates k ∙ sym (m.dates k)))
+
 pub columns_are_one : ColumnsAreOne
 columns_are_one net input rows walks dues others owed a b i l =
-    let g : GotRow rows i = got_row rows i l in
-    let w : IsWalkSeries net input g.row.transition.index (walks i).series = a.walk_series i g.row g.got in
-    let v : IsWalkSeries net input g.row.transition.index (others i).series = b.walk_series i g.row g.got in
-    let d : IsDueSeries g.row (dues i).series = a.due_series i g.row g.got in
-    let e : IsDueSeries g.row (owed i).series = b.due_series i g.row g.got in (
-      same_gain (walks i) (others i) (one_canonical (walks i).series (others i).series w.canonical v.canonical
-          (λ k. one_time net input g.row.transition.index (k + 1) (value_at (walks i).series k) (value_at (others i).series k) (w.times k) (v.times k))),
-      same_gain (dues i) (owed i) (one_canonical (dues i).series (owed i).series d.canonical e.canonical (λ k. d.dates k ∙ sym (e.dates k))),
+    let g : GotRow rows i = got_row rows i l in (
+      one_walk net input g.row.transition.index (walks i) (others i) (a.walk_series i g.row g.got) (b.walk_series i g.row g.got),
+      one_due g.row (dues i) (owed i) (a.due_series i g.row g.got) (b.due_series i g.row g.got),
     )
 
 meets_alike : {M : Type 0} (l : ResiduatedOf M) (f g : ℕ → M) (n : ℕ) → ((j : ℕ) → j ≤ n → f j ≡ g j) → meet_below l f n ≡ meet_below l g n

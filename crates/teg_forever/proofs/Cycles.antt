@@ -1,8 +1,7 @@
 -- A period of a transition's own past the settling number.
-use Rattle.std.proofs.Common.{ℕ, ℤ, zero, suc, pos, ◌≡◌, ◌<◌, ◌≤◌, ◌+◌, ◌*◌, ◌/◌, ◌%◌, sym, ap, subst, ◌∙◌, arith, ⊎_elim}
+use Rattle.std.proofs.Common.{ℕ, ℤ, zero, suc, pos, ◌≡◌, ◌<◌, ◌≤◌, ◌+◌, ◌*◌, sym, ap, subst, ◌∙◌, arith, ⊎_elim}
 use Rattle.std.specs.Prelude.{◌+ℤ◌}
 use Rattle.std.proofs.lemmas.Int.{ints}
-use Rattle.std.proofs.lemmas.Nat.{div-add-mod', mod_below}
 use Rattle.std.proofs.Math.Nat.{eq-or-lt_of_le}
 use Rattle.dioid.specs.declared.dates.Date.TheVariants.{At}
 use Rattle.dioid.specs.Dates.{move}
@@ -10,13 +9,6 @@ use Rattle.dioid.proofs.Moves.{move_zero, move_move, move_swap}
 use Rattle.series_laws.proofs.Repeating.{by_steps}
 use Rattle.settled_laws.specs.Forms.{SettledForm, date_of, step_of}
 use Rattle.teg_forever.specs.Searches.{GoesOnBySteps, IsClimbing, RisesIn}
-
--- a part of a period is in it once at least
-pub part_some : (period firings : ℕ) → 0 < firings → firings ≤ period → 0 < period / firings
-part_some period firings some within = by_quotient (period / firings) (div-add-mod' period firings) (mod_below period firings some) where
-  by_quotient : (q : ℕ) → q * firings + period % firings ≡ period → period % firings < firings → 0 < q
-  by_quotient zero e l = absurd (omega arith)
-  by_quotient (suc q) e l = omega arith
 
 module _ (f : SettledForm) (t : ℕ) (steps : GoesOnBySteps f t) (firings rise : ℕ) where
   -- what is so of the numbers up to one is so of the next

@@ -80,7 +80,7 @@ beside_more Is [] (s ∷ releases) t r h i = absurd h
 beside_more Is (u ∷ ts) [] t r h i = absurd h
 beside_more Is (u ∷ ts) (s ∷ releases) t r h i = (h.0, beside_more Is ts releases t r h.1 i)
 
-same_number : (t u : ℕ) → (t == u) ≡ true → t ≡ u
+pub same_number : (t u : ℕ) → (t == u) ≡ true → t ≡ u
 same_number t u h = grind (arith, nat_tests)
 
 self : (u : ℕ) → (u == u) ≡ true

@@ -1,6 +1,8 @@
 pub mod Cycles
+pub mod Dividing
 pub mod Gathered
 pub mod InputLists
+pub mod Itself
 pub mod LateNumbers
 pub mod LateTurns
 pub mod ReadBack

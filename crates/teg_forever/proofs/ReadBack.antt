@@ -1,26 +1,25 @@
 -- An answer is read back from its text.
-use Rattle.std.proofs.Common.{ℕ, suc, ◌+◌, ◌-◌, ◌<◌, ◌≡◌, ◌==◌, ◌&&◌, true, false, not, List, [], ◌∷◌, ◌++◌, All, length, map, take, drop, get_or, codes, Ok, Err, refl, sym, subst, ap, ◌∙◌, arith, leb-true}
-use Rattle.std.specs.Prelude.{IsTrue, nat_le, if◌then◌else◌, ⊤}
+use Rattle.std.proofs.Common.{ℕ, suc, ◌+◌, ◌-◌, ◌<◌, ◌≡◌, ◌==◌, true, false, List, [], ◌∷◌, ◌++◌, All, length, map, take, drop, get_or, codes, Ok, Err, refl, sym, subst, ap, ◌∙◌, arith}
+use Rattle.std.specs.Prelude.{if◌then◌else◌, ⊤}
 use Rattle.std.specs.List.{list_all}
 use Rattle.std.specs.Fmt.{decimal, signed_decimal}
-use Rattle.std.proofs.lemmas.Bool.{and_from, and_parts}
+use Rattle.std.proofs.lemmas.Bool.{and_from}
 use Rattle.std.proofs.lemmas.Bool.Decides.{nat_tests}
 use Rattle.std.proofs.lemmas.List.{get_or_default, length-append}
 use Rattle.dioid.specs.declared.dates.Date.{Date}
 use Rattle.dioid.specs.declared.dates.Date.TheVariants.{Early, At, Never}
 use Rattle.series_laws.specs.Forms.{Form}
 use Rattle.series_form.specs.Bounds.{IsSeries, IsSmallDate}
-use Rattle.teg_net.specs.declared.entries.Transition.{Transition}
-use Rattle.teg_net.specs.declared.entries.TransitionId.{TransitionId}
-use Rattle.teg_net.specs.Names.{is_name, is_name_byte}
 use Rattle.teg_net.specs.Nets.{NetLists, IsNet}
-use Rattle.teg_text.specs.Lines.{is_word_byte, is_word, is_line, are_lines}
-use Rattle.teg_text.specs.Reading.{lines_in, line_at, word, stands_at, number_in, signed_in, date_in, index_in}
+use Rattle.teg_text.specs.Lines.{is_word, is_line, are_lines}
+use Rattle.teg_text.specs.Names.{name_of_transition, transition_in}
+use Rattle.teg_text.specs.Reading.{lines_in, line_at, word, stands_at, number_in, signed_in, date_in}
 use Rattle.teg_text.specs.Words.{IsDate, date_word}
-use Rattle.teg_text.proofs.Back.{number_back, word32_back, word64_back, signed_back, date_back, index_back}
+use Rattle.teg_text.proofs.Back.{number_back, word32_back, word64_back, signed_back, date_back}
+use Rattle.teg_text.proofs.NamesRead.{transition_back, transition_is_word}
 use Rattle.teg_text.proofs.Reading.{written_read}
-use Rattle.teg_text.proofs.Rows.{map_back, map_passes}
-use Rattle.teg_text.proofs.Words.{all_append, all_weaker, past_blank, decimal_is_word, date_is_word, signed_is_word}
+use Rattle.teg_text.proofs.Rows.{before_back, behind_back, map_back, map_passes}
+use Rattle.teg_text.proofs.Words.{all_append, decimal_is_word, date_is_word, signed_is_word}
 use Rattle.teg_forever.specs.declared.rows.EndlessRefusal.{EndlessRefusal}
 use Rattle.teg_forever.specs.declared.rows.EndlessRefusal.TheVariants.{BadRow, UnknownTransition, NotDue, RepeatedDue, OutOfRange, Falls, OutOfMemory as NoRowRoom}
 use Rattle.teg_forever.specs.declared.releases.Release.{Release}
@@ -29,7 +28,7 @@ use Rattle.teg_forever.specs.declared.releases.ForeverRefusal.{ForeverRefusal}
 use Rattle.teg_forever.specs.declared.releases.ForeverRefusal.TheVariants.{Late, TooLong, TooWide, OutOfMemory}
 use Rattle.teg_forever.specs.Releases.{inputs_of}
 use Rattle.teg_forever.proofs.InputLists.{all_low}
-use Rattle.teg_forever.specs.Texts.{EndlessAnswer, Faulty, Answered, answer_lines, release_line, lines_of, series_words, name_at, no_transition, IsReleaseTold, IsToldOf, TextsOfEndlessDiffer}
+use Rattle.teg_forever.specs.Texts.{EndlessAnswer, LongFile, UnreadFile, Faulty, Answered, answer_lines, release_line, lines_of, series_words, IsReleaseTold, IsToldOf, TextsOfEndlessDiffer}
 
 -- ---- what is read
 
@@ -41,9 +40,6 @@ fault_in line =
     else if stands_at 4 line (codes "repeated") then RepeatedDue (number_in (word 3 line))
     else if stands_at 4 line (codes "out") then OutOfRange (number_in (word 3 line))
     else Falls (number_in (word 3 line))
-
-transition_in : NetLists → List ℕ → TransitionId
-transition_in net name = record { index = index_in (λ (t : Transition). t.name) net.transitions name }
 
 abbrev refusal_in : NetLists → List (List ℕ) → ForeverRefusal
 refusal_in net line =
@@ -61,44 +57,17 @@ series_in line = record {
 abbrev release_read : List (List ℕ) → Release
 release_read line = if length line == 3 then Free else Latest (series_in line)
 
+abbrev file_answer_in : List (List ℕ) → EndlessAnswer
+file_answer_in line = if stands_at 1 line (codes "the") then LongFile else Faulty (fault_in line)
+
 abbrev answer_in : NetLists → List (List (List ℕ)) → EndlessAnswer
 answer_in net lines =
-    if stands_at 0 (line_at 0 lines) (codes "refused:") then Faulty (fault_in (line_at 0 lines))
+    if stands_at 0 (line_at 0 lines) (codes "fault:") then UnreadFile
+    else if stands_at 0 (line_at 0 lines) (codes "refused:") then file_answer_in (line_at 0 lines)
     else if stands_at 0 (line_at 0 lines) (codes "latest") then Answered (Ok (map release_read (drop 1 lines)))
     else Answered (Err (refusal_in net (line_at 0 lines)))
 
--- ---- names
-
-name_byte_is_past : (byte : ℕ) → is_name_byte byte ≡ true → is_word_byte byte ≡ true
-name_byte_is_past byte h =
-    let first = and_parts ((nat_le 0x21 byte && not (byte == 0x22)) && not (byte == 0x2C)) (not (byte == 0x7F)) h in
-    let second = and_parts (nat_le 0x21 byte && not (byte == 0x22)) (not (byte == 0x2C)) first.0 in
-    let third = and_parts (nat_le 0x21 byte) (not (byte == 0x22)) second.0 in
-    past_blank byte (leb-true 33 byte third.0)
-
-name_is_word : (name : List ℕ) → IsTrue (is_name name) → is_word name ≡ true
-name_is_word name h =
-    let parts = and_parts (nat_le 1 (length name) && nat_le (length name) 64) (list_all is_name_byte name) h in
-    all_weaker is_name_byte is_word_byte name_byte_is_past name parts.1
-
-transition_is_word : (net : NetLists) (t : ℕ) → IsNet net → t < length net.transitions → is_word (name_at net t) ≡ true
-transition_is_word net t rules h = name_is_word (name_at net t) (rules.transition_names t no_transition h)
-
-transition_back : (net : NetLists) (id : TransitionId) → IsNet net → id.index < length net.transitions → transition_in net (name_at net id.index) ≡ id
-unfolding transition_in
-transition_back net id rules h =
-    let index = index_back (λ (t : Transition). t.name) net.transitions id.index no_transition rules.distinct_transitions h in
-    λ i. record { index = index i }
-
 -- ---- series
-
-before_back : (words more : List (List ℕ)) → take (length words) (words ++ more) ≡ words
-before_back [] more = refl
-before_back (w ∷ words) more = ap (λ (l : List (List ℕ)). w ∷ l) (before_back words more)
-
-behind_back : (words more : List (List ℕ)) (i : ℕ) → get_or (words ++ more) (length words + i) [] ≡ get_or more i []
-behind_back [] more i = let same : 0 + i ≡ i = omega arith in ap (λ (j : ℕ). get_or more j []) same
-behind_back (w ∷ words) more i = let same : suc (length words) + i ≡ suc (length words + i) = omega arith in ap (λ (j : ℕ). get_or (w ∷ (words ++ more)) j []) same ∙ behind_back words more i
 
 small_is_date : (d : Date) → IsSmallDate d → IsDate d
 small_is_date Early h = tt
@@ -129,10 +98,10 @@ series_back name f h =
     ∙ (ap (map date_in) (before_back (told_values f) (told_numbers f)) ∙ map_back IsDate date_word date_in date_back f.values dates) in
     let period : number_in (get_or (told_line name f) (length (told_line name f) - 3) []) ≡ f.period =
     ap (λ (k : ℕ). number_in (get_or (told_line name f) k [])) third
-    ∙ (ap number_in (behind_back (told_values f) (told_numbers f) 1) ∙ word64_back f.period (omega (arith, h.canonical.form.period_fits, h.short))) in
+    ∙ (ap number_in (behind_back (told_values f) (told_numbers f) 1 []) ∙ word64_back f.period (omega (arith, h.canonical.form.period_fits, h.short))) in
     let step : signed_in (get_or (told_line name f) (length (told_line name f) - 1) []) ≡ f.step =
     ap (λ (k : ℕ). signed_in (get_or (told_line name f) k [])) last
-    ∙ (ap signed_in (behind_back (told_values f) (told_numbers f) 3) ∙ signed_back f.step (omega (arith, h.small.step))) in
+    ∙ (ap signed_in (behind_back (told_values f) (told_numbers f) 3 []) ∙ signed_back f.step (omega (arith, h.small.step))) in
     λ i. record { values = values i; period = period i; step = step i }
 
 -- ---- releases
@@ -142,12 +111,12 @@ not_three m n h = grind (arith, nat_tests)
 
 release_back : (net : NetLists) (u : ℕ) (r : Release) → IsReleaseTold r → release_read (release_line net u r) ≡ r
 release_back net u Free h = refl
-release_back net u (Latest f) h = rw (not_three (length (told_line (name_at net u) f)) (length (told_values f)) (long_line (name_at net u) f)) (ap Latest (series_back (name_at net u) f h))
+release_back net u (Latest f) h = rw (not_three (length (told_line (name_of_transition net (record { index = u })) f)) (length (told_values f)) (long_line (name_of_transition net (record { index = u })) f)) (ap Latest (series_back (name_of_transition net (record { index = u })) f h))
 
 release_passes : (net : NetLists) (u : ℕ) (r : Release) → IsNet net → u < length net.transitions → is_line (release_line net u r) ≡ true
-release_passes net u Free rules h = rw (transition_is_word net u rules h) refl
+release_passes net u Free rules h = rw (transition_is_word net (record { index = u }) rules h) refl
 release_passes net u (Latest f) rules h =
-    rw (transition_is_word net u rules h)
+    rw (transition_is_word net (record { index = u }) rules h)
     (all_append is_word (told_values f) (told_numbers f) (map_passes (λ (d : Date). ⊤) is_word date_word (λ d _. date_is_word d) f.values (λ i d l. tt)) (rw (decimal_is_word f.period, signed_is_word f.step) refl))
 
 at_first : (releases : List Release) (r : Release) → All IsReleaseTold (r ∷ releases) → IsReleaseTold r × All IsReleaseTold releases
@@ -178,6 +147,8 @@ record IsRead (net : NetLists) (a : EndlessAnswer) : Type 0 where
   back : answer_in net (answer_lines net a) ≡ a
 
 is_read : (net : NetLists) → IsNet net → All (λ u. u < length net.transitions) (inputs_of net) → (a : EndlessAnswer) → IsToldOf net a → IsRead net a
+is_read net rules low LongFile h = record { words = refl; back = refl }
+is_read net rules low UnreadFile h = record { words = refl; back = refl }
 is_read net rules low (Faulty (BadRow row)) h = record { words = rw (decimal_is_word row) refl; back = rw (word32_back row h) refl }
 is_read net rules low (Faulty (UnknownTransition row)) h = record { words = rw (decimal_is_word row) refl; back = rw (word32_back row h) refl }
 is_read net rules low (Faulty (NotDue row)) h = record { words = rw (decimal_is_word row) refl; back = rw (word32_back row h) refl }
@@ -190,15 +161,15 @@ is_read net rules low (Answered (Ok releases)) h = record {
   back = ap (λ (l : List Release). Answered (Ok l)) (releases_back net (inputs_of net) releases h.0 h.1);
 }
 is_read net rules low (Answered (Err (Late t number due least))) h = record {
-  words = rw (transition_is_word net t.index rules h.transition, decimal_is_word number, decimal_is_word due, decimal_is_word least) refl;
+  words = rw (transition_is_word net t rules h.transition, decimal_is_word number, decimal_is_word due, decimal_is_word least) refl;
   back = rw (transition_back net t rules h.transition, number_back number (omega (arith, h.number_in)), number_back due (omega (arith, h.due_in)), number_back least (omega (arith, h.least_in))) refl;
 }
 is_read net rules low (Answered (Err (TooLong u))) h = record {
-  words = rw (transition_is_word net u.index rules h) refl;
+  words = rw (transition_is_word net u rules h) refl;
   back = rw (transition_back net u rules h) refl;
 }
 is_read net rules low (Answered (Err (TooWide u row))) h = record {
-  words = rw (transition_is_word net u.index rules h.transition, decimal_is_word row) refl;
+  words = rw (transition_is_word net u rules h.transition, decimal_is_word row) refl;
   back = rw (transition_back net u rules h.transition, word32_back row h.row_in) refl;
 }
 is_read net rules low (Answered (Err OutOfMemory)) h = absurd h

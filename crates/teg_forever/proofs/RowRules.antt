@@ -1,25 +1,22 @@
 -- What the rows of a file of due dates without end keep.
-use Rattle.std.proofs.Common.{ℕ, zero, suc, ◌<◌, ◌≤◌, ◌+◌, ◌-◌, ◌==◌, ◌&&◌, ◌≡◌, ◌≢◌, ◌++◌, ◌∷◌, [], List, true, false, length, get_or, map, Option, Some, None, Ok, All, AllPairs, inl, inr, refl, sym, subst, arith, leb-true}
-use Rattle.std.specs.Prelude.{nat_le, nat_lt, slice_index}
+use Rattle.std.proofs.Common.{ℕ, zero, suc, ◌<◌, ◌≤◌, ◌+◌, ◌-◌, ◌==◌, ◌&&◌, ◌≡◌, ◌∷◌, [], List, Bool, true, false, length, get_or, map, Option, Some, None, Ok, All, AllPairs, inl, inr, refl, subst, arith, leb-true}
+use Rattle.std.specs.Prelude.{nat_le, slice_index}
 use Rattle.std.specs.List.{list_all}
 use Rattle.std.specs.List.Sorted.{IsNonDecreasing}
 use Rattle.std.specs.Str.Parse.{digits_value}
 use Rattle.std.proofs.lemmas.Bool.{cases_Bool, and_parts}
-use Rattle.std.proofs.lemmas.Bool.Decides.{nat_tests}
-use Rattle.std.proofs.lemmas.List.{length-append}
-use Rattle.std.proofs.lemmas.List.Elements.{All-append}
-use Rattle.std.proofs.lemmas.List.Folds.{list_all_at, list_any_at}
+use Rattle.std.proofs.lemmas.List.Folds.{list_all_at}
 use Rattle.std.proofs.lemmas.List.Sorted.{IsNonDecreasingBy-from_default}
-use Rattle.std.proofs.Math.ListN.{get_or-append}
-use Rattle.std.proofs.Math.Seq.{get_or-append_seam}
 use Rattle.csv_records.specs.Numbers.{is_number}
+use Rattle.csv_records.specs.Records.{records_of}
+use Rattle.csv_records.proofs.RowLaws.{differ, each_row, rows_once}
 use Rattle.teg_net.specs.Limits.{greatest_date, most_every}
 use Rattle.teg_net.specs.Nets.{NetLists}
 use Rattle.teg_due.specs.Names.{number_named, is_input}
 use Rattle.teg_due.proofs.DueRules.{named_in, no_input}
 use Rattle.forever_laws.specs.declared.rows.EndlessRow.{EndlessRow}
 use Rattle.forever_laws.specs.Rows.{IsEndlessRow, IsEndlessOf, most_endless_dates}
-use Rattle.teg_forever.specs.Rows.{has_row, in_endless_limits, rises_from, goes_on, endless_numbered, endless_placed, endless_row}
+use Rattle.teg_forever.specs.Rows.{has_row, in_endless_limits, rises_from, goes_on, endless_numbered, endless_of, endless_placed, endless_row, is_endless_header}
 
 -- ---- dates
 
@@ -111,48 +108,16 @@ accepted_new net rows k (name ∷ every ∷ gap ∷ date ∷ dates) r e = elim (
   | inr other ↦ cc (rw other at e)
 ]
 
--- transitions that differ
-abbrev Differ : EndlessRow → EndlessRow → Type 0
-Differ r s = r.transition.index ≢ s.transition.index
+-- two rows have the same transition
+abbrev is_same : EndlessRow → EndlessRow → Bool
+is_same r d = d.transition.index == r.transition.index
 
-differs : (r s : EndlessRow) → (r.transition.index == s.transition.index) ≡ false → Differ r s
-differs r s e same = cc (rw (same, equal s.transition.index) at e)
-  where
-    equal : (n : ℕ) → (n == n) ≡ true
-    equal n = grind (arith, nat_tests)
-
--- the rows with a new one
-pub one_row_more : (net : NetLists) (rows : List EndlessRow) (r : EndlessRow) → IsEndlessOf net rows → IsNewRow net rows r → IsEndlessOf net (rows ++ r ∷ [])
-one_row_more net rows r due new = record {
-  each = All-append (IsEndlessRow net) rows (r ∷ []) due.each (All-one r new.rule);
-  once = pairs_more rows r due.once (λ i d lt. differs (get_or rows i d) r (each_other rows i d lt new.fresh));
+-- the rows of a file of due dates without end keep the rules
+pub endless_rules : (net : NetLists) (bytes : List ℕ) (rows : List EndlessRow) → endless_of net bytes ≡ Ok rows → IsEndlessOf net rows
+endless_rules net bytes rows e = record {
+  each = each_row is_endless_header (endless_row net) (IsEndlessRow net) (λ before k fields r is. (accepted_new net before k fields r is).rule) (records_of bytes) rows e;
+  once = λ i j d lt within. differ (get_or rows i d).transition.index (get_or rows j d).transition.index (apart i j d lt within);
 }
   where
-    All-one : (r : EndlessRow) → IsEndlessRow net r → All (IsEndlessRow net) (r ∷ [])
-    All-one r h zero d lt = h
-    All-one r h (suc k) d lt = absurd (omega (arith, lt))
-
-    each_other : (rows : List EndlessRow) (i : ℕ) (d : EndlessRow) → i < length rows → has_row rows r.transition.index ≡ false → ((get_or rows i d).transition.index == r.transition.index) ≡ false
-    each_other rows i d lt e = elim (cases_Bool ((get_or rows i d).transition.index == r.transition.index)) [
-      | inl same ↦ cc (e, list_any_at (λ x. x.transition.index == r.transition.index) rows i d lt same)
-      | inr other ↦ other
-    ]
-
-    number_below : (j n : ℕ) → nat_lt j n ≡ true → j < n
-    number_below j n h = grind (arith, nat_tests)
-
-    at_end : (j n : ℕ) → nat_lt j n ≡ false → j < n + 1 → j ≡ n
-    at_end j n h within = grind (arith, nat_tests)
-
-    pairs_more : (rows : List EndlessRow) (r : EndlessRow) → AllPairs Differ rows → ((i : ℕ) (d : EndlessRow) → i < length rows → Differ (get_or rows i d) r) → AllPairs Differ (rows ++ r ∷ [])
-    pairs_more rows r pairs new i j d lt within = elim (cases_Bool (nat_lt j (length rows))) [
-      | inl before ↦
-          let below = number_below j (length rows) before in
-          subst (λ x. Differ x (get_or (rows ++ r ∷ []) j d)) (sym (get_or-append rows (r ∷ []) d i (omega (arith, lt, below))))
-          (subst (λ x. Differ (get_or rows i d) x) (sym (get_or-append rows (r ∷ []) d j below)) (pairs i j d lt below))
-      | inr last ↦
-          let at : j ≡ length rows = at_end j (length rows) last (rw length-append at within) in
-          subst (λ x. Differ x (get_or (rows ++ r ∷ []) j d)) (sym (get_or-append rows (r ∷ []) d i (omega (arith, lt, at))))
-          (subst (λ k. Differ (get_or rows i d) (get_or (rows ++ r ∷ []) k d)) (sym at)
-          (subst (λ x. Differ (get_or rows i d) x) (sym (get_or-append_seam rows r [] d)) (new i d (omega (arith, lt, at)))))
-    ]
+    apart : AllPairs (λ d r. is_same r d ≡ false) rows
+    apart = rows_once is_endless_header (endless_row net) is_same (λ before k fields r is. (accepted_new net before k fields r is).fresh) (records_of bytes) rows e

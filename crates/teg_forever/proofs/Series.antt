@@ -1,10 +1,6 @@
 -- Series that are made of lists.
-use Rattle.std.proofs.Common.{ℕ, ◌⊎◌, inl, inr, ◌≡◌, ◌+◌, ◌*◌, ◌<◌, ◌≤◌, List, [], ◌∷◌, ◌++◌, Option, Some, None, Result, Ok, Err, length, get_or, refl, sym, subst, ap, ◌∙◌, arith, ⊎_elim}
+use Rattle.std.proofs.Common.{ℕ, inl, inr, ◌≡◌, ◌+◌, ◌<◌, ◌≤◌, List, Option, Some, None, Result, Ok, Err, length, get_or, sym, subst, ap, ◌∙◌, arith}
 use Rattle.std.specs.Prelude.{IfOk, slice_get}
-use Rattle.std.proofs.lemmas.Bool.{cases_lt}
-use Rattle.std.proofs.Math.ListN.{get_or-append}
-use Rattle.std.proofs.Math.Seq.{get_or-append_seam}
-use Rattle.std.proofs.lemmas.List.{length-append}
 use Rattle.dioid.specs.declared.dates.Date.{Date}
 use Rattle.series_laws.specs.Forms.{Form, value_at, HasValues, IsCanonical}
 use Rattle.series_form.specs.declared.forms.SeriesRefused.{SeriesRefused}
@@ -13,17 +9,13 @@ use Rattle.series_form.specs.Bounds.{IsSeries}
 use Rattle.series_form.proofs.Great.{no_great}
 use Rattle.series_form.specs.Answer.{AnswersOf}
 use Rattle.series_ops.specs.declared.gains.Gain.{Gain}
-use Rattle.series_ops.specs.Gains.{gain_zero}
 use Rattle.teg_net.specs.Nets.{NetLists}
 use Rattle.forever_laws.specs.declared.rows.EndlessRow.{EndlessRow}
 use Rattle.forever_laws.specs.Columns.{IsDueSeries, IsWalkSeries, due_date_at}
 use Rattle.teg_settle.specs.Transfers.{IsGreatestWalkTime}
 use Rattle.std.proofs.lemmas.List.{get_or_default}
 use Rattle.std.proofs.lemmas.Option.{slice_get_cases}
-use Rattle.series_laws.proofs.Pigeons.{pigeons}
-use Rattle.dioid_matrix.specs.Tables.{Table, table_of}
-use Rattle.forever_laws.specs.Rows.{IsEndlessOf}
-use Rattle.teg_forever.specs.Columns.{FitsIfMade, AreGainsTo, AreGainsOf, IsColumnOf}
+use Rattle.teg_forever.specs.Columns.{FitsIfMade}
 
 -- the gain of a series that was made
 made_gain : {E : Type 0} (s : ℕ → Date) (n : ℕ) (made : Result Form SeriesRefused) (result : Result Gain E) (P : Gain → Type 0) → AnswersOf (λ f. HasValues f s) n n made
@@ -58,26 +50,11 @@ pub walk_fits : (net : NetLists) (u t : ℕ) (f : Form) (n : ℕ) (made : Result
 walk_fits net u t f n made few fits each h =
     fits_if_made (value_at f) n made few (λ g is v. fits g (record { canonical = is; times = λ k. subst (IsGreatestWalkTime net u t (k + 1)) (sym (v k)) (each k) })) h
 
--- ---- columns
+-- ---- places in lists
 
-some_is : {A : Type 0} (o : Option A) (a b : A) → o ≡ Some a → o ≡ Some b → a ≡ b
+-- one thing stands at a place
+pub some_is : {A : Type 0} (o : Option A) (a b : A) → o ≡ Some a → o ≡ Some b → a ≡ b
 some_is o a b p q = let c : Some a ≡ Some b = sym p ∙ q in cc
-
--- one gain more
-pub gains_more : (rows : List EndlessRow) (is : EndlessRow → Gain → Type 0) (n : ℕ) (gs : List Gain) (r : EndlessRow) (g : Gain) → slice_get rows n ≡ Some r → is r g → AreGainsTo rows is n gs → AreGainsTo rows is (n + 1) (gs ++ g ∷ [])
-gains_more rows is n gs r g at here h =
-    let long : length gs ≡ n = h.long in
-    record {
-      long = length-append gs (g ∷ []) ∙ ap (λ (z : ℕ). z + 1) long;
-      each = λ i s w a. ⊎_elim
-          (λ low. subst (is s) (sym (get_or-append gs (g ∷ []) gain_zero i (omega arith))) (h.each i s low a))
-          (λ high.
-          let e : i ≡ length gs = omega arith in
-          let f : i ≡ n = omega arith in
-          let same : r ≡ s = some_is (slice_get rows n) r s at (subst (λ (m : ℕ). slice_get rows m ≡ Some s) f a) in
-          subst (is s) (sym (ap (λ (m : ℕ). get_or (gs ++ g ∷ []) m gain_zero) e ∙ get_or-append_seam gs g [] gain_zero)) (subst (λ (z : EndlessRow). is z g) same here))
-          (cases_lt i n);
-    }
 
 -- what stands in a list is got from it
 pub got : {A : Type 0} (xs : List A) (i : ℕ) (x : A) → i < length xs → x ≡ get_or xs i x → slice_get xs i ≡ Some x
@@ -97,28 +74,3 @@ got_is xs i x d e = elim (slice_get_cases xs i).1 [
   | inl (y, w, here, is) ↦ get_or_default xs i d y w ∙ is ∙ some_is (slice_get xs i) y x here e
   | inr (past, here) ↦ (let c : None ≡ Some x = sym here ∙ e in cc)
 ]
-
--- the column of gains, one for each row
-pub column_made : (rows : List EndlessRow) (is : EndlessRow → Gain → Type 0) (gs : List Gain) (m : Table Gain) → m ≡ table_of (length rows) 1 gs → AreGainsOf rows is gs → IsColumnOf rows is m
-column_made rows is gs m e h = subst (IsColumnOf rows is) (sym e) (record {
-  height = refl;
-  width = refl;
-  each = λ i r at.
-      let same : i ≡ i * 1 + 0 = omega arith in
-      subst (λ (k : ℕ). is r (get_or gs k gain_zero)) same (h.each i r (got_within rows i r at) at);
-})
-
--- rows of distinct transitions are no more than these
-pub few_rows : (net : NetLists) (rows : List EndlessRow) → IsEndlessOf net rows → length rows ≤ length net.transitions
-few_rows net rows h =
-    let n : ℕ = length net.transitions in
-    let f : ℕ → ℕ = λ i. (get_or rows i no_row).transition.index in
-    ⊎_elim
-    (λ (less : length net.transitions < length rows).
-    let p = pigeons n f (λ i w. (h.each i no_row (omega (arith, w, less))).in_range) in
-    absurd (h.once p.0 p.1 no_row p.2 (omega (arith, p.3, less)) p.4))
-    (λ more. more)
-    (cases_lt (length net.transitions) (length rows))
-  where
-    no_row : EndlessRow
-    no_row = record { row = 0; transition = record { index = 0 }; every = 0; gap = 0; dates = [] }

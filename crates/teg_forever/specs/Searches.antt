@@ -1,5 +1,5 @@
 -- Working definitions of what the search for a late firing goes by.
-use Rattle.std.specs.Prelude.{ℕ, pos, ◌+◌, ◌<◌, ◌≤◌, ◌≡◌, length}
+use Rattle.std.specs.Prelude.{ℕ, pos, ◌+◌, ◌*◌, ◌<◌, ◌≤◌, ◌≡◌, length}
 use Rattle.dioid.specs.declared.dates.Date.{Date}
 use Rattle.dioid.specs.declared.dates.Date.TheVariants.{At}
 use Rattle.dioid.specs.Dates.{move}
@@ -11,6 +11,8 @@ use Rattle.due_laws.specs.Dues.{inputs_at_zero}
 use Rattle.forever_laws.specs.declared.rows.EndlessRow.{EndlessRow}
 use Rattle.forever_laws.specs.Rows.{IsEndlessRow}
 use Rattle.forever_laws.specs.Late.{IsLeastLate}
+use Rattle.teg_forever.specs.declared.late.Soonest.{Soonest}
+use Rattle.teg_forever.specs.declared.late.Turn.{Turn}
 
 -- the form stands for the least dating of the net with all inputs at 0
 pub record IsZeroForm (net : NetLists) (f : SettledForm) : Type 0 where
@@ -44,3 +46,7 @@ pub record IsSoonLate (f : SettledForm) (r : EndlessRow) (k due least : ℕ) : T
   pub number_in : k < 100000000000000000000000
   pub due_in : due < 100000000000000000000000000000000000
   pub least_in : least < 100000000000000000000000000000000000
+
+-- the number, so many turns on, is the least late number of the row
+abbrev pub IsLateAfter : SettledForm → EndlessRow → Turn → Soonest → Type 0
+IsLateAfter f r turn s = IsSoonLate f r (s.number + s.turns * turn.firings) (s.due + s.turns * turn.fall) (s.least + s.turns * turn.rise)

@@ -1,13 +1,13 @@
 -- The text of an answer about endless due dates, and that it tells the answer.
-use Rattle.std.specs.Prelude.{ℕ, ◌<◌, ◌≡◌, ◌^◌, List, [], ◌∷◌, ◌++◌, length, map, codes, All, Result, Ok, Err, slice_index_or, ⊤}
+use Rattle.std.specs.Prelude.{ℕ, ◌<◌, ◌≡◌, ◌^◌, List, [], ◌∷◌, ◌++◌, length, map, codes, All, Result, Ok, Err, ⊤}
 use Rattle.std.specs.List.{zip}
 use Rattle.std.specs.Fmt.{decimal, signed_decimal}
 use Rattle.series_laws.specs.Forms.{Form}
 use Rattle.series_form.specs.Bounds.{IsSeries}
-use Rattle.teg_net.specs.declared.entries.Transition.{Transition}
-use Rattle.teg_net.specs.declared.entries.Role.TheVariants.{Internal}
 use Rattle.teg_net.specs.Nets.{NetLists, IsNet}
+use Rattle.teg_text.specs.Faults.{row_line}
 use Rattle.teg_text.specs.Lines.{phrase, written}
+use Rattle.teg_text.specs.Names.{name_of_transition}
 use Rattle.teg_text.specs.Words.{date_word}
 use Rattle.teg_forever.specs.declared.rows.EndlessRefusal.{EndlessRefusal}
 use Rattle.teg_forever.specs.declared.rows.EndlessRefusal.TheVariants.{BadRow, UnknownTransition, NotDue, RepeatedDue, OutOfRange, Falls, OutOfMemory as NoRowRoom}
@@ -17,16 +17,6 @@ use Rattle.teg_forever.specs.declared.releases.ForeverRefusal.{ForeverRefusal}
 use Rattle.teg_forever.specs.declared.releases.ForeverRefusal.TheVariants.{Late, TooLong, TooWide, OutOfMemory}
 use Rattle.teg_forever.specs.Releases.{inputs_of}
 
--- ---- names
-
--- what stands past the end of the list of transitions
-abbrev pub no_transition : Transition
-no_transition = record { name = []; role = Internal }
-
--- the name of a transition
-abbrev pub name_at : NetLists → ℕ → List ℕ
-name_at net t = (slice_index_or net.transitions t no_transition).name
-
 -- ---- lines
 
 -- a series: its values, its period and its step
@@ -35,8 +25,8 @@ series_words series = map date_word series.values ++ codes "period" ∷ decimal 
 
 -- the release of an input: `free`, or the values of its series, its period and its step
 abbrev pub release_line : NetLists → ℕ → Release → List (List ℕ)
-release_line net u Free = codes "input" ∷ name_at net u ∷ codes "free" ∷ []
-release_line net u (Latest series) = codes "input" ∷ name_at net u ∷ series_words series
+release_line net u Free = codes "input" ∷ name_of_transition net (record { index = u }) ∷ codes "free" ∷ []
+release_line net u (Latest series) = codes "input" ∷ name_of_transition net (record { index = u }) ∷ series_words series
 
 -- a line for each of these inputs with its release
 abbrev pub lines_of : NetLists → List ℕ → List Release → List (List (List ℕ))
@@ -49,35 +39,44 @@ release_lines net releases = phrase (codes "latest inputs forever") ∷ lines_of
 -- why the releases are not told; nothing is told of want of memory
 abbrev pub forever_line : NetLists → ForeverRefusal → List (List ℕ)
 forever_line net (Late t number due least) =
-    codes "late" ∷ name_at net t.index ∷ decimal number ∷ codes "due" ∷ decimal due ∷ codes "least" ∷ decimal least ∷ []
-forever_line net (TooLong u) = codes "too" ∷ codes "long:" ∷ codes "input" ∷ name_at net u.index ∷ []
+    codes "late" ∷ name_of_transition net t ∷ decimal number ∷ codes "due" ∷ decimal due ∷ codes "least" ∷ decimal least ∷ []
+forever_line net (TooLong u) = codes "too" ∷ codes "long:" ∷ codes "input" ∷ name_of_transition net u ∷ []
 forever_line net (TooWide u row) =
-    codes "too" ∷ codes "long:" ∷ codes "input" ∷ name_at net u.index ∷ codes "at" ∷ codes "due" ∷ codes "row" ∷ decimal row ∷ []
+    codes "too" ∷ codes "long:" ∷ codes "input" ∷ name_of_transition net u ∷ codes "at" ∷ codes "due" ∷ codes "row" ∷ decimal row ∷ []
 forever_line net OutOfMemory = []
-
--- what is wrong at a row of a due file
-abbrev pub due_row_line : ℕ → List (List ℕ) → List (List ℕ)
-due_row_line row fault = codes "refused:" ∷ codes "due" ∷ codes "row" ∷ decimal row ∷ fault
 
 -- why a file has no endless due dates; nothing is told of want of memory
 abbrev pub endless_line : EndlessRefusal → List (List ℕ)
-endless_line (BadRow row) = due_row_line row (phrase (codes "is not an endless due row"))
-endless_line (UnknownTransition row) = due_row_line row (phrase (codes "unknown transition"))
-endless_line (NotDue row) = due_row_line row (phrase (codes "input transition"))
-endless_line (RepeatedDue row) = due_row_line row (phrase (codes "repeated"))
-endless_line (OutOfRange row) = due_row_line row (phrase (codes "out of range"))
-endless_line (Falls row) = due_row_line row (phrase (codes "falls"))
+endless_line (BadRow row) = row_line (codes "due") row (phrase (codes "is not an endless due row"))
+endless_line (UnknownTransition row) = row_line (codes "due") row (phrase (codes "unknown transition"))
+endless_line (NotDue row) = row_line (codes "due") row (phrase (codes "input transition"))
+endless_line (RepeatedDue row) = row_line (codes "due") row (phrase (codes "repeated"))
+endless_line (OutOfRange row) = row_line (codes "due") row (phrase (codes "out of range"))
+endless_line (Falls row) = row_line (codes "due") row (phrase (codes "falls"))
 endless_line NoRowRoom = []
 
 -- ---- that different answers have different texts
 
--- an answer about a net and a file: the first fault of the file, or the releases, or why they are not told
+-- that a file is longer than its limit
+abbrev pub long_file_line : List (List ℕ)
+long_file_line = phrase (codes "refused: the due file is longer than 4194304 bytes")
+
+-- that a file could not be read
+abbrev pub unread_file_line : List (List ℕ)
+unread_file_line = phrase (codes "fault: cannot read the due file")
+
+-- an answer about a net and a file: that the file is too long or could not be read, or its first fault, or the releases, or why they are not
+-- told
 pub data EndlessAnswer : Type 0 where
+  LongFile : EndlessAnswer
+  UnreadFile : EndlessAnswer
   Faulty : (fault : EndlessRefusal) → EndlessAnswer
   Answered : (answer : Result (List Release) ForeverRefusal) → EndlessAnswer
 
 -- the lines of an answer
 abbrev pub answer_lines : NetLists → EndlessAnswer → List (List (List ℕ))
+answer_lines net LongFile = long_file_line ∷ []
+answer_lines net UnreadFile = unread_file_line ∷ []
 answer_lines net (Faulty fault) = endless_line fault ∷ []
 answer_lines net (Answered (Ok releases)) = release_lines net releases
 answer_lines net (Answered (Err refusal)) = forever_line net refusal ∷ []
@@ -118,6 +117,8 @@ IsRefusalTold net OutOfMemory = ⊥
 
 -- an answer that is told about the net: want of memory is none; releases are one for each input
 abbrev pub IsToldOf : NetLists → EndlessAnswer → Type 0
+IsToldOf net LongFile = ⊤
+IsToldOf net UnreadFile = ⊤
 IsToldOf net (Faulty fault) = IsFaultTold fault
 IsToldOf net (Answered (Ok releases)) = (length releases ≡ length (inputs_of net)) × All IsReleaseTold releases
 IsToldOf net (Answered (Err refusal)) = IsRefusalTold net refusal

@@ -28,7 +28,8 @@ fn settled_at_zero(alloc: Global, net: &Net, live: &Live) -> Result<Settled, Out
     requires live { IsLive net.now }
     requires stands { IsRanking net.now live.now }
     ensures form { IfOk result (IsZeroForm net.now) }
-    ensures climbing { IfOk result (λ f. (t : ℕ) → t < length net.now.transitions → IsClimbing f t) }
+    ensures climbing { IfOk result (λ f. (t : ℕ) → t < length net.now.transitions
+        → IsClimbing f t) }
 {
     zero_inputs_are_no_lists();
     turns_tell_late();
@@ -93,7 +94,10 @@ fn keep_dues(
 /// in time of order `1,000 l + 10,000`; the divisors of the net's period are tried for the period of
 /// the transition's own, each mostly for a few numbers. Then for each input the walk times are settled
 /// likewise; for a settling length k each due row takes a residual of at most 20,000 values, each in
-/// time of order k, less the numbers at which no walk arrives yet.
+/// time of order k, less the numbers at which no walk arrives yet. Rows that ask the same dates take
+/// one residual for all inputs that reach their transitions alike, as long as the series that are kept
+/// for that have fewer than three million values, which take some 100 MB; then a row takes time of the
+/// order of its series.
 pub fn forever(
     alloc: Global,
     net: &Net,

@@ -1,5 +1,5 @@
 //! The latest releases of the inputs, one by one.
-ghost use Rattle.std.specs.Prelude.{◌≡◌, ◌<◌, ◌≤◌, ◌+◌, length, IfOk, IfErr, IfSome, OnOk};
+ghost use Rattle.std.specs.Prelude.{◌≡◌, ◌<◌, ◌≤◌, ◌+◌, length, IfOk, IfErr, OnOk};
 ghost use Rattle.due_laws.specs.Dues.{InputsMeet, inputs_at_zero};
 ghost use Rattle.teg_check.specs.Ranks.{IsRanking};
 ghost use Rattle.teg_net.specs.Circuits.{IsLive};
@@ -7,45 +7,24 @@ ghost use Rattle.teg_net.specs.Nets.{IsInput, IsNet};
 ghost use Rattle.teg_settle.specs.Transfers.{IsTransferOf};
 ghost use Rattle.settled_laws.specs.Forms.{settled_length};
 ghost use Rattle.forever_laws.specs.Rows.{IsEndlessOf, due_on};
-ghost use Rattle.teg_forever.specs.Columns.{AreDuesOf, AreReleasesBelow, IsDueColumn, IsReleaseBy, IsRowAt, IsStopped, step_in};
+ghost use Rattle.teg_forever.specs.Columns.{AreReleasesBelow, IsReleaseBy, IsStopped};
+ghost use Rattle.teg_forever.specs.Divisions.{AreDivisions};
 ghost use Rattle.teg_forever.specs.Releases.{ForeverRefused, IsFine, IsReleaseOf, longest_form};
 
-use crate::columns::{due_column, walk_column};
+use crate::divisions::Divisions;
 use crate::releases::{ForeverRefusal, Release};
+use crate::residuals::meet_of;
 use dioid::Date;
-use dioid_matrix::{Matrix, MatrixRefused};
-use forever_laws::{EndlessRow, residuals_are_latest_dates};
+use forever_laws::{EndlessRow, columns_exist, residuals_are_latest_dates};
 use series_form::Series;
-use series_ops::Gain;
 use std::alloc::Global;
 use teg_check::Live;
 use teg_due::is_input;
-use teg_net::{Net, OutOfMemory, TransitionId};
+use teg_net::{Net, TransitionId};
 use teg_settle::{SettleRefusal, Settled, transfer};
 
-/// The longest settled form of walk times that is taken.
+// The longest settled form of walk times that is taken.
 const LONGEST_FORM: u32 = 20_000;
-
-// The step at which an operation does not fit, if that is why it gives none.
-fn step_in(why: MatrixRefused) -> Option<usize>
-    ensures { result ≡ step_in why }
-{
-    match why {
-        MatrixRefused::Range { step, .. } => Some(step),
-        _ => None,
-    }
-}
-
-// The number in the file of the row at this place, if there is a place.
-fn row_at(rows: &[EndlessRow], place: Option<usize>) -> Option<u32>
-    requires { IfSome place (λ p. p < length rows.now) }
-    ensures { IfSome result (IsRowAt rows.now place) }
-{
-    match place {
-        Some(place) => Some(rows[place].row),
-        None => None,
-    }
-}
 
 // The release by the series of the latest dates: free where they are never.
 fn release_by(alloc: Global, latest: &Series) -> Result<Release, ForeverRefusal>
@@ -59,14 +38,14 @@ fn release_by(alloc: Global, latest: &Series) -> Result<Release, ForeverRefusal>
     Ok(Release::Latest { series })
 }
 
-// The release of an input whose walk times settle, by the column of the due series.
+// The release of an input whose walk times settle, where there are rows.
 fn release_over(
     alloc: Global,
     net: &Net,
     settled: &Settled,
     input: TransitionId,
     rows: &[EndlessRow],
-    dues: &Matrix<Gain>,
+    divisions: &mut Divisions,
 ) -> Result<Release, ForeverRefusal>
     requires rules { IsNet net.now }
     requires live { IsLive net.now }
@@ -76,20 +55,16 @@ fn release_over(
     requires rows { IsEndlessOf net.now rows.now }
     requires some { 1 ≤ length rows.now }
     requires meet { InputsMeet net.now (due_on rows.now) inputs_at_zero }
-    requires dues { IsDueColumn rows.now dues.now }
+    requires divisions { AreDivisions rows.now divisions.old }
+    ensures divisions { OnOk result (AreDivisions rows.now divisions.new) }
     ensures fine { IfOk result (λ _. IsFine net.now rows.now input.index) }
     ensures release { IfOk result (IsReleaseOf net.now rows.now input.index) }
     ensures stopped { IfErr result (IsStopped net.now rows.now input) }
 {
+    columns_exist();
     residuals_are_latest_dates();
-    let walks = walk_column(alloc, net, settled, input, rows)?;
-    match walks.left_residual(alloc, dues) {
-        Ok(residual) => release_by(alloc, &residual.entry(0, 0).series),
-        Err(why) => match row_at(rows, step_in(why)) {
-            Some(row) => Err(ForeverRefusal::TooWide { input, row }),
-            None => Err(ForeverRefusal::OutOfMemory),
-        },
-    }
+    let latest = meet_of(alloc, net, settled, input, rows, divisions)?;
+    release_by(alloc, &latest.series)
 }
 
 // The release of an input. Without rows it is free.
@@ -99,7 +74,7 @@ fn release_of(
     live: &Live,
     input: TransitionId,
     rows: &[EndlessRow],
-    dues: &Option<Matrix<Gain>>,
+    divisions: &mut Divisions,
 ) -> Result<Release, ForeverRefusal>
     requires rules { IsNet net.now }
     requires stands { IsRanking net.now live.now }
@@ -107,7 +82,8 @@ fn release_of(
     requires input { IsInput net.now input.index }
     requires rows { IsEndlessOf net.now rows.now }
     requires meet { InputsMeet net.now (due_on rows.now) inputs_at_zero }
-    requires dues { AreDuesOf rows.now dues.now }
+    requires divisions { AreDivisions rows.now divisions.old }
+    ensures divisions { OnOk result (AreDivisions rows.now divisions.new) }
     ensures fine { IfOk result (λ _. IsFine net.now rows.now input.index) }
     ensures release { IfOk result (IsReleaseOf net.now rows.now input.index) }
     ensures stopped { IfErr result (IsStopped net.now rows.now input) }
@@ -117,26 +93,10 @@ fn release_of(
         Err(SettleRefusal::TooLong { .. }) => return Err(ForeverRefusal::TooLong { input }),
         Err(SettleRefusal::OutOfMemory) => return Err(ForeverRefusal::OutOfMemory),
     };
-    match dues {
-        Some(dues) => release_over(alloc, net, &settled, input, rows, dues),
-        None => Ok(Release::Free),
-    }
-}
-
-// The column of the due series, if there are rows.
-fn dues_of(
-    alloc: Global,
-    net: &Net,
-    rows: &[EndlessRow],
-) -> Result<Option<Matrix<Gain>>, OutOfMemory>
-    requires rules { IsNet net.now }
-    requires rows { IsEndlessOf net.now rows.now }
-    ensures { IfOk result (AreDuesOf rows.now) }
-{
     if rows.is_empty() {
-        return Ok(None);
+        return Ok(Release::Free);
     }
-    Ok(Some(due_column(alloc, net, rows)?))
+    release_over(alloc, net, &settled, input, rows, divisions)
 }
 
 // The release of one transition more, if it is an input.
@@ -146,7 +106,7 @@ fn add_release(
     live: &Live,
     input: TransitionId,
     rows: &[EndlessRow],
-    dues: &Option<Matrix<Gain>>,
+    divisions: &mut Divisions,
     releases: &mut Vec<Release>,
 ) -> Result<(), ForeverRefusal>
     requires rules { IsNet net.now }
@@ -155,47 +115,50 @@ fn add_release(
     requires input { input.index < length net.now.transitions }
     requires rows { IsEndlessOf net.now rows.now }
     requires meet { InputsMeet net.now (due_on rows.now) inputs_at_zero }
-    requires dues { AreDuesOf rows.now dues.now }
+    requires divisions { AreDivisions rows.now divisions.old }
     requires releases { AreReleasesBelow net.now rows.now input.index releases.old.items }
-    ensures releases { OnOk result (AreReleasesBelow net.now rows.now (input.index + 1) releases.new.items) }
+    ensures releases { OnOk result (AreReleasesBelow net.now rows.now (input.index + 1)
+        releases.new.items) }
+    ensures divisions { OnOk result (AreDivisions rows.now divisions.new) }
     ensures stopped { IfErr result (ForeverRefused net.now rows.now) }
 {
     if !is_input(net, input) {
         return Ok(());
     }
-    let release = release_of(alloc, net, live, input, rows, dues)?;
+    let release = release_of(alloc, net, live, input, rows, divisions)?;
     if releases.push(release).is_err() {
         return Err(ForeverRefusal::OutOfMemory);
     }
     Ok(())
 }
 
-// The releases of the inputs in order, by the column of the due series.
+// The releases of the inputs in order, by the residuals that are kept.
 fn releases_by(
     alloc: Global,
     net: &Net,
     live: &Live,
     rows: &[EndlessRow],
-    dues: &Option<Matrix<Gain>>,
+    divisions: &mut Divisions,
 ) -> Result<Vec<Release>, ForeverRefusal>
     requires rules { IsNet net.now }
     requires stands { IsRanking net.now live.now }
     requires live { IsLive net.now }
     requires rows { IsEndlessOf net.now rows.now }
     requires meet { InputsMeet net.now (due_on rows.now) inputs_at_zero }
-    requires dues { AreDuesOf rows.now dues.now }
-    ensures releases { IfOk result (λ releases. AreReleasesBelow net.now rows.now (length net.now.transitions) releases.items) }
+    requires divisions { AreDivisions rows.now divisions.old }
+    ensures releases { IfOk result (λ releases. AreReleasesBelow net.now rows.now
+        (length net.now.transitions) releases.items) }
     ensures stopped { IfErr result (ForeverRefused net.now rows.now) }
 {
     let mut releases = Vec::new(alloc);
     for index in 0..net.transitions().len() as u32 {
         let input = TransitionId { index };
-        add_release(alloc, net, live, input, rows, dues, &mut releases)?;
+        add_release(alloc, net, live, input, rows, divisions, &mut releases)?;
     }
     Ok(releases)
 }
 
-/// The releases of the inputs in order, or why the first that has none has none.
+// The releases of the inputs in order, or why the first that has none has none.
 pub(crate) fn releases_of(
     alloc: Global,
     net: &Net,
@@ -207,9 +170,10 @@ pub(crate) fn releases_of(
     requires live { IsLive net.now }
     requires rows { IsEndlessOf net.now rows.now }
     requires meet { InputsMeet net.now (due_on rows.now) inputs_at_zero }
-    ensures releases { IfOk result (λ releases. AreReleasesBelow net.now rows.now (length net.now.transitions) releases.items) }
+    ensures releases { IfOk result (λ releases. AreReleasesBelow net.now rows.now
+        (length net.now.transitions) releases.items) }
     ensures stopped { IfErr result (ForeverRefused net.now rows.now) }
 {
-    let dues = dues_of(alloc, net, rows)?;
-    releases_by(alloc, net, live, rows, &dues)
+    let mut divisions = Divisions::new(alloc, rows)?;
+    releases_by(alloc, net, live, rows, &mut divisions)
 }

@@ -7,17 +7,17 @@ ghost use Rattle.settled_laws.specs.Forms.{date_of};
 ghost use Rattle.forever_laws.specs.Rows.{IsEndlessRow, row_due};
 ghost use Rattle.forever_laws.specs.Late.{IsLeastLate, NoneLate, NoneLateTo};
 ghost use Rattle.forever_laws.specs.Searches.{IsSoonest, IsTurnOf, turns_to};
-ghost use Rattle.teg_forever.specs.Searches.{GoesOnBySteps, IsClimbing, IsGoingRow, IsSoonLate, IsZeroForm, RisesIn};
+ghost use Rattle.teg_forever.specs.Searches.{GoesOnBySteps, IsClimbing, IsGoingRow, IsLateAfter, IsSoonLate, IsZeroForm, RisesIn};
 
 use dioid::Date;
 use forever_laws::{EndlessRow, late_is_soon, turns_tell_late};
 use teg_net::{Net, OutOfMemory, TransitionId};
 use teg_settle::Settled;
 
-/// The greatest number that a settled form tells.
+// The greatest number that a settled form tells.
 const GREATEST_NUMBER: u64 = 1_000_000_000_000_000_000;
 
-/// A late firing of a row: its number, its due date, and its least date.
+// A late firing of a row: its number, its due date, and its least date.
 #[derive(Clone, Copy)]
 pub(crate) struct LateFiring {
     pub number: u128,
@@ -25,14 +25,14 @@ pub(crate) struct LateFiring {
     pub least: u128,
 }
 
-/// So many firings on, the least dates of a transition have risen by so much.
+// So many firings on, the least dates of a transition have risen by so much.
 #[derive(Clone, Copy)]
 struct Cycle {
     firings: u64,
     rise: u128,
 }
 
-/// Past number `past` each turn of firings adds `rise` to the least dates and `fall` to the due dates.
+// Past number `past` each turn of firings adds `rise` to the least dates and `fall` to the due dates.
 #[derive(Clone, Copy)]
 struct Turn {
     past: u64,
@@ -41,7 +41,7 @@ struct Turn {
     fall: u128,
 }
 
-/// Of the numbers past which dates repeat that which is late after the fewest turns.
+// Of the numbers past which dates repeat that which is late after the fewest turns.
 #[derive(Clone, Copy)]
 struct Soonest {
     number: u64,
@@ -90,7 +90,8 @@ fn late_listed(settled: &Settled, row: &EndlessRow, last: u64) -> Option<LateFir
     requires row { IsGoingRow row.now }
     requires last { last ≤ 1000000000000000000 }
     ensures none { IfNone result (NoneLateTo (date_of settled.now) row.now last) }
-    ensures some { IfSome result (λ l. IsLeastLate (date_of settled.now) row.now l.number l.due l.least) }
+    ensures some { IfSome result (λ l. IsLeastLate (date_of settled.now) row.now l.number l.due
+        l.least) }
 {
     for number in 1..last + 1 {
         let due = due_at(row, number);
@@ -132,7 +133,8 @@ fn turns_at(settled: &Settled, row: &EndlessRow, number: u64, gain: u128) -> Soo
 
 // That which is late after fewer turns, the first where they are as many.
 fn sooner(first: Soonest, next: Soonest) -> Soonest
-    ensures { ((next.turns < first.turns) × (result ≡ next)) ⊎ ((first.turns ≤ next.turns) × (result ≡ first)) }
+    ensures { ((next.turns < first.turns) × (result ≡ next))
+        ⊎ ((first.turns ≤ next.turns) × (result ≡ first)) }
 {
     if next.turns < first.turns {
         next
@@ -150,7 +152,8 @@ fn fewest_turns(settled: &Settled, row: &EndlessRow, past: u64, last: u64, gain:
     requires last { last ≤ 1000000000000000000 }
     requires gain { 0 < gain }
     requires in_time { NoneLateTo (date_of settled.now) row.now last }
-    ensures is { IsSoonest (date_of settled.now) row.now past last gain result.number result.due result.least }
+    ensures is { IsSoonest (date_of settled.now) row.now past last gain result.number result.due
+        result.least }
     ensures turns { result.turns ≡ turns_to result.due result.least gain }
 {
     let mut best = turns_at(settled, row, past + 1, gain);
@@ -244,7 +247,8 @@ fn turn_of(settled: &Settled, row: &EndlessRow) -> Turn
     requires climbing { IsClimbing settled.now row.now.transition.index }
     requires steps { GoesOnBySteps settled.now row.now.transition.index }
     requires row { IsGoingRow row.now }
-    ensures turn { IsTurnOf (date_of settled.now) row.now result.past result.firings result.rise result.fall }
+    ensures turn { IsTurnOf (date_of settled.now) row.now result.past result.firings result.rise
+        result.fall }
     ensures past { result.past ≤ 1000000000010000 }
     ensures firings { result.firings ≤ 1000000000000000000 }
 {
@@ -261,6 +265,27 @@ fn turn_of(settled: &Settled, row: &EndlessRow) -> Turn
     }
 }
 
+// Of the numbers past which dates repeat that which is late after the fewest turns, where each turn
+// gains on the due dates: so many turns on stands the least late number.
+fn soonest_late(net: &Net, settled: &Settled, row: &EndlessRow, turn: Turn) -> Soonest
+    requires rules { IsNet net.now }
+    requires live { IsLive net.now }
+    requires form { IsZeroForm net.now settled.now }
+    requires climbing { IsClimbing settled.now row.now.transition.index }
+    requires row { IsEndlessRow net.now row.now }
+    requires turn { IsTurnOf (date_of settled.now) row.now turn.past turn.firings turn.rise
+        turn.fall }
+    requires last { turn.past + turn.firings ≤ 1000000000000000000 }
+    requires steep { turn.fall < turn.rise }
+    requires in_time { NoneLateTo (date_of settled.now) row.now (turn.past + turn.firings) }
+    ensures { IsLateAfter settled.now row.now turn result }
+{
+    turns_tell_late();
+    late_is_soon();
+    let gain = turn.rise - turn.fall;
+    fewest_turns(settled, row, turn.past, turn.past + turn.firings, gain)
+}
+
 // The late number that the search by turns finds.
 fn late_by_turns(net: &Net, settled: &Settled, row: &EndlessRow, turn: Turn) -> LateFiring
     requires rules { IsNet net.now }
@@ -268,16 +293,14 @@ fn late_by_turns(net: &Net, settled: &Settled, row: &EndlessRow, turn: Turn) -> 
     requires form { IsZeroForm net.now settled.now }
     requires climbing { IsClimbing settled.now row.now.transition.index }
     requires row { IsEndlessRow net.now row.now }
-    requires turn { IsTurnOf (date_of settled.now) row.now turn.past turn.firings turn.rise turn.fall }
+    requires turn { IsTurnOf (date_of settled.now) row.now turn.past turn.firings turn.rise
+        turn.fall }
     requires last { turn.past + turn.firings ≤ 1000000000000000000 }
     requires steep { turn.fall < turn.rise }
     requires in_time { NoneLateTo (date_of settled.now) row.now (turn.past + turn.firings) }
     ensures { IsSoonLate settled.now row.now result.number result.due result.least }
 {
-    turns_tell_late();
-    late_is_soon();
-    let gain = turn.rise - turn.fall;
-    let best = fewest_turns(settled, row, turn.past, turn.past + turn.firings, gain);
+    let best = soonest_late(net, settled, row, turn);
     LateFiring {
         number: best.number as u128 + best.turns * turn.firings as u128,
         due: best.due + best.turns * turn.fall,
@@ -285,8 +308,8 @@ fn late_by_turns(net: &Net, settled: &Settled, row: &EndlessRow, turn: Turn) -> 
     }
 }
 
-/// The least late number of a row, if it has one. A form whose dates and due dates repeat together
-/// only past the greatest number that it tells has more dates than any memory holds.
+// The least late number of a row, if it has one. A form whose dates and due dates repeat together
+// only past the greatest number that it tells has more dates than any memory holds.
 pub(crate) fn late_in_row(
     net: &Net,
     settled: &Settled,
@@ -298,7 +321,8 @@ pub(crate) fn late_in_row(
     requires climbing { IsClimbing settled.now row.now.transition.index }
     requires row { IsEndlessRow net.now row.now }
     ensures none { IfOk result (λ late. IfNone late (NoneLate (date_of settled.now) row.now)) }
-    ensures some { IfOk result (λ late. IfSome late (λ l. IsSoonLate settled.now row.now l.number l.due l.least)) }
+    ensures some { IfOk result (λ late. IfSome late (λ l. IsSoonLate settled.now row.now l.number
+        l.due l.least)) }
 {
     turns_tell_late();
     late_is_soon();

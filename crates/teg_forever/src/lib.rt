@@ -13,12 +13,14 @@
 #![tactic(auto)]
 
 mod answers;
-mod columns;
+mod divisions;
+mod gains;
 mod inputs;
 mod late;
 mod numbers;
 mod reading;
 mod releases;
+mod residuals;
 mod rows;
 mod texts;
 

@@ -9,13 +9,13 @@ use csv_records::{ByteRecord, is_number, number_up_to};
 use std::alloc::Global;
 use teg_net::OutOfMemory;
 
-/// The greatest gap and the greatest date.
+// The greatest gap and the greatest date.
 const GREATEST_DATE: u64 = 1_000_000_000_000;
 
-/// The most firings after which dates go on.
+// The most firings after which dates go on.
 const MOST_EVERY: u64 = 1_000;
 
-/// The most dates of a row.
+// The most dates of a row.
 const MOST_DATES: usize = 10_000;
 
 /// The numbers of a record that keep their limits.
@@ -37,7 +37,7 @@ pub(crate) fn field_at<'r>(record: &'r ByteRecord, index: usize) -> &'r [u8]
     }
 }
 
-/// Whether there are four fields or more, and those from the second on are numbers.
+// Whether there are four fields or more, and those from the second on are numbers.
 pub(crate) fn has_numbers(record: &ByteRecord) -> bool
     ensures { result ≡ has_numbers (fields_of «record».now) }
 {
@@ -65,7 +65,8 @@ fn number_at(record: &ByteRecord, index: usize, most: u64) -> Option<u64>
 // The dates of a record, from its fourth field on, if each keeps its limit.
 fn dates_of(alloc: Global, record: &ByteRecord) -> Result<Option<Vec<u64>>, OutOfMemory>
     requires { has_numbers (fields_of «record».now) ≡ true }
-    ensures { IfOk result (λ dates. AreDatesOf (fields_of «record».now) (option_map (λ d. d.items) dates)) }
+    ensures { IfOk result (λ dates. AreDatesOf (fields_of «record».now)
+        (option_map (λ d. d.items) dates)) }
 {
     let mut dates = Vec::new(alloc);
     for index in 3..record.len() {
@@ -79,7 +80,7 @@ fn dates_of(alloc: Global, record: &ByteRecord) -> Result<Option<Vec<u64>>, OutO
     Ok(Some(dates))
 }
 
-/// The numbers of a record, if they keep their limits.
+// The numbers of a record, if they keep their limits.
 pub(crate) fn limited_numbers(
     alloc: Global,
     record: &ByteRecord,
@@ -117,7 +118,7 @@ fn rises(dates: &[u64]) -> bool
     true
 }
 
-/// Whether dates never fall, within the list or past it.
+// Whether dates never fall, within the list or past it.
 pub(crate) fn goes_on(every: u32, gap: u64, dates: &[u64]) -> bool
     requires some { 1 ≤ every }
     requires gap { gap ≤ 1000000000000 }

@@ -1,36 +1,24 @@
 //! Files of due dates without end.
-ghost use Rattle.std.specs.Prelude.{◌≡◌, ◌≢◌, ◌≤◌, Ok, Err, true, false, length, IfOk, IfErr, OnOk};
+ghost use Rattle.std.specs.Prelude.{◌≡◌, ◌≢◌, ◌≤◌, Ok, Err, true, false, length, IfOk, IfErr};
 ghost use Rattle.csv.specs.Records.{fields_of};
 ghost use Rattle.csv_records.specs.Records.{most_file_bytes};
-ghost use Rattle.csv_records.specs.Rows.{one_more};
 ghost use Rattle.forever_laws.specs.Rows.{IsEndlessOf};
-ghost use Rattle.teg_forever.specs.Rows.{dates_in, endless_numbered, endless_of, endless_row, every_in, gap_in, has_numbers, has_row, is_endless_header};
+ghost use Rattle.teg_forever.specs.Rows.{dates_in, endless_numbered, endless_of, every_in, gap_in, has_numbers, has_row};
 
 use crate::numbers::{field_at, goes_on, has_numbers, limited_numbers};
 use crate::rows::EndlessRefusal;
-use csv_records::{ByteRecord, Records};
+use csv_records::{ByteRecord, RowFile, read_rows};
 use forever_laws::EndlessRow;
 use std::alloc::Global;
 use teg_due::{is_input, transition_named};
 use teg_net::{DateList, NameOrder, Net, TransitionId};
 
-// Whether the record is `transition`, `every`, `gap`, `dates`.
-fn is_header(record: &ByteRecord) -> bool
-    ensures { result ≡ is_endless_header (fields_of «record».now) }
-{
-    if record.len() != 4 {
-        return false;
-    }
-    if field_at(record, 0) != b"transition".as_slice() {
-        return false;
-    }
-    if field_at(record, 1) != b"every".as_slice() {
-        return false;
-    }
-    if field_at(record, 2) != b"gap".as_slice() {
-        return false;
-    }
-    field_at(record, 3) == b"dates".as_slice()
+// A file of due dates without end, which is read against a net.
+#[derive(Drop)]
+struct EndlessFile<'a> {
+    alloc: Global,
+    net: &'a Net,
+    names: NameOrder<'a>,
 }
 
 // Whether a row has this transition.
@@ -50,7 +38,9 @@ fn numbered_row(
     record: &ByteRecord,
 ) -> Result<EndlessRow, EndlessRefusal>
     requires { has_numbers (fields_of «record».now) ≡ true }
-    ensures read { IfOk result (λ r. endless_numbered rows.now row transition.index (every_in (fields_of «record».now)) (gap_in (fields_of «record».now)) (dates_in (fields_of «record».now)) ≡ Ok r) }
+    ensures read { IfOk result (λ r. endless_numbered rows.now row transition.index
+        (every_in (fields_of «record».now)) (gap_in (fields_of «record».now))
+        (dates_in (fields_of «record».now)) ≡ Ok r) }
     ensures refused { IfErr result (λ e. e ≢ EndlessRefusal.OutOfMemory →
         endless_numbered rows.now row transition.index (every_in (fields_of «record».now)) (gap_in (fields_of «record».now)) (dates_in (fields_of «record».now)) ≡ Err e) }
 {
@@ -72,54 +62,63 @@ fn numbered_row(
     })
 }
 
-// The row of a record, or the first of its faults.
-fn read_row(
-    alloc: Global,
-    net: &Net,
-    names: &NameOrder<'_>,
-    rows: &[EndlessRow],
-    row: u32,
-    record: &ByteRecord,
-) -> Result<EndlessRow, EndlessRefusal>
-    requires { names.now ≡ net.now }
-    ensures read { IfOk result (λ r. endless_row net.now rows.now row (fields_of «record».now) ≡ Ok r) }
-    ensures refused { IfErr result (λ e. e ≢ EndlessRefusal.OutOfMemory → endless_row net.now rows.now row (fields_of «record».now) ≡ Err e) }
-{
-    if !has_numbers(record) {
-        return Err(EndlessRefusal::BadRow { row });
-    }
-    let Some(transition) = transition_named(net, names, field_at(record, 0)) else {
-        return Err(EndlessRefusal::UnknownTransition { row });
-    };
-    if is_input(net, transition) {
-        return Err(EndlessRefusal::NotDue { row });
-    }
-    numbered_row(alloc, rows, row, transition, record)
-}
+impl RowFile for EndlessFile<'_> {
+    ghost use Rattle.std.specs.Prelude.{◌≡◌};
+    ghost use Rattle.teg_forever.specs.declared.rows.EndlessRefusal.TheVariants.{OutOfMemory};
+    ghost use Rattle.teg_forever.specs.Rows.{endless_row, is_endless_header};
 
-// One more record of the file.
-fn add_record(
-    alloc: Global,
-    net: &Net,
-    names: &NameOrder<'_>,
-    rows: &mut Vec<EndlessRow>,
-    row: u32,
-    record: &ByteRecord,
-) -> Result<(), EndlessRefusal>
-    requires names { names.now ≡ net.now }
-    requires rules { IsEndlessOf net.now rows.old.items }
-    ensures added { OnOk result (one_more is_endless_header (endless_row net.now) rows.old.items row (fields_of «record».now) ≡ Ok rows.new.items) }
-    ensures refused { IfErr result (λ e. e ≢ EndlessRefusal.OutOfMemory → one_more is_endless_header (endless_row net.now) rows.old.items row (fields_of «record».now) ≡ Err e) }
-    ensures rules { OnOk result (IsEndlessOf net.now rows.new.items) }
-{
-    if row == 1 && is_header(record) {
-        return Ok(());
+    type Row = EndlessRow;
+
+    type Refusal = EndlessRefusal;
+
+    ghost is_header = { is_endless_header };
+
+    ghost row_of = { λ s. endless_row s.net.now };
+
+    ghost no_memory = { OutOfMemory };
+
+    ghost has_read = { λ s rows. s.names ≡ s.net.now };
+
+    // Whether the record is `transition`, `every`, `gap`, `dates`.
+    fn is_header(&self, record: &ByteRecord) -> bool {
+        if record.len() != 4 {
+            return false;
+        }
+        if field_at(record, 0) != b"transition".as_slice() {
+            return false;
+        }
+        if field_at(record, 1) != b"every".as_slice() {
+            return false;
+        }
+        if field_at(record, 2) != b"gap".as_slice() {
+            return false;
+        }
+        field_at(record, 3) == b"dates".as_slice()
     }
-    let due = read_row(alloc, net, names, rows.as_slice(), row, record)?;
-    if rows.push(due).is_err() {
-        return Err(EndlessRefusal::OutOfMemory);
+
+    fn read_row(
+        &mut self,
+        rows: &[EndlessRow],
+        row: u32,
+        record: &ByteRecord,
+    ) -> Result<EndlessRow, EndlessRefusal> {
+        if !has_numbers(record) {
+            return Err(EndlessRefusal::BadRow { row });
+        }
+        let Some(transition) = transition_named(self.net, &self.names, field_at(record, 0)) else {
+            return Err(EndlessRefusal::UnknownTransition { row });
+        };
+        if is_input(self.net, transition) {
+            return Err(EndlessRefusal::NotDue { row });
+        }
+        numbered_row(self.alloc, rows, row, transition, record)
     }
-    Ok(())
+
+    fn no_memory() -> EndlessRefusal
+        ensures { result ≡ EndlessRefusal.OutOfMemory }
+    {
+        EndlessRefusal::OutOfMemory
+    }
 }
 
 /// The rows of a file of due dates without end in order, or its first faulty row with the first of
@@ -135,17 +134,11 @@ pub fn read_endless(
 ) -> Result<Vec<EndlessRow>, EndlessRefusal>
     requires { length bytes.now ≤ most_file_bytes }
     ensures rows { IfOk result (λ rows. endless_of net.now bytes.now ≡ Ok rows.items) }
-    ensures refused { IfErr result (λ e. e ≢ EndlessRefusal.OutOfMemory → endless_of net.now bytes.now ≡ Err e) }
+    ensures refused { IfErr result (λ e. e ≢ EndlessRefusal.OutOfMemory →
+        endless_of net.now bytes.now ≡ Err e) }
     ensures rules { IfOk result (λ rows. IsEndlessOf net.now rows.items) }
 {
     let names = NameOrder::new(alloc, net)?;
-    let mut rows = Vec::new(alloc);
-    let mut records = Records::new(alloc, bytes);
-    let mut record = ByteRecord::new(alloc);
-    let mut row: u32 = 0;
-    while records.read(&mut record)? {
-        row += 1;
-        add_record(alloc, net, &names, &mut rows, row, &record)?;
-    }
-    Ok(rows)
+    let file = EndlessFile { alloc, net, names };
+    read_rows(alloc, file, bytes)
 }

@@ -33,11 +33,3 @@ impl From<OutOfMemory> for EndlessRefusal {
         EndlessRefusal::OutOfMemory
     }
 }
-
-impl From<csv_records::OutOfMemory> for EndlessRefusal {
-    ghost from_gives = { λ _ e. e ≡ OutOfMemory };
-
-    fn from(_error: csv_records::OutOfMemory) -> EndlessRefusal {
-        EndlessRefusal::OutOfMemory
-    }
-}

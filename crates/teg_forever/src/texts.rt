@@ -1,10 +1,10 @@
 //! The texts of the answers about endless due dates.
-ghost use Rattle.std.specs.Prelude.{◌≡◌, ◌≢◌, ◌<◌, ◌^◌, ◌++◌, [], Ok, Err, Some, All, get_or, length, map, slice_get, IfOk, string_bytes};
+ghost use Rattle.std.specs.Prelude.{◌≡◌, ◌≢◌, ◌<◌, ◌++◌, [], Ok, Err, Some, All, get_or, length, map, slice_get, IfOk, string_bytes};
 ghost use Rattle.series_form.specs.Bounds.{IsSeries};
 ghost use Rattle.teg_net.specs.Nets.{NetLists};
-ghost use Rattle.teg_text.specs.Lines.{further_then, line_then, phrase, written};
+ghost use Rattle.teg_text.specs.Lines.{further_then, line_then, written};
 ghost use Rattle.teg_forever.specs.Releases.{inputs_of};
-ghost use Rattle.teg_forever.specs.Texts.{IsFaultTold, IsRefusalIn, IsReleaseTold, IsToldOf, TextsOfEndlessDiffer, Faulty, Answered, answer_lines, due_row_line, endless_line, forever_line, lines_of, release_line, series_words};
+ghost use Rattle.teg_forever.specs.Texts.{IsFaultTold, IsRefusalIn, IsReleaseTold, IsToldOf, TextsOfEndlessDiffer, Faulty, Answered, answer_lines, endless_line, forever_line, lines_of, release_line, series_words};
 
 use crate::releases::{ForeverRefusal, Release};
 use crate::rows::EndlessRefusal;
@@ -12,11 +12,12 @@ use series_form::Series;
 use std::alloc::{AllocError, Global};
 use teg_due::is_input;
 use teg_net::{Net, OutOfMemory, TransitionId};
-use teg_text::push_dates;
+use teg_text::{push_dates, row_fault};
 
 // Appends the end of the line of an input: the values of its series, its period and its step.
 fn push_series(text: &mut String, series: &Series) -> Result<(), AllocError>
-    ensures text { IfOk result (λ _. string_bytes text.new ≡ string_bytes text.old ++ further_then (series_words series.now) []) }
+    ensures text { IfOk result (λ _. string_bytes text.new
+        ≡ string_bytes text.old ++ further_then (series_words series.now) []) }
     ensures told { IsSeries series.now }
 {
     push_dates(text, series.values())?;
@@ -33,7 +34,8 @@ fn push_release(
     release: &Release,
 ) -> Result<(), AllocError>
     requires { input.index < length net.now.transitions }
-    ensures text { IfOk result (λ _. string_bytes text.new ≡ string_bytes text.old ++ line_then (release_line net.now input.index release.now) []) }
+    ensures text { IfOk result (λ _. string_bytes text.new
+        ≡ string_bytes text.old ++ line_then (release_line net.now input.index release.now) []) }
     ensures told { IfOk result (λ _. IsReleaseTold release.now) }
 {
     let name = net.transitions()[input.index as usize].name.as_str();
@@ -49,7 +51,8 @@ fn push_release(
 // The inputs in order.
 fn inputs_of(alloc: Global, net: &Net) -> Result<Vec<TransitionId>, AllocError>
     ensures inputs { IfOk result (λ inputs. map (λ t. t.index) inputs.items ≡ inputs_of net.now) }
-    ensures within { IfOk result (λ inputs. All (λ t. t.index < length net.now.transitions) inputs.items) }
+    ensures within { IfOk result (λ inputs. All (λ t. t.index < length net.now.transitions)
+        inputs.items) }
 {
     let mut inputs = Vec::new(alloc);
     for index in 0..net.transitions().len() as u32 {
@@ -79,7 +82,9 @@ fn push_releases(
 ) -> Result<(), AllocError>
     requires within { All (λ t. t.index < length net.now.transitions) inputs.now }
     requires each_input { length releases.now ≡ length inputs.now }
-    ensures text { IfOk result (λ _. string_bytes text.new ≡ string_bytes text.old ++ written (lines_of net.now (map (λ t. t.index) inputs.now) releases.now)) }
+    ensures text { IfOk result (λ _. string_bytes text.new
+        ≡ string_bytes text.old ++ written (lines_of net.now (map (λ t. t.index) inputs.now)
+        releases.now)) }
     ensures told { IfOk result (λ _. All IsReleaseTold releases.now) }
 {
     for index in 0..inputs.len() {
@@ -93,7 +98,8 @@ fn push_releases(
 /// `OutOfMemory` comes only where no memory is found.
 pub fn releases_text(alloc: Global, net: &Net, releases: &[Release]) -> Result<String, OutOfMemory>
     requires { length releases.now ≡ length (inputs_of net.now) }
-    ensures text { IfOk result (λ text. string_bytes text ≡ written (answer_lines net.now (Answered (Ok releases.now)))) }
+    ensures text { IfOk result (λ text. string_bytes text
+        ≡ written (answer_lines net.now (Answered (Ok releases.now)))) }
     ensures told { IfOk result (λ _. IsToldOf net.now (Answered (Ok releases.now))) }
 {
     let inputs = inputs_of(alloc, net)?;
@@ -112,7 +118,8 @@ fn late_text(
     least: u128,
 ) -> Result<String, AllocError>
     requires { transition.index < length net.now.transitions }
-    ensures { IfOk result (λ text. string_bytes text ≡ line_then (forever_line net.now (ForeverRefusal.Late transition number due least)) []) }
+    ensures { IfOk result (λ text. string_bytes text ≡ line_then
+        (forever_line net.now (ForeverRefusal.Late transition number due least)) []) }
 {
     let name = net.transitions()[transition.index as usize].name.as_str();
     format!(in alloc; "late {name} {number} due {due} least {least}\n")
@@ -121,7 +128,8 @@ fn late_text(
 // The line of an input that is too long.
 fn too_long_text(alloc: Global, net: &Net, input: TransitionId) -> Result<String, AllocError>
     requires { input.index < length net.now.transitions }
-    ensures { IfOk result (λ text. string_bytes text ≡ line_then (forever_line net.now (ForeverRefusal.TooLong input)) []) }
+    ensures { IfOk result (λ text. string_bytes text ≡ line_then
+        (forever_line net.now (ForeverRefusal.TooLong input)) []) }
 {
     let name = net.transitions()[input.index as usize].name.as_str();
     format!(in alloc; "too long: input {name}\n")
@@ -135,7 +143,8 @@ fn too_wide_text(
     row: u32,
 ) -> Result<String, AllocError>
     requires { input.index < length net.now.transitions }
-    ensures { IfOk result (λ text. string_bytes text ≡ line_then (forever_line net.now (ForeverRefusal.TooWide input row)) []) }
+    ensures { IfOk result (λ text. string_bytes text ≡ line_then
+        (forever_line net.now (ForeverRefusal.TooWide input row)) []) }
 {
     let name = net.transitions()[input.index as usize].name.as_str();
     format!(in alloc; "too long: input {name} at due row {row}\n")
@@ -150,7 +159,8 @@ pub fn forever_refusal_text(
     refusal: &ForeverRefusal,
 ) -> Result<String, OutOfMemory>
     requires { IsRefusalIn net.now refusal.now }
-    ensures text { IfOk result (λ text. string_bytes text ≡ written (answer_lines net.now (Answered (Err refusal.now)))) }
+    ensures text { IfOk result (λ text. string_bytes text
+        ≡ written (answer_lines net.now (Answered (Err refusal.now)))) }
     ensures told { IfOk result (λ _. IsToldOf net.now (Answered (Err refusal.now))) }
 {
     match refusal {
@@ -166,27 +176,30 @@ pub fn forever_refusal_text(
     }
 }
 
-// What is wrong at a row of a due file.
-fn fault_at(alloc: Global, row: u32, fault: &str) -> Result<String, AllocError>
-    ensures text { IfOk result (λ text. string_bytes text ≡ line_then (due_row_line row (phrase fault.now)) []) }
-    ensures kept { row < 2 ^ 32 }
-{
-    format!(in alloc; "refused: due row {row} {fault}\n")
-}
-
 // The line of the first fault of a file.
 fn fault_text(alloc: Global, refusal: &EndlessRefusal) -> Result<String, AllocError>
     requires { refusal.now ≢ EndlessRefusal.OutOfMemory }
-    ensures text { IfOk result (λ text. string_bytes text ≡ line_then (endless_line refusal.now) []) }
+    ensures text { IfOk result (λ text. string_bytes text
+        ≡ line_then (endless_line refusal.now) []) }
     ensures told { IfOk result (λ _. IsFaultTold refusal.now) }
 {
     match refusal {
-        EndlessRefusal::BadRow { row } => fault_at(alloc, *row, "is not an endless due row"),
-        EndlessRefusal::UnknownTransition { row } => fault_at(alloc, *row, "unknown transition"),
-        EndlessRefusal::NotDue { row } => fault_at(alloc, *row, "input transition"),
-        EndlessRefusal::RepeatedDue { row } => fault_at(alloc, *row, "repeated"),
-        EndlessRefusal::OutOfRange { row } => fault_at(alloc, *row, "out of range"),
-        EndlessRefusal::Falls { row } => fault_at(alloc, *row, "falls"),
+        EndlessRefusal::BadRow { row } => row_fault(
+            alloc,
+            "due",
+            *row,
+            "is not an endless due row",
+        ),
+        EndlessRefusal::UnknownTransition { row } => row_fault(
+            alloc,
+            "due",
+            *row,
+            "unknown transition",
+        ),
+        EndlessRefusal::NotDue { row } => row_fault(alloc, "due", *row, "input transition"),
+        EndlessRefusal::RepeatedDue { row } => row_fault(alloc, "due", *row, "repeated"),
+        EndlessRefusal::OutOfRange { row } => row_fault(alloc, "due", *row, "out of range"),
+        EndlessRefusal::Falls { row } => row_fault(alloc, "due", *row, "falls"),
         EndlessRefusal::OutOfMemory => unreachable!(),
     }
 }
@@ -195,14 +208,16 @@ fn fault_text(alloc: Global, refusal: &EndlessRefusal) -> Result<String, AllocEr
 /// memory is found.
 pub fn endless_refusal_text(alloc: Global, refusal: &EndlessRefusal) -> Result<String, OutOfMemory>
     requires { refusal.now ≢ EndlessRefusal.OutOfMemory }
-    ensures text { IfOk result (λ text. (net : NetLists) → string_bytes text ≡ written (answer_lines net (Faulty refusal.now))) }
+    ensures text { IfOk result (λ text. (net : NetLists) → string_bytes text
+        ≡ written (answer_lines net (Faulty refusal.now))) }
     ensures told { IfOk result (λ _. (net : NetLists) → IsToldOf net (Faulty refusal.now)) }
 {
     Ok(fault_text(alloc, refusal)?)
 }
 
-/// The law that different answers about one net have different texts, the faults of files, the
-/// releases and their refusals together. It does nothing when it runs.
+/// The law that different answers about one net have different texts, together: that a file is too
+/// long or cannot be read, the faults of files, the releases, and their refusals. It does nothing when
+/// it runs.
 pub fn texts_of_endless_differ()
     ensures { TextsOfEndlessDiffer }
 {}

@@ -1,13 +1,12 @@
 -- What the entries of a timetable's file keep.
-use Rattle.std.proofs.Common.{ℕ, ◌<◌, ◌≤◌, ◌==◌, ◌&&◌, ◌≡◌, ◌∙◌, ◌++◌, ◌∷◌, [], List, Bool, true, false, length, get_or, Option, Some, None, Result, Ok, Err, All, inl, inr, refl, subst, ap, arith}
+use Rattle.std.proofs.Common.{ℕ, ◌<◌, ◌≤◌, ◌&&◌, ◌≡◌, ◌∷◌, [], List, Bool, true, false, length, get_or, Option, Some, None, Result, Ok, AllPairs, inl, inr, refl, subst, arith}
 use Rattle.std.specs.Prelude.{nat_le}
 use Rattle.std.specs.Str.Parse.{digits_value}
 use Rattle.std.proofs.lemmas.Bool.{cases_Bool}
 use Rattle.std.proofs.lemmas.Bool.Decides.{nat_tests}
-use Rattle.std.proofs.lemmas.List.Elements.{All-append, All-cons}
-use Rattle.std.proofs.lemmas.List.Folds.{list_any_at, list_any_none}
-use Rattle.std.proofs.lemmas.List.Quantifiers.{all_pairs_push}
 use Rattle.csv_records.specs.Numbers.{is_number}
+use Rattle.csv_records.specs.Records.{records_of}
+use Rattle.csv_records.proofs.RowLaws.{differ_in_one, each_row, rows_once}
 use Rattle.delay_laws.specs.Tables.{greatest_departure, greatest_delayed_number, greatest_delay}
 use Rattle.teg_due.specs.Names.{number_named}
 use Rattle.teg_due.proofs.DueRules.{named_in}
@@ -15,48 +14,15 @@ use Rattle.teg_net.specs.Nets.{NetLists}
 use Rattle.teg_timetable.specs.declared.entries.Entry.{Entry}
 use Rattle.teg_timetable.specs.declared.entries.Entry.TheVariants.{Departure, Late}
 use Rattle.teg_timetable.specs.declared.refusals.TableRefusal.{TableRefusal}
-use Rattle.teg_timetable.specs.declared.refusals.TableRefusal.TheVariants as fault
-use Rattle.teg_timetable.specs.Entries.{delay_row, departure_row, entry_row, has_entry, in_delay_limits, is_about, is_repeated, number_of, row_named, transition_of}
-use Rattle.teg_timetable.specs.Rules.{AreEntriesOf, Differ, IsEntryOf}
-
--- a number of an entry is within its limit
-pub number_in : (net : NetLists) (e : Entry) → IsEntryOf net e → number_of e ≤ greatest_delayed_number
-number_in net (Departure transition first) h = omega arith
-number_in net (Late delay) h = h.number_in
-
--- the transition of an entry is one of the net
-pub transition_in : (net : NetLists) (e : Entry) → IsEntryOf net e → transition_of e < length net.transitions
-transition_in net (Departure transition first) h = h.0
-transition_in net (Late delay) h = h.transition_in
-
--- a number past the limit is in no entry
-pub far_not_seen : (entries : List Entry) (t n : ℕ) → All (λ e. number_of e ≤ greatest_delayed_number) entries → greatest_delayed_number < n → has_entry entries t n ≡ false
-far_not_seen entries t n small far = list_any_none (is_about t n) entries (λ k d below. other (transition_of (get_or entries k d) == t) (number_of (get_or entries k d)) n (small k d below) far)
-  where
-    other : (b : Bool) (m n : ℕ) → m ≤ greatest_delayed_number → greatest_delayed_number < n → (b && (m == n)) ≡ false
-    other true m n small far = grind (arith, nat_tests)
-    other false m n small far = refl
-
--- a number past the limit is out of range, whatever its entries
-pub far_refused : (entries : List Entry) (k t n by : ℕ) → All (λ e. number_of e ≤ greatest_delayed_number) entries → greatest_delayed_number < n → delay_row entries k t n by ≡ Err (fault.OutOfRange k)
-far_refused entries k t n by small far = rw (fresh, out n far) refl
-  where
-    and_false : (b : Bool) → (b && false) ≡ false
-    and_false true = refl
-    and_false false = refl
-
-    fresh : is_repeated entries t n ≡ false
-    fresh = ap (λ (x : Bool). nat_le 1 n && x) (far_not_seen entries t n small far) ∙ and_false (nat_le 1 n)
-
-    out : (n : ℕ) → greatest_delayed_number < n → in_delay_limits n by ≡ false
-    out n far = grind (arith, nat_tests)
+use Rattle.teg_timetable.specs.Entries.{delay_row, departure_row, entries_of, entry_row, has_entry, in_delay_limits, is_about, is_table_header, number_of, row_named, transition_of}
+use Rattle.teg_timetable.specs.Rules.{AreEntriesOf, IsEntryOf}
 
 -- an entry that is accepted keeps its limits, and no earlier one is about the same
 pub record IsNewEntry (net : NetLists) (entries : List Entry) (e : Entry) : Type 0 where
   pub rule : IsEntryOf net e
   pub fresh : has_entry entries (transition_of e) (number_of e) ≡ false
 
-departure_new : (net : NetLists) (entries : List Entry) (k t first : ℕ) (e : Entry) → t < length net.transitions → departure_row entries k t first ≡ Ok e → IsNewEntry net entries e
+departure_new : (net : NetLists) (entries : List Entry) (k t first : ℕ) (e : Entry) → t < length net.transitions → departure_row (has_entry entries t 0) k t first ≡ Ok e → IsNewEntry net entries e
 departure_new net entries k t first e lt h = elim (cases_Bool (has_entry entries t 0)) [
   | inl twice ↦ cc (rw twice at h)
   | inr fresh ↦ elim (cases_Bool (nat_le first greatest_departure)) [
@@ -70,8 +36,8 @@ departure_new net entries k t first e lt h = elim (cases_Bool (has_entry entries
     small : (n : ℕ) → nat_le n greatest_departure ≡ true → n ≤ greatest_departure
     small n h = grind (arith, nat_tests)
 
-delay_new : (net : NetLists) (entries : List Entry) (k t n by : ℕ) (e : Entry) → t < length net.transitions → delay_row entries k t n by ≡ Ok e → IsNewEntry net entries e
-delay_new net entries k t n by e lt h = elim (cases_Bool (is_repeated entries t n)) [
+delay_new : (net : NetLists) (entries : List Entry) (k t n by : ℕ) (e : Entry) → t < length net.transitions → delay_row (has_entry entries t n) k t n by ≡ Ok e → IsNewEntry net entries e
+delay_new net entries k t n by e lt h = elim (cases_Bool (nat_le 1 n && has_entry entries t n)) [
   | inl twice ↦ cc (rw twice at h)
   | inr fresh ↦ elim (cases_Bool (in_delay_limits n by)) [
     | inr out ↦ cc (rw (fresh, out) at h)
@@ -120,37 +86,31 @@ accepted_new net entries k [] e h = cc h
 accepted_new net entries k (a ∷ []) e h = cc h
 accepted_new net entries k (name ∷ first ∷ []) e h = elim (cases_Bool (is_number first)) [
   | inl digits ↦
-      named_new net entries k name (number_named net name) (λ t. departure_row entries k t (digits_value 10 first)) e refl
+      named_new net entries k name (number_named net name) (λ t. departure_row (has_entry entries t 0) k t (digits_value 10 first)) e refl
       (λ t. departure_new net entries k t (digits_value 10 first) e) (rw digits at h)
   | inr other ↦ cc (rw other at h)
 ]
 accepted_new net entries k (name ∷ number ∷ by ∷ []) e h = elim (cases_Bool (is_number number && is_number by)) [
   | inl digits ↦
-      named_new net entries k name (number_named net name) (λ t. delay_row entries k t (digits_value 10 number) (digits_value 10 by)) e refl
+      named_new net entries k name (number_named net name) (λ t. delay_row (has_entry entries t (digits_value 10 number)) k t (digits_value 10 number) (digits_value 10 by)) e refl
       (λ t. delay_new net entries k t (digits_value 10 number) (digits_value 10 by) e) (rw digits at h)
   | inr other ↦ cc (rw other at h)
 ]
 accepted_new net entries k (a ∷ b ∷ c ∷ d ∷ more) e h = cc h
 
-differs : (d e : Entry) → is_about (transition_of e) (number_of e) d ≡ false → Differ d e
-differs d e h = elim (cases_Bool (transition_of d == transition_of e)) [
-  | inl same ↦ inr (λ n. cc (rw (same, n, equal (number_of e)) at h))
-  | inr other ↦ inl (λ t. cc (rw (t, equal (transition_of e)) at other))
-]
-  where
-    equal : (n : ℕ) → (n == n) ≡ true
-    equal n = grind (arith, nat_tests)
+-- two entries are about the same
+abbrev is_same : Entry → Entry → Bool
+is_same e d = is_about (transition_of e) (number_of e) d
 
--- the entries with a new one
-pub one_entry_more : (net : NetLists) (entries : List Entry) (e : Entry) → AreEntriesOf net entries → IsNewEntry net entries e → AreEntriesOf net (entries ++ e ∷ [])
-one_entry_more net entries e old new = record {
-  each = All-append (IsEntryOf net) entries (e ∷ []) old.each (All-cons (IsEntryOf net) e [] new.rule (λ k d lt. absurd (omega (arith, lt))));
-  once = all_pairs_push Differ entries e old.once (λ i d lt. differs (get_or entries i d) e (each_other entries i d lt new.fresh));
+-- the entries of a file keep the rules
+pub entry_rules : (net : NetLists) (bytes : List ℕ) (entries : List Entry) → entries_of net bytes ≡ Ok entries → AreEntriesOf net entries
+entry_rules net bytes entries e = record {
+  each = each_row is_table_header (entry_row net) (IsEntryOf net) (λ before k fields r is. (accepted_new net before k fields r is).rule) (records_of bytes) entries e;
+  once = λ i j d lt within.
+      let a = get_or entries i d in
+      let b = get_or entries j d in
+      differ_in_one (transition_of a) (transition_of b) (number_of a) (number_of b) (apart i j d lt within);
 }
   where
-    each_other : (entries : List Entry) (i : ℕ) (d : Entry) → i < length entries → has_entry entries (transition_of e) (number_of e) ≡ false
-        → is_about (transition_of e) (number_of e) (get_or entries i d) ≡ false
-    each_other entries i d lt h = elim (cases_Bool (is_about (transition_of e) (number_of e) (get_or entries i d))) [
-      | inl same ↦ cc (h, list_any_at (is_about (transition_of e) (number_of e)) entries i d lt same)
-      | inr other ↦ other
-    ]
+    apart : AllPairs (λ d r. is_same r d ≡ false) entries
+    apart = rows_once is_table_header (entry_row net) is_same (λ before k fields r is. (accepted_new net before k fields r is).fresh) (records_of bytes) entries e

@@ -1,33 +1,23 @@
 -- Answers and refusals about timetables are read back from their texts.
-use Rattle.std.proofs.Common.{ℕ, ◌+◌, ◌<◌, ◌≤◌, ◌≡◌, ◌^◌, true, not, ◌==◌, ◌&&◌, nat_le, List, [], ◌∷◌, All, length, map, codes, drop, refl, sym, ap, ap₂, ◌∙◌, leb-true, arith}
-use Rattle.std.specs.Prelude.{IsTrue, if◌then◌else◌}
+use Rattle.std.proofs.Common.{ℕ, ◌+◌, ◌<◌, ◌≤◌, ◌≡◌, ◌^◌, true, List, [], ◌∷◌, All, length, map, codes, drop, refl, sym, ap, ap₂, ◌∙◌, arith}
+use Rattle.std.specs.Prelude.{if◌then◌else◌}
 use Rattle.std.specs.Fmt.{decimal}
 use Rattle.std.specs.List.{list_all}
-use Rattle.std.proofs.lemmas.Bool.{and_parts, and_from}
+use Rattle.std.proofs.lemmas.Bool.{and_from}
 use Rattle.std.proofs.lemmas.List.Elements.{All-head, All-tail}
-use Rattle.teg_net.specs.declared.entries.PlaceId.{PlaceId}
-use Rattle.teg_net.specs.declared.entries.Place.{Place}
-use Rattle.teg_net.specs.declared.entries.TransitionId.{TransitionId}
-use Rattle.teg_net.specs.declared.entries.Transition.{Transition}
-use Rattle.teg_net.specs.Names.{is_name, is_name_byte}
 use Rattle.teg_net.specs.Nets.{NetLists, IsNet}
-use Rattle.teg_net.specs.Circuits.{no_place, AreInRange}
-use Rattle.teg_text.specs.Lines.{is_word_byte, is_word, is_line, are_lines}
-use Rattle.teg_text.specs.Reading.{lines_in, line_at, word, stands_at, number_in, index_in}
-use Rattle.teg_text.proofs.Back.{word64_back, index_back}
+use Rattle.teg_text.specs.Lines.{is_word, is_line, are_lines}
+use Rattle.teg_text.specs.Names.{place_in, transition_in}
+use Rattle.teg_text.specs.Reading.{lines_in, line_at, word, stands_at, number_in}
+use Rattle.teg_text.proofs.Back.{word64_back}
+use Rattle.teg_text.proofs.NamesRead.{circuits, place_back, place_is_word, transition_back, transition_is_word}
 use Rattle.teg_text.proofs.Reading.{written_read}
 use Rattle.teg_text.proofs.Rows.{rows, IsReadBack}
-use Rattle.teg_text.proofs.Words.{all_weaker, past_blank, decimal_is_word}
+use Rattle.teg_text.proofs.Words.{decimal_is_word}
 use Rattle.teg_timetable.specs.Spreads.{RecoveredTold, KeptTold}
-use Rattle.teg_timetable.specs.Texts.{Told, SpreadTold, BadRowTold, UnknownTold, RepeatedTold, OutOfRangeTold, MissingTold, TooLargeTold, UnworkableTold, TooLongTold, no_transition, transition_name, place_name, delays_line, delays_lines, told_lines, IsToldOf, TextsOfTimetablesDiffer}
+use Rattle.teg_timetable.specs.Texts.{Told, LongFileTold, UnreadFileTold, SpreadTold, BadRowTold, UnknownTold, RepeatedTold, OutOfRangeTold, MissingTold, TooLargeTold, UnworkableTold, TooLongTold, delays_line, delays_lines, told_lines, IsToldOf, TextsOfTimetablesDiffer}
 
 -- ---- what is read
-
-place_in : NetLists → List ℕ → PlaceId
-place_in net name = record { index = index_in (λ (p : Place). p.name) net.places name }
-
-transition_in : NetLists → List ℕ → TransitionId
-transition_in net name = record { index = index_in (λ (x : Transition). x.name) net.transitions name }
 
 abbrev row_in : List (List ℕ) → List ℕ
 row_in line = map number_in (drop 2 line)
@@ -42,6 +32,8 @@ row_told line =
 abbrev refusal_told : NetLists → List (List ℕ) → Told
 refusal_told net line =
     if stands_at 0 line (codes "too") then TooLongTold (number_in (word 6 line))
+    else if stands_at 0 line (codes "fault:") then UnreadFileTold
+    else if stands_at 1 line (codes "the") then LongFileTold
     else if stands_at 1 line (codes "no") then MissingTold (transition_in net (word 4 line))
     else if stands_at 1 line (codes "place") then UnworkableTold (place_in net (word 2 line))
     else if stands_at 2 line (codes "of") then TooLargeTold (number_in (word 3 line)) (number_in (word 6 line))
@@ -55,42 +47,6 @@ spread_in net lines =
 
 abbrev told_in : NetLists → List (List (List ℕ)) → Told
 told_in net lines = if stands_at 0 (line_at 0 lines) (codes "settled") then spread_in net lines else refusal_told net (line_at 0 lines)
-
--- ---- names
-
-place_back : (net : NetLists) (id : PlaceId) → IsNet net → id.index < length net.places → place_in net (place_name net id) ≡ id
-unfolding place_in
-place_back net id rules h =
-    let index = index_back (λ (p : Place). p.name) net.places id.index no_place rules.distinct_places h in
-    λ i. record { index = index i }
-
-transition_back : (net : NetLists) (id : TransitionId) → IsNet net → id.index < length net.transitions → transition_in net (transition_name net id.index) ≡ id
-unfolding transition_in
-transition_back net id rules h =
-    let index = index_back (λ (x : Transition). x.name) net.transitions id.index no_transition rules.distinct_transitions h in
-    λ i. record { index = index i }
-
-name_byte_is_past : (byte : ℕ) → is_name_byte byte ≡ true → is_word_byte byte ≡ true
-name_byte_is_past byte h =
-    let first = and_parts ((nat_le 0x21 byte && not (byte == 0x22)) && not (byte == 0x2C)) (not (byte == 0x7F)) h in
-    let second = and_parts (nat_le 0x21 byte && not (byte == 0x22)) (not (byte == 0x2C)) first.0 in
-    let third = and_parts (nat_le 0x21 byte) (not (byte == 0x22)) second.0 in
-    past_blank byte (leb-true 33 byte third.0)
-
-name_is_word : (name : List ℕ) → IsTrue (is_name name) → is_word name ≡ true
-name_is_word name h =
-    let parts = and_parts (nat_le 1 (length name) && nat_le (length name) 64) (list_all is_name_byte name) h in
-    all_weaker is_name_byte is_word_byte name_byte_is_past name parts.1
-
-place_is_word : (net : NetLists) (id : PlaceId) → IsNet net → id.index < length net.places → is_word (place_name net id) ≡ true
-place_is_word net id rules h = name_is_word (place_name net id) (rules.place_names id.index no_place h)
-
-transition_is_word : (net : NetLists) (t : ℕ) → IsNet net → t < length net.transitions → is_word (transition_name net t) ≡ true
-transition_is_word net t rules h = name_is_word (transition_name net t) (rules.transition_names t no_transition h)
-
-circuits : (net : NetLists) → IsNet net → IsReadBack (AreInRange net) (list_all is_word) (map (place_name net)) (map (place_in net))
-circuits net rules = rows (λ (p : PlaceId). p.index < length net.places) is_word (place_name net) (place_in net)
-    (record { passes = λ p l. place_is_word net p rules l; back = λ p l. place_back net p rules l })
 
 -- ---- delays
 
@@ -108,7 +64,7 @@ delays_pass : (net : NetLists) (t : ℕ) (delays : List (List ℕ)) → IsNet ne
 delays_pass net t [] rules l all = refl
 delays_pass net t (row ∷ delays) rules l all =
     and_from (is_line (delays_line net t row)) (list_all is_line (delays_lines net (t + 1) delays))
-    (rw (transition_is_word net t rules (omega arith)) (numbers.passes row (All-head (All (λ d. d < 2 ^ 64)) row delays all)))
+    (rw (transition_is_word net (record { index = t }) rules (omega arith)) (numbers.passes row (All-head (All (λ d. d < 2 ^ 64)) row delays all)))
     (delays_pass net (t + 1) delays rules (omega arith) (All-tail (All (λ d. d < 2 ^ 64)) row delays all))
 
 -- ---- answers
@@ -119,6 +75,8 @@ record IsRead (net : NetLists) (p : Told) : Type 0 where
   told : told_in net (told_lines net p) ≡ p
 
 is_read : (net : NetLists) → IsNet net → (p : Told) → IsToldOf net p → IsRead net p
+is_read net rules LongFileTold h = record { words = refl; told = refl }
+is_read net rules UnreadFileTold h = record { words = refl; told = refl }
 is_read net rules (SpreadTold after period (RecoveredTold last) delays) h = record {
   words = rw (decimal_is_word after, decimal_is_word period, decimal_is_word last) (delays_pass net 0 delays rules (omega (arith, h.each)) h.small);
   told = rw (word64_back after h.after_in, word64_back period h.period_in, word64_back last h.outcome_in, delays_back net 0 delays h.small) refl;
@@ -132,7 +90,7 @@ is_read net rules (UnknownTold row) h = record { words = rw (decimal_is_word row
 is_read net rules (RepeatedTold row) h = record { words = rw (decimal_is_word row) refl; told = ap RepeatedTold (word64_back row h) }
 is_read net rules (OutOfRangeTold row) h = record { words = rw (decimal_is_word row) refl; told = ap OutOfRangeTold (word64_back row h) }
 is_read net rules (MissingTold transition) h = record {
-  words = rw (transition_is_word net transition.index rules h) refl;
+  words = rw (transition_is_word net transition rules h) refl;
   told = ap MissingTold (transition_back net transition rules h);
 }
 is_read net rules (TooLargeTold transitions places) h = record {

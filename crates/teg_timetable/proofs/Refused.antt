@@ -1,10 +1,11 @@
 -- What a refusal of a file names is of the net.
-use Rattle.std.proofs.Common.{ℕ, zero, suc, ◌<◌, ◌≤◌, ◌+◌, ◌==◌, ◌&&◌, ◌≡◌, ◌≢◌, List, [], ◌∷◌, ◌++◌, Bool, true, false, cond, length, Option, Some, None, Result, Ok, Err, refl, subst, arith}
+use Rattle.std.proofs.Common.{ℕ, zero, suc, ◌<◌, ◌≤◌, ◌+◌, ◌&&◌, ◌≡◌, ◌≢◌, List, [], ◌∷◌, ◌++◌, Bool, true, false, cond, length, Option, Some, None, Result, Ok, Err, refl, subst, arith}
 use Rattle.std.specs.Prelude.{nat_le}
 use Rattle.std.specs.Str.Parse.{digits_value}
 use Rattle.csv_records.specs.Numbers.{is_number}
 use Rattle.csv_records.specs.Records.{records_of}
-use Rattle.csv_records.specs.Rows.{and_then, one_more, rows_from, with_row}
+use Rattle.csv_records.specs.Rows.{and_then, with_row}
+use Rattle.csv_records.proofs.RowLaws.{rows_refused}
 use Rattle.delay_laws.specs.Tables.{greatest_departure}
 use Rattle.teg_due.specs.Names.{number_named}
 use Rattle.teg_net.specs.Nets.{NetLists}
@@ -12,7 +13,7 @@ use Rattle.teg_timetable.specs.declared.entries.Entry.{Entry}
 use Rattle.teg_timetable.specs.declared.entries.Entry.TheVariants.{Departure, Late}
 use Rattle.teg_timetable.specs.declared.refusals.TableRefusal.{TableRefusal}
 use Rattle.teg_timetable.specs.declared.refusals.TableRefusal.TheVariants as fault
-use Rattle.teg_timetable.specs.Entries.{delay_row, departure_row, entries_of, entry_row, has_entry, in_delay_limits, is_repeated, is_table_header, row_named}
+use Rattle.teg_timetable.specs.Entries.{delay_row, departure_row, entries_of, entry_row, has_entry, in_delay_limits, is_table_header, row_named}
 use Rattle.teg_timetable.specs.Tables.{IsTableRefusalIn, departure_of, departure_or_missing, firsts_of}
 
 module _ (net : NetLists) where
@@ -27,16 +28,16 @@ module _ (net : NetLists) where
   fine_ok : {T : Type 0} (x : T) → IsFine (Ok x)
   fine_ok x why e = cc e
 
-  fine_departure : (entries : List Entry) (k t first : ℕ) → IsFine (departure_row entries k t first)
-  fine_departure entries k t first = by (has_entry entries t 0) (nat_le first greatest_departure)
+  fine_departure : (is_given : Bool) (k t first : ℕ) → IsFine (departure_row is_given k t first)
+  fine_departure is_given k t first = by is_given (nat_le first greatest_departure)
     where
       by : (a b : Bool) → IsFine (cond a (Err (fault.Repeated k)) (cond b (Ok (Departure (record { index = t }) first)) (Err (fault.OutOfRange k))))
       by true b = fine_err {T = Entry} (fault.Repeated k) tt
       by false true = fine_ok (Departure (record { index = t }) first)
       by false false = fine_err {T = Entry} (fault.OutOfRange k) tt
 
-  fine_delay : (entries : List Entry) (k t n by : ℕ) → IsFine (delay_row entries k t n by)
-  fine_delay entries k t n by = choose (is_repeated entries t n) (in_delay_limits n by)
+  fine_delay : (is_given : Bool) (k t n by : ℕ) → IsFine (delay_row is_given k t n by)
+  fine_delay is_given k t n by = choose (nat_le 1 n && is_given) (in_delay_limits n by)
     where
       choose : (a b : Bool) → IsFine (cond a (Err (fault.Repeated k)) (cond b (Ok (Late (record { row = k; transition = record { index = t }; number = n; by = by }))) (Err (fault.OutOfRange k))))
       choose true b = fine_err {T = Entry} (fault.Repeated k) tt
@@ -55,11 +56,11 @@ module _ (net : NetLists) where
   fine_row entries k [] = fine_err {T = Entry} (fault.BadRow k) tt
   fine_row entries k (a ∷ []) = fine_err {T = Entry} (fault.BadRow k) tt
   fine_row entries k (name ∷ first ∷ []) =
-      fine_tested (is_number first) k (row_named k (number_named net name) (λ t. departure_row entries k t (digits_value 10 first)))
-      (fine_named k (number_named net name) (λ t. departure_row entries k t (digits_value 10 first)) (λ t. fine_departure entries k t (digits_value 10 first)))
+      fine_tested (is_number first) k (row_named k (number_named net name) (λ t. departure_row (has_entry entries t 0) k t (digits_value 10 first)))
+      (fine_named k (number_named net name) (λ t. departure_row (has_entry entries t 0) k t (digits_value 10 first)) (λ t. fine_departure (has_entry entries t 0) k t (digits_value 10 first)))
   fine_row entries k (name ∷ number ∷ by ∷ []) =
-      fine_tested (is_number number && is_number by) k (row_named k (number_named net name) (λ t. delay_row entries k t (digits_value 10 number) (digits_value 10 by)))
-      (fine_named k (number_named net name) (λ t. delay_row entries k t (digits_value 10 number) (digits_value 10 by)) (λ t. fine_delay entries k t (digits_value 10 number) (digits_value 10 by)))
+      fine_tested (is_number number && is_number by) k (row_named k (number_named net name) (λ t. delay_row (has_entry entries t (digits_value 10 number)) k t (digits_value 10 number) (digits_value 10 by)))
+      (fine_named k (number_named net name) (λ t. delay_row (has_entry entries t (digits_value 10 number)) k t (digits_value 10 number) (digits_value 10 by)) (λ t. fine_delay (has_entry entries t (digits_value 10 number)) k t (digits_value 10 number) (digits_value 10 by)))
   fine_row entries k (a ∷ b ∷ c ∷ d ∷ more) = fine_err {T = Entry} (fault.BadRow k) tt
 
   fine_with : {R : Type 0} (rows : List R) (r : Result R TableRefusal) → IsFine r → IsFine (with_row rows r)
@@ -70,22 +71,9 @@ module _ (net : NetLists) where
   fine_then {R = R} (Ok rows) next h f = f rows
   fine_then {R = R} (Err other) next h f = fine_err {T = List R} other (h other refl)
 
-  fine_one : (entries : List Entry) (k : ℕ) (fields : List (List ℕ)) → IsFine (one_more is_table_header (entry_row net) entries k fields)
-  fine_one entries k fields = by ((k == 1) && is_table_header fields)
-    where
-      by : (b : Bool) → IsFine (cond b (Ok entries) (with_row entries (entry_row net entries k fields)))
-      by true = fine_ok entries
-      by false = fine_with entries (entry_row net entries k fields) (fine_row entries k fields)
-
-  fine_rows : (entries : List Entry) (k : ℕ) (records : List (List (List ℕ))) → IsFine (rows_from is_table_header (entry_row net) entries k records)
-  fine_rows entries k [] = fine_ok entries
-  fine_rows entries k (fields ∷ records) =
-      fine_then (one_more is_table_header (entry_row net) entries k fields) (λ more. rows_from is_table_header (entry_row net) more (k + 1) records)
-      (fine_one entries k fields) (λ more. fine_rows more (k + 1) records)
-
   -- why entries are refused
   pub entries_fine : (bytes : List ℕ) (why : TableRefusal) → entries_of net bytes ≡ Err why → IsTableRefusalIn net why
-  entries_fine bytes = fine_rows [] 1 (records_of bytes)
+  entries_fine bytes = rows_refused is_table_header (entry_row net) (IsTableRefusalIn net) fine_row (records_of bytes)
 
   fine_missing : (o : Option ℕ) (t : ℕ) → t < length net.transitions → IsFine (departure_or_missing o t)
   fine_missing None t lt = fine_err {T = ℕ} (fault.Missing (record { index = t })) lt

@@ -13,7 +13,7 @@ use Rattle.delay_laws.specs.Tables.{delay_given, delay_in, planned, greatest_del
 use Rattle.delay_laws.specs.Delays.{IsReleaseAt}
 use Rattle.delay_laws.proofs.Releases.{release_rises}
 use Rattle.teg_net.specs.Limits.{greatest_date}
-use Rattle.teg_timetable.specs.Gathered.{or_second}
+use Rattle.teg_timetable.specs.Departures.{or_second}
 use Rattle.teg_timetable.specs.Working.{AreReleases, IsSmall, given_in}
 
 -- so many periods are enough, and they are not more than the delay

@@ -12,7 +12,7 @@ use Rattle.teg_timetable.specs.declared.entries.Entry.{Entry}
 use Rattle.teg_timetable.specs.declared.entries.Entry.TheVariants.{Departure, Late}
 use Rattle.teg_timetable.specs.declared.refusals.TableRefusal.{TableRefusal}
 use Rattle.teg_timetable.specs.declared.refusals.TableRefusal.TheVariants.{Missing}
-use Rattle.teg_timetable.specs.Gathered.{or_second}
+use Rattle.teg_timetable.specs.Departures.{or_second}
 use Rattle.teg_timetable.specs.Rules.{Differ, IsEntryOf}
 use Rattle.teg_timetable.specs.Tables.{delays_of, departure_of, departure_or_missing, firsts_of}
 

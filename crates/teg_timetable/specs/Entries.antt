@@ -37,25 +37,21 @@ is_about t n e = (transition_of e == t) && (number_of e == n)
 abbrev pub has_entry : List Entry → ℕ → ℕ → Bool
 has_entry entries t n = list_any (is_about t n) entries
 
--- row k, a first departure of transition t at this date, after these entries
-abbrev pub departure_row : List Entry → ℕ → ℕ → ℕ → Result Entry TableRefusal
-departure_row entries k t first =
-    if has_entry entries t 0 then Err (Repeated k)
+-- row k, a first departure of transition t at this date, which an earlier entry gives or not
+abbrev pub departure_row : Bool → ℕ → ℕ → ℕ → Result Entry TableRefusal
+departure_row is_given k t first =
+    if is_given then Err (Repeated k)
     else (if nat_le first greatest_departure then Ok (Departure (record { index = t }) first)
     else Err (OutOfRange k))
-
--- an earlier entry delays this departure; none is of number 0
-abbrev pub is_repeated : List Entry → ℕ → ℕ → Bool
-is_repeated entries t n = nat_le 1 n && has_entry entries t n
 
 -- a number of a departure that may be delayed, and a delay within its limits
 abbrev pub in_delay_limits : ℕ → ℕ → Bool
 in_delay_limits n by = (nat_le 1 n && nat_le n greatest_delayed_number) && (nat_le 1 by && nat_le by greatest_delay)
 
--- row k, a delay of departure n of transition t, after these entries
-abbrev pub delay_row : List Entry → ℕ → ℕ → ℕ → ℕ → Result Entry TableRefusal
-delay_row entries k t n by =
-    if is_repeated entries t n then Err (Repeated k)
+-- row k, a delay of departure n of transition t, of which an earlier entry is or not; none delays a departure of number 0
+abbrev pub delay_row : Bool → ℕ → ℕ → ℕ → ℕ → Result Entry TableRefusal
+delay_row is_given k t n by =
+    if nat_le 1 n && is_given then Err (Repeated k)
     else (if in_delay_limits n by then Ok (Late (record { row = k; transition = record { index = t }; number = n; by = by }))
     else Err (OutOfRange k))
 
@@ -67,10 +63,10 @@ row_named k (Some t) row = row t
 -- row k of these fields, after these entries, or the first of its faults
 abbrev pub entry_row : NetLists → List Entry → ℕ → List (List ℕ) → Result Entry TableRefusal
 entry_row net entries k (name ∷ first ∷ []) =
-    if is_number first then row_named k (number_named net name) (λ t. departure_row entries k t (digits_value 10 first)) else Err (BadRow k)
+    if is_number first then row_named k (number_named net name) (λ t. departure_row (has_entry entries t 0) k t (digits_value 10 first)) else Err (BadRow k)
 entry_row net entries k (name ∷ number ∷ by ∷ []) =
     if is_number number && is_number by
-    then row_named k (number_named net name) (λ t. delay_row entries k t (digits_value 10 number) (digits_value 10 by))
+    then row_named k (number_named net name) (λ t. delay_row (has_entry entries t (digits_value 10 number)) k t (digits_value 10 number) (digits_value 10 by))
     else Err (BadRow k)
 entry_row net entries k _ = Err (BadRow k)
 

@@ -1,7 +1,8 @@
 pub mod Entries
 pub mod Rules
 pub mod Tables
-pub mod Gathered
+pub mod TableFiles
+pub mod Departures
 pub mod Spreads
 pub mod Working
 pub mod Answers

@@ -1,15 +1,14 @@
 -- The texts of answers about timetables, and that they tell the answers.
-use Rattle.std.specs.Prelude.{ℕ, ◌+◌, ◌<◌, ◌≤◌, ◌≡◌, ◌^◌, List, [], ◌∷◌, ◌++◌, length, map, codes, All, Option, Some, None}
+use Rattle.std.specs.Prelude.{ℕ, ◌+◌, ◌<◌, ◌≤◌, ◌≡◌, ◌^◌, List, [], ◌∷◌, ◌++◌, length, map, codes, All, Option, Some, None, ⊤}
 use Rattle.std.specs.Fmt.{decimal}
 use Rattle.std.specs.List.{range_with_len}
 use Rattle.teg_net.specs.declared.entries.PlaceId.{PlaceId}
 use Rattle.teg_net.specs.declared.entries.TransitionId.{TransitionId}
-use Rattle.teg_net.specs.declared.entries.Transition.{Transition}
-use Rattle.teg_net.specs.declared.entries.Role.TheVariants.{Internal}
-use Rattle.std.specs.Prelude.{slice_index_or}
 use Rattle.teg_net.specs.Nets.{NetLists, IsNet}
-use Rattle.teg_net.specs.Circuits.{place_at, AreInRange}
+use Rattle.teg_net.specs.Circuits.{AreInRange}
+use Rattle.teg_text.specs.Faults.{row_line}
 use Rattle.teg_text.specs.Lines.{phrase, written}
+use Rattle.teg_text.specs.Names.{circuit_line, name_of_place, name_of_transition, settled_words}
 use Rattle.teg_timetable.specs.declared.refusals.TableRefusal.{TableRefusal}
 use Rattle.teg_timetable.specs.declared.refusals.TableRefusal.TheVariants as table
 use Rattle.teg_timetable.specs.declared.refusals.DelayRefusal.{DelayRefusal}
@@ -17,9 +16,11 @@ use Rattle.teg_timetable.specs.declared.refusals.DelayRefusal.TheVariants as del
 use Rattle.settled_laws.specs.Forms.{settled_length}
 use Rattle.teg_timetable.specs.Spreads.{Spread, OutcomeTold, RecoveredTold, KeptTold, delay_of}
 
--- what is told of a timetable: how its delays spread, with the delays left of each transition; a faulty row of its file; a
--- transition without a first departure; the numbers of a net that is too large; a place that does not fit; or a limit that is exceeded
+-- what is told of a timetable: that its file is too long or could not be read; how its delays spread, with the delays left of each
+-- transition; a faulty row of its file; a transition without a first departure; the numbers of a net that is too large; a place that does not fit; or a limit that is exceeded
 pub data Told : Type 0 where
+  LongFileTold : Told
+  UnreadFileTold : Told
   SpreadTold : (after period : ℕ) (outcome : OutcomeTold) (delays : List (List ℕ)) → Told
   BadRowTold : (row : ℕ) → Told
   UnknownTold : (row : ℕ) → Told
@@ -54,25 +55,9 @@ delay_told (delay.Unworkable place) = Some (UnworkableTold place)
 delay_told (delay.TooLong limit) = Some (TooLongTold limit)
 delay_told delay.OutOfMemory = None
 
--- what stands past the end of the list of transitions
-abbrev pub no_transition : Transition
-no_transition = record { name = []; role = Internal }
-
--- the name of a transition
-abbrev pub transition_name : NetLists → ℕ → List ℕ
-transition_name net t = (slice_index_or net.transitions t no_transition).name
-
--- the name of a place
-abbrev pub place_name : NetLists → PlaceId → List ℕ
-place_name net id = (place_at net id).name
-
--- the number past which the dates go on, and their period
-abbrev pub settled_line : ℕ → ℕ → List (List ℕ)
-settled_line after period = phrase (codes "settled after") ++ decimal after ∷ codes "period" ∷ decimal period ∷ []
-
 -- that delays are kept, and the circuit that keeps them
 abbrev pub kept_lines : NetLists → List PlaceId → List (List (List ℕ))
-kept_lines net circuit = (codes "kept" ∷ []) ∷ (codes "circuit" ∷ map (place_name net) circuit) ∷ []
+kept_lines net circuit = (codes "kept" ∷ []) ∷ circuit_line net circuit ∷ []
 
 -- after which number no delay is left, or the circuit that keeps them
 abbrev pub outcome_lines : NetLists → OutcomeTold → List (List (List ℕ))
@@ -81,29 +66,27 @@ outcome_lines net (KeptTold circuit) = kept_lines net circuit
 
 -- the delays left of a transition, in order of number
 abbrev pub delays_line : NetLists → ℕ → List ℕ → List (List ℕ)
-delays_line net t delays = codes "delays" ∷ transition_name net t ∷ map decimal delays
+delays_line net t delays = codes "delays" ∷ name_of_transition net (record { index = t }) ∷ map decimal delays
 
 -- a line for each transition, from transition t on
 abbrev pub delays_lines : NetLists → ℕ → List (List ℕ) → List (List (List ℕ))
 delays_lines net t [] = []
 delays_lines net t (delays ∷ more) = delays_line net t delays ∷ delays_lines net (t + 1) more
 
--- what is wrong at a row of the file
-abbrev pub row_line : ℕ → List (List ℕ) → List (List ℕ)
-row_line row words = phrase (codes "refused: timetable row") ++ decimal row ∷ words
-
 -- the lines of what is told of a timetable of a net
 abbrev pub told_lines : NetLists → Told → List (List (List ℕ))
-told_lines net (SpreadTold after period outcome delays) = settled_line after period ∷ (outcome_lines net outcome ++ delays_lines net 0 delays)
-told_lines net (BadRowTold row) = row_line row (phrase (codes "is not an entry")) ∷ []
-told_lines net (UnknownTold row) = row_line row (phrase (codes "unknown transition")) ∷ []
-told_lines net (RepeatedTold row) = row_line row (phrase (codes "repeated")) ∷ []
-told_lines net (OutOfRangeTold row) = row_line row (phrase (codes "out of range")) ∷ []
-told_lines net (MissingTold transition) = (phrase (codes "refused: no departure of") ++ transition_name net transition.index ∷ []) ∷ []
+told_lines net LongFileTold = phrase (codes "refused: the timetable is longer than 4194304 bytes") ∷ []
+told_lines net UnreadFileTold = phrase (codes "fault: cannot read the timetable") ∷ []
+told_lines net (SpreadTold after period outcome delays) = settled_words after period ∷ (outcome_lines net outcome ++ delays_lines net 0 delays)
+told_lines net (BadRowTold row) = row_line (codes "timetable") row (phrase (codes "is not an entry")) ∷ []
+told_lines net (UnknownTold row) = row_line (codes "timetable") row (phrase (codes "unknown transition")) ∷ []
+told_lines net (RepeatedTold row) = row_line (codes "timetable") row (phrase (codes "repeated")) ∷ []
+told_lines net (OutOfRangeTold row) = row_line (codes "timetable") row (phrase (codes "out of range")) ∷ []
+told_lines net (MissingTold transition) = (phrase (codes "refused: no departure of") ++ name_of_transition net transition ∷ []) ∷ []
 told_lines net (TooLargeTold transitions places) =
     (phrase (codes "refused: timetable of") ++ decimal transitions ∷ phrase (codes "transitions and") ++ decimal places ∷ codes "places" ∷ []) ∷ []
 told_lines net (UnworkableTold place) =
-    (phrase (codes "refused: place") ++ place_name net place ∷ phrase (codes "does not fit the timetable")) ∷ []
+    (phrase (codes "refused: place") ++ name_of_place net place ∷ phrase (codes "does not fit the timetable")) ∷ []
 told_lines net (TooLongTold limit) = (phrase (codes "too long: no settled form within") ++ decimal limit ∷ []) ∷ []
 
 -- the text tells this; there is none of nothing
@@ -130,6 +113,8 @@ pub record IsSpreadToldOf (net : NetLists) (after period : ℕ) (outcome : Outco
 
 -- what is told is about the net, and its numbers have 64 bits
 abbrev pub IsToldOf : NetLists → Told → Type 0
+IsToldOf net LongFileTold = ⊤
+IsToldOf net UnreadFileTold = ⊤
 IsToldOf net (SpreadTold after period outcome delays) = IsSpreadToldOf net after period outcome delays
 IsToldOf net (BadRowTold row) = row < 2 ^ 64
 IsToldOf net (UnknownTold row) = row < 2 ^ 64

@@ -49,8 +49,8 @@ fn end(net: &Net, id: PlaceId) -> usize
     net.places()[id.index as usize].to.index as usize
 }
 
-/// For each transition with this greatest delay a place without spare time that leads to it from
-/// another one, where there is one.
+// For each transition with this greatest delay a place without spare time that leads to it from
+// another one, where there is one.
 pub(crate) fn feeders(
     alloc: Global,
     net: &Net,
@@ -62,7 +62,8 @@ pub(crate) fn feeders(
     requires period { period ≤ greatest_period }
     requires table { IsTableOf net.now table.now }
     requires count { length tops.now ≡ length net.now.transitions }
-    ensures { IfOk result (λ feeders. AreFeeders net.now period table.now tops.now most (length net.now.places) feeders.items) }
+    ensures { IfOk result (λ feeders. AreFeeders net.now period table.now tops.now most
+        (length net.now.places) feeders.items) }
 {
     let mut feeders = vec![in alloc; None; tops.len()]?;
     for index in 0..net.places().len() {
@@ -125,7 +126,7 @@ fn fed_circuit(
     Ok(trail)
 }
 
-/// The same, told from its lowest numbered transition on.
+// The same, told from its lowest numbered transition on.
 pub(crate) fn circuit_back(
     alloc: Global,
     net: &Net,
@@ -142,7 +143,8 @@ pub(crate) fn circuit_back(
     requires back { FeedersGoBack net.now period table.now tops.now most feeders.now }
     ensures circuit { IfOk result (λ c. IsCircuit net.now c.places.items) }
     ensures lowest { IfOk result (λ c. BeginsLowest net.now c.places.items) }
-    ensures good { IfOk result (λ c. AreGood net.now period table.now tops.now most c.places.items) }
+    ensures good { IfOk result (λ c. AreGood net.now period table.now tops.now most
+        c.places.items) }
 {
     let places = fed_circuit(alloc, net, period, table, tops, most, feeders, from)?;
     let mut circuit = Circuit { places };

@@ -28,7 +28,7 @@ impl Model for Delayed {
 }
 
 impl Delayed {
-    /// These delays with this outcome.
+    // These delays with this outcome.
     pub(crate) fn new(left: Left, outcome: Outcome) -> Delayed
         ensures { result ≡ record { firsts = left.firsts; every = left.every; form = left.form; outcome = outcome_told outcome } }
     {

@@ -49,7 +49,8 @@ fn transition(alloc: Global, count: usize, index: usize) -> Result<Transition, A
 // The transitions of the net, which are `count`, and an input for each.
 fn transitions(alloc: Global, count: usize) -> Result<Vec<Transition>, AllocError>
     requires { count ≤ 200 }
-    ensures { IfOk result (λ transitions. AreBuilt (IsDerivedTransition count) (count + count) transitions.items) }
+    ensures { IfOk result (λ transitions. AreBuilt (IsDerivedTransition count) (count + count)
+        transitions.items) }
 {
     let mut transitions = Vec::new(alloc);
     for index in 0..count + count {
@@ -98,7 +99,8 @@ fn place(alloc: Global, net: &Net, index: usize) -> Result<Place, AllocError>
 
 // The places of the net, and one from each input to its transition.
 fn places(alloc: Global, net: &Net) -> Result<Vec<Place>, AllocError>
-    ensures { IfOk result (λ places. AreBuilt (IsDerivedPlace net.now) (length net.now.places + length net.now.transitions) places.items) }
+    ensures { IfOk result (λ places. AreBuilt (IsDerivedPlace net.now)
+        (length net.now.places + length net.now.transitions) places.items) }
 {
     let count = net.places().len() + net.transitions().len();
     let mut places = Vec::new(alloc);
@@ -151,7 +153,8 @@ fn lists(
     requires period { period ≤ greatest_period }
     requires table { IsTableOf net.now table.now }
     requires few { length net.now.transitions ≤ 200 }
-    ensures { IfOk result (λ lists. AreBuilt (IsDerivedList period table.now (length net.now.transitions)) (length net.now.transitions) lists.items) }
+    ensures { IfOk result (λ lists. AreBuilt (IsDerivedList period table.now
+        (length net.now.transitions)) (length net.now.transitions) lists.items) }
 {
     let count = net.transitions().len();
     let mut lists = Vec::new(alloc);
@@ -172,14 +175,15 @@ fn net_of(
     lists: Vec<InputList>,
 ) -> Net
     requires rules { IsNet _net.now }
-    requires made { IsMade _net.now _period _table.now (lists_of transitions.items places.items lists.items) }
+    requires made { IsMade _net.now _period _table.now (lists_of transitions.items places.items
+        lists.items) }
     ensures derived { IsReleaseNet _net.now _period _table.now result }
     ensures rules { IsNet result }
 {
     Net::new(transitions, places, lists)
 }
 
-/// The net with an input for each transition, whose list has the releases of its departures.
+// The net with an input for each transition, whose list has the releases of its departures.
 pub(crate) fn derived(
     alloc: Global,
     net: &Net,

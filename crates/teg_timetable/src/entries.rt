@@ -5,7 +5,7 @@ ghost use Rattle.teg_timetable.specs.Entries.{number_of, transition_of};
 use delay_laws::Delay;
 use teg_net::TransitionId;
 
-/// A row: the first departure of a transition, in the user's unit, or a delay.
+// A row: the first departure of a transition, in the user's unit, or a delay.
 #[derive(Clone, Copy, Debug, PartialEq, Eq)]
 pub(crate) enum Entry {
     Departure {
@@ -18,7 +18,7 @@ pub(crate) enum Entry {
 }
 
 impl Entry {
-    /// Its transition.
+    // Its transition.
     pub(crate) fn transition(&self) -> TransitionId
         ensures { result.index ≡ transition_of self.now }
     {
@@ -28,7 +28,7 @@ impl Entry {
         }
     }
 
-    /// The number of the departure that it delays, or 0 where it gives a first departure.
+    // The number of the departure that it delays, or 0 where it gives a first departure.
     pub(crate) fn number(&self) -> u32
         ensures { result ≡ number_of self.now }
     {

@@ -22,7 +22,7 @@ fn top(left: &Left, transition: TransitionId) -> u64
     top
 }
 
-/// That of each transition.
+// That of each transition.
 pub(crate) fn tops(alloc: Global, left: &Left) -> Result<Vec<u64>, AllocError>
     requires { length left.now.firsts ≤ 400 }
     ensures { IfOk result (λ tops. AreBuilt (IsTop left.now) (length left.now.firsts) tops.items) }
@@ -37,7 +37,7 @@ pub(crate) fn tops(alloc: Global, left: &Left) -> Result<Vec<u64>, AllocError>
     Ok(tops)
 }
 
-/// The position of a greatest of the numbers.
+// The position of a greatest of the numbers.
 pub(crate) fn highest(tops: &[u64]) -> usize
     requires { 0 < length tops.now }
     ensures in_range { result < length tops.now }
@@ -57,8 +57,10 @@ fn is_late(left: &Left, number: u64) -> bool
     requires first { 1 ≤ number }
     requires last { number ≤ greatest_number }
     requires few { length left.now.firsts ≤ 400 }
-    ensures late { result ≡ true → (i : ℕ) × (i < length left.now.firsts) × (1 ≤ left_at left.now i number) }
-    ensures none { result ≡ false → (i : ℕ) → i < length left.now.firsts → left_at left.now i number ≡ 0 }
+    ensures late { result ≡ true → (i : ℕ) × (i < length left.now.firsts)
+        × (1 ≤ left_at left.now i number) }
+    ensures none { result ≡ false → (i : ℕ) → i < length left.now.firsts → left_at left.now i number
+        ≡ 0 }
 {
     for index in 0..left.width() {
         let id = TransitionId {
@@ -71,11 +73,13 @@ fn is_late(left: &Left, number: u64) -> bool
     false
 }
 
-/// The last number at which a delay is left up to where the dates go on, 0 where there is none.
+// The last number at which a delay is left up to where the dates go on, 0 where there is none.
 pub(crate) fn last_late(left: &Left) -> u64
     requires { length left.now.firsts ≤ 400 }
-    ensures none { (i k : ℕ) → i < length left.now.firsts → result < k → k ≤ left.now.form.after → left_at left.now i k ≡ 0 }
-    ensures last { (result ≡ 0) ⊎ ((i : ℕ) × (i < length left.now.firsts) × (1 ≤ left_at left.now i result)) }
+    ensures none { (i k : ℕ) → i < length left.now.firsts → result < k → k ≤ left.now.form.after
+        → left_at left.now i k ≡ 0 }
+    ensures last { (result ≡ 0) ⊎ ((i : ℕ) × (i < length left.now.firsts)
+        × (1 ≤ left_at left.now i result)) }
 {
     let mut last = 0;
     for number in 1..left.after() + 1 {

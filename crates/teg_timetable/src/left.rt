@@ -10,8 +10,8 @@ use std::marker::Model;
 use teg_net::TransitionId;
 use teg_settle::SettledDates;
 
-/// A plan, by its first departures and its period, and a settled form whose first rows are the delayed
-/// dates of its transitions. No call takes memory.
+// A plan, by its first departures and its period, and a settled form whose first rows are the delayed
+// dates of its transitions. No call takes memory.
 #[derive(Debug, Drop)]
 pub(crate) struct Left {
     firsts: Vec<u64>,
@@ -30,7 +30,7 @@ impl Model for Left {
 }
 
 impl Left {
-    /// The delays of this plan by this form.
+    // The delays of this plan by this form.
     pub(crate) fn new(firsts: Vec<u64>, every: u64, settled: SettledDates) -> Left
         requires { AreLeftDelays (record { firsts = firsts.items; every = every; form = settled }) }
         ensures { result ≡ record { firsts = firsts.items; every = every; form = settled } }
@@ -42,14 +42,14 @@ impl Left {
         }
     }
 
-    /// How many transitions there are.
+    // How many transitions there are.
     pub(crate) fn width(&self) -> usize
         ensures { result ≡ length self.now.firsts }
     {
         self.firsts.len()
     }
 
-    /// The number past which the dates go on by their steps.
+    // The number past which the dates go on by their steps.
     pub(crate) fn after(&self) -> u64
         ensures value { result ≡ self.now.form.after }
         ensures short { settled_length self.now.form ≤ most_dates }
@@ -57,7 +57,7 @@ impl Left {
         self.settled.after()
     }
 
-    /// In how many numbers they go on by a step.
+    // In how many numbers they go on by a step.
     pub(crate) fn period(&self) -> u64
         ensures value { result ≡ self.now.form.period }
         ensures some { 1 ≤ result }
@@ -66,7 +66,7 @@ impl Left {
         self.settled.period()
     }
 
-    /// The delay that is left at the departure of this number of this transition.
+    // The delay that is left at the departure of this number of this transition.
     pub(crate) fn delay(&self, transition: TransitionId, number: u64) -> u64
         requires transition { transition.index < length self.now.firsts }
         requires first { 1 ≤ number }

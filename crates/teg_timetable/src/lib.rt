@@ -7,7 +7,7 @@
 //! [`delay_refusal_text`] are the texts of answers; different ones about one net have different texts.
 //! The dates are settled as those of a net in which each departure also waits for an input of its own.
 //! The crate stands on `delay_laws` for what delays are, on `teg_settle` for settled forms, on
-//! `teg_net` and `teg_check` for nets, on `csv_records` for the records of a file, and on `teg_text`
+//! `teg_net` and `teg_check` for nets, on `csv_records` for the reader of rows, and on `teg_text`
 //! for texts.
 //! Its examples stand in `worked_examples`.
 #![tactic(auto)]
@@ -16,7 +16,6 @@ mod circuits;
 mod delayed;
 mod derived;
 mod entries;
-mod gathered;
 mod late;
 mod left;
 mod outcomes;

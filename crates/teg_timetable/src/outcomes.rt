@@ -14,7 +14,7 @@ use delay_laws::{Outcome, Timetable};
 use std::alloc::Global;
 use teg_net::{Net, OutOfMemory};
 
-/// What becomes of the delays of a timetable that the net can keep.
+// What becomes of the delays of a timetable that the net can keep.
 pub(crate) fn outcome(
     alloc: Global,
     net: &Net,
@@ -29,8 +29,10 @@ pub(crate) fn outcome(
     requires table { IsTableOf net.now table.now }
     requires workable { IsWorkable net.now period table.now }
     requires width { length left.now.firsts ≡ length net.now.transitions }
-    requires settled { AreSettledDelays net.now period table.now (left_at left.now) left.now.form.after left.now.form.period }
-    ensures { IfOk result (λ outcome. IsRightOutcome net.now period (left_at left.now) (outcome_told outcome)) }
+    requires settled { AreSettledDelays net.now period table.now (left_at left.now)
+        left.now.form.after left.now.form.period }
+    ensures { IfOk result (λ outcome. IsRightOutcome net.now period (left_at left.now)
+        (outcome_told outcome)) }
 {
     let tops = tops(alloc, left)?;
     let start = highest(&tops);

@@ -1,7 +1,7 @@
 //! The releases of a transition: its planned departures with their delays, none before an earlier one.
 ghost use Rattle.std.specs.Prelude.{ℕ, ◌≡◌, ◌≤◌, ◌<◌, ◌+◌, ◌*◌, ◌∷◌, [], None, length, IfOk, slice_index_or};
 ghost use Rattle.delay_laws.specs.Tables.{IsPastDelays, first_of, greatest_departure};
-ghost use Rattle.teg_timetable.specs.Gathered.{or_second};
+ghost use Rattle.teg_timetable.specs.Departures.{or_second};
 ghost use Rattle.teg_timetable.specs.Spreads.{greatest_period};
 ghost use Rattle.teg_timetable.specs.Working.{AreBuilt, AreReleases, AreSmall, IsSmall, given_in, most_releases};
 
@@ -33,8 +33,8 @@ fn past_delay(period: u64, last: u64, delay: &Delay) -> u64
     own.max(last)
 }
 
-/// A number at which the departures of the transition are past its delays: from there on they are
-/// released as they are planned.
+// A number at which the departures of the transition are past its delays: from there on they are
+// released as they are planned.
 pub(crate) fn number_past(period: u64, table: &Timetable, transition: u32) -> u64
     requires some { 1 ≤ period }
     requires period { period ≤ greatest_period }
@@ -55,7 +55,9 @@ pub(crate) fn number_past(period: u64, table: &Timetable, transition: u32) -> u6
 // Takes down the delay at its number, if it is one of this transition and none is there.
 fn take_down(cells: &mut Vec<Option<u64>>, transition: u32, delay: &Delay)
     ensures long { length cells.new.items ≡ length cells.old.items }
-    ensures each { (s : ℕ) → s < length cells.old.items → slice_index_or cells.new.items s None ≡ or_second (slice_index_or cells.old.items s None) (given_in (delay.now ∷ []) transition (s + 1)) }
+    ensures each { (s : ℕ) → s < length cells.old.items → slice_index_or cells.new.items s None
+        ≡ or_second (slice_index_or cells.old.items s None)
+        (given_in (delay.now ∷ []) transition (s + 1)) }
 {
     let number = delay.number as usize;
     if delay.transition.index == transition && 1 <= number && number <= cells.len() {
@@ -72,7 +74,8 @@ fn given(
     transition: u32,
     count: usize,
 ) -> Result<Vec<Option<u64>>, AllocError>
-    ensures { IfOk result (λ cells. AreBuilt (λ s by. by ≡ given_in table.now.delays.items transition (s + 1)) count cells.items) }
+    ensures { IfOk result (λ cells. AreBuilt (λ s by. by
+        ≡ given_in table.now.delays.items transition (s + 1)) count cells.items) }
 {
     let mut cells = vec![in alloc; None; count]?;
     for delay in &table.delays {
@@ -81,7 +84,7 @@ fn given(
     Ok(cells)
 }
 
-/// The releases of the first `count` departures of the transition.
+// The releases of the first `count` departures of the transition.
 pub(crate) fn releases(
     alloc: Global,
     period: u64,

@@ -3,7 +3,7 @@ ghost use Rattle.std.specs.Prelude.{ℕ, ◌≡◌, ◌≢◌, ◌≤◌, ◌<�
 ghost use Rattle.csv_records.specs.Records.{most_file_bytes};
 ghost use Rattle.delay_laws.specs.Tables.{IsTableOf};
 ghost use Rattle.teg_net.specs.Limits.{most_transitions};
-ghost use Rattle.teg_timetable.specs.Gathered.{AreDepartures, or_second};
+ghost use Rattle.teg_timetable.specs.Departures.{AreDepartures, or_second};
 ghost use Rattle.teg_timetable.specs.Tables.{IsTableRefusalIn, delays_of, departure_of, firsts_of, lists_of_table, timetable_of};
 
 use crate::entries::Entry;
@@ -16,7 +16,8 @@ use teg_net::{Net, TransitionId};
 // Takes down the first departure that the entry gives, if its transition has none yet.
 fn take_down(cells: &mut Vec<Option<u64>>, entry: &Entry)
     ensures long { length cells.new.items ≡ length cells.old.items }
-    ensures each { (t : ℕ) → t < length cells.old.items → slice_index_or cells.new.items t None ≡ or_second (slice_index_or cells.old.items t None) (departure_of (entry.now ∷ []) t) }
+    ensures each { (t : ℕ) → t < length cells.old.items → slice_index_or cells.new.items t None
+        ≡ or_second (slice_index_or cells.old.items t None) (departure_of (entry.now ∷ []) t) }
 {
     if let Entry::Departure { transition, first } = entry {
         let t = transition.index as usize;
@@ -45,7 +46,8 @@ fn departures(
 fn firsts(alloc: Global, width: usize, entries: &[Entry]) -> Result<Vec<u64>, TableRefusal>
     requires { width ≤ most_transitions }
     ensures firsts { IfOk result (λ firsts. firsts_of entries.now width ≡ Ok firsts.items) }
-    ensures missing { IfErr result (λ e. e ≢ TableRefusal.OutOfMemory → firsts_of entries.now width ≡ Err e) }
+    ensures missing { IfErr result (λ e. e ≢ TableRefusal.OutOfMemory → firsts_of entries.now width
+        ≡ Err e) }
 {
     let cells = departures(alloc, width, entries)?;
     let mut firsts = Vec::new(alloc);
@@ -83,8 +85,10 @@ fn delays(alloc: Global, entries: &[Entry]) -> Result<Vec<Delay>, AllocError>
 /// where no memory is found.
 pub fn read_timetable(alloc: Global, net: &Net, bytes: &[u8]) -> Result<Timetable, TableRefusal>
     requires { length bytes.now ≤ most_file_bytes }
-    ensures table { IfOk result (λ table. timetable_of net.now bytes.now ≡ Ok (lists_of_table table)) }
-    ensures refused { IfErr result (λ e. e ≢ TableRefusal.OutOfMemory → timetable_of net.now bytes.now ≡ Err e) }
+    ensures table { IfOk result (λ table. timetable_of net.now bytes.now
+        ≡ Ok (lists_of_table table)) }
+    ensures refused { IfErr result (λ e. e ≢ TableRefusal.OutOfMemory
+        → timetable_of net.now bytes.now ≡ Err e) }
     ensures rules { IfOk result (IsTableOf net.now) }
     ensures about { IfErr result (IsTableRefusalIn net.now) }
 {

@@ -4,19 +4,21 @@ ghost use Rattle.std.specs.Fmt.{decimal};
 ghost use Rattle.std.specs.List.{flat_map, range_with_len};
 ghost use Rattle.teg_net.specs.Circuits.{AreInRange};
 ghost use Rattle.teg_net.specs.Limits.{greatest_number};
-ghost use Rattle.teg_text.specs.Lines.{line_then, phrase, written};
+ghost use Rattle.teg_text.specs.Lines.{line_then, written};
+ghost use Rattle.teg_text.specs.Names.{name_of_transition};
 ghost use Rattle.teg_timetable.specs.Answers.{IsOutcomeIn, IsDelayRefusalIn};
 ghost use Rattle.teg_timetable.specs.Spreads.{delay_of, outcome_told};
 ghost use Rattle.teg_timetable.specs.Tables.{IsTableRefusalIn};
-ghost use Rattle.teg_timetable.specs.Texts.{AreSmall, IsOutcomeToldOf, IsTextOf, IsToldOf, TextsOfTimetablesDiffer, delay_told, delays_line, delays_up_to, kept_lines, outcome_lines, place_name, row_line, spread_told, table_told, told_lines, transition_name};
+ghost use Rattle.teg_timetable.specs.Texts.{AreSmall, IsOutcomeToldOf, IsTextOf, IsToldOf, TextsOfTimetablesDiffer, delay_told, delays_line, delays_up_to, kept_lines, outcome_lines, spread_told, table_told, told_lines};
 
 use crate::delayed::Delayed;
 use crate::refusals::{DelayRefusal, TableRefusal};
 use delay_laws::Outcome;
 use std::alloc::{AllocError, Global};
 use teg_net::{Circuit, Net, OutOfMemory, TransitionId};
+use teg_text::{push_circuit, row_fault};
 
-/// Appends the delays of a transition at the numbers from 1 to `count`, each behind a blank.
+// Appends the delays of a transition at the numbers from 1 to `count`, each behind a blank.
 fn push_delays(
     text: &mut String,
     delayed: &Delayed,
@@ -36,17 +38,17 @@ fn push_delays(
     Ok(())
 }
 
-/// Begins the line of the delays of the transition of this number, counted from 0.
+// Begins the line of the delays of the transition of this number, counted from 0.
 fn begin_line(text: &mut String, net: &Net, index: usize) -> Result<(), AllocError>
     requires { index < length net.now.transitions }
     ensures { IfOk result (λ _. string_bytes text.new ≡
-        string_bytes text.old ++ (codes "delays " ++ transition_name net.now index)) }
+        string_bytes text.old ++ (codes "delays " ++ name_of_transition net.now (record { index = index }))) }
 {
     let name = net.transitions()[index].name.as_str();
     write!(text, "delays {name}")
 }
 
-/// Appends the line of the delays of the transition of this number, counted from 0.
+// Appends the line of the delays of the transition of this number, counted from 0.
 fn push_line(
     text: &mut String,
     net: &Net,
@@ -72,13 +74,14 @@ fn push_line(
     Ok(())
 }
 
-/// Appends the lines of the delays of all transitions in order.
+// Appends the lines of the delays of all transitions in order.
 fn push_lines(text: &mut String, net: &Net, delayed: &Delayed, count: u64) -> Result<(), AllocError>
     requires width { length delayed.now.firsts ≡ length net.now.transitions }
     requires count { count ≤ greatest_number }
     ensures text { IfOk result (λ _. string_bytes text.new ≡
         string_bytes text.old ++ flat_map (λ i. line_then (delays_line net.now i (delays_up_to (delay_of delayed.now i) count)) []) (range_with_len 0 (length net.now.transitions))) }
-    ensures small { IfOk result (λ _. (i : ℕ) → i < length net.now.transitions → AreSmall delayed.now i count) }
+    ensures small { IfOk result (λ _. (i : ℕ) → i < length net.now.transitions
+        → AreSmall delayed.now i count) }
 {
     for index in 0..net.transitions().len() {
         push_line(text, net, delayed, index, count)?;
@@ -86,33 +89,18 @@ fn push_lines(text: &mut String, net: &Net, delayed: &Delayed, count: u64) -> Re
     Ok(())
 }
 
-/// Appends the names of the places of a circuit in their order, each behind a blank.
-fn push_names(text: &mut String, net: &Net, circuit: &Circuit) -> Result<(), AllocError>
-    requires { AreInRange net.now circuit.now.places.items }
-    ensures { IfOk result (λ _. string_bytes text.new ≡
-        string_bytes text.old ++ flat_map (λ id. 32 ∷ place_name net.now id) circuit.now.places.items) }
-{
-    let places = net.places();
-    for id in &circuit.places {
-        text.push(' ')?;
-        text.push_str(places[id.index as usize].name.as_str())?;
-    }
-    Ok(())
-}
-
-/// Appends the two lines of the circuit that keeps delays.
+// Appends the two lines of the circuit that keeps delays.
 fn push_kept(text: &mut String, net: &Net, circuit: &Circuit) -> Result<(), AllocError>
     requires { AreInRange net.now circuit.now.places.items }
     ensures { IfOk result (λ _. string_bytes text.new ≡
         string_bytes text.old ++ written (kept_lines net.now circuit.now.places.items)) }
 {
-    text.push_str("kept\ncircuit")?;
-    push_names(text, net, circuit)?;
-    text.push('\n')?;
+    text.push_str("kept\n")?;
+    push_circuit(text, net, circuit)?;
     Ok(())
 }
 
-/// Appends what becomes of the delays.
+// Appends what becomes of the delays.
 fn push_outcome(text: &mut String, net: &Net, outcome: &Outcome) -> Result<(), AllocError>
     requires { IsOutcomeIn net.now (outcome_told outcome.now) }
     ensures text { IfOk result (λ _. string_bytes text.new ≡
@@ -135,7 +123,8 @@ fn push_outcome(text: &mut String, net: &Net, outcome: &Outcome) -> Result<(), A
 pub fn spread_text(alloc: Global, net: &Net, delayed: &Delayed) -> Result<String, OutOfMemory>
     requires width { length delayed.now.firsts ≡ length net.now.transitions }
     requires outcome { IsOutcomeIn net.now delayed.now.outcome }
-    ensures text { IfOk result (λ text. string_bytes text ≡ written (told_lines net.now (spread_told delayed.now))) }
+    ensures text { IfOk result (λ text. string_bytes text
+        ≡ written (told_lines net.now (spread_told delayed.now))) }
     ensures told { IfOk result (λ _. IsToldOf net.now (spread_told delayed.now)) }
 {
     let after = delayed.after();
@@ -143,14 +132,6 @@ pub fn spread_text(alloc: Global, net: &Net, delayed: &Delayed) -> Result<String
     let mut text = format!(in alloc; "settled after {after} period {period}\n")?;
     push_outcome(&mut text, net, delayed.outcome())?;
     push_lines(&mut text, net, delayed, after + period)?;
-    Ok(text)
-}
-
-/// The line of a faulty row.
-fn row_text(alloc: Global, row: u32, fault: &str) -> Result<String, AllocError>
-    ensures { IfOk result (λ text. string_bytes text ≡ written (row_line row (phrase fault.now) ∷ [])) }
-{
-    let text = format!(in alloc; "refused: timetable row {row} {fault}\n")?;
     Ok(text)
 }
 
@@ -162,14 +143,20 @@ pub fn table_refusal_text(
     refusal: &TableRefusal,
 ) -> Result<String, OutOfMemory>
     requires { IsTableRefusalIn net.now refusal.now }
-    ensures text { IfOk result (λ text. IsTextOf net.now (table_told refusal.now) (string_bytes text)) }
+    ensures text { IfOk result (λ text. IsTextOf net.now (table_told refusal.now)
+        (string_bytes text)) }
     ensures told { IfOk result (λ _. IfSome (table_told refusal.now) (IsToldOf net.now)) }
 {
     match *refusal {
-        TableRefusal::BadRow { row } => Ok(row_text(alloc, row, "is not an entry")?),
-        TableRefusal::UnknownTransition { row } => Ok(row_text(alloc, row, "unknown transition")?),
-        TableRefusal::Repeated { row } => Ok(row_text(alloc, row, "repeated")?),
-        TableRefusal::OutOfRange { row } => Ok(row_text(alloc, row, "out of range")?),
+        TableRefusal::BadRow { row } => Ok(row_fault(alloc, "timetable", row, "is not an entry")?),
+        TableRefusal::UnknownTransition { row } => Ok(row_fault(
+            alloc,
+            "timetable",
+            row,
+            "unknown transition",
+        )?),
+        TableRefusal::Repeated { row } => Ok(row_fault(alloc, "timetable", row, "repeated")?),
+        TableRefusal::OutOfRange { row } => Ok(row_fault(alloc, "timetable", row, "out of range")?),
         TableRefusal::Missing { transition } => {
             let name = net.transitions()[transition.index as usize].name.as_str();
             Ok(format!(in alloc; "refused: no departure of {name}\n")?)
@@ -186,7 +173,8 @@ pub fn delay_refusal_text(
     refusal: &DelayRefusal,
 ) -> Result<String, OutOfMemory>
     requires { IsDelayRefusalIn net.now refusal.now }
-    ensures text { IfOk result (λ text. IsTextOf net.now (delay_told refusal.now) (string_bytes text)) }
+    ensures text { IfOk result (λ text. IsTextOf net.now (delay_told refusal.now)
+        (string_bytes text)) }
     ensures told { IfOk result (λ _. IfSome (delay_told refusal.now) (IsToldOf net.now)) }
 {
     match *refusal {
@@ -209,8 +197,8 @@ pub fn delay_refusal_text(
     }
 }
 
-/// The law that different answers and refusals about one net have different texts. It does nothing
-/// when it runs.
+/// The law that different answers and refusals about one net have different texts, those of a file that
+/// is too long or cannot be read among them. It does nothing when it runs.
 pub fn texts_of_timetables_differ()
     ensures { TextsOfTimetablesDiffer }
 {}

@@ -13,8 +13,10 @@ fn is_ready(period: u64, first: u64, ready: &[u64]) -> bool
     requires period { period ≤ greatest_period }
     requires first { first ≤ 1000000000 }
     requires few { length ready.now ≤ 1000 }
-    ensures ready { result ≡ true → (k : ℕ) → k < length ready.now → slice_index ready.now k ≤ first + period * k }
-    ensures late { result ≡ false → (k : ℕ) × (k < length ready.now) × (first + period * k < slice_index ready.now k) }
+    ensures ready { result ≡ true → (k : ℕ) → k < length ready.now
+        → slice_index ready.now k ≤ first + period * k }
+    ensures late { result ≡ false → (k : ℕ) × (k < length ready.now)
+        × (first + period * k < slice_index ready.now k) }
 {
     for (index, date) in ready.iter().enumerate() {
         if *date > first + period * (index as u64) {
@@ -38,7 +40,7 @@ fn is_workable(net: &Net, period: u64, table: &Timetable, place: &Place) -> bool
         && is_ready(period, to, place.ready.as_slice())
 }
 
-/// The lowest numbered place to which the plan does not leave its time.
+// The lowest numbered place to which the plan does not leave its time.
 pub(crate) fn first_unworkable(net: &Net, period: u64, table: &Timetable) -> Option<PlaceId>
     requires period { period ≤ greatest_period }
     requires table { IsTableOf net.now table.now }

@@ -1,5 +1,9 @@
 use Rattle.teg_forever.specs.Columns.{AreReleasesBelow}
+use Rattle.teg_forever.specs.Divisions.{AreDivisions}
 use Rattle.teg_forever.proofs.inputs.releases_by.Given as goal
 
 abbrev pub invariant-loop-index : goal.invariant-loop-index
-invariant-loop-index l = AreReleasesBelow l.net l.rows l.index l.releases.items
+invariant-loop-index l = record {
+  below : AreReleasesBelow l.net l.rows l.index l.releases.items;
+  divisions : AreDivisions l.rows l.divisions;
+}

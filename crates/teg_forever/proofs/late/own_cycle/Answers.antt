@@ -1,4 +1,4 @@
-use Rattle.std.proofs.Common.{◌≡◌, ℕ, ℤ, pos, ap, subst, sym, ◌∙◌, to_z, of_z}
+use Rattle.std.proofs.Common.{◌≡◌, ℕ, pos, ap, subst, sym, ◌∙◌, to_z, of_z}
 use Rattle.std.specs.Int.{w128}
 use Rattle.std.proofs.lemmas.Int.{to_z-of_z}
 use lib.IntN.{nat_abs}

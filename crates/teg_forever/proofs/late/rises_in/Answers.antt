@@ -1,4 +1,4 @@
-use Rattle.std.proofs.Common.{ℕ, ◌≡◌, ◌<◌, ◌≤◌, ◌+◌, arith}
+use Rattle.std.proofs.Common.{◌≡◌, ◌+◌, arith}
 use Rattle.teg_forever.proofs.Cycles.{rises_more, rises_all}
 use Rattle.teg_forever.proofs.late.rises_in.Goals as goal
 

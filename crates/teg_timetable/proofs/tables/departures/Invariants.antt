@@ -1,5 +1,5 @@
 use Rattle.std.proofs.Common.{take}
-use Rattle.teg_timetable.specs.Gathered.{AreDepartures}
+use Rattle.teg_timetable.specs.Departures.{AreDepartures}
 use Rattle.teg_timetable.proofs.tables.departures.Given as goal
 
 abbrev pub invariant-loop-entry : goal.invariant-loop-entry

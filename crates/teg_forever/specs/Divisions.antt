@@ -1,0 +1,111 @@
+-- Working definitions of the residuals of due series by walk series: what is kept of them, and what they tell of an input.
+use Rattle.std.specs.Prelude.{ℕ, ◌≡◌, ◌<◌, ◌∷◌, ◌++◌, [], List, Some, All, length, get_or, slice_get, take, ⊤}
+use Rattle.dioid.specs.declared.algebra.Refused.{Refused}
+use Rattle.dioid.specs.declared.algebra.Refused.TheVariants.{Range, OutOfMemory as NoRoom}
+use Rattle.dioid_matrix.specs.Residuals.{RowFits}
+use Rattle.series_ops.specs.declared.gains.Gain.{Gain}
+use Rattle.series_ops.specs.Gains.{gain_left, LeftFits}
+use Rattle.periodic_laws.specs.Equations.{gains}
+use Rattle.teg_net.specs.declared.entries.TransitionId.{TransitionId}
+use Rattle.teg_net.specs.Nets.{NetLists}
+use Rattle.forever_laws.specs.declared.rows.EndlessRow.{EndlessRow}
+use Rattle.forever_laws.specs.Columns.{AreColumns, IsDueSeries, gain_residuals, residual_over}
+use Rattle.teg_forever.specs.declared.divisions.Divided.{Divided}
+use Rattle.teg_forever.specs.declared.divisions.Divisions.{Divisions}
+use Rattle.teg_forever.specs.declared.releases.ForeverRefusal.{ForeverRefusal}
+use Rattle.teg_forever.specs.declared.releases.ForeverRefusal.TheVariants.{Late, TooLong, TooWide, OutOfMemory}
+
+-- ---- rows that ask the same dates
+
+-- two rows ask the same dates
+pub record AreAlike (r s : EndlessRow) : Type 0 where
+  pub every : r.every ≡ s.every
+  pub gap : r.gap ≡ s.gap
+  pub dates : r.dates ≡ s.dates
+
+-- the rows at the two places ask the same dates
+pub record IsAlikeAt (rows : List EndlessRow) (place first : ℕ) : Type 0 where
+  pub within : first < length rows
+  pub alike : (r s : EndlessRow) → slice_get rows place ≡ Some r → slice_get rows first ≡ Some s → AreAlike r s
+
+-- for each of so many rows the place of a row that asks the same dates
+pub record AreFirstsTo (rows : List EndlessRow) (count : ℕ) (firsts : List ℕ) : Type 0 where
+  pub long : length firsts ≡ count
+  pub each : (i : ℕ) → i < count → IsAlikeAt rows i (get_or firsts i 0)
+
+-- ---- what is kept
+
+-- the residual of the due series of the row by the walk series, which fits
+abbrev pub IsResidualAt : EndlessRow → Gain → Gain → Type 0
+IsResidualAt r walk residual = (due : Gain) → IsDueSeries r due.series → (residual ≡ gain_left walk due) × LeftFits walk due
+
+-- the same of the row whose place is kept with them
+abbrev pub IsDivided : List EndlessRow → Divided → Type 0
+IsDivided rows x = (r : EndlessRow) → slice_get rows x.due ≡ Some r → IsResidualAt r x.walk x.residual
+
+-- residuals of the due series of these rows
+pub record AreDivisions (rows : List EndlessRow) (d : Divisions) : Type 0 where
+  pub firsts : AreFirstsTo rows (length rows) d.firsts.items
+  pub each : All (IsDivided rows) d.list.items
+
+-- at the place stands the residual of the due series of the row at `due` by the walk series
+pub record IsPlaceOf (list : List Divided) (due : ℕ) (walk : Gain) (place : ℕ) : Type 0 where
+  pub divided : Divided
+  pub stands : slice_get list place ≡ Some divided
+  pub due_is : divided.due ≡ due
+  pub walk_is : divided.walk ≡ walk
+
+-- the residual stands at the place
+abbrev pub StandsAt : List Divided → ℕ → Gain → Type 0
+StandsAt list place residual = (x : Divided) → slice_get list place ≡ Some x → residual ≡ x.residual
+
+-- some of the first of them
+abbrev pub IsFirstPart : List Divided → List Divided → Type 0
+IsFirstPart old new = (count : ℕ) × (new ≡ take count old)
+
+-- one more stands behind some that were kept before
+pub record IsKeptIn (old : List Divided) (x : Divided) (new : List Divided) (place : ℕ) : Type 0 where
+  pub count : ℕ
+  pub list_is : new ≡ take count old ++ x ∷ []
+  pub place_is : place ≡ length (take count old)
+
+-- the due series of the row at `due` has no residual by the walk series that fits
+abbrev pub IsMisfit : List EndlessRow → ℕ → Gain → Refused → Type 0
+IsMisfit rows due walk Range = (r : EndlessRow) (d : Gain) → slice_get rows due ≡ Some r → IsDueSeries r d.series → ¬ LeftFits walk d
+IsMisfit rows due walk NoRoom = ⊤
+
+-- ---- what they tell of an input
+
+-- at the place stands the residual of the row at place i, which fits
+pub record IsResidualOf (net : NetLists) (rows : List EndlessRow) (u i : ℕ) (list : List Divided) (place : ℕ) : Type 0 where
+  pub divided : Divided
+  pub stands : slice_get list place ≡ Some divided
+  pub is : (walks dues : ℕ → Gain) → AreColumns net u rows walks dues → (divided.residual ≡ gain_left (walks i) (dues i)) × LeftFits (walks i) (dues i)
+
+-- the meet over so many rows, each of which fits
+pub record IsMeetTo (walks dues : ℕ → Gain) (count : ℕ) (meet : Gain) : Type 0 where
+  pub value : meet ≡ residual_over count walks dues
+  pub fit : (i : ℕ) → i < count → RowFits gains gain_residuals walks dues i
+
+-- the same of the columns of the input
+abbrev pub IsMeetOver : NetLists → List EndlessRow → ℕ → ℕ → Gain → Type 0
+IsMeetOver net rows u count meet = (walks dues : ℕ → Gain) → AreColumns net u rows walks dues → IsMeetTo walks dues count meet
+
+-- the row at place i does not fit, and has this number in the file
+pub record MisfitsAt (net : NetLists) (rows : List EndlessRow) (u i row : ℕ) : Type 0 where
+  pub stopped : EndlessRow
+  pub is_row : slice_get rows i ≡ Some stopped
+  pub row_is : row ≡ stopped.row
+  pub misfits : (walks dues : ℕ → Gain) → AreColumns net u rows walks dues → ¬ RowFits gains gain_residuals walks dues i
+
+-- why the row at place i stops the search for the release of the input
+abbrev pub IsRefusedAt : NetLists → List EndlessRow → TransitionId → ℕ → ForeverRefusal → Type 0
+IsRefusedAt net rows u i (Late t k due least) = ⊥
+IsRefusedAt net rows u i (TooLong v) = ⊥
+IsRefusedAt net rows u i (TooWide v row) = (v ≡ u) × MisfitsAt net rows u.index i row
+IsRefusedAt net rows u i OutOfMemory = ⊤
+
+-- the refusal of an operation on the series of a row of the input
+abbrev pub refusal_at : Refused → TransitionId → EndlessRow → ForeverRefusal
+refusal_at Range u r = TooWide u r.row
+refusal_at NoRoom u r = OutOfMemory

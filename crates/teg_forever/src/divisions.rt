@@ -1,0 +1,182 @@
+//! Residuals of due series by walk series: each pair is divided once, as long as there is room to
+//! keep what came of it.
+ghost use Rattle.std.specs.Prelude.{◌≡◌, ◌<◌, ◌≤◌, get_or, length, IfErr, IfOk, IfSome, IsTrue, OnOk};
+ghost use Rattle.forever_laws.specs.Rows.{IsEndlessOf};
+ghost use Rattle.teg_forever.specs.Divisions.{AreAlike, AreDivisions, AreFirstsTo, IsAlikeAt, IsFirstPart, IsKeptIn, IsMisfit, IsPlaceOf, StandsAt};
+
+use crate::gains::due_gain;
+use dioid::{Dioid, Refused, Residuated};
+use forever_laws::EndlessRow;
+use series_ops::Gain;
+use std::alloc::{AllocError, Global};
+use teg_net::Net;
+
+// The values of series that are kept, at most: 96 MB, and one pair more.
+const MOST_KEPT: usize = 3_000_000;
+
+// As how many values a pair counts beside those of its series, so that there are few to look through.
+const PAIR: usize = 1_500;
+
+// The residual of the due series of a row by a walk series.
+#[derive(Drop)]
+struct Divided {
+    // The place of the row.
+    due: usize,
+    walk: Gain,
+    residual: Gain,
+}
+
+// The residuals that are kept of the due series of rows by walk series.
+#[derive(Drop)]
+pub(crate) struct Divisions {
+    // For each row the place of the first that asks the same dates.
+    firsts: Vec<usize>,
+    list: Vec<Divided>,
+    // The values of the series in the list.
+    values: usize,
+}
+
+// Whether two rows ask the same dates.
+fn are_alike(first: &EndlessRow, second: &EndlessRow) -> bool
+    ensures { IsTrue result → AreAlike first.now second.now }
+{
+    first.every == second.every
+        && first.gap == second.gap
+        && first.dates.as_slice() == second.dates.as_slice()
+}
+
+// The place of the first row that asks the same dates as the row at this place.
+fn first_alike(rows: &[EndlessRow], place: usize) -> usize
+    requires { place < length rows.now }
+    ensures { IsAlikeAt rows.now place result }
+{
+    for index in 0..place {
+        if are_alike(&rows[place], &rows[index]) {
+            return index;
+        }
+    }
+    place
+}
+
+// For each row the place of the first that asks the same dates.
+fn firsts_of(alloc: Global, rows: &[EndlessRow]) -> Result<Vec<usize>, AllocError>
+    ensures { IfOk result (λ firsts. AreFirstsTo rows.now (length rows.now) firsts.items) }
+{
+    let mut firsts = Vec::new(alloc);
+    for place in 0..rows.len() {
+        firsts.push(first_alike(rows, place))?;
+    }
+    Ok(firsts)
+}
+
+// The number of values of a series.
+fn size_of(gain: &Gain) -> usize
+    ensures { result ≤ 20000 }
+{
+    gain.series.values().len()
+}
+
+impl Divisions {
+    // No residuals yet.
+    pub(crate) fn new(alloc: Global, rows: &[EndlessRow]) -> Result<Divisions, AllocError>
+        ensures { IfOk result (AreDivisions rows.now) }
+    {
+        let firsts = firsts_of(alloc, rows)?;
+        Ok(Divisions {
+            firsts,
+            list: Vec::new(alloc),
+            values: 0,
+        })
+    }
+
+    // The place of the first row that asks the same dates as the row at this place.
+    pub(crate) fn first(&self, place: usize) -> usize
+        requires { place < length self.now.firsts.items }
+        ensures { result ≡ get_or self.now.firsts.items place 0 }
+    {
+        self.firsts[place]
+    }
+
+    // The residual that stands at this place.
+    pub(crate) fn residual(&self, place: usize) -> &Gain
+        requires { place < length self.now.list.items }
+        ensures { StandsAt self.now.list.items place result.now }
+    {
+        &self.list[place].residual
+    }
+
+    // The place of the residual of this due series by this walk series, where it is kept. The last are
+    // looked at first: rows of one input ask for them.
+    fn place_of(&self, due: usize, walk: &Gain) -> Option<usize>
+        ensures { IfSome result (IsPlaceOf self.now.list.items due walk.now) }
+    {
+        let count = self.list.len();
+        for back in 0..count {
+            let place = count - 1 - back;
+            if self.list[place].due == due && self.list[place].walk.same(walk) {
+                return Some(place);
+            }
+        }
+        None
+    }
+
+    // Makes room for so many values more: where there is none, the last pair goes.
+    fn make_room(&mut self, values: usize)
+        ensures firsts { self.new.firsts.items ≡ self.old.firsts.items }
+        ensures list { IsFirstPart self.old.list.items self.new.list.items }
+    {
+        if self.values < MOST_KEPT {
+            self.values = self.values.saturating_add(values);
+            return;
+        }
+        let rest = self.list.len().saturating_sub(1);
+        self.list.truncate(rest);
+    }
+
+    // Keeps one more.
+    fn keep(&mut self, divided: Divided) -> Result<usize, Refused>
+        ensures firsts { self.new.firsts.items ≡ self.old.firsts.items }
+        ensures kept { IfOk result (IsKeptIn self.old.list.items divided self.new.list.items) }
+        ensures memory { IfErr result (λ e. e ≡ Refused.OutOfMemory) }
+    {
+        self.make_room(PAIR + size_of(&divided.walk) + size_of(&divided.residual));
+        if self.list.push(divided).is_err() {
+            return Err(Refused::OutOfMemory);
+        }
+        Ok(self.list.len() - 1)
+    }
+
+    // The place of the residual of the due series of the row at `due` by a walk series. `Range` comes
+    // exactly where it does not fit.
+    pub(crate) fn divide(
+        &mut self,
+        alloc: Global,
+        net: &Net,
+        rows: &[EndlessRow],
+        due: usize,
+        walk: Gain,
+    ) -> Result<usize, Refused>
+        requires rows { IsEndlessOf net.now rows.now }
+        requires due { due < length rows.now }
+        requires divisions { AreDivisions rows.now self.old }
+        ensures divisions { OnOk result (AreDivisions rows.now self.new) }
+        ensures place { IfOk result (IsPlaceOf self.new.list.items due walk) }
+        ensures misfit { IfErr result (IsMisfit rows.now due walk) }
+    {
+        if let Some(place) = self.place_of(due, &walk) {
+            return Ok(place);
+        }
+        let asked = match due_gain(alloc, net, &rows[due]) {
+            Ok(asked) => asked,
+            Err(_) => return Err(Refused::OutOfMemory),
+        };
+        match walk.left(alloc, &asked) {
+            Ok(residual) => self.keep(Divided {
+                due,
+                walk,
+                residual,
+            }),
+            Err(why) => Err(why),
+        }
+    }
+}
