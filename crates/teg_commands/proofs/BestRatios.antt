@@ -11,7 +11,7 @@ use Rattle.teg_net.specs.GreatestRatios.{IsCycleTime, IsGreatestRatio, IsAnyPlac
 use Rattle.teg_net.specs.Nets.{NetLists}
 use Rattle.teg_net.specs.PartAnswers.{ArePartAnswers, IsPartAnswer}
 use Rattle.teg_net.specs.Ratios.{Fraction}
-use Rattle.teg_commands.specs.Slacks.{IsBestRatio}
+use Rattle.teg_commands.specs.Slack.{IsBestRatio}
 
 -- an element in the list does not depend on what stands past its end
 same_at : (answers : List PartAnswer) (k : ℕ) (d e : PartAnswer) → k < length answers → slice_index_or answers k d ≡ slice_index_or answers k e

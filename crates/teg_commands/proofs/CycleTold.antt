@@ -20,11 +20,11 @@ use Rattle.teg_parts.specs.Partitions.{AreParts, PartLists}
 use Rattle.teg_cycle.specs.LastRounds.{AreRunsFrom, rounds_in}
 use Rattle.teg_net.specs.Ratios.{Fraction}
 use Rattle.teg_howard.specs.Rounds.{IsRound, IsPolicyRun, choice_in, place_in}
-use Rattle.teg_report.specs.Meanings.{part_lists, round_lists, runs_lists}
-use Rattle.teg_report.specs.Reports.{text_of}
+use Rattle.teg_report.specs.Meanings.{cycle_lists, part_lists, round_lists, runs_lists}
 use Rattle.teg_report.specs.Rounds.{RoundLists, IsRoundIn, IsRunIn, AreRunsTold}
-use Rattle.teg_commands.specs.CycleTimes.{IsCycleAnswer}
-use Rattle.teg_commands.specs.Texts.{cycle_told, cycle_text, no_circuit_text}
+use Rattle.teg_text.specs.Lines.{written}
+use Rattle.teg_commands.specs.Cycle.{IsCycleAnswer}
+use Rattle.teg_commands.specs.Texts.{cycle_text, no_circuit_text, times_lines}
 use Rattle.teg_commands.proofs.Paths.{path_in_range}
 use Rattle.teg_howard.proofs.Rising.{each_round}
 use Rattle.teg_commands.proofs.Rounds.{choice_at}
@@ -37,7 +37,7 @@ no_best net answers (Some k) h none = absurd (none h.2.attained.0 h.2.attained.1
 
 pub no_circuit_said : (net : NetLists) (answer : CycleAnswer) (runs : Option (List (List RoundLists))) → IsCycleAnswer net answer → HasNoCircuit net IsAnyPlace → cycle_text net answer runs ≡ no_circuit_text
 no_circuit_said net answer runs h none =
-    ap (λ (best : Option ℕ). text_of (Some net) (cycle_told best answer runs)) (no_best net answer.parts.items answer.best h.of_net none)
+    ap (λ (best : Option ℕ). written (times_lines net best (cycle_lists answer) runs)) (no_best net answer.parts.items answer.best h.of_net none)
 
 -- the cycle times of a net, from what is proved of them for its parts
 pub cycle_answer : (net : NetLists) (parts : PartLists) (answer : CycleAnswer) → AreParts net parts → answer.part_of.items ≡ parts.part_of → length answer.parts.items ≡ length parts.inner →

@@ -6,6 +6,7 @@ pub mod Planned
 pub mod Released
 pub mod Replayed
 pub mod Rounds
+pub mod RoundsAfter
 pub mod Telling
 pub mod Transferred
 pub mod TrialLaws

@@ -12,7 +12,7 @@ use Rattle.teg_jit.specs.Plans.{IsPlanFor, KeepsSizes, PlanDates, dates_of}
 use Rattle.teg_jit.specs.Refusals.{LateIsRight}
 use Rattle.teg_net.specs.Circuits.{IsLive}
 use Rattle.teg_net.specs.Nets.{NetLists, IsNet}
-use Rattle.teg_commands.specs.Inputs.{IsPlanOf, NoInputsMeet}
+use Rattle.teg_commands.specs.Jit.{IsPlanOf, NoInputsMeet}
 
 pub plan_of : (net : NetLists) (rows : List DueRow) (plan : PlanDates) → IsNet net → PlansLead → KeepsSizes plan → IsGreatestNumber rows plan.numbers → IsPlanFor net (due_in rows) plan →
     AreLatestInputs net (due_in rows) (dates_of plan) → InputsMeet net (due_in rows) inputs_at_zero → IsPlanOf net rows plan

@@ -10,7 +10,7 @@ use Rattle.teg_forever.specs.Releases.{ForeverRefused}
 use Rattle.teg_forever.specs.Texts.{IsRefusalIn}
 use Rattle.teg_net.specs.Nets.{NetLists}
 use Rattle.teg_commands.specs.declared.outcome.Verdict.{Verdict}
-use Rattle.teg_commands.specs.EndlessInputs.{EndsUnreleased}
+use Rattle.teg_commands.specs.Forever.{EndsUnreleased}
 use Rattle.teg_settle.proofs.Transferring.{input_within}
 
 pub refusal_in : (net : NetLists) (rows : List EndlessRow) → IsEndlessOf net rows → (refusal : ForeverRefusal) (verdict : Verdict) → EndsUnreleased refusal verdict →

@@ -1,7 +1,7 @@
--- What a replay came to can be told.
-use Rattle.std.proofs.Common.{◌≡◌, ◌≢◌, ◌++◌, ℕ, inl, inr, List, Option, Some, None, Ok, Err, length, take, subst}
+-- What a replay came to can be told, and what the monitors were shown of it.
+use Rattle.std.proofs.Common.{◌≡◌, ◌≢◌, ◌++◌, ℕ, Bool, true, false, inl, inr, List, [], Option, Some, None, Result, Ok, Err, length, take, refl, sym, subst, arith}
 use Rattle.std.proofs.Math.Seq.{take-append_seam}
-use Rattle.std.specs.Prelude.{IfSome}
+use Rattle.std.specs.Prelude.{IfSome, is_ok}
 use Rattle.run_laws.specs.declared.fired.Fired.{Fired}
 use Rattle.teg_due.specs.declared.rows.LogRefusal.{LogRefusal}
 use Rattle.teg_due.specs.declared.rows.LogRefusal.TheVariants.{OutOfMemory as NoRoom}
@@ -14,10 +14,13 @@ use Rattle.teg_replay.specs.declared.refusal.FireRefusal.TheVariants.{Illegal, B
 use Rattle.teg_replay.specs.declared.replayed.Refused.{Refused}
 use Rattle.teg_replay.specs.declared.replayed.Replayed.{Replayed}
 use Rattle.teg_replay.specs.Failures.{Fails}
-use Rattle.teg_replay.specs.Replays.{EndsBy, IsReplayOf}
+use Rattle.teg_replay.specs.Replays.{AreFiringsOf, EndsBy, IsReplayOf, WereShown}
+use Rattle.run_laws.proofs.Prefixes.{legal_begins}
 use Rattle.teg_commands.specs.declared.outcome.Verdict.{Verdict}
-use Rattle.teg_commands.specs.Outcomes.{Tells}
-use Rattle.teg_commands.specs.Recorded.{CanTell, SaysEnd, SaysReplay, SaysRun, TellsBadLog}
+use Rattle.teg_net.specs.declared.memory.OutOfMemory.{OutOfMemory as NoMemory}
+use Rattle.teg_commands.specs.declared.outcome.Outcome.{Outcome}
+use Rattle.teg_commands.specs.Outcomes.{Tells, outcome_of}
+use Rattle.teg_commands.specs.Replay.{CanTell, SaysEnd, SaysReplay, SaysRun, ShowsLog, ShowsNothing, ShowsReplay, ShowsRun, TellsBadLog}
 use Rattle.teg_commands.proofs.Telling.{tells_weaker}
 
 failure_told : (net : NetLists) (run : List Fired) (f : Fired) (why : FireRefusal) → Fails net run f why → CanTell net why
@@ -62,3 +65,47 @@ fault_said lines net other bytes refusal outcome e is h =
 -- what was written back into a list of so many
 pub written_back : {A : Type 0} (count : ℕ) (new rest : List A) → length new ≡ count → take count (new ++ rest) ≡ new
 written_back count new rest e = subst (λ (n : ℕ). take n (new ++ rest) ≡ new) e (take-append_seam new rest)
+
+-- ---- what the monitors were shown
+
+-- the firings of a replay were shown, whether it is told or not
+pub run_shown : (before now : List Firing → List (List ℕ)) (net other : NetLists) (rows : List LogRow) (firings : List Firing) (replayed : Replayed) (is_told : Bool) →
+    other ≡ net → IsReplayOf other rows firings replayed → WereShown before now firings → ShowsRun net rows before now is_told
+run_shown before now net other rows firings replayed true e of shown = (firings, replayed, subst (λ (n : NetLists). IsReplayOf n rows firings replayed) e of, shown)
+run_shown before now net other rows firings replayed false e of shown = (firings, subst (λ (n : NetLists). AreFiringsOf n rows firings) e of.told, shown)
+
+-- monitors that come back as they were handed in
+pub nothing_shown : (lines : List Firing → List (List ℕ)) → ShowsNothing lines lines
+nothing_shown lines = record { further = λ more. refl; lines = refl }
+
+-- no row of a log is a first part of it
+firings_begin : (net : NetLists) (rows : List LogRow) → AreFiringsOf net rows []
+firings_begin net rows = record {
+  within = omega arith;
+  legal = legal_begins net;
+  told = λ i row firing l. absurd (omega arith);
+}
+
+-- nothing is shown of a log that is not replayed
+none_shown : (lines : List Firing → List (List ℕ)) (net : NetLists) (said : Result (List LogRow) LogRefusal) → ShowsLog said net lines lines false
+none_shown lines net (Ok rows) = ([], firings_begin net rows, nothing_shown lines)
+none_shown lines net (Err refusal) = nothing_shown lines
+
+pub replay_unshown : (net : NetLists) (bytes : List ℕ) (lines : List Firing → List (List ℕ)) → ShowsReplay net bytes lines lines false
+replay_unshown net bytes lines = none_shown lines net (log_of net bytes)
+
+-- so it is with a log that was read
+pub log_shown : (before now : List Firing → List (List ℕ)) (net other : NetLists) (bytes : List ℕ) (rows given : List LogRow) (is_told : Bool) →
+    other ≡ net → log_of other bytes ≡ Ok rows → given ≡ rows → ShowsRun net given before now is_told → ShowsReplay net bytes before now is_told
+log_shown before now net other bytes rows given is_told e is same h =
+    let read = subst (λ (n : NetLists). log_of n bytes ≡ Ok rows) e is in
+    subst (λ (said : Result (List LogRow) LogRefusal). ShowsLog said net before now is_told) (sym read)
+    (subst (λ (rs : List LogRow). ShowsRun net rs before now is_told) same h)
+
+-- of a log that was refused nothing is shown
+pub fault_shown : (lines : List Firing → List (List ℕ)) (net other : NetLists) (bytes : List ℕ) (refusal : LogRefusal) (outcome : Result Outcome NoMemory) →
+    other ≡ net → (refusal ≢ NoRoom → log_of other bytes ≡ Err refusal) → Tells (TellsBadLog refusal) (outcome_of outcome) → ShowsReplay net bytes lines lines (is_ok outcome)
+fault_shown lines net other bytes refusal (Err e) same is h = none_shown lines net (log_of net bytes)
+fault_shown lines net other bytes refusal (Ok outcome) same is h =
+    subst (λ (said : Result (List LogRow) LogRefusal). ShowsLog said net lines lines true)
+    (sym (subst (λ (n : NetLists). log_of n bytes ≡ Err refusal) same (is h.1))) (nothing_shown lines)

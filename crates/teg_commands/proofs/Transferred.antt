@@ -17,7 +17,7 @@ use Rattle.teg_net.specs.declared.entries.TransitionId.{TransitionId}
 use Rattle.teg_net.specs.Nets.{NetLists, IsInput}
 use Rattle.teg_report.specs.SettledTexts.{AreTimesIn, TimesFrom, TimesTo}
 use Rattle.teg_settle.specs.Transfers.{IsTransferOf}
-use Rattle.teg_commands.specs.Transfers.{AreTimesFrom, IsTimesFrom, has_role, is_same_role, those_of_role, times_in, times_of, transition_id}
+use Rattle.teg_commands.specs.Transfer.{AreTimesFrom, IsTimesFrom, has_role, is_same_role, those_of_role, times_in, times_of, transition_id}
 
 -- the transitions of a role are some of the net
 pub those_within : (net : NetLists) (role : Role) → All (λ t. t.index < length net.transitions) (those_of_role net role)

@@ -19,7 +19,8 @@ use Rattle.teg_report.specs.Reports.{text_of}
 use Rattle.trial_net.specs.Trials.{trial}
 use Rattle.trial_net.proofs.TrialNets.{each_place, width}
 use Rattle.teg_commands.specs.declared.outcome.Verdict.TheVariants.{Done as VerdictDone}
-use Rattle.teg_commands.specs.Slacks.{IsBestRatio, SaysTrial, critical_count, trial_number}
+use Rattle.teg_commands.specs.Slack.{IsBestRatio}
+use Rattle.teg_commands.specs.Trial.{SaysTrial, critical_count, trial_number}
 
 abbrev numbers : ℕ → List ℕ
 numbers machines = range_with_len 0 machines

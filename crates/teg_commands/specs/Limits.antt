@@ -4,3 +4,15 @@ use Rattle.std.specs.Prelude.{ℕ}
 -- bytes of an expression
 abbrev pub most_expression : ℕ
 most_expression = 4096
+
+-- machines of a line, at most
+abbrev pub most_machines : ℕ
+most_machines = 400
+
+-- the time of a target ratio, at most
+abbrev pub greatest_time : ℕ
+greatest_time = 1000000000000
+
+-- the tokens of a target ratio, at most
+abbrev pub most_tokens : ℕ
+most_tokens = 1000000

@@ -1,5 +1,5 @@
 -- The texts that the workbench writes, each that of an answer.
-use Rattle.std.specs.Prelude.{ℕ, List, [], ◌∷◌, Option, Some, None, length, map}
+use Rattle.std.specs.Prelude.{ℕ, List, [], ◌∷◌, ◌++◌, Option, Some, None, length, map}
 use Rattle.dioid.specs.declared.dates.Date.{Date}
 use Rattle.teg_form.specs.Forms.{FormLists}
 use Rattle.teg_net.specs.declared.answers.CycleAnswer.{CycleAnswer}
@@ -20,9 +20,9 @@ use Rattle.teg_critical.specs.declared.slacks.Slack.{Slack as PlaceSlack}
 use Rattle.teg_net.specs.Ratios.{Fraction}
 use Rattle.teg_report.specs.declared.answer.Failure.{Failure}
 use Rattle.teg_report.specs.declared.answer.Which.{Which}
-use Rattle.teg_report.specs.Answers.{Answer, NoCircuit, Cycle}
+use Rattle.teg_report.specs.Cycles.{CycleLists, cycle_lines}
 use Rattle.teg_report.specs.Texts.{usage_lines, live_lines, no_circuit_line, too_large_line, read_fault_line, token_free_line, no_transition_line, too_long_line, date_line}
-use Rattle.teg_report.specs.Forms.{form_lines, name_of_transition}
+use Rattle.teg_report.specs.Forms.{form_lines}
 use Rattle.teg_report.specs.FileRows.{due_line, log_line, refused_lines, replayed_lines}
 use Rattle.teg_report.specs.Plans.{late_lines, plan_lines}
 use Rattle.teg_report.specs.Refusals.{read_line}
@@ -31,10 +31,10 @@ use Rattle.teg_report.specs.Slacks.{slack_lines, trial_lines}
 use Rattle.teg_calc.specs.Printing.{series_line}
 use Rattle.teg_report.specs.Lists.{list_lines}
 use Rattle.teg_report.specs.Meanings.{cycle_lists, late_lists, round_lists}
-use Rattle.teg_report.specs.Reports.{text_of}
-use Rattle.teg_report.specs.Rounds.{RoundLists}
+use Rattle.teg_report.specs.Rounds.{RoundLists, runs_lines, told_runs}
 use Rattle.teg_report.specs.SettledTexts.{TimesFrom, settled_lines, transfer_lines}
 use Rattle.teg_text.specs.Lines.{written}
+use Rattle.teg_text.specs.Names.{name_of_transition}
 use Rattle.trial_net.specs.Trials.{trial}
 
 -- what is written where words are refused
@@ -59,13 +59,13 @@ no_circuit_text = written (no_circuit_line ∷ [])
 
 -- what is told of the circuits of a net: that there are none where no part is the best, and otherwise the cycle times, with the rounds
 -- where they are given
-abbrev pub cycle_told : Option ℕ → CycleAnswer → Option (List (List RoundLists)) → Answer
-cycle_told None answer rounds = NoCircuit
-cycle_told (Some best) answer rounds = Cycle (cycle_lists answer) rounds
+abbrev pub times_lines : NetLists → Option ℕ → CycleLists → Option (List (List RoundLists)) → List (List (List ℕ))
+times_lines net None times rounds = no_circuit_line ∷ []
+times_lines net (Some best) times rounds = cycle_lines net times ++ runs_lines net (told_runs times.parts rounds)
 
 -- the cycle times of a net, with the rounds where they are given
 abbrev pub cycle_text : NetLists → CycleAnswer → Option (List (List RoundLists)) → List ℕ
-cycle_text net answer rounds = text_of (Some net) (cycle_told answer.best answer rounds)
+cycle_text net answer rounds = written (times_lines net answer.best (cycle_lists answer) rounds)
 
 -- the cycle times of a net and the runs of policy iteration that end in them
 abbrev pub runs_text : NetLists → CycleAnswer → List (List Round) → List ℕ

@@ -1,7 +1,7 @@
 //! How soon the dates of a live net become periodic.
 ghost use Rattle.teg_bound.specs.Bounds.{IsBoundOf, IsRightBound};
 ghost use Rattle.teg_bound.specs.Texts.{IsCause};
-ghost use Rattle.teg_commands.specs.Bounds.{SaysBound};
+ghost use Rattle.teg_commands.specs.Bound.{SaysBound};
 ghost use Rattle.teg_commands.specs.Outcomes.{Tells, outcome_of};
 
 use crate::live_net::LiveNet;
@@ -17,9 +17,7 @@ fn tell_number(alloc: Global, net: &LiveNet, number: u128) -> Result<Outcome, Ou
 {
     let settled = net.settled_for_ever(alloc)?;
     let text = bound_text(alloc, number, settled.after(), settled.period())?;
-    let verdict = Verdict::Done;
-    let text = text.into_bytes();
-    Ok(Outcome { verdict, text })
+    Ok(Outcome::told(Verdict::Done, text))
 }
 
 // Why there is no bound.
@@ -33,9 +31,7 @@ fn tell_no_number(
     ensures { Tells (SaysBound net.now) (outcome_of result) }
 {
     let text = no_bound_text(alloc, answer)?;
-    let verdict = Verdict::Done;
-    let text = text.into_bytes();
-    Ok(Outcome { verdict, text })
+    Ok(Outcome::told(Verdict::Done, text))
 }
 
 /// A number past which the dates of a live net are periodic, with the number and the period of its

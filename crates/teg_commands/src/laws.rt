@@ -1,8 +1,25 @@
-//! The law of nets without a circuit. It is a function that does nothing when it runs: its contract is
-//! the law.
-ghost use Rattle.teg_commands.specs.Laws.{NoCircuitIsTold};
+//! The laws of what is told: of a net without a circuit, of the rounds behind the cycle times, and of
+//! files that give no bytes. Each is a function that does nothing when it runs: its contract is the law.
+ghost use Rattle.teg_commands.specs.Laws.{NoCircuitIsTold, RoundsFollowTimes, UnreadFilesAreTold};
+
+use teg_howard::policy_runs_are_one;
+use teg_parts::parts_are_one;
 
 /// Of a net without a circuit `cycle` tells just that, with the rounds or without.
 pub fn no_circuit_is_told()
     ensures { NoCircuitIsTold }
+{}
+
+/// Of a live net `cycle` with the rounds writes what it writes without them, and then the rounds.
+pub fn rounds_follow_times()
+    ensures { RoundsFollowTimes }
+{
+    parts_are_one();
+    policy_runs_are_one();
+}
+
+/// That a due file or a timetable is too long or cannot be read has the text of which the laws
+/// `texts_of_endless_differ` and `texts_of_timetables_differ` speak.
+pub fn unread_files_are_told()
+    ensures { UnreadFilesAreTold }
 {}

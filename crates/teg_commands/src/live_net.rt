@@ -2,7 +2,7 @@
 ghost use Rattle.std.specs.Prelude.{◌≡◌, ◌≤◌, ◌<◌, length, All, IfErr, IfOk, IfSome};
 ghost use Rattle.teg_due.specs.Rules.{IsDueOf};
 ghost use Rattle.teg_check.specs.Ranks.{IsRanking};
-ghost use Rattle.teg_dates.specs.Streams.{AreFirstRowsOf, HasLeast};
+ghost use Rattle.teg_dates.specs.Streams.{AreFirstRowsOf, HasLeast, first_rows_given};
 ghost use Rattle.teg_dates.specs.Tables.{most_numbers, HasLeastDates};
 ghost use Rattle.forever_laws.specs.Rows.{IsEndlessOf};
 ghost use Rattle.teg_forever.specs.Releases.{AreReleases, ForeverRefused};
@@ -30,8 +30,8 @@ ghost use Rattle.teg_timetable.specs.Answers.{IsDelayRefusal, IsOutcomeIn, IsSpr
 ghost use Rattle.teg_timetable.specs.Spreads.{greatest_period};
 ghost use Rattle.teg_sizing.specs.Rounds.{IsTarget};
 ghost use Rattle.teg_sizing.specs.Sizings.{IsSizing};
-ghost use Rattle.teg_commands.specs.Settled.{IsWithinLimit, ExceedsLimit};
-ghost use Rattle.teg_commands.specs.CycleTimes.{AreRuns, IsCycleAnswer};
+ghost use Rattle.teg_commands.specs.Dates.{IsWithinLimit, ExceedsLimit};
+ghost use Rattle.teg_commands.specs.Cycle.{AreRuns, IsCycleAnswer};
 
 use std::alloc::Global;
 use std::marker::Model;
@@ -46,7 +46,10 @@ use teg_form::{Form, standard_form};
 use teg_jit::{JitRefusal, Plan, latest_inputs};
 use teg_net::{CycleAnswer, Net, OutOfMemory, PlaceId, Ratio, Round, TransitionId};
 use teg_parts::{Parts, split};
-use teg_settle::{SettleRefusal, Settled, settle, settle_within, transfer};
+use teg_settle::{
+    SettleRefusal, Settled, SettledDates, settle, settle_dates, settle_dates_within, settle_within,
+    transfer,
+};
 use teg_sizing::{Sizing, size};
 use teg_timetable::{DelayRefusal, Delayed, Timetable, spread};
 
@@ -97,7 +100,7 @@ impl LiveNet {
     /// The rows of the least dates of the numbers 1 to 10,000, one number after another.
     pub fn first_rows(&self, alloc: Global) -> Result<FirstRows, OutOfMemory>
         ensures stands { IfOk result (AreFirstRowsOf self.now) }
-        ensures number { IfOk result (λ rows. rows.window.number ≡ 0) }
+        ensures number { IfOk result (λ rows. first_rows_given rows ≡ 0) }
         ensures exists { IfOk result (λ _. HasLeast self.now) }
     {
         FirstRows::new(alloc, &self.net, &self.live)
@@ -133,6 +136,30 @@ impl LiveNet {
         settle(alloc, &self.net, &self.live)
     }
 
+    /// The same form for callers that ask for some of its dates: no table is made of it.
+    pub fn settled_dates(
+        &self,
+        alloc: Global,
+        limit: Option<u32>,
+    ) -> Result<SettledDates, SettleRefusal>
+        requires { IfSome limit (λ most. most ≤ greatest_limit) }
+        ensures form { IfOk result (IsSettledFormOf self.now) }
+        ensures within { IfOk result (IsWithinLimit limit) }
+        ensures too_long { IfErr result (ExceedsLimit self.now limit) }
+    {
+        match limit {
+            Some(most) => settle_dates_within(alloc, &self.net, &self.live, most),
+            None => Ok(self.settled_dates_for_ever(alloc)?),
+        }
+    }
+
+    // The same without a limit.
+    fn settled_dates_for_ever(&self, alloc: Global) -> Result<SettledDates, OutOfMemory>
+        ensures { IfOk result (IsSettledFormOf self.now) }
+    {
+        settle_dates(alloc, &self.net, &self.live)
+    }
+
     /// A number past which the least dates go on by steps, or why none is told, by an answer on the
     /// cycle times of the net.
     pub fn bound(&self, parts: &Parts, answer: &CycleAnswer) -> BoundAnswer
@@ -155,7 +182,8 @@ impl LiveNet {
         requires limit { limit ≤ greatest_limit }
         ensures form { IfOk result (IsTransferOf self.now input.index) }
         ensures within { IfOk result (λ form. settled_length form ≤ limit) }
-        ensures too_long { IfErr result (IsRightRefusal (TransferSettlesPast self.now input.index limit) limit) }
+        ensures too_long { IfErr result (IsRightRefusal
+            (TransferSettlesPast self.now input.index limit) limit) }
     {
         transfer(alloc, &self.net, &self.live, input, limit)
     }
@@ -165,8 +193,10 @@ impl LiveNet {
         requires { IsDueOf self.now due.now.rows.items }
         ensures numbers { IfOk result (λ plan. IsGreatestNumber due.now.rows.items plan.numbers) }
         ensures plan { IfOk result (λ plan. IsPlanFor self.now (due_in due.now.rows.items) plan) }
-        ensures inputs { IfOk result (λ plan. AreLatestInputs self.now (due_in due.now.rows.items) (dates_of plan)) }
-        ensures in_time { IfOk result (λ _. InputsMeet self.now (due_in due.now.rows.items) inputs_at_zero) }
+        ensures inputs { IfOk result (λ plan. AreLatestInputs self.now (due_in due.now.rows.items)
+            (dates_of plan)) }
+        ensures in_time { IfOk result (λ _. InputsMeet self.now (due_in due.now.rows.items)
+            inputs_at_zero) }
         ensures late { IfErr result (LateIsRight self.now due.now.rows.items) }
         ensures live { IsLive self.now }
     {
@@ -233,7 +263,8 @@ impl LiveNet {
         ensures answer { IfOk result (λ answer. IsCycleAnswer self.now answer) }
         ensures part_of { IfOk result (λ answer. answer.part_of.items ≡ parts.now.part_of) }
         ensures count { IfOk result (λ answer. length answer.parts.items ≡ length parts.now.inner) }
-        ensures runs { IfOk result (λ answer. AreLastOfRuns self.now parts.now.part_of answer.parts.items) }
+        ensures runs { IfOk result (λ answer. AreLastOfRuns self.now parts.now.part_of
+            answer.parts.items) }
         ensures certificate { IfOk result (λ answer. IsCertificate self.now answer) }
     {
         let answer = cycle(alloc, &self.net, &self.live, parts)?;
@@ -260,8 +291,10 @@ impl LiveNet {
     pub fn slacks(&self, alloc: Global, answer: &CycleAnswer) -> Result<Slacks, OutOfMemory>
         requires { IsCertificate self.now answer.now }
         ensures each { IfOk result (λ slacks. length slacks ≡ length self.now.places) }
-        ensures slacks { IfOk result (λ slacks. (r : Fraction) → IsGreatestRatio self.now IsAnyPlace r → AreSlacks self.now r slacks) }
-        ensures none { IfOk result (λ slacks. HasNoCircuit self.now IsAnyPlace → All (λ s. s ≡ NoCircuit) slacks) }
+        ensures slacks { IfOk result (λ slacks. (r : Fraction)
+            → IsGreatestRatio self.now IsAnyPlace r → AreSlacks self.now r slacks) }
+        ensures none { IfOk result (λ slacks. HasNoCircuit self.now IsAnyPlace
+            → All (λ s. s ≡ NoCircuit) slacks) }
     {
         critical(alloc, &self.net, answer)
     }

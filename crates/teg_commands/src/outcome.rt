@@ -1,4 +1,5 @@
 //! What a command comes to.
+ghost use Rattle.std.specs.Prelude.{◌≡◌, string_bytes};
 
 /// How a command on accepted files ends: refusals of words and nets, faults and want of memory are
 /// none of its business.
@@ -27,4 +28,15 @@ pub enum Verdict {
 pub struct Outcome {
     pub verdict: Verdict,
     pub text: Vec<u8>,
+}
+
+impl Outcome {
+    // What a command comes to that ends so, with this text.
+    pub(crate) fn told(verdict: Verdict, text: String) -> Outcome
+        ensures verdict { result.verdict ≡ verdict }
+        ensures text { result.text.items ≡ string_bytes text }
+    {
+        let text = text.into_bytes();
+        Outcome { verdict, text }
+    }
 }

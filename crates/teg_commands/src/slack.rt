@@ -1,8 +1,8 @@
 //! The slack of the places of a live net.
 ghost use Rattle.std.specs.Prelude.{IfNone, IfSome};
-ghost use Rattle.teg_commands.specs.CycleTimes.{IsCycleAnswer};
+ghost use Rattle.teg_commands.specs.Cycle.{IsCycleAnswer};
 ghost use Rattle.teg_commands.specs.Outcomes.{Tells, outcome_of};
-ghost use Rattle.teg_commands.specs.Slacks.{IsBestRatio, SaysSlack};
+ghost use Rattle.teg_commands.specs.Slack.{IsBestRatio, SaysSlack};
 ghost use Rattle.teg_net.specs.Certificates.{IsCertificate};
 ghost use Rattle.teg_net.specs.GreatestRatios.{HasNoCircuit, IsAnyPlace};
 
@@ -12,7 +12,7 @@ use std::alloc::Global;
 use teg_net::{CycleAnswer, OutOfMemory, PartAnswer, Ratio};
 use teg_report::{Answer, report};
 
-/// The greatest ratio that the cycle times of a live net tell; none where it has no circuit.
+// The greatest ratio that the cycle times of a live net tell; none where it has no circuit.
 pub(crate) fn best_ratio(net: &LiveNet, answer: &CycleAnswer) -> Option<Ratio>
     requires { IsCycleAnswer net.now answer.now }
     ensures none { IfNone result (HasNoCircuit net.now IsAnyPlace) }

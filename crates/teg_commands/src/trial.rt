@@ -1,8 +1,9 @@
 //! The line of machines, and what is told of it.
 ghost use Rattle.std.specs.Prelude.{◌≡◌, ◌≤◌, IfOk, length};
 ghost use Rattle.teg_commands.specs.Outcomes.{Tells, outcome_of};
-ghost use Rattle.teg_commands.specs.CycleTimes.{IsCycleAnswer};
-ghost use Rattle.teg_commands.specs.Slacks.{IsBestRatio, SaysTrial, critical_count};
+ghost use Rattle.teg_commands.specs.Cycle.{IsCycleAnswer};
+ghost use Rattle.teg_commands.specs.Slack.{IsBestRatio};
+ghost use Rattle.teg_commands.specs.Trial.{SaysTrial, critical_count};
 ghost use Rattle.teg_critical.specs.Slacks.{AreSlacks};
 ghost use Rattle.teg_net.specs.Certificates.{IsCertificate};
 ghost use Rattle.trial_net.specs.Trials.{trial};
@@ -10,6 +11,7 @@ ghost use Rattle.teg_net.specs.Circuits.{IsLive};
 ghost use Rattle.teg_net.specs.Limits.{most_places};
 
 use crate::live_net::LiveNet;
+use crate::numbers::Machines;
 use crate::outcome::{Outcome, Verdict};
 use crate::slack::best_ratio;
 use std::alloc::Global;
@@ -125,11 +127,10 @@ fn tell_net(alloc: Global, machines: u32, net: &LiveNet) -> Result<Outcome, OutO
 
 /// The cycle time of the line of so many machines, how many of its places are critical, and the date
 /// of the 1,000th firing of its last machine.
-pub fn tell_trial(alloc: Global, machines: u32) -> Result<Outcome, OutOfMemory>
-    requires some { 1 ≤ machines }
-    requires few { machines ≤ 400 }
+pub fn tell_trial(alloc: Global, machines: Machines) -> Result<Outcome, OutOfMemory>
     ensures { Tells (SaysTrial machines) (outcome_of result) }
 {
+    let machines = machines.get();
     let net = with_ranks(alloc, make_trial(alloc, machines)?)?;
     tell_net(alloc, machines, &net)
 }

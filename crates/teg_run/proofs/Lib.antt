@@ -9,5 +9,6 @@ pub mod ReadOrder
 pub mod Refusals
 pub mod Refusing
 pub mod SecondReads
+pub mod Showing
 pub mod Verdicts
 pub mod Ways

@@ -16,7 +16,11 @@ use Rattle.teg_commands.specs.declared.outcome.Verdict.{Verdict}
 use Rattle.teg_run.specs.Calls.{Call}
 use Rattle.teg_run.specs.Endings.{Ending, Whole, Lost}
 use Rattle.teg_run.specs.Headline.{Ends, EndsLost, IsSaidOf, OwnOnly, Follows, ComesOnly, CountsAsNoText, ReadsAreCalm, WritesAreCalm, OverlongRose, WroteWhole, WrotePrefix, ReadsFirstOf, NamesLastRead, EndsAsSaid, Concerns, ConcernsBoth, SaysOfNet, SaysOfBoth, SaysOfWords, KeepsPromises}
-use Rattle.teg_run.specs.Requests.{NetCommand, FileCommand, Request, OfNet, OfFiles, ValueOf, TrialOf, request_of, files_of, asked_files, second_of}
+use Rattle.teg_run.specs.declared.request.NetCommand.{NetCommand}
+use Rattle.teg_run.specs.declared.request.FileCommand.{FileCommand}
+use Rattle.teg_run.specs.declared.request.Request.{Request}
+use Rattle.teg_run.specs.declared.request.Request.TheVariants.{OfNet, OfFiles, ValueOf, TrialOf}
+use Rattle.teg_run.specs.Requests.{request_of, files_of, asked_files, second_of}
 use Rattle.teg_run.specs.Runs.{Answered, CarriesOut, Finished, Runs}
 use Rattle.teg_run.specs.Openings.{OpensBytes}
 use Rattle.teg_run.specs.Says.{Asked, Says, SaysFile, SaysFiles, SaysNet, SaysOutcome}

@@ -11,7 +11,8 @@ use Rattle.teg_run.specs.Endings.{Ending, Whole, Lost}
 use Rattle.teg_run.specs.Headline.{Opens, ReadsFirstOf, SecondOnlyOfLive, as_told}
 use Rattle.teg_run.specs.Limits.{most_bytes}
 use Rattle.teg_run.specs.Reads.{ReadsAll}
-use Rattle.teg_run.specs.Requests.{Request, request_of, asked_files, second_of}
+use Rattle.teg_run.specs.declared.request.Request.{Request}
+use Rattle.teg_run.specs.Requests.{request_of, asked_files, second_of}
 use Rattle.teg_run.specs.Runs.{Answered, Runs}
 use Rattle.teg_run.specs.Says.{Asked}
 use Rattle.teg_run.proofs.Causes.{net_opened}

@@ -15,10 +15,14 @@ use Rattle.teg_commands.specs.declared.outcome.Verdict.{Verdict}
 use Rattle.teg_run.specs.Limits.{most_bytes}
 use Rattle.teg_run.specs.Openings.{Opening, Accepted, Refused, OpensNet, OpensDocument, OpensBytes, read_status}
 use Rattle.teg_run.specs.Reads.{ReadsAll}
-use Rattle.teg_run.specs.Requests.{FileCommand, JitNet, ReplayNet, ForeverNet, TimetableNet, Request, OfNet, OfFiles, ValueOf, TrialOf, files_of, second_of}
+use Rattle.teg_run.specs.declared.request.FileCommand.{FileCommand}
+use Rattle.teg_run.specs.declared.request.FileCommand.TheVariants.{Jit as JitNet, Replay as ReplayNet, Forever as ForeverNet, Timetable as TimetableNet}
+use Rattle.teg_run.specs.declared.request.Request.{Request}
+use Rattle.teg_run.specs.declared.request.Request.TheVariants.{OfNet, OfFiles, ValueOf, TrialOf}
+use Rattle.teg_run.specs.Requests.{files_of, second_of}
 use Rattle.teg_run.specs.Says.{Says, SaysFile, SaysFiles, SaysNet, SaysOpening, SaysOutcome}
-use Rattle.teg_commands.specs.Slacks.{SaysTrial}
-use Rattle.teg_commands.specs.Values.{SaysValue}
+use Rattle.teg_commands.specs.Trial.{SaysTrial}
+use Rattle.teg_commands.specs.Calc.{SaysCalc}
 use Rattle.teg_commands.specs.Texts.{read_text}
 use Rattle.teg_run.specs.Statuses.{IsOwn}
 use Rattle.teg_run.proofs.ReadOrder.{none_left}
@@ -157,5 +161,5 @@ way_of (OfFiles command name second) lines old new replies status text reads h =
     net_way old new name ((second_of command, second) ∷ []) (λ net. SaysFile (OpensBytes (second_of command)) (λ bytes. SaysOutcome (SaysFiles command lines net bytes))) replies status text reads h
     (λ net mid more rest k. bytes_way mid new (second_of command) second (second_accepts command) (λ bytes. SaysOutcome (SaysFiles command lines net bytes)) more status text rest k
     (λ bytes last further said. outcome_way last new (SaysFiles command lines net bytes) further status text said))
-way_of (ValueOf text) lines old new replies status told reads h = outcome_way old new (SaysValue text) replies status told h
+way_of (ValueOf text) lines old new replies status told reads h = outcome_way old new (SaysCalc text) replies status told h
 way_of (TrialOf machines) lines old new replies status told reads h = outcome_way old new (SaysTrial machines) replies status told h

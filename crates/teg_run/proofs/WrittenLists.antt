@@ -8,7 +8,7 @@ use Rattle.std.proofs.lemmas.List.Folds.{flat_map-map}
 use Rattle.std.proofs.lemmas.List.FromFn.{take-map-range_with_len}
 use Rattle.dioid.specs.declared.dates.Date.{Date}
 use Rattle.teg_commands.specs.declared.outcome.Verdict.TheVariants.{Done as VerdictDone}
-use Rattle.teg_commands.specs.Sizes.{SaysList}
+use Rattle.teg_commands.specs.List.{SaysList}
 use Rattle.teg_commands.specs.Texts.{list_text}
 use Rattle.teg_dates.specs.Passes.{IsRowOf}
 use Rattle.teg_model.specs.Datings.{IsLeastDating}

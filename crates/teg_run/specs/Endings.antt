@@ -1,5 +1,5 @@
 -- How the work on a request ends, before anything is written.
-use Rattle.std.specs.Prelude.{ℕ, List, Option, Some, None}
+use Rattle.std.specs.Prelude.{ℕ, Bool, true, false, List, Option, Some, None}
 use Rattle.teg_run.specs.declared.status.Status.{Status}
 use Rattle.teg_commands.specs.declared.outcome.Verdict.{Verdict}
 use Rattle.teg_run.specs.Statuses.{status_of}
@@ -13,6 +13,11 @@ pub data Ending : Type 0 where
 abbrev pub ending_of : Option (Verdict × List ℕ) → Ending
 ending_of None = Lost
 ending_of (Some outcome) = Whole (status_of outcome.0) outcome.1
+
+-- whether the ending has a text
+abbrev pub is_whole : Ending → Bool
+is_whole (Whole status text) = true
+is_whole Lost = false
 
 -- a claim on the ending, where memory was found
 abbrev pub EndsWith : (Status → List ℕ → Type 0) → Ending → Type 0

@@ -19,13 +19,17 @@ use Rattle.teg_run.specs.Calls.{Call}
 use Rattle.teg_run.specs.Endings.{Whole, Lost}
 use Rattle.teg_run.specs.Limits.{most_bytes}
 use Rattle.teg_run.specs.Reads.{ReadsAll}
-use Rattle.teg_run.specs.Requests.{NetCommand, FileCommand, Request, OfNet, OfFiles, ValueOf, TrialOf, request_of, files_of, asked_files}
+use Rattle.teg_run.specs.declared.request.NetCommand.{NetCommand}
+use Rattle.teg_run.specs.declared.request.FileCommand.{FileCommand}
+use Rattle.teg_run.specs.declared.request.Request.{Request}
+use Rattle.teg_run.specs.declared.request.Request.TheVariants.{OfNet, OfFiles, ValueOf, TrialOf}
+use Rattle.teg_run.specs.Requests.{request_of, files_of, asked_files}
 use Rattle.teg_run.specs.Runs.{Finished, Runs}
 use Rattle.teg_run.specs.Says.{Asked, Says, SaysFiles, SaysNet}
 use Rattle.teg_run.specs.Statuses.{IsOwn, status_of}
 use Rattle.teg_outside.specs.declared.monitor.Firing.{Firing}
-use Rattle.teg_commands.specs.Slacks.{SaysTrial}
-use Rattle.teg_commands.specs.Values.{SaysValue}
+use Rattle.teg_commands.specs.Trial.{SaysTrial}
+use Rattle.teg_commands.specs.Calc.{SaysCalc}
 use Rattle.teg_commands.specs.Texts.{usage, read_text, token_free_text, too_large_text, fault_text}
 
 -- ---- how a call ended
@@ -193,7 +197,7 @@ IsSaidOf files lines (OfNet command name) status text =
 IsSaidOf files lines (OfFiles command name second) status text =
     (net : NetLists) × (bytes : List ℕ) × Opens files name net × Holds files second bytes
     × ((verdict : Verdict) × (status ≡ status_of verdict) × SaysFiles command lines net bytes verdict text)
-IsSaidOf files lines (ValueOf value) status text = (verdict : Verdict) × (status ≡ status_of verdict) × SaysValue value verdict text
+IsSaidOf files lines (ValueOf value) status text = (verdict : Verdict) × (status ≡ status_of verdict) × SaysCalc value verdict text
 IsSaidOf files lines (TrialOf machines) status text = (verdict : Verdict) × (status ≡ status_of verdict) × SaysTrial machines verdict text
 
 -- over told files, a status of a command comes only where the request says so of accepted files, and this text was written

@@ -2,13 +2,14 @@ pub mod Calls
 pub mod Endings
 pub mod Headline
 pub mod Limits
+pub mod Listed
 pub mod Lists
 pub mod Meanings
 pub mod Openings
-pub mod Ranges
 pub mod Reads
 pub mod Requests
 pub mod Runs
 pub mod Says
+pub mod Shown
 pub mod Statuses
 pub mod Writing

@@ -9,6 +9,7 @@ use Rattle.teg_outside.specs.declared.sink.SinkFault.TheVariants.{Failed}
 use Rattle.teg_outside.specs.Sinks.{SinkState}
 use Rattle.teg_report.specs.Lists.{head_text, number_line}
 use Rattle.teg_text.specs.Lines.{line_then}
+use Rattle.teg_run.specs.declared.listing.Buffers.{Buffers}
 use Rattle.teg_run.specs.declared.listing.Listing.{Listing}
 use Rattle.teg_run.specs.Writing.{WritesText}
 
@@ -20,14 +21,18 @@ piece = 65536
 abbrev pub lines_text : NetLists → (ℕ → ℕ → Date) → ℕ → List ℕ
 lines_text net x count = flat_map (λ k. line_then (number_line (length net.transitions) x k) []) (range_with_len 1 count)
 
--- the head is that of the list, no row was made, and there is room for a line, also behind less than a piece
+-- there is room for a row of so many dates, for its line, and for a line behind less than a piece
+pub record HasRoom (width : ℕ) (buffers : Buffers) : Type 0 where
+  pub row : length buffers.row.items ≡ width
+  pub line : length buffers.line.items ≡ (width + 1) * 41
+  pub block : length buffers.block.items ≡ piece + (width + 1) * 41
+
+-- the head is that of the list, no row was made, and there is room for what comes next
 pub record IsListingOf (net : NetLists) (count : ℕ) (listing : Listing) : Type 0 where
   pub head : listing.head.items ≡ head_text net count
   pub stands : AreFirstRowsOf net listing.rows
   pub begins : listing.rows.window.number ≡ 0
-  pub row : length listing.row.items ≡ length net.transitions
-  pub line : length listing.line.items ≡ (length net.transitions + 1) * 41
-  pub block : length listing.block.items ≡ piece + (length net.transitions + 1) * 41
+  pub room : HasRoom (length net.transitions) listing.buffers
   pub exists : HasLeast net
 
 -- a first part of what is gathered was written, or none of it, and less than a piece is left; or a fault came first

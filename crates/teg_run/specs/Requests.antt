@@ -8,39 +8,16 @@ use Rattle.teg_settle.specs.Refusals.{greatest_limit}
 use Rattle.teg_timetable.specs.Spreads.{greatest_period}
 use Rattle.teg_words.specs.Numbers.{number_of}
 use Rattle.teg_words.specs.Words.{Given, given_of}
-use Rattle.teg_commands.specs.Limits.{most_expression}
-use Rattle.teg_run.specs.Limits.{greatest_time, most_machines, most_tokens, usual_limit}
+use Rattle.teg_commands.specs.Limits.{greatest_time, most_expression, most_machines, most_tokens}
+use Rattle.teg_run.specs.declared.request.NetCommand.{NetCommand}
+use Rattle.teg_run.specs.declared.request.NetCommand.TheVariants.{Check as CheckNet, List as ListNet, Form as FormNet, Cycle as CycleNet, Slack as SlackNet, Dates as DatesNet, Date as DateNet, Transfer as TransferNet, Migrate as MigrateNet, Size as SizeNet, Bound as BoundNet}
+use Rattle.teg_run.specs.declared.request.FileCommand.{FileCommand}
+use Rattle.teg_run.specs.declared.request.FileCommand.TheVariants.{Jit as JitNet, Replay as ReplayNet, Forever as ForeverNet, Timetable as TimetableNet}
+use Rattle.teg_run.specs.declared.request.Request.{Request}
+use Rattle.teg_run.specs.declared.request.Request.TheVariants.{OfNet, OfFiles, ValueOf, TrialOf}
+use Rattle.teg_run.specs.Limits.{usual_limit}
 use Rattle.teg_report.specs.declared.answer.Which.{Which}
 use Rattle.teg_report.specs.declared.answer.Which.TheVariants.{Net as NetFile, Due as DueFile, Log as LogFile, Timetable as TimetableFile}
-
--- a command on a net, with what else it is given
-pub data NetCommand : Type 0 where
-  CheckNet : NetCommand
-  ListNet : (count : ℕ) → NetCommand
-  FormNet : NetCommand
-  CycleNet : (rounds : Bool) → NetCommand
-  SlackNet : NetCommand
-  DatesNet : (limit : Option ℕ) → NetCommand
-  DateNet : (word : List ℕ) (number : ℕ) (limit : Option ℕ) → NetCommand
-  TransferNet : (limit : ℕ) → NetCommand
-  MigrateNet : NetCommand
-  SizeNet : (word : List ℕ) (time tokens : ℕ) → NetCommand
-  BoundNet : NetCommand
-
--- a command on a net and on a second file
-pub data FileCommand : Type 0 where
-  JitNet : FileCommand
-  ReplayNet : FileCommand
-  ForeverNet : FileCommand
-  TimetableNet : (period : ℕ) (limit : Option ℕ) → FileCommand
-
--- what words can ask for: a command on the net in the file of this name, one on the net and on the second file of these names, the
--- value of this expression, or a line of so many machines
-pub data Request : Type 0 where
-  OfNet : (command : NetCommand) (net : List ℕ) → Request
-  OfFiles : (command : FileCommand) (net second : List ℕ) → Request
-  ValueOf : (text : List ℕ) → Request
-  TrialOf : (machines : ℕ) → Request
 
 -- this command on the net of the one word that is given, and no option: as `check NET`
 abbrev pub only_net : NetCommand → List (List ℕ) → Option (List ℕ) → Bool → Option Request
@@ -67,21 +44,11 @@ abbrev pub limit_asked : Option (List ℕ) → Option (Option ℕ)
 limit_asked None = Some (Some usual_limit)
 limit_asked (Some word) = if bytes_eq word (codes "none") then Some None else option_map (λ limit. Some limit) (number_of 1 greatest_limit word)
 
--- `dates NET`, and perhaps `--limit N` or `--limit none`
-abbrev pub dates_asked : List (List ℕ) → Option (List ℕ) → Bool → Option Request
-dates_asked (net ∷ []) limit false = option_map (λ most. OfNet (DatesNet most) net) (limit_asked limit)
-dates_asked rest limit rounds = None
-
 -- `date NET TRANSITION K`, with K from 1 to 10^18, and perhaps `--limit N` or `--limit none`
 abbrev pub date_asked : List (List ℕ) → Option (List ℕ) → Bool → Option Request
 date_asked (net ∷ word ∷ count ∷ []) limit false =
     option_and_then (λ most. option_map (λ number. OfNet (DateNet word number most) net) (number_of 1 greatest_number count)) (limit_asked limit)
 date_asked rest limit rounds = None
-
--- `transfer NET`, and perhaps `--limit N`
-abbrev pub transfer_asked : List (List ℕ) → Option (List ℕ) → Bool → Option Request
-transfer_asked (net ∷ []) limit false = option_map (λ most. OfNet (TransferNet most) net) (number_limit limit)
-transfer_asked rest limit rounds = None
 
 -- `timetable NET A FILE`, with A from 1 to 10^6, and perhaps `--limit N` or `--limit none`
 abbrev pub timetable_asked : List (List ℕ) → Option (List ℕ) → Bool → Option Request
@@ -106,7 +73,7 @@ target_asked word =
 
 -- `size NET PLACE A/B`
 abbrev pub size_asked : List (List ℕ) → Option (List ℕ) → Bool → Option Request
-size_asked (net ∷ word ∷ target ∷ []) None false = option_map (λ ratio. OfNet (SizeNet word ratio.0 ratio.1) net) (target_asked target)
+size_asked (net ∷ word ∷ target ∷ []) None false = option_map (λ ratio. OfNet (SizeNet word ratio) net) (target_asked target)
 size_asked rest limit rounds = None
 
 -- `calc EXPR`, with an expression of at most 4,096 bytes
@@ -114,27 +81,38 @@ abbrev pub calc_asked : List (List ℕ) → Option (List ℕ) → Bool → Optio
 calc_asked (text ∷ []) None false = if nat_le (length text) most_expression then Some (ValueOf text) else None
 calc_asked rest limit rounds = None
 
--- the request of a command with what is given to it: nothing for a word that is no command
+-- the request of a command on a net with words of its own, or with `--limit N` where it takes a limit, or of one without a file:
+-- nothing for a word that is no command
+abbrev pub further_asked : Given → Option Request
+further_asked given =
+    if bytes_eq given.command (codes "list") then list_asked given.rest given.limit given.rounds
+    else (if bytes_eq given.command (codes "dates") then option_and_then (λ most. only_net (DatesNet most) given.rest None given.rounds) (limit_asked given.limit)
+    else (if bytes_eq given.command (codes "date") then date_asked given.rest given.limit given.rounds
+    else (if bytes_eq given.command (codes "transfer") then option_and_then (λ most. only_net (TransferNet most) given.rest None given.rounds) (number_limit given.limit)
+    else (if bytes_eq given.command (codes "size") then size_asked given.rest given.limit given.rounds
+    else (if bytes_eq given.command (codes "calc") then calc_asked given.rest given.limit given.rounds
+    else (if bytes_eq given.command (codes "trial") then trial_asked given.rest given.limit given.rounds
+    else None))))))
+
+-- the request of a command on a net and a second file, or of one of the others
+abbrev pub file_asked : Given → Option Request
+file_asked given =
+    if bytes_eq given.command (codes "jit") then net_and_file JitNet given.rest given.limit given.rounds
+    else (if bytes_eq given.command (codes "replay") then net_and_file ReplayNet given.rest given.limit given.rounds
+    else (if bytes_eq given.command (codes "forever") then net_and_file ForeverNet given.rest given.limit given.rounds
+    else (if bytes_eq given.command (codes "timetable") then timetable_asked given.rest given.limit given.rounds
+    else further_asked given)))
+
+-- the request of a command with what is given to it: of one on a net and nothing else, or of one of the others
 abbrev pub asked_for : Given → Option Request
 asked_for given =
     if bytes_eq given.command (codes "check") then only_net CheckNet given.rest given.limit given.rounds
-    else (if bytes_eq given.command (codes "list") then list_asked given.rest given.limit given.rounds
     else (if bytes_eq given.command (codes "form") then only_net FormNet given.rest given.limit given.rounds
     else (if bytes_eq given.command (codes "cycle") then only_net (CycleNet given.rounds) given.rest given.limit false
-    else (if bytes_eq given.command (codes "dates") then dates_asked given.rest given.limit given.rounds
-    else (if bytes_eq given.command (codes "date") then date_asked given.rest given.limit given.rounds
-    else (if bytes_eq given.command (codes "jit") then net_and_file JitNet given.rest given.limit given.rounds
-    else (if bytes_eq given.command (codes "calc") then calc_asked given.rest given.limit given.rounds
-    else (if bytes_eq given.command (codes "replay") then net_and_file ReplayNet given.rest given.limit given.rounds
     else (if bytes_eq given.command (codes "slack") then only_net SlackNet given.rest given.limit given.rounds
-    else (if bytes_eq given.command (codes "transfer") then transfer_asked given.rest given.limit given.rounds
-    else (if bytes_eq given.command (codes "trial") then trial_asked given.rest given.limit given.rounds
     else (if bytes_eq given.command (codes "migrate") then only_net MigrateNet given.rest given.limit given.rounds
-    else (if bytes_eq given.command (codes "size") then size_asked given.rest given.limit given.rounds
     else (if bytes_eq given.command (codes "bound") then only_net BoundNet given.rest given.limit given.rounds
-    else (if bytes_eq given.command (codes "forever") then net_and_file ForeverNet given.rest given.limit given.rounds
-    else (if bytes_eq given.command (codes "timetable") then timetable_asked given.rest given.limit given.rounds
-    else None))))))))))))))))
+    else file_asked given)))))
 
 -- the request that the words give, if they give one
 abbrev pub request_of : List (List ℕ) → Option Request

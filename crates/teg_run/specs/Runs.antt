@@ -12,7 +12,8 @@ use Rattle.teg_commands.specs.declared.outcome.Verdict.{Verdict}
 use Rattle.teg_commands.specs.Outcomes.{Tells}
 use Rattle.teg_run.specs.Endings.{Ending, Whole, Lost, ending_of}
 use Rattle.teg_run.specs.Reads.{ReadsAll}
-use Rattle.teg_run.specs.Requests.{Request, request_of, asked_files}
+use Rattle.teg_run.specs.declared.request.Request.{Request}
+use Rattle.teg_run.specs.Requests.{request_of, asked_files}
 use Rattle.teg_run.specs.Says.{Asked}
 
 -- an ending by reads of these files: what is said by the replies, or want of memory

@@ -6,20 +6,29 @@ use Rattle.teg_outside.specs.declared.monitor.Firing.{Firing}
 use Rattle.teg_run.specs.declared.status.Status.{Status}
 use Rattle.teg_run.specs.declared.status.Status.TheVariants.{Words}
 use Rattle.teg_commands.specs.declared.outcome.Verdict.{Verdict}
-use Rattle.teg_commands.specs.Bounds.{SaysBound}
-use Rattle.teg_commands.specs.CycleTimes.{SaysCycle, SaysRounds}
-use Rattle.teg_commands.specs.Migrations.{SaysMigrated}
-use Rattle.teg_commands.specs.Sizes.{SaysCheck, SaysList, SaysForm}
-use Rattle.teg_commands.specs.EndlessInputs.{SaysForever}
-use Rattle.teg_commands.specs.Inputs.{SaysJit}
-use Rattle.teg_commands.specs.Recorded.{SaysReplay}
-use Rattle.teg_commands.specs.Settled.{SaysDate, SaysDates}
-use Rattle.teg_commands.specs.Sizings.{SaysSizing}
-use Rattle.teg_commands.specs.Slacks.{SaysSlack, SaysTrial}
-use Rattle.teg_commands.specs.Timetables.{SaysTimetable}
-use Rattle.teg_commands.specs.Transfers.{SaysTransfer}
-use Rattle.teg_commands.specs.Values.{SaysValue}
-use Rattle.teg_run.specs.Requests.{NetCommand, CheckNet, ListNet, FormNet, CycleNet, SlackNet, DatesNet, DateNet, TransferNet, MigrateNet, SizeNet, BoundNet, FileCommand, JitNet, ReplayNet, ForeverNet, TimetableNet, Request, OfNet, OfFiles, ValueOf, TrialOf, second_of}
+use Rattle.teg_commands.specs.Bound.{SaysBound}
+use Rattle.teg_commands.specs.Cycle.{SaysCycle, SaysRounds}
+use Rattle.teg_commands.specs.Migrate.{SaysMigrate}
+use Rattle.teg_commands.specs.Check.{SaysCheck}
+use Rattle.teg_commands.specs.Form.{SaysForm}
+use Rattle.teg_commands.specs.List.{SaysList}
+use Rattle.teg_commands.specs.Forever.{SaysForever}
+use Rattle.teg_commands.specs.Jit.{SaysJit}
+use Rattle.teg_commands.specs.Replay.{SaysReplay}
+use Rattle.teg_commands.specs.Dates.{SaysDate, SaysDates}
+use Rattle.teg_commands.specs.Size.{SaysSize}
+use Rattle.teg_commands.specs.Slack.{SaysSlack}
+use Rattle.teg_commands.specs.Trial.{SaysTrial}
+use Rattle.teg_commands.specs.Timetable.{SaysTimetable}
+use Rattle.teg_commands.specs.Transfer.{SaysTransfer}
+use Rattle.teg_commands.specs.Calc.{SaysCalc}
+use Rattle.teg_run.specs.declared.request.NetCommand.{NetCommand}
+use Rattle.teg_run.specs.declared.request.NetCommand.TheVariants.{Check as CheckNet, List as ListNet, Form as FormNet, Cycle as CycleNet, Slack as SlackNet, Dates as DatesNet, Date as DateNet, Transfer as TransferNet, Migrate as MigrateNet, Size as SizeNet, Bound as BoundNet}
+use Rattle.teg_run.specs.declared.request.FileCommand.{FileCommand}
+use Rattle.teg_run.specs.declared.request.FileCommand.TheVariants.{Jit as JitNet, Replay as ReplayNet, Forever as ForeverNet, Timetable as TimetableNet}
+use Rattle.teg_run.specs.declared.request.Request.{Request}
+use Rattle.teg_run.specs.declared.request.Request.TheVariants.{OfNet, OfFiles, ValueOf, TrialOf}
+use Rattle.teg_run.specs.Requests.{second_of}
 use Rattle.teg_run.specs.Openings.{Opening, Accepted, Refused, OpensNet, OpensBytes}
 use Rattle.teg_run.specs.Statuses.{status_of}
 use Rattle.teg_commands.specs.Texts.{usage}
@@ -35,8 +44,8 @@ SaysNet SlackNet = SaysSlack
 SaysNet (DatesNet limit) = SaysDates limit
 SaysNet (DateNet word number limit) = SaysDate word number limit
 SaysNet (TransferNet limit) = SaysTransfer limit
-SaysNet MigrateNet = SaysMigrated
-SaysNet (SizeNet word time tokens) = SaysSizing word time tokens
+SaysNet MigrateNet = SaysMigrate
+SaysNet (SizeNet word target) = SaysSize word target.0 target.1
 SaysNet BoundNet = SaysBound
 
 -- this status and this text
@@ -71,7 +80,7 @@ abbrev pub Says : Request → (List Firing → List (List ℕ)) → List (Result
 Says (OfNet command net) lines = SaysFile OpensNet (λ file. SaysOutcome (SaysNet command file))
 Says (OfFiles command net second) lines =
     SaysFile OpensNet (λ file. SaysFile (OpensBytes (second_of command)) (λ bytes. SaysOutcome (SaysFiles command lines file bytes)))
-Says (ValueOf text) lines = SaysOutcome (SaysValue text)
+Says (ValueOf text) lines = SaysOutcome (SaysCalc text)
 Says (TrialOf machines) lines = SaysOutcome (SaysTrial machines)
 
 -- what the words make the call say

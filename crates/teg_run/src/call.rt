@@ -4,13 +4,13 @@ ghost use Rattle.teg_run.specs.Endings.{EndsWith};
 ghost use Rattle.teg_run.specs.Headline.{KeepsPromises};
 ghost use Rattle.teg_run.specs.Meanings.{ended};
 ghost use Rattle.teg_run.specs.Requests.{request_of, asked_files};
-ghost use Rattle.teg_run.specs.Runs.{Serves};
+ghost use Rattle.teg_run.specs.Shown.{ServesAndShows, ShowsAsked, ShowsJust};
 ghost use Rattle.teg_run.specs.Says.{Said, Asked};
 ghost use Rattle.teg_commands.specs.Texts.{usage};
 
+use crate::asked::read_request;
 use crate::carry_out::serve_request;
 use crate::ending::Ending;
-use crate::request::read_request;
 use crate::status::Status;
 use crate::writing::finish;
 use std::alloc::Global;
@@ -37,16 +37,51 @@ fn serve_words<S: Shelf, W: Sink>(
     shelf: &mut S,
     out: &mut W,
     monitors: Vec<Box<dyn Monitor>>,
-) -> Status
+) -> (Status, Vec<Box<dyn Monitor>>)
     ensures { let asked = request_of (map string_bytes words.now) in
-        Serves (Asked asked (λ firings. map (λ m. line_text m firings) monitors.items)) (asked_files asked)
-        (S.state shelf.old) (S.state shelf.new) (W.state out.old) (W.state out.new) result }
+        ServesAndShows (Asked asked (λ firings. map (λ m. line_text m firings) monitors.items))
+        (ShowsAsked asked (λ firings. map (λ m. line_text m firings) monitors.items) (λ firings. map (λ m. line_text m firings) result.1.items)) (asked_files asked)
+        (S.state shelf.old) (S.state shelf.new) (W.state out.old) (W.state out.new) result.0 }
 {
     match read_request(alloc, words) {
         Ok(Some(request)) => serve_request(alloc, request, shelf, out, monitors),
-        Ok(None) => finish(out, refuse_words(alloc)),
-        Err(_) => finish(out, Ending::Lost),
+        Ok(None) => (finish(out, refuse_words(alloc)), monitors),
+        Err(_) => (finish(out, Ending::Lost), monitors),
     }
+}
+
+/// Does what [`workbench`] does, and hands the monitors back.
+///
+/// It keeps the same promises; and the monitors were shown just the firings that a `replay` accepts, in
+/// their order, each once, by the same reads that its text tells: those of some first rows where no
+/// memory was found for the text, and none for every other command.
+pub fn serve<S: Shelf, W: Sink>(
+    alloc: Global,
+    words: &[String],
+    shelf: &mut S,
+    out: &mut W,
+    monitors: Vec<Box<dyn Monitor>>,
+) -> (Status, Vec<Box<dyn Monitor>>)
+    ensures promises { KeepsPromises (record {
+      words = map string_bytes words.now;
+      lines = λ firings. map (λ m. line_text m firings) monitors.items;
+      shelf_before = S.state shelf.old;
+      shelf_after = S.state shelf.new;
+      sink_before = W.state out.old;
+      sink_after = W.state out.new;
+      status = result.0;
+    }) }
+    ensures shown { ShowsJust (record {
+      words = map string_bytes words.now;
+      lines = λ firings. map (λ m. line_text m firings) monitors.items;
+      shelf_before = S.state shelf.old;
+      shelf_after = S.state shelf.new;
+      sink_before = W.state out.old;
+      sink_after = W.state out.new;
+      status = result.0;
+    }) (λ firings. map (λ m. line_text m firings) result.1.items) }
+{
+    serve_words(alloc, words, shelf, out, monitors)
 }
 
 /// Does all that the program does: reads the words, reads the files that they name, and writes one
@@ -77,5 +112,6 @@ pub fn workbench<S: Shelf, W: Sink>(
       status = result;
     }) }
 {
-    serve_words(alloc, words, shelf, out, monitors)
+    let (status, _monitors) = serve(alloc, words, shelf, out, monitors);
+    status
 }

@@ -1,19 +1,16 @@
 //! How a request is carried out: its files are opened one after another, its command answers, and the
 //! answer is written.
-ghost use Rattle.std.specs.Prelude.{[], ◌∷◌, ◌≤◌, map};
-ghost use Rattle.teg_commands.specs.Sizes.{SaysList};
-ghost use Rattle.teg_dates.specs.Tables.{most_numbers};
-ghost use Rattle.teg_run.specs.Meanings.{asked, command_asked, ended, file_command_asked};
+ghost use Rattle.std.specs.Prelude.{[], ◌∷◌, map};
+ghost use Rattle.teg_run.specs.Meanings.{ended};
 ghost use Rattle.teg_run.specs.Openings.{OpensBytes, OpensNet};
-ghost use Rattle.teg_run.specs.Ranges.{IsFilesInRange, IsInRange, IsRequestInRange};
 ghost use Rattle.teg_run.specs.Requests.{files_of, second_of};
-ghost use Rattle.teg_run.specs.Runs.{Answered, Serves};
+ghost use Rattle.teg_run.specs.Runs.{Serves};
 ghost use Rattle.teg_run.specs.Says.{Says, SaysFile, SaysFiles, SaysNet, SaysOutcome};
+ghost use Rattle.teg_run.specs.Shown.{AnsweredAndShown, ServesAndShows, Shows, ShowsBoth, ShowsSecond};
 
 use crate::ending::{Ending, closed};
 use crate::file_commands::{of_files, second_of};
-use crate::listing::write_list;
-use crate::net_commands::of_net;
+use crate::net_commands::write_net;
 use crate::net_file::open_net;
 use crate::opening::Opened;
 use crate::request::{FileCommand, NetCommand, Request};
@@ -21,20 +18,25 @@ use crate::second_file::open_bytes;
 use crate::status::Status;
 use crate::writing::finish;
 use std::alloc::Global;
-use teg_commands::{LiveNet, tell_trial, tell_value};
+use teg_commands::{LiveNet, tell_calc, tell_trial};
 use teg_outside::{Monitor, Shelf, Sink};
 use teg_report::Which;
 
 // Carries out a command on the net in the file of that name.
-fn answer_net<S: Shelf>(alloc: Global, command: NetCommand<'_>, net: &str, shelf: &mut S) -> Ending
-    requires { IsInRange (command_asked command) }
-    ensures { Answered (SaysFile OpensNet (λ file. SaysOutcome (SaysNet (command_asked command.entry) file))) ((Which.Net, net.now) ∷ [])
-        (S.state shelf.old) (S.state shelf.new) (ended result) }
+fn serve_net<S: Shelf, W: Sink>(
+    alloc: Global,
+    command: NetCommand,
+    net: &str,
+    shelf: &mut S,
+    out: &mut W,
+) -> Status
+    ensures { Serves (SaysFile OpensNet (λ file. SaysOutcome (SaysNet command file))) ((Which.Net, net.now) ∷ [])
+        (S.state shelf.old) (S.state shelf.new) (W.state out.old) (W.state out.new) result }
 {
     match open_net(alloc, net, shelf) {
-        Opened::Accepted(net) => closed(of_net(alloc, command, &net)),
-        Opened::Refused(status, text) => Ending::Whole { status, text },
-        Opened::Lost => Ending::Lost,
+        Opened::Accepted(net) => write_net(alloc, command, &net, out),
+        Opened::Refused(status, text) => finish(out, Ending::Whole { status, text }),
+        Opened::Lost => finish(out, Ending::Lost),
     }
 }
 
@@ -46,16 +48,19 @@ fn answer_second<S: Shelf>(
     second: &str,
     shelf: &mut S,
     monitors: Vec<Box<dyn Monitor>>,
-) -> Ending
-    requires { IsFilesInRange (file_command_asked command) }
-    ensures { let asked = file_command_asked command in
-        Answered (SaysFile (OpensBytes (second_of asked)) (λ bytes. SaysOutcome (SaysFiles asked (λ firings. map (λ m. line_text m firings) monitors.items) net.now bytes)))
-        ((second_of asked, second.now) ∷ []) (S.state shelf.old) (S.state shelf.new) (ended result) }
+) -> (Ending, Vec<Box<dyn Monitor>>)
+    ensures { AnsweredAndShown
+        (SaysFile (OpensBytes (second_of command)) (λ bytes. SaysOutcome (SaysFiles command (λ firings. map (λ m. line_text m firings) monitors.items) net.now bytes)))
+        (ShowsSecond command net.now (λ firings. map (λ m. line_text m firings) monitors.items) (λ firings. map (λ m. line_text m firings) result.1.items))
+        ((second_of command, second.now) ∷ []) (S.state shelf.old) (S.state shelf.new) (ended result.0) }
 {
-    match open_bytes(alloc, second_of(command), second, shelf) {
-        Opened::Accepted(file) => closed(of_files(alloc, command, net, &file, monitors)),
-        Opened::Refused(status, text) => Ending::Whole { status, text },
-        Opened::Lost => Ending::Lost,
+    match open_bytes(alloc, second_of(&command), second, shelf) {
+        Opened::Accepted(file) => {
+            let (outcome, monitors) = of_files(alloc, command, net, &file, monitors);
+            (closed(outcome), monitors)
+        }
+        Opened::Refused(status, text) => (Ending::Whole { status, text }, monitors),
+        Opened::Lost => (Ending::Lost, monitors),
     }
 }
 
@@ -68,63 +73,52 @@ fn answer_files<S: Shelf>(
     second: &str,
     shelf: &mut S,
     monitors: Vec<Box<dyn Monitor>>,
-) -> Ending
-    requires { IsFilesInRange (file_command_asked command) }
-    ensures { let asked = file_command_asked command in
-        Answered (SaysFile OpensNet (λ file. SaysFile (OpensBytes (second_of asked)) (λ bytes. SaysOutcome (SaysFiles asked (λ firings. map (λ m. line_text m firings) monitors.items) file bytes))))
-        ((Which.Net, net.now) ∷ (second_of asked, second.now) ∷ []) (S.state shelf.old) (S.state shelf.new) (ended result) }
+) -> (Ending, Vec<Box<dyn Monitor>>)
+    ensures { AnsweredAndShown
+        (SaysFile OpensNet (λ file. SaysFile (OpensBytes (second_of command)) (λ bytes. SaysOutcome (SaysFiles command (λ firings. map (λ m. line_text m firings) monitors.items) file bytes))))
+        (ShowsBoth command (λ firings. map (λ m. line_text m firings) monitors.items) (λ firings. map (λ m. line_text m firings) result.1.items))
+        ((Which.Net, net.now) ∷ (second_of command, second.now) ∷ []) (S.state shelf.old) (S.state shelf.new) (ended result.0) }
 {
     match open_net(alloc, net, shelf) {
         Opened::Accepted(net) => answer_second(alloc, command, &net, second, shelf, monitors),
-        Opened::Refused(status, text) => Ending::Whole { status, text },
-        Opened::Lost => Ending::Lost,
+        Opened::Refused(status, text) => (Ending::Whole { status, text }, monitors),
+        Opened::Lost => (Ending::Lost, monitors),
     }
 }
 
-// Writes the first dates of the net in the file of that name.
-fn serve_list<S: Shelf, W: Sink>(
-    alloc: Global,
-    count: u32,
-    net: &str,
-    shelf: &mut S,
-    out: &mut W,
-) -> Status
-    requires { count ≤ most_numbers }
-    ensures { Serves (SaysFile OpensNet (λ file. SaysOutcome (SaysList count file))) ((Which.Net, net.now) ∷ [])
-        (S.state shelf.old) (S.state shelf.new) (W.state out.old) (W.state out.new) result }
-{
-    match open_net(alloc, net, shelf) {
-        Opened::Accepted(net) => write_list(alloc, &net, count, out),
-        Opened::Refused(status, text) => finish(out, Ending::Whole { status, text }),
-        Opened::Lost => finish(out, Ending::Lost),
-    }
-}
-
-/// Carries out a request: finds its answer and writes it. Commands that show no firings drop the
-/// monitors unseen.
+/// Carries out a request: finds its answer and writes it. The monitors come back: they were shown just
+/// the accepted firings of a log, and nothing for another command.
 pub fn serve_request<S: Shelf, W: Sink>(
     alloc: Global,
-    request: Request<'_>,
+    request: Request,
     shelf: &mut S,
     out: &mut W,
     monitors: Vec<Box<dyn Monitor>>,
-) -> Status
-    requires { IsRequestInRange (asked request) }
-    ensures { Serves (Says (asked request.entry) (λ firings. map (λ m. line_text m firings) monitors.items)) (files_of (asked request.entry))
-        (S.state shelf.old) (S.state shelf.new) (W.state out.old) (W.state out.new) result }
+) -> (Status, Vec<Box<dyn Monitor>>)
+    ensures { ServesAndShows (Says request (λ firings. map (λ m. line_text m firings) monitors.items))
+        (Shows request (λ firings. map (λ m. line_text m firings) monitors.items) (λ firings. map (λ m. line_text m firings) result.1.items)) (files_of request)
+        (S.state shelf.old) (S.state shelf.new) (W.state out.old) (W.state out.new) result.0 }
 {
     match request {
-        Request::OfNet { command, net } => finish(out, answer_net(alloc, command, net, shelf)),
+        Request::OfNet { command, net } => (
+            serve_net(alloc, command, net.as_str(), shelf, out),
+            monitors,
+        ),
         Request::OfFiles {
             command,
             net,
             second,
-        } => finish(
-            out,
-            answer_files(alloc, command, net, second, shelf, monitors),
-        ),
-        Request::ListOf { count, net } => serve_list(alloc, count, net, shelf, out),
-        Request::ValueOf { text } => finish(out, closed(tell_value(alloc, text))),
-        Request::TrialOf { machines } => finish(out, closed(tell_trial(alloc, machines))),
+        } => {
+            let first = net.as_str();
+            let other = second.as_str();
+            let (ending, monitors) = answer_files(alloc, command, first, other, shelf, monitors);
+            (finish(out, ending), monitors)
+        }
+        Request::ValueOf { expression } => {
+            (finish(out, closed(tell_calc(alloc, &expression))), monitors)
+        }
+        Request::TrialOf { machines } => {
+            (finish(out, closed(tell_trial(alloc, machines))), monitors)
+        }
     }
 }

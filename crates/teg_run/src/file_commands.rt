@@ -1,10 +1,9 @@
 //! The commands on a net and a second file.
-ghost use Rattle.std.specs.Prelude.{◌≡◌, map};
+ghost use Rattle.std.specs.Prelude.{◌≡◌, is_ok, map};
 ghost use Rattle.teg_commands.specs.Outcomes.{Tells, outcome_of};
-ghost use Rattle.teg_run.specs.Meanings.{file_command_asked};
-ghost use Rattle.teg_run.specs.Ranges.{IsFilesInRange};
 ghost use Rattle.teg_run.specs.Requests.{second_of};
 ghost use Rattle.teg_run.specs.Says.{SaysFiles};
+ghost use Rattle.teg_run.specs.Shown.{ShowsFiles};
 
 use crate::request::FileCommand;
 use crate::second_file::FileBytes;
@@ -15,8 +14,8 @@ use teg_outside::Monitor;
 use teg_report::Which;
 
 /// What the second file of the command is for.
-pub fn second_of(command: FileCommand) -> Which
-    ensures { result ≡ second_of (file_command_asked command) }
+pub fn second_of(command: &FileCommand) -> Which
+    ensures { result ≡ second_of command.now }
 {
     match command {
         FileCommand::Jit => Which::Due,
@@ -26,24 +25,27 @@ pub fn second_of(command: FileCommand) -> Which
     }
 }
 
-/// What the command comes to on a live net and the bytes of its second file. The monitors are dropped
-/// when it returns, whatever the command.
+/// What the command comes to on a live net and the bytes of its second file, and the monitors, which
+/// were shown just the accepted firings of a log.
 pub fn of_files(
     alloc: Global,
     command: FileCommand,
     net: &LiveNet,
     file: &FileBytes,
     monitors: Vec<Box<dyn Monitor>>,
-) -> Result<Outcome, OutOfMemory>
-    requires { IsFilesInRange (file_command_asked command) }
-    ensures { Tells (SaysFiles (file_command_asked command) (λ firings. map (λ m. line_text m firings) monitors.items) net.now file.now) (outcome_of result) }
+) -> (Result<Outcome, OutOfMemory>, Vec<Box<dyn Monitor>>)
+    ensures says { Tells (SaysFiles command (λ firings. map (λ m. line_text m firings)
+        monitors.items) net.now file.now) (outcome_of result.0) }
+    ensures shown { ShowsFiles command net.now file.now (λ firings. map (λ m. line_text m firings) monitors.items)
+        (λ firings. map (λ m. line_text m firings) result.1.items) (is_ok result.0) }
 {
     match command {
-        FileCommand::Jit => tell_jit(alloc, net, file.as_slice()),
+        FileCommand::Jit => (tell_jit(alloc, net, file.as_slice()), monitors),
         FileCommand::Replay => tell_replay(alloc, net, file.as_slice(), monitors),
-        FileCommand::Forever => tell_forever(alloc, net, file.as_slice()),
-        FileCommand::Timetable { period, limit } => {
-            tell_timetable(alloc, net, period, file.as_slice(), limit)
-        }
+        FileCommand::Forever => (tell_forever(alloc, net, file.as_slice()), monitors),
+        FileCommand::Timetable { period, limit } => (
+            tell_timetable(alloc, net, period, file.as_slice(), limit),
+            monitors,
+        ),
     }
 }

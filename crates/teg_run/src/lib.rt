@@ -4,12 +4,14 @@
 //! `specs/Headline.antt`, of one call as the record `Call` has it (the words, the monitors, the shelf
 //! and the sink before and after, the status). Its field `run` ties these in three parts: what the
 //! words ask for, what the reads gave and what answer they lead to, and how that answer was written.
-//! The other fields say what follows from it, one promise each.
+//! The other fields say what follows from it, one promise each. [`serve`] promises the same, hands the
+//! monitors back, and says what they were shown (`ShowsJust` in `specs/Shown.antt`).
 //! It stands on `teg_commands` for what each command comes to, on `teg_words`, `teg_reader` and
 //! `teg_check` for what is accepted, on `teg_report` for the texts, and on `teg_outside`.
 //! Its examples stand in `worked_examples`.
 #![tactic(auto)]
 
+mod asked;
 mod call;
 mod carry_out;
 mod ending;
@@ -25,7 +27,7 @@ mod status;
 mod watched;
 mod writing;
 
-pub use call::workbench;
+pub use call::{serve, workbench};
 pub use status::Status;
 pub use trial_net::make_trial;
 pub use watched::run_watched;

@@ -5,9 +5,10 @@ ghost use Rattle.teg_model.specs.Datings.{IsLeastDating};
 ghost use Rattle.teg_dates.specs.DateCells.{date_of};
 ghost use Rattle.teg_dates.specs.Streams.{AreFirstRowsOf, IsLeastRow};
 ghost use Rattle.teg_dates.specs.Tables.{most_numbers};
-ghost use Rattle.teg_commands.specs.Sizes.{SaysList};
+ghost use Rattle.teg_commands.specs.List.{SaysList};
 ghost use Rattle.teg_commands.specs.Texts.{list_text};
-ghost use Rattle.teg_run.specs.Lists.{IsListingOf, WritesFull, lines_text};
+ghost use Rattle.teg_net.specs.Limits.{most_transitions};
+ghost use Rattle.teg_run.specs.Lists.{HasRoom, IsListingOf, WritesFull, lines_text};
 ghost use Rattle.teg_run.specs.Runs.{WritesOutcome};
 ghost use Rattle.teg_run.specs.Writing.{WritesText};
 
@@ -23,14 +24,33 @@ use teg_report::{list_head, put_row, room_of_row};
 // From so many bytes on the rows that were made are written.
 const PIECE: usize = 65_536;
 
+// Room for a row, for its line, and for the lines that are gathered.
+#[derive(Drop)]
+struct Buffers {
+    row: Vec<u64>,
+    line: Vec<u8>,
+    block: Vec<u8>,
+}
+
+impl Buffers {
+    // Room for rows of so many dates.
+    fn new(alloc: Global, width: usize) -> Result<Buffers, OutOfMemory>
+        requires { width ≤ most_transitions }
+        ensures { IfOk result (HasRoom width) }
+    {
+        let row = vec![in alloc; 0u64; width]?;
+        let line = vec![in alloc; 0u8; room_of_row(width)]?;
+        let block = vec![in alloc; 0u8; PIECE + room_of_row(width)]?;
+        Ok(Buffers { row, line, block })
+    }
+}
+
 // All that a list needs before its first byte is written: its head, and room for what comes next.
 #[derive(Drop)]
 struct Listing {
     head: Vec<u8>,
     rows: FirstRows,
-    row: Vec<u64>,
-    line: Vec<u8>,
-    block: Vec<u8>,
+    buffers: Buffers,
 }
 
 impl Listing {
@@ -40,17 +60,12 @@ impl Listing {
     {
         let rows = net.first_rows(alloc)?;
         let net = net.net();
-        let width = net.transitions().len();
         let head = list_head(alloc, net, count)?;
-        let row = vec![in alloc; 0u64; width]?;
-        let line = vec![in alloc; 0u8; room_of_row(width)]?;
-        let block = vec![in alloc; 0u8; PIECE + room_of_row(width)]?;
+        let buffers = Buffers::new(alloc, net.transitions().len())?;
         Ok(Listing {
             head,
             rows,
-            row,
-            line,
-            block,
+            buffers,
         })
     }
 }
@@ -125,12 +140,18 @@ fn write_listing<W: Sink>(
     let Listing {
         head,
         mut rows,
-        mut row,
-        mut line,
-        mut block,
+        mut buffers,
     } = listing;
     write_all(out, &head)?;
-    write_rows(net, &mut rows, &mut row, &mut line, &mut block, count, out)
+    write_rows(
+        net,
+        &mut rows,
+        &mut buffers.row,
+        &mut buffers.line,
+        &mut buffers.block,
+        count,
+        out,
+    )
 }
 
 /// Writes the first dates of a live net, and tells how the call ends. All memory is found before the

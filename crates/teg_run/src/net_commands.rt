@@ -1,37 +1,54 @@
-//! The commands on a net, but for the list of dates, which is written as it is made.
+//! The commands on a net.
+ghost use Rattle.std.specs.Prelude.{◌≡◌, None};
 ghost use Rattle.teg_commands.specs.Outcomes.{Tells, outcome_of};
-ghost use Rattle.teg_run.specs.Meanings.{command_asked};
-ghost use Rattle.teg_run.specs.Ranges.{IsInRange};
+ghost use Rattle.teg_run.specs.Listed.{listed};
+ghost use Rattle.teg_run.specs.Runs.{WritesOutcome};
 ghost use Rattle.teg_run.specs.Says.{SaysNet};
 
+use crate::ending::closed;
+use crate::listing::write_list;
 use crate::request::NetCommand;
+use crate::status::Status;
+use crate::writing::finish;
 use std::alloc::Global;
 use teg_commands::{
-    LiveNet, Outcome, tell_bound, tell_cycle, tell_date, tell_form, tell_migrated, tell_rounds,
-    tell_settled, tell_size, tell_sizing, tell_slack, tell_transfer,
+    LiveNet, Outcome, tell_bound, tell_check, tell_cycle, tell_date, tell_dates, tell_form,
+    tell_migrate, tell_rounds, tell_size, tell_slack, tell_transfer,
 };
 use teg_net::OutOfMemory;
+use teg_outside::Sink;
 
-/// What the command comes to on a live net.
-pub fn of_net(alloc: Global, command: NetCommand<'_>, net: &LiveNet) -> Result<Outcome, OutOfMemory>
-    requires { IsInRange (command_asked command) }
-    ensures { Tells (SaysNet (command_asked command.entry) net.now) (outcome_of result) }
+// What the command comes to on a live net, but for a list of dates.
+fn of_net(alloc: Global, command: NetCommand, net: &LiveNet) -> Result<Outcome, OutOfMemory>
+    requires { listed command ≡ None }
+    ensures { Tells (SaysNet command net.now) (outcome_of result) }
 {
     match command {
-        NetCommand::Check => tell_size(alloc, net),
+        NetCommand::Check => tell_check(alloc, net),
+        NetCommand::List { .. } => unreachable!(),
         NetCommand::Form => tell_form(alloc, net),
         NetCommand::Cycle { rounds: false } => tell_cycle(alloc, net),
         NetCommand::Cycle { rounds: true } => tell_rounds(alloc, net),
         NetCommand::Slack => tell_slack(alloc, net),
-        NetCommand::Dates { limit } => tell_settled(alloc, net, limit),
+        NetCommand::Dates { limit } => tell_dates(alloc, net, limit),
         NetCommand::Date {
             word,
             number,
             limit,
-        } => tell_date(alloc, net, word, number, limit),
+        } => tell_date(alloc, net, word.as_str(), number, limit),
         NetCommand::Transfer { limit } => tell_transfer(alloc, net, limit),
-        NetCommand::Migrate => tell_migrated(alloc, net),
-        NetCommand::Size { word, time, tokens } => tell_sizing(alloc, net, word, time, tokens),
+        NetCommand::Migrate => tell_migrate(alloc, net),
+        NetCommand::Size { word, target } => tell_size(alloc, net, word.as_str(), target),
         NetCommand::Bound => tell_bound(alloc, net),
+    }
+}
+
+/// Writes what the command comes to on a live net. A list of dates is written as it is made.
+pub fn write_net<W: Sink>(alloc: Global, command: NetCommand, net: &LiveNet, out: &mut W) -> Status
+    ensures { WritesOutcome (SaysNet command net.now) (W.state out.old) (W.state out.new) result }
+{
+    match command {
+        NetCommand::List { count } => write_list(alloc, net, count.get(), out),
+        command => finish(out, closed(of_net(alloc, command, net))),
     }
 }

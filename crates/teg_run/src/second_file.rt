@@ -31,7 +31,7 @@ impl Model for FileBytes {
 }
 
 impl FileBytes {
-    /// The file with these bytes.
+    // The file with these bytes.
     fn new(bytes: Vec<u8>) -> FileBytes
         requires { length bytes.items ≤ most_bytes }
         ensures { result ≡ bytes.items }
@@ -67,7 +67,8 @@ pub fn open_bytes<S: Shelf>(
     name: &str,
     shelf: &mut S,
 ) -> Opened<FileBytes>
-    ensures { OpenedBy (OpensBytes which) name.now (S.state shelf.old) (S.state shelf.new) (opened result) }
+    ensures { OpenedBy (OpensBytes which) name.now (S.state shelf.old) (S.state shelf.new)
+        (opened result) }
 {
     let reply = fetch(alloc, name, shelf);
     judge_bytes(alloc, which, reply)

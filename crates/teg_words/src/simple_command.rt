@@ -61,8 +61,10 @@ fn simple_command<'a>(alloc: Global) -> Result<Command<'a>, AllocError>
 // The reading of `clap`.
 fn parse<'a>(alloc: Global, words: &'a [String]) -> Result<ArgMatches<'a>, WordsRefusal>
     ensures taken { IfOk result (λ _. fault_of simple_command (map string_bytes words.now) ≡ []) }
-    ensures rows { IfOk result (λ matches. rows_of (found_of matches) ≡ matches_of simple_command (map string_bytes words.now)) }
-    ensures refused { IsErrOf result WordsRefusal.Refused → fault_of simple_command (map string_bytes words.now) ≢ [] }
+    ensures rows { IfOk result (λ matches. rows_of (found_of matches)
+        ≡ matches_of simple_command (map string_bytes words.now)) }
+    ensures refused { IsErrOf result WordsRefusal.Refused
+        → fault_of simple_command (map string_bytes words.now) ≢ [] }
 {
     let command = simple_command(alloc)?;
     match command.try_get_matches_from(words) {
@@ -89,8 +91,10 @@ fn has_rounds(matches: &ArgMatches<'_>) -> bool
 
 // What the rows of `clap` give.
 fn given<'a>(alloc: Global, matches: &ArgMatches<'a>) -> Result<GivenWords<'a>, WordsRefusal>
-    ensures ok { IfOk result (λ words. given_from (rows_of (found_of matches.now)) ≡ Some (told words)) }
-    ensures refused { IsErrOf result WordsRefusal.Refused → given_from (rows_of (found_of matches.now)) ≡ None }
+    ensures ok { IfOk result (λ words. given_from (rows_of (found_of matches.now))
+        ≡ Some (told words)) }
+    ensures refused { IsErrOf result WordsRefusal.Refused
+        → given_from (rows_of (found_of matches.now)) ≡ None }
 {
     let Some(command) = matches.get_str("command") else {
         return Err(WordsRefusal::Refused);
@@ -114,7 +118,8 @@ fn given<'a>(alloc: Global, matches: &ArgMatches<'a>) -> Result<GivenWords<'a>, 
 /// after `--` every word is positional. `Refused` comes exactly where `clap` refuses the words.
 pub fn read_words<'a>(alloc: Global, words: &'a [String]) -> Result<GivenWords<'a>, WordsRefusal>
     ensures ok { IfOk result (λ given. given_of (map string_bytes words.now) ≡ Some (told given)) }
-    ensures refused { IsErrOf result WordsRefusal.Refused → given_of (map string_bytes words.now) ≡ None }
+    ensures refused { IsErrOf result WordsRefusal.Refused → given_of (map string_bytes words.now)
+        ≡ None }
 {
     let matches = parse(alloc, words)?;
     given(alloc, &matches)

@@ -5,7 +5,7 @@ use std::alloc::Global;
 use std::test::Fail;
 use teg_run::Status;
 
-/// The commands of a net alone.
+// The commands of a net alone.
 const NETS: [Case<'static>; 11] = [
     (
         &["check", "net"],
@@ -86,7 +86,7 @@ const NETS: [Case<'static>; 11] = [
     ),
 ];
 
-/// The commands of a second file, of no file, and calls that are refused.
+// The commands of a second file, of no file, and calls that are refused.
 const OTHERS: [Case<'static>; 11] = [
     (
         &["jit", "net", "second"],
@@ -167,7 +167,7 @@ const OTHERS: [Case<'static>; 11] = [
     ),
 ];
 
-/// The number of the first case that is not answered as wanted, or the number of cases.
+// The number of the first case that is not answered as wanted, or the number of cases.
 fn first_other(alloc: Global, cases: &[Case<'_>]) -> Result<usize, Fail> {
     for (index, case) in cases.iter().enumerate() {
         if !is_answered(alloc, case)? {
@@ -189,7 +189,7 @@ fn other_commands_are_answered(rt: HostRuntime) -> Result<(), Fail> {
     Ok(())
 }
 
-/// Whether the first dates of the net are those of the loop.
+// Whether the first dates of the net are those of the loop.
 fn has_dates_of_loop(alloc: Global, net: &[u8]) -> Result<bool, Fail> {
     let mut dates = sink_of(alloc, 65536)?;
     let ended = ending(alloc, &["list", "net", "2"], net, b"", &mut dates)?;

@@ -12,10 +12,10 @@ const LOG: &str = "a,0\nb,3\na,5\n";
 
 const NO_NET: &str = "fault: cannot read the net\n";
 
-/// A case: the words, the net, how the call ends where nothing fails, and what it then writes.
+// A case: the words, the net, how the call ends where nothing fails, and what it then writes.
 type Whole<'a> = (&'a [&'a str], &'a str, Status, &'a str);
 
-/// Words, which of their reads fails, how the call ends, and what it writes.
+// Words, which of their reads fails, how the call ends, and what it writes.
 const READS: [(&[&str], u64, Status, &str); 5] = [
     (&["check", "net"], 1, Status::ReadFault, NO_NET),
     (&["list", "net", "3"], 1, Status::ReadFault, NO_NET),
@@ -34,7 +34,7 @@ const READS: [(&[&str], u64, Status, &str); 5] = [
     ),
 ];
 
-/// A text of each kind that is whole before its first byte is written: an answer, a refusal, a fault.
+// A text of each kind that is whole before its first byte is written: an answer, a refusal, a fault.
 const WHOLE: [Whole<'static>; 3] = [
     (
         &["replay", "net", "second"],
@@ -51,7 +51,7 @@ const WHOLE: [Whole<'static>; 3] = [
     (&["check", "other"], LOOP, Status::ReadFault, NO_NET),
 ];
 
-/// A text that is written as it is made: its head, then its rows.
+// A text that is written as it is made: its head, then its rows.
 const LISTED: Whole<'static> = (
     &["list", "net", "3"],
     LOOP,
@@ -59,7 +59,7 @@ const LISTED: Whole<'static> = (
     "dates of 3 firings\ntransition a b\n1 0 3\n2 5 8\n3 10 13\n",
 );
 
-/// Whether a call of which this read fails ends so and writes this.
+// Whether a call of which this read fails ends so and writes this.
 fn is_read(
     alloc: Global,
     words: &[&str],
@@ -101,7 +101,7 @@ fn is_cut(
     )
 }
 
-/// Whether calls into sinks of so many bytes a call are cut at the call that fails, each in turn.
+// Whether calls into sinks of so many bytes a call are cut at the call that fails, each in turn.
 fn are_cut(alloc: Global, whole: &Whole<'static>, size: usize) -> Result<bool, Fail>
     requires { 0 < size }
 {

@@ -8,8 +8,8 @@ use teg_run::Status;
 
 const MOST_BYTES: usize = 4_194_304;
 
-/// The file of so many transitions in a ring with ten places from each to the next, those from the
-/// last to the first with a token.
+// The file of so many transitions in a ring with ten places from each to the next, those from the
+// last to the first with a token.
 fn ring(alloc: Global, transitions: u16) -> Result<String, Fail> {
     let count = u32::from(transitions.max(1));
     let mut text = String::new(alloc);
@@ -28,7 +28,7 @@ fn ring(alloc: Global, transitions: u16) -> Result<String, Fail> {
     Ok(text)
 }
 
-/// Whether a call ends so, and its text begins and ends so.
+// Whether a call ends so, and its text begins and ends so.
 fn tells(
     alloc: Global,
     words: &[&str],
@@ -107,7 +107,7 @@ fn the_longest_list_is_told(rt: HostRuntime) -> Result<(), Fail> {
     Ok(())
 }
 
-/// An expression of so many bytes.
+// An expression of so many bytes.
 fn expression(alloc: Global, length: usize) -> Result<String, Fail> {
     let mut text = String::from_str(alloc, "e")?;
     for _ in 1..length {

@@ -7,7 +7,7 @@ use std::test::Fail;
 use teg_outside::{FiringCount, HighWater, Lateness, Monitor, NoLine};
 use teg_run::Status;
 
-/// A monitor of the mix.
+// A monitor of the mix.
 #[derive(Clone, Copy, Drop)]
 enum Watch {
     Firings,
@@ -16,7 +16,7 @@ enum Watch {
     NoLine,
 }
 
-/// A log of the loop, the monitors, how its replay ends, and what it writes.
+// A log of the loop, the monitors, how its replay ends, and what it writes.
 type Mix<'a> = (&'a str, &'a [Watch], Status, &'a str);
 
 const RUN: &str = "a,1\nb,4\n";
@@ -71,7 +71,7 @@ fn monitors_of(alloc: Global, mix: &[Watch]) -> Result<Vec<Box<dyn Monitor>>, Fa
     Ok(monitors)
 }
 
-/// Whether the replay of a mix ends as it says and writes just its text.
+// Whether the replay of a mix ends as it says and writes just its text.
 fn is_answered(alloc: Global, mix: &Mix<'_>) -> Result<bool, Fail> {
     let (log, watches, status, text) = *mix;
     let monitors = monitors_of(alloc, watches)?;

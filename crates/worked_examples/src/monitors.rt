@@ -34,7 +34,7 @@ impl Monitor for Counter {
     }
 }
 
-/// The words of each command.
+// The words of each command.
 const COMMANDS: [&[&str]; 18] = [
     &["check", "net"],
     &["list", "net", "3"],
@@ -56,7 +56,7 @@ const COMMANDS: [&[&str]; 18] = [
     &["check"],
 ];
 
-/// The count after a call with these words, of which the log has no firing.
+// The count after a call with these words, of which the log has no firing.
 fn counted(alloc: Global, words: &[&str]) -> Result<u32, Fail> {
     let count = Rc::new(alloc, Cell::new(0u32))?;
     let counter = Counter {

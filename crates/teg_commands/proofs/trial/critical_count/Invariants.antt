@@ -1,5 +1,5 @@
 use Rattle.std.proofs.Common.{◌≡◌, ◌≤◌, take}
-use Rattle.teg_commands.specs.Slacks.{critical_count}
+use Rattle.teg_commands.specs.Trial.{critical_count}
 use Rattle.teg_commands.proofs.trial.critical_count.Given as goal
 
 abbrev pub invariant-loop-index : goal.invariant-loop-index

@@ -1,0 +1,25 @@
+use Rattle.std.proofs.Common.{List, Some, refl, ap, sym, ◌∙◌}
+use Rattle.std.specs.Global.{Vec}
+use Rattle.teg_net.specs.declared.rounds.Round.{Round}
+use Rattle.teg_report.specs.Meanings.{runs_lists}
+use Rattle.teg_report.specs.Rounds.{RoundLists}
+use Rattle.teg_cycle.specs.LastRounds.{rounds_in}
+use Rattle.teg_commands.specs.Texts.{cycle_text}
+use Rattle.teg_commands.proofs.CycleTold.{lists_of, runs_told}
+use Rattle.teg_commands.proofs.cycle.tell_rounds.Goals as goal
+
+pub text_of_times-requires-clause-rounds : goal.text_of_times-requires-clause-rounds
+text_of_times-requires-clause-rounds c =
+    let answer = c.in_ok-answer.answer in
+    rw c.as_slice.ensures.value
+    (runs_told c.args.net.now answer.part_of.items answer.parts.items c.in_ok-answer.runs.items c.in_ok-answer.ensures.certificate.count c.in_ok-answer.ensures.runs)
+
+pub returns : goal.returns
+returns c =
+    let net = c.args.net.now in
+    let answer = c.in_ok-answer.answer in
+    let runs = c.in_ok-answer.runs.items in
+    let told = c.in_ok-text.ensures
+    ∙ (ap (λ (rs : List (Vec Round)). cycle_text net answer (Some (runs_lists rs))) c.as_slice.ensures.value
+    ∙ ap (λ (rs : List (List RoundLists)). cycle_text net answer (Some rs)) (sym (lists_of runs))) in
+    (refl, (answer, rounds_in runs, c.in_ok-answer.ensures.answer, c.in_ok-answer.ensures.runs, told))

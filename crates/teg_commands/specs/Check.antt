@@ -1,0 +1,10 @@
+-- What is said of the size of a live net.
+use Rattle.std.specs.Prelude.{ℕ, ◌≡◌, List}
+use Rattle.teg_net.specs.Nets.{NetLists}
+use Rattle.teg_commands.specs.declared.outcome.Verdict.{Verdict}
+use Rattle.teg_commands.specs.declared.outcome.Verdict.TheVariants.{Done as VerdictDone}
+use Rattle.teg_commands.specs.Texts.{live_text}
+
+-- of a live net its size is said
+abbrev pub SaysCheck : NetLists → Verdict → List ℕ → Type 0
+SaysCheck net verdict text = (verdict ≡ VerdictDone) × (text ≡ live_text net)

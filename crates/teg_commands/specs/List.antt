@@ -1,0 +1,13 @@
+-- What is said of the first dates of a live net.
+use Rattle.std.specs.Prelude.{ℕ, ◌≡◌, List}
+use Rattle.dioid.specs.declared.dates.Date.{Date}
+use Rattle.teg_model.specs.Datings.{IsLeastDating}
+use Rattle.teg_net.specs.Nets.{NetLists}
+use Rattle.teg_commands.specs.declared.outcome.Verdict.{Verdict}
+use Rattle.teg_commands.specs.declared.outcome.Verdict.TheVariants.{Done as VerdictDone}
+use Rattle.teg_commands.specs.Texts.{list_text}
+
+-- of a live net the first dates of its least dating are said
+abbrev pub SaysList : ℕ → NetLists → Verdict → List ℕ → Type 0
+SaysList count net verdict text =
+    (verdict ≡ VerdictDone) × ((x : ℕ → ℕ → Date) × IsLeastDating net x × (text ≡ list_text net x count))

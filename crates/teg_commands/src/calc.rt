@@ -1,0 +1,104 @@
+//! The values of expressions.
+ghost use Rattle.std.specs.Prelude.{◌≡◌, ◌≤◌, IfOk, length};
+ghost use Rattle.teg_calc.specs.Trees.{HasShortNumbers, node_count, tree_of};
+ghost use Rattle.teg_commands.specs.Limits.{most_expression};
+ghost use Rattle.teg_commands.specs.Outcomes.{Tells, outcome_of};
+ghost use Rattle.teg_commands.specs.Calc.{RefusesParse, RefusesSeries, SaysSeries, SaysCalc};
+
+use crate::outcome::{Outcome, Verdict};
+use series_form::SeriesRefused;
+use std::alloc::Global;
+use std::marker::Model;
+use teg_calc::{Expr, ParseRefused, evaluate, parse};
+use teg_net::{Label, OutOfMemory};
+use teg_report::{Answer, report};
+
+/// The text of an expression, of at most 4,096 bytes. Contracts see its bytes.
+#[derive(Debug, Drop)]
+pub struct Expression {
+    text: Label,
+}
+
+impl Model for Expression {
+    ghost use Rattle.std.specs.Prelude.{List, ℕ, ◌≤◌, length};
+    ghost use Rattle.teg_commands.specs.Limits.{most_expression};
+
+    ghost Value = { List ℕ };
+
+    ghost view = { λ e. e.text };
+
+    ghost invariant = { λ e. length e.text ≤ most_expression };
+}
+
+impl Expression {
+    /// A copy of the text. `OutOfMemory` comes only where no memory is found.
+    pub fn new(alloc: Global, text: &str) -> Result<Expression, OutOfMemory>
+        requires { length text.now ≤ most_expression }
+        ensures { IfOk result (λ expression. expression ≡ text.now) }
+    {
+        let text = Label::new(alloc, text)?;
+        Ok(Expression { text })
+    }
+
+    /// The text.
+    pub fn as_str(&self) -> &str
+        ensures value { result.now ≡ self.now }
+        ensures few { length result.now ≤ most_expression }
+    {
+        self.text.as_str()
+    }
+}
+
+// Why a text is no expression.
+fn refuse_text(alloc: Global, refusal: &ParseRefused) -> Result<Outcome, OutOfMemory>
+    ensures { Tells (RefusesParse refusal.now) (outcome_of result) }
+{
+    match refusal {
+        ParseRefused::OutOfMemory => Err(OutOfMemory),
+        ParseRefused::Syntax { .. } | ParseRefused::TooDeep { .. } => {
+            let text = report(alloc, None, &Answer::Parse { refusal })?;
+            let verdict = Verdict::Calc;
+            Ok(Outcome { verdict, text })
+        }
+    }
+}
+
+// Why an operation has no series.
+fn refuse_series(alloc: Global, refusal: &SeriesRefused) -> Result<Outcome, OutOfMemory>
+    ensures { Tells (RefusesSeries refusal.now) (outcome_of result) }
+{
+    match refusal {
+        SeriesRefused::OutOfMemory => Err(OutOfMemory),
+        SeriesRefused::TooLong { .. } | SeriesRefused::TooGreat { .. } => {
+            let text = report(alloc, None, &Answer::Series { refusal })?;
+            let verdict = Verdict::Calc;
+            Ok(Outcome { verdict, text })
+        }
+    }
+}
+
+// The value of an expression that was read.
+fn tell_series(alloc: Global, expr: &Expr) -> Result<Outcome, OutOfMemory>
+    requires nodes { node_count (tree_of expr.now) ≤ 4096 }
+    requires numbers { HasShortNumbers (tree_of expr.now) }
+    ensures { Tells (SaysSeries (tree_of expr.now)) (outcome_of result) }
+{
+    match evaluate(alloc, expr) {
+        Ok(series) => {
+            let text = report(alloc, None, &Answer::Calc { series: &series })?;
+            let verdict = Verdict::Done;
+            Ok(Outcome { verdict, text })
+        }
+        Err(refusal) => refuse_series(alloc, &refusal),
+    }
+}
+
+/// The value of an expression, or its refusal.
+pub fn tell_calc(alloc: Global, expression: &Expression) -> Result<Outcome, OutOfMemory>
+    ensures { Tells (SaysCalc expression.now) (outcome_of result) }
+{
+    match parse(alloc, expression.as_str().as_bytes()) {
+        Ok(expr) => tell_series(alloc, &expr),
+        Err(refusal) => refuse_text(alloc, &refusal),
+    }
+}

@@ -1,0 +1,23 @@
+//! The size of a live net.
+ghost use Rattle.teg_commands.specs.Check.{SaysCheck};
+ghost use Rattle.teg_commands.specs.Outcomes.{Tells, outcome_of};
+
+use crate::live_net::LiveNet;
+use crate::outcome::{Outcome, Verdict};
+use std::alloc::Global;
+use teg_net::OutOfMemory;
+use teg_report::{Answer, report};
+
+/// The size of a live net.
+pub fn tell_check(alloc: Global, net: &LiveNet) -> Result<Outcome, OutOfMemory>
+    ensures { Tells (SaysCheck net.now) (outcome_of result) }
+{
+    let net = net.net();
+    let answer = Answer::Live {
+        transitions: net.transitions().len() as u32,
+        places: net.places().len() as u32,
+    };
+    let text = report(alloc, None, &answer)?;
+    let verdict = Verdict::Done;
+    Ok(Outcome { verdict, text })
+}

@@ -1,0 +1,116 @@
+//! The dates of a live net for ever, and one of them.
+ghost use Rattle.std.specs.Prelude.{◌≤◌, ◌<◌, IfSome, Some, length};
+ghost use Rattle.settled_laws.specs.Forms.{NetSettlesPast};
+ghost use Rattle.teg_commands.specs.Outcomes.{Tells, outcome_of};
+ghost use Rattle.teg_commands.specs.Dates.{ExceedsLimit, SaysDate, SaysDateOf, SaysDates, SaysTooLong, TellsNoTransition};
+ghost use Rattle.teg_net.specs.Limits.{greatest_number};
+ghost use Rattle.teg_settle.specs.Refusals.{greatest_limit};
+
+use crate::live_net::LiveNet;
+use crate::numbers::{FiringNumber, Limit, most_of};
+use crate::outcome::{Outcome, Verdict};
+use settled_laws::forms_tell_dates;
+use std::alloc::Global;
+use teg_net::{Label, OutOfMemory, TransitionId};
+use teg_report::{Answer, report};
+use teg_settle::SettleRefusal;
+
+// That the settled form is longer than the limit.
+fn tell_too_long(
+    alloc: Global,
+    net: &LiveNet,
+    limit: Option<u32>,
+    refusal: SettleRefusal,
+) -> Result<Outcome, OutOfMemory>
+    requires { ExceedsLimit net.now limit refusal }
+    ensures { Tells (SaysTooLong (NetSettlesPast net.now) limit) (outcome_of result) }
+{
+    match refusal {
+        SettleRefusal::TooLong { limit } => {
+            let text = report(alloc, None, &Answer::TooLong { limit })?;
+            let verdict = Verdict::TooLong;
+            Ok(Outcome { verdict, text })
+        }
+        SettleRefusal::OutOfMemory => Err(OutOfMemory),
+    }
+}
+
+/// The dates of a live net for ever, as its shortest settled form; or that it is longer than the
+/// limit, where one is given. It takes the time of the search for that form.
+pub fn tell_dates(
+    alloc: Global,
+    net: &LiveNet,
+    limit: Option<Limit>,
+) -> Result<Outcome, OutOfMemory>
+    ensures { Tells (SaysDates limit net.now) (outcome_of result) }
+{
+    let limit = most_of(limit);
+    match net.settled(alloc, limit) {
+        Ok(settled) => {
+            let answer = Answer::Dates { settled: &settled };
+            let text = report(alloc, Some(net.net()), &answer)?;
+            let verdict = Verdict::Done;
+            Ok(Outcome { verdict, text })
+        }
+        Err(refusal) => tell_too_long(alloc, net, limit, refusal),
+    }
+}
+
+// The date of one firing of this transition, by the settled form.
+fn tell_date_of(
+    alloc: Global,
+    net: &LiveNet,
+    transition: TransitionId,
+    number: u64,
+    limit: Option<u32>,
+) -> Result<Outcome, OutOfMemory>
+    requires transition { transition.index < length net.now.transitions }
+    requires first { 1 ≤ number }
+    requires last { number ≤ greatest_number }
+    requires limit { IfSome limit (λ most. most ≤ greatest_limit) }
+    ensures { Tells (SaysDateOf transition number limit net.now) (outcome_of result) }
+{
+    match net.settled_dates(alloc, limit) {
+        Ok(settled) => {
+            forms_tell_dates();
+            let answer = Answer::Date {
+                transition,
+                number,
+                date: settled.date(transition, number),
+            };
+            let text = report(alloc, Some(net.net()), &answer)?;
+            let verdict = Verdict::Done;
+            Ok(Outcome { verdict, text })
+        }
+        Err(refusal) => tell_too_long(alloc, net, limit, refusal),
+    }
+}
+
+// That no transition has the name that was asked for.
+fn tell_no_transition(alloc: Global, word: &str) -> Result<Outcome, OutOfMemory>
+    ensures { Tells (TellsNoTransition word.now) (outcome_of result) }
+{
+    let word = Label::new(alloc, word)?;
+    let text = report(alloc, None, &Answer::NoTransition { word: &word })?;
+    let verdict = Verdict::Name;
+    Ok(Outcome { verdict, text })
+}
+
+/// The date of one firing of a live net, by the name of its transition and its number; or that no transition has the name, or that the settled form is longer than the limit,
+/// where one is given. It takes the time of the search for that form.
+pub fn tell_date(
+    alloc: Global,
+    net: &LiveNet,
+    word: &str,
+    number: FiringNumber,
+    limit: Option<Limit>,
+) -> Result<Outcome, OutOfMemory>
+    ensures { Tells (SaysDate word.now number limit net.now) (outcome_of result) }
+{
+    let number = number.get();
+    let limit = most_of(limit);
+    match net.net().find(word) {
+        Some(transition) => tell_date_of(alloc, net, transition, number, limit),
+        None => tell_no_transition(alloc, word),
+    }
+}

@@ -1,0 +1,19 @@
+//! A live net as a file of the second version.
+ghost use Rattle.teg_commands.specs.Migrate.{SaysMigrate};
+ghost use Rattle.teg_commands.specs.Outcomes.{Tells, outcome_of};
+
+use crate::live_net::LiveNet;
+use crate::outcome::{Outcome, Verdict};
+use std::alloc::Global;
+use teg_net::OutOfMemory;
+use teg_reader::write_net;
+
+/// A live net as a file of the second version, without durations. It takes time of order of the
+/// size of that file.
+pub fn tell_migrate(alloc: Global, net: &LiveNet) -> Result<Outcome, OutOfMemory>
+    ensures { Tells (SaysMigrate net.now) (outcome_of result) }
+{
+    let text = write_net(alloc, net.net())?;
+    let verdict = Verdict::Done;
+    Ok(Outcome { verdict, text })
+}

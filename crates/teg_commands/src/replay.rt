@@ -1,0 +1,173 @@
+//! Recorded runs: a log that is replayed, and the lines of the monitors.
+ghost use Rattle.std.specs.Prelude.{◌≡◌, ◌≤◌, ◌++◌, Some, ◌∷◌, [], All, IfOk, IfSome, is_ok, length, map, string_bytes};
+ghost use Rattle.teg_commands.specs.Outcomes.{Tells, outcome_of};
+ghost use Rattle.csv_records.specs.Records.{most_file_bytes};
+ghost use Rattle.teg_commands.specs.Replay.{CanTell, IsToldAs, SaysEnd, SaysReplay, SaysRun, ShowsReplay, ShowsRun, TellsBadLog};
+ghost use Rattle.teg_due.specs.Rules.{IsLogOf};
+ghost use Rattle.teg_report.specs.FileRows.{IsFailureIn, IsOneLine};
+
+use crate::live_net::LiveNet;
+use crate::outcome::{Outcome, Verdict};
+use std::alloc::Global;
+use teg_due::{LogRefusal, LogRow, read_log};
+use teg_net::OutOfMemory;
+use teg_outside::Monitor;
+use teg_replay::{FireRefusal, Replayed, replay};
+use teg_report::{Answer, Failure, report};
+
+// Why a log says no firings.
+fn refuse_log(alloc: Global, refusal: &LogRefusal) -> Result<Outcome, OutOfMemory>
+    ensures { Tells (TellsBadLog refusal.now) (outcome_of result) }
+{
+    match refusal {
+        LogRefusal::OutOfMemory => Err(OutOfMemory),
+        LogRefusal::BadRow { .. }
+        | LogRefusal::UnknownTransition { .. }
+        | LogRefusal::OutOfRange { .. } => {
+            let text = report(alloc, None, &Answer::Log { refusal })?;
+            let verdict = Verdict::Log;
+            Ok(Outcome { verdict, text })
+        }
+    }
+}
+
+// The line of a monitor.
+fn line_of(alloc: Global, monitor: &Box<dyn Monitor>) -> Result<String, OutOfMemory>
+    ensures text { IfOk result (λ line. string_bytes line ≡ line_text monitor.now []) }
+    ensures one_line { IfOk result (λ line. IsOneLine (string_bytes line)) }
+{
+    match monitor.line(alloc) {
+        Ok(line) => Ok(line),
+        Err(_) => Err(OutOfMemory),
+    }
+}
+
+// Puts a line at the end of the list.
+fn keep(lines: &mut Vec<String>, line: String) -> Result<(), OutOfMemory>
+    ensures { IfOk result (λ _. lines.new.items ≡ lines.old.items ++ line ∷ []) }
+{
+    match lines.push(line) {
+        Ok(()) => Ok(()),
+        Err(_) => Err(OutOfMemory),
+    }
+}
+
+// The line of each monitor, in order.
+fn lines_of(alloc: Global, monitors: &[Box<dyn Monitor>]) -> Result<Vec<String>, OutOfMemory>
+    ensures text { IfOk result (λ lines. map string_bytes lines.items
+        ≡ map (λ m. line_text m []) monitors.now) }
+    ensures one_line { IfOk result (λ lines. All IsOneLine (map string_bytes lines.items)) }
+{
+    let mut lines = Vec::new(alloc);
+    for monitor in monitors {
+        let line = line_of(alloc, monitor)?;
+        keep(&mut lines, line)?;
+    }
+    Ok(lines)
+}
+
+// Why a firing was refused, as it is told.
+fn failure_of(net: &LiveNet, why: &FireRefusal) -> Failure
+    requires { CanTell net.now why.now }
+    ensures told { IsToldAs why.now result }
+    ensures about { IsFailureIn (Some net.now) result }
+{
+    match why {
+        FireRefusal::Illegal { place, .. } => Failure::Illegal { place: *place },
+        FireRefusal::BackInTime { .. } => Failure::BackInTime,
+        FireRefusal::BeforeRelease { .. } => Failure::BeforeRelease,
+        FireRefusal::OutOfMemory => unreachable!(),
+    }
+}
+
+// What came of the replay of a log, with the lines of the monitors.
+fn tell_end(
+    alloc: Global,
+    net: &LiveNet,
+    replayed: &Replayed,
+    lines: &[String],
+) -> Result<Outcome, OutOfMemory>
+    requires named { IfSome replayed.now.refused (λ refused. CanTell net.now refused.why) }
+    requires one_line { All IsOneLine (map string_bytes lines.now) }
+    ensures { Tells (SaysEnd net.now replayed.now.refused replayed.now.accepted
+        (map string_bytes lines.now)) (outcome_of result) }
+{
+    match &replayed.refused {
+        None => {
+            let accepted = replayed.accepted;
+            let text = report(alloc, None, &Answer::Replayed { accepted, lines })?;
+            let verdict = Verdict::Done;
+            Ok(Outcome { verdict, text })
+        }
+        Some(refused) => {
+            let answer = Answer::Refused {
+                row: refused.row,
+                failure: failure_of(net, &refused.why),
+                lines,
+            };
+            let text = report(alloc, Some(net.net()), &answer)?;
+            let verdict = Verdict::Log;
+            Ok(Outcome { verdict, text })
+        }
+    }
+}
+
+// What came of the replay of a log, with the lines of monitors that saw it.
+fn tell_seen(
+    alloc: Global,
+    net: &LiveNet,
+    replayed: &Replayed,
+    monitors: &[Box<dyn Monitor>],
+) -> Result<Outcome, OutOfMemory>
+    requires { IfSome replayed.now.refused (λ refused. CanTell net.now refused.why) }
+    ensures { let lines = map (λ m. line_text m []) monitors.now in
+        Tells (SaysEnd net.now replayed.now.refused replayed.now.accepted lines) (outcome_of result) }
+{
+    let lines = lines_of(alloc, monitors)?;
+    tell_end(alloc, net, replayed, lines.as_slice())
+}
+
+// How the rows of a log are replayed, and the monitors, which saw it.
+fn tell_run(
+    alloc: Global,
+    net: &LiveNet,
+    rows: &[LogRow],
+    mut monitors: Vec<Box<dyn Monitor>>,
+) -> (Result<Outcome, OutOfMemory>, Vec<Box<dyn Monitor>>)
+    requires few { length rows.now ≤ most_file_bytes }
+    requires rows { IsLogOf net.now rows.now }
+    ensures says { Tells (SaysRun (λ firings. map (λ m. line_text m firings) monitors.items) net.now
+        rows.now) (outcome_of result.0) }
+    ensures shown { ShowsRun net.now rows.now (λ firings. map (λ m. line_text m firings) monitors.items)
+        (λ firings. map (λ m. line_text m firings) result.1.items) (is_ok result.0) }
+{
+    let run = replay(alloc, net.net(), rows, &mut monitors);
+    let seen = monitors.as_slice();
+    match run {
+        Ok(replayed) => (tell_seen(alloc, net, &replayed, seen), monitors),
+        Err(_) => (Err(OutOfMemory), monitors),
+    }
+}
+
+/// How the log of a recorded run is replayed on a live net: how many firings it has, or its first
+/// faulty row, or the first row that the net does not allow. After a replay the line of each monitor
+/// follows. The monitors come back: they were shown just the accepted firings, in order, each once,
+/// those of some first rows where no memory was found. It takes time of the order of the log and, for
+/// each row, of the places into its transition.
+pub fn tell_replay(
+    alloc: Global,
+    net: &LiveNet,
+    bytes: &[u8],
+    monitors: Vec<Box<dyn Monitor>>,
+) -> (Result<Outcome, OutOfMemory>, Vec<Box<dyn Monitor>>)
+    requires { length bytes.now ≤ most_file_bytes }
+    ensures says { Tells (SaysReplay (λ firings. map (λ m. line_text m firings) monitors.items)
+        net.now bytes.now) (outcome_of result.0) }
+    ensures shown { ShowsReplay net.now bytes.now (λ firings. map (λ m. line_text m firings) monitors.items)
+        (λ firings. map (λ m. line_text m firings) result.1.items) (is_ok result.0) }
+{
+    match read_log(alloc, net.net(), bytes) {
+        Ok(rows) => tell_run(alloc, net, rows.as_slice(), monitors),
+        Err(refusal) => (refuse_log(alloc, &refusal), monitors),
+    }
+}

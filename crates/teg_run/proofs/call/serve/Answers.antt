@@ -1,0 +1,9 @@
+use Rattle.std.proofs.Common.{map, string_bytes}
+use Rattle.teg_run.specs.Requests.{request_of}
+use Rattle.teg_run.specs.Shown.{ShowsAsked}
+use Rattle.teg_run.proofs.Promises.{keeps_promises}
+use Rattle.teg_run.proofs.Showing.{serves_of}
+use Rattle.teg_run.proofs.call.serve.Goals as goal
+
+pub returns-clause-promises : goal.returns-clause-promises
+returns-clause-promises g c = keeps_promises _ (serves_of _ (ShowsAsked (request_of (map string_bytes c.args.words.now)) _ _) _ _ _ _ _ _ c.serve_words.ensures)
