@@ -3,7 +3,7 @@ use dioid::{Date, Dioid, Flag, Kleene, Residuated};
 use dioid_matrix::{Matrix, MatrixRefused};
 use std::alloc::Global;
 
-/// Whether these are the entries of the matrix, by rows.
+// Whether these are the entries of the matrix, by rows.
 fn holds<D: Dioid>(matrix: &Matrix<D>, wanted: &[D]) -> bool {
     let mut wanted = wanted.iter();
     for row in 0..matrix.rows() {
@@ -20,7 +20,7 @@ fn holds<D: Dioid>(matrix: &Matrix<D>, wanted: &[D]) -> bool {
     wanted.next().is_none()
 }
 
-/// Whether the answer is a matrix with these entries.
+// Whether the answer is a matrix with these entries.
 fn is<D: Dioid>(answer: Result<Matrix<D>, MatrixRefused>, wanted: &[D]) -> bool {
     match answer {
         Ok(matrix) => holds(&matrix, wanted),
@@ -28,7 +28,7 @@ fn is<D: Dioid>(answer: Result<Matrix<D>, MatrixRefused>, wanted: &[D]) -> bool 
     }
 }
 
-/// Whether these are the product and the residual.
+// Whether these are the product and the residual.
 fn multiplies<D: Residuated>(
     alloc: Global,
     a: &Matrix<D>,
@@ -39,18 +39,18 @@ fn multiplies<D: Residuated>(
     is(a.times(alloc, b), product) && is(a.left_residual(alloc, b), residual)
 }
 
-/// Whether these are the star and the least solution.
+// Whether these are the star and the least solution.
 fn solves<D: Kleene>(alloc: Global, a: &Matrix<D>, b: &Matrix<D>, star: &[D], least: &[D]) -> bool {
     is(a.star(alloc), star) && is(a.solve_least(alloc, b), least)
 }
 
-/// The square of four entries.
+// The square of four entries.
 fn square<D: Dioid + Copy>(alloc: Global, entries: &[D; 4]) -> Option<Matrix<D>> {
     let entries = Vec::from_slice(alloc, entries).ok()?;
     Matrix::new(2, 2, entries).ok()
 }
 
-/// The column of two entries.
+// The column of two entries.
 fn column<D: Dioid + Copy>(alloc: Global, entries: &[D; 2]) -> Option<Matrix<D>> {
     let entries = Vec::from_slice(alloc, entries).ok()?;
     Matrix::new(2, 1, entries).ok()
@@ -72,7 +72,7 @@ fn flags_through_the_bounds(rt: HostRuntime) {
     assert!(rt; is_right);
 }
 
-/// The date at this time.
+// The date at this time.
 fn at(time: i64) -> Date {
     Date::At(time as i128)
 }
@@ -102,7 +102,7 @@ fn dates_through_the_bounds(rt: HostRuntime) {
     assert!(rt; is_right);
 }
 
-/// The flag `Yes` so many times.
+// The flag `Yes` so many times.
 fn many(alloc: Global, count: usize) -> Option<Vec<Flag>> {
     let mut entries = Vec::new(alloc);
     for _place in 0..count {
@@ -111,7 +111,7 @@ fn many(alloc: Global, count: usize) -> Option<Vec<Flag>> {
     Some(entries)
 }
 
-/// Whether the answer is a matrix of this many rows whose entries are all `Yes`.
+// Whether the answer is a matrix of this many rows whose entries are all `Yes`.
 fn is_full(answer: Result<Matrix<Flag>, MatrixRefused>, rows: usize) -> bool {
     let Ok(matrix) = answer else {
         return false;

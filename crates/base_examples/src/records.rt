@@ -2,7 +2,7 @@
 use csv_records::{ByteRecord, Records};
 use std::alloc::Global;
 
-/// The numbers of fields that the first reads give, 0 where there is no record.
+// The numbers of fields that the first reads give, 0 where there is no record.
 fn lengths(alloc: Global, text: &[u8], reads: usize) -> Option<Vec<usize>> {
     let mut records = Records::new(alloc, text);
     let mut record = ByteRecord::new(alloc);

@@ -14,12 +14,13 @@ fn read_from<S: Shelf>(
     limit: usize,
 ) -> Result<Vec<u8>, ShelfFault>
     ensures reads { Reads (S.state shelf.old) (S.state shelf.new) name.now limit (replied result) }
-    ensures long { LongIsTooLarge (S.state shelf.old) (S.state shelf.new) name.now limit (replied result) }
+    ensures long { LongIsTooLarge (S.state shelf.old) (S.state shelf.new) name.now limit
+        (replied result) }
 {
     shelf.read(alloc, name, limit)
 }
 
-/// The number of bytes that are read, or why there are none.
+// The number of bytes that are read, or why there are none.
 fn length<S: Shelf>(
     shelf: &mut S,
     alloc: Global,
@@ -35,6 +36,7 @@ fn length<S: Shelf>(
 #[test]
 fn a_real_file_is_read_whole_up_to_its_limit(rt: HostRuntime) -> Result<(), Fail> {
     fs::write(&rt, "long", [b'x'; 1_000].as_slice())?;
+    fs::write(&rt, "other", b"another file".as_slice())?;
     let mut shelf = FileShelf::new(&rt);
     for (name, limit, answer) in [
         ("long", 1_000, Ok(1_000)),
@@ -46,6 +48,10 @@ fn a_real_file_is_read_whole_up_to_its_limit(rt: HostRuntime) -> Result<(), Fail
             "{name} up to {limit}"
         );
     }
+    // (no read changes a file, neither the one that it reads nor another)
+    assert!(rt; fs::read(&rt, "long")?.len() == 1_000);
+    assert!(rt; fs::read(&rt, "other")?.as_slice() == b"another file".as_slice());
     fs::remove_file(&rt, "long")?;
+    fs::remove_file(&rt, "other")?;
     Ok(())
 }

@@ -3,7 +3,7 @@ use dioid::Date;
 use std::alloc::Global;
 use teg_text::{push_dates, push_label};
 
-/// The words of these dates, and of this label.
+// The words of these dates, and of this label.
 fn words(alloc: Global, dates: &[Date], label: &str) -> Option<String> {
     let mut text = String::new(alloc);
     push_dates(&mut text, dates).ok()?;
@@ -11,7 +11,7 @@ fn words(alloc: Global, dates: &[Date], label: &str) -> Option<String> {
     Some(text)
 }
 
-/// Whether these are the words of the dates and the label.
+// Whether these are the words of the dates and the label.
 fn reads(alloc: Global, dates: &[Date], label: &str, wanted: &str) -> bool {
     match words(alloc, dates, label) {
         Some(text) => text.as_str() == wanted,

@@ -58,14 +58,16 @@ pub trait Dioid: Sized + Drop {
 
     /// The sum.
     fn plus(&self, alloc: Global, other: &Self) -> Result<Self, Refused>
-        ensures answer { Answers TAKES_MEMORY (sum_fits self.now other.now) (sum self.now other.now) result }
+        ensures answer { Answers TAKES_MEMORY (sum_fits self.now other.now) (sum self.now other.now)
+            result }
         ensures element { IfOk result is_element }
         ensures left { is_element self.now }
         ensures right { is_element other.now };
 
     /// The product.
     fn times(&self, alloc: Global, other: &Self) -> Result<Self, Refused>
-        ensures answer { Answers TAKES_MEMORY (product_fits self.now other.now) (product self.now other.now) result }
+        ensures answer { Answers TAKES_MEMORY (product_fits self.now other.now)
+            (product self.now other.now) result }
         ensures element { IfOk result is_element }
         ensures left { is_element self.now }
         ensures right { is_element other.now };
@@ -123,14 +125,16 @@ pub trait Residuated: Dioid {
 
     /// The residual: the greatest `x` whose product `self x` is at most `other`.
     fn left(&self, alloc: Global, other: &Self) -> Result<Self, Refused>
-        ensures answer { Answers Self.TAKES_MEMORY (left_fits self.now other.now) (left self.now other.now) result }
+        ensures answer { Answers Self.TAKES_MEMORY (left_fits self.now other.now)
+            (left self.now other.now) result }
         ensures element { IfOk result Self.is_element }
         ensures divisor { Self.is_element self.now }
         ensures bound { Self.is_element other.now };
 
     /// The greatest lower bound.
     fn meet(&self, alloc: Global, other: &Self) -> Result<Self, Refused>
-        ensures answer { Answers Self.TAKES_MEMORY (meet_fits self.now other.now) (meet self.now other.now) result }
+        ensures answer { Answers Self.TAKES_MEMORY (meet_fits self.now other.now)
+            (meet self.now other.now) result }
         ensures element { IfOk result Self.is_element }
         ensures operand { Self.is_element self.now }
         ensures right { Self.is_element other.now };

@@ -58,7 +58,8 @@ impl Date {
     ///
     /// Refused exactly where both are numbers and their sum is no `i128`.
     pub fn add(self, other: Date) -> Result<Date, Misfit>
-        ensures { AnswersOrMisfit (DateProductFits self other) (date_product self other) self other result }
+        ensures { AnswersOrMisfit (DateProductFits self other) (date_product self other) self other
+            result }
     {
         match (self, other) {
             (Date::Early, _) | (_, Date::Early) => Ok(Date::Early),
@@ -79,7 +80,8 @@ impl Date {
     ///
     /// Refused exactly where both are numbers and their difference is no `i128`.
     pub fn less(self, other: Date) -> Result<Date, Misfit>
-        ensures { AnswersOrMisfit (DateLeftFits other self) (date_left other self) self other result }
+        ensures { AnswersOrMisfit (DateLeftFits other self) (date_left other self) self other
+            result }
     {
         match (other, self) {
             (Date::Early, _) => Ok(Date::Never),

@@ -2,7 +2,7 @@
 use std::alloc::{AllocError, Global};
 use teg_reader::{read_net, write_net};
 
-/// Whether the file is answered so; an accepted file is answered `accepted`.
+// Whether the file is answered so; an accepted file is answered `accepted`.
 fn is_answered(alloc: Global, file: &[u8], wanted: &str) -> bool {
     match read_net(alloc, file) {
         Ok(_) => wanted == "accepted",
@@ -13,7 +13,7 @@ fn is_answered(alloc: Global, file: &[u8], wanted: &str) -> bool {
     }
 }
 
-/// The number of the first file that is not answered as wanted, or the number of files.
+// The number of the first file that is not answered as wanted, or the number of files.
 fn first_other_answer(alloc: Global, files: &[(&str, &str)]) -> usize {
     for (index, (file, wanted)) in files.iter().enumerate() {
         if !is_answered(alloc, file.as_bytes(), wanted) {
@@ -132,8 +132,8 @@ fn bytes_that_are_no_text_are_not_read(rt: HostRuntime) {
     assert!(rt; is_answered(rt.alloc(), marked, "accepted"));
 }
 
-/// A file of 60,000 transitions. Their names fall on one place of a table that hashes as the
-/// library does, whose seed is fixed.
+// A file of 60,000 transitions. Their names fall on one place of a table that hashes as the
+// library does, whose seed is fixed.
 fn colliding(alloc: Global) -> Result<String, AllocError> {
     let mut file = String::from_str(alloc, "transition = [")?;
     for number in 0u32..60_000 {
@@ -153,7 +153,7 @@ fn names_that_collide_are_too_many(rt: HostRuntime) {
     assert!(rt; is_answered(rt.alloc(), file.as_bytes(), wanted));
 }
 
-/// A file of 400 transitions and 4,000 places, each number and name at its limit.
+// A file of 400 transitions and 4,000 places, each number and name at its limit.
 fn widest(alloc: Global) -> Result<String, AllocError> {
     let mut file = String::from_str(alloc, "transition = [")?;
     for number in 0u32..400 {
@@ -172,7 +172,7 @@ fn widest(alloc: Global) -> Result<String, AllocError> {
     Ok(file)
 }
 
-/// A file of 20,000 ready dates.
+// A file of 20,000 ready dates.
 fn of_many_ready_dates(alloc: Global) -> Result<String, AllocError> {
     let mut dates = String::new(alloc);
     for _ in 0u32..1_000 {
@@ -190,19 +190,19 @@ fn of_many_ready_dates(alloc: Global) -> Result<String, AllocError> {
     Ok(file)
 }
 
-/// Files whose nets are written.
+// Files whose nets are written.
 const WRITTEN: [&str; 2] = [
     "version = 2\ntransition = [{name = \"a\", duration = 3}, {name = \"b\", duration = 2}]\nplace = [{name = \"ab\", from = \"a\", to = \"b\"}, {name = \"ba\", from = \"b\", to = \"a\", tokens = 1}]\n",
     "transition = [{name = \"\u{e9}\", role = \"input\"}, {name = \"v\", role = \"input\"}, {name = \"y\", role = \"output\"}]\nplace = [{name = \"#=[]\", from = \"v\", to = \"y\", tokens = 2, ready = [9, 1000000000000]}]\ninput = [{transition = \"v\", dates = []}, {transition = \"\u{e9}\", dates = [0, 4], every = 2, gap = 9}]\n",
 ];
 
-/// What is written for the net of the file.
+// What is written for the net of the file.
 fn written(alloc: Global, file: &[u8]) -> Option<Vec<u8>> {
     let net = read_net(alloc, file).ok()?;
     write_net(alloc, &net).ok()
 }
 
-/// Whether what is written is written again for its own net, and has at least so many bytes.
+// Whether what is written is written again for its own net, and has at least so many bytes.
 fn is_written(alloc: Global, file: &str, bytes: usize) -> bool {
     let Some(first) = written(alloc, file.as_bytes()) else {
         return false;
@@ -230,7 +230,7 @@ fn nets_at_their_limits_are_written(rt: HostRuntime) {
     assert!(rt; is_written(alloc, late.as_str(), 20 * 1_000 * 2));
 }
 
-/// The number of places of the net without its input lists.
+// The number of places of the net without its input lists.
 fn places_without_inputs(alloc: Global, file: &[u8]) -> Option<usize> {
     let net = read_net(alloc, file).ok()?;
     let copy = net.without_inputs(alloc).ok()?;

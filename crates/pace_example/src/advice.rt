@@ -57,7 +57,8 @@ fn line_of(alloc: Global, pace: Option<Ratio>) -> Result<String, AllocError>
 /// comes later than it is due whatever the inputs do; or where no memory is found.
 pub fn advise(alloc: Global, net: &[u8], due: &[u8]) -> Result<Advice, NoAdvice>
     requires { length due.now ≤ most_file_bytes }
-    ensures advice { IfOk result (λ advice. IsAdvice net.now due.now (string_bytes advice.pace) advice.plan) }
+    ensures advice { IfOk result (λ advice. IsAdvice net.now due.now (string_bytes advice.pace)
+        advice.plan) }
     ensures refused { IfErr result (IsWhyNot net.now due.now) }
 {
     let net = read_net(alloc, net)?;

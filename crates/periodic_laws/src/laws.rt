@@ -6,7 +6,7 @@ ghost use Rattle.periodic_laws.specs.Laws.{LeastDatingsRepeat, LeastDatingsSolve
 use dioid_matrix::star_is_least;
 use series_ops::Gain;
 
-/// The law of stars, of gains.
+// The law of stars, of gains.
 fn gain_stars_are_least()
     ensures { StarsAreLeast gains gain_stars }
 {

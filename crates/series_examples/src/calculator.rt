@@ -2,7 +2,7 @@
 use std::alloc::{AllocError, Global};
 use teg_calc::{evaluate, parse, print};
 
-/// The line of the series that a text means, or why there is none.
+// The line of the series that a text means, or why there is none.
 fn answer(alloc: Global, text: &str) -> Result<Vec<u8>, AllocError> {
     if text.len() > 4096 {
         return Vec::from_slice(alloc, b"too long");
@@ -21,7 +21,7 @@ fn answer(alloc: Global, text: &str) -> Result<Vec<u8>, AllocError> {
     }
 }
 
-/// Whether a text has this answer.
+// Whether a text has this answer.
 fn is_answered(alloc: Global, text: &str, line: &str) -> bool {
     match answer(alloc, text) {
         Ok(answer) => answer.as_slice() == line.as_bytes(),
@@ -29,7 +29,7 @@ fn is_answered(alloc: Global, text: &str, line: &str) -> bool {
     }
 }
 
-/// The number of the first text that is not answered as wanted, or the number of texts.
+// The number of the first text that is not answered as wanted, or the number of texts.
 fn first_other(alloc: Global, texts: &[(&str, &str)]) -> usize {
     for (index, (text, line)) in texts.iter().enumerate() {
         if !is_answered(alloc, text, line) {
@@ -39,7 +39,7 @@ fn first_other(alloc: Global, texts: &[(&str, &str)]) -> usize {
     texts.len()
 }
 
-/// Texts whose series are plain to see.
+// Texts whose series are plain to see.
 const SERIES: [(&str, &str); 16] = [
     ("star(g1d2).star(g1d3)", "series 0 period 1 step 3\n"),
     ("star(g1d2)+g0d5", "series 5 5 5 6 period 1 step 2\n"),
@@ -95,7 +95,7 @@ const SERIES: [(&str, &str); 16] = [
     ),
 ];
 
-/// Texts that are refused.
+// Texts that are refused.
 const REFUSED: [(&str, &str); 6] = [
     ("", "refused: syntax at 0\n"),
     (" g12d-34 + star ( e , ", "refused: syntax at 20\n"),
@@ -117,7 +117,7 @@ fn texts_with_their_answers(rt: HostRuntime) {
     assert!(rt; first_other(rt.alloc(), &REFUSED) == REFUSED.len());
 }
 
-/// Two texts each that mean one series. Those of the first need as much as may be, 20,000 or nearly so.
+// Two texts each that mean one series. Those of the first need as much as may be, 20,000 or nearly so.
 const EQUAL: [(&str, &str); 6] = [
     ("g19999d7+g0d5", "g0d5+g19999d7"),
     ("star(g139d139)+g540d0.star(g140d140)", "star(g139d139)"),
@@ -133,7 +133,7 @@ const EQUAL: [(&str, &str); 6] = [
     ("star(g197d96.star(g1d1))", "e+g197d96.star(g1d1)"),
 ];
 
-/// Whether both texts are answered by one series.
+// Whether both texts are answered by one series.
 fn are_equal(alloc: Global, first: &str, second: &str) -> bool {
     match (answer(alloc, first), answer(alloc, second)) {
         (Ok(one), Ok(other)) => one.starts_with(b"series ") && one.as_slice() == other.as_slice(),
@@ -148,7 +148,7 @@ fn needs_of_20_000(rt: HostRuntime) {
     }
 }
 
-/// A first piece, others, and a last one.
+// A first piece, others, and a last one.
 fn chain(
     alloc: Global,
     first: &str,
@@ -164,7 +164,7 @@ fn chain(
     Ok(text)
 }
 
-/// Whether the text of these pieces has this answer.
+// Whether the text of these pieces has this answer.
 fn is_chain_answered(
     alloc: Global,
     first: &str,

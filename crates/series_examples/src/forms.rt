@@ -4,7 +4,7 @@ use series_form::{Series, SeriesRefused};
 use series_ops::{Gain, star};
 use std::alloc::Global;
 
-/// Whether the answer is the series with these values, period and step.
+// Whether the answer is the series with these values, period and step.
 fn is_series(
     answer: &Result<Series, SeriesRefused>,
     values: &[Date],
@@ -25,7 +25,7 @@ fn a_list_of_a_function(rt: HostRuntime) {
     assert!(rt; is_series(&even, &[Date::At(0)], 1, 2));
 }
 
-/// Whether nothing changes where zero is added and one is multiplied with.
+// Whether nothing changes where zero is added and one is multiplied with.
 fn keeps<D: Dioid>(alloc: Global, a: &D) -> Result<bool, Refused> {
     let (more, times) = (
         a.plus(alloc, &D::zero(alloc)?)?,
@@ -34,13 +34,13 @@ fn keeps<D: Dioid>(alloc: Global, a: &D) -> Result<bool, Refused> {
     Ok(more.same(a) && times.same(&a.duplicate(alloc)?))
 }
 
-/// Whether it is its own star, and the residual and the meet of it and itself.
+// Whether it is its own star, and the residual and the meet of it and itself.
 fn is_closed<D: Kleene + Residuated>(alloc: Global, a: &D) -> Result<bool, Refused> {
     let (star, rest) = (a.star(alloc)?, a.left(alloc, a)?);
     Ok(star.same(a) && rest.same(&a.meet(alloc, a)?))
 }
 
-/// The star of the monomial of shift 1 and date 2.
+// The star of the monomial of shift 1 and date 2.
 fn line(alloc: Global) -> Option<Gain> {
     let part = Series::monomial(alloc, 1, 2).ok()?;
     let series = star(alloc, &part).ok()?;

@@ -12,7 +12,7 @@ use crate::refusal::CheckRefusal;
 use std::alloc::Global;
 use teg_net::{Circuit, Net};
 
-/// The first transition that has no rank.
+// The first transition that has no rank.
 fn first_unranked(ranked: &[bool]) -> Option<usize>
     ensures some { IfSome result (λ t. IsUnranked ranked.now t) }
     ensures none { IfNone result ((t : ℕ) → IsUnranked ranked.now t → ⊥) }

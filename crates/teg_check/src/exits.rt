@@ -7,8 +7,8 @@ ghost use Rattle.teg_check.specs.Exits.{IsUnranked, IsExit, IsUpTo, AreAllExits,
 use std::alloc::{AllocError, Global};
 use teg_net::{Net, PlaceId};
 
-/// The places without tokens by the transition that they leave: of each transition the last that may
-/// lead to one without a rank, and of each such place the one before it.
+// The places without tokens by the transition that they leave: of each transition the last that may
+// lead to one without a rank, and of each such place the one before it.
 #[derive(Debug, Drop)]
 pub(crate) struct Exits {
     pub(crate) last: Vec<Option<PlaceId>>,
@@ -16,7 +16,7 @@ pub(crate) struct Exits {
 }
 
 impl Exits {
-    /// The places without tokens, none of which is passed over.
+    // The places without tokens, none of which is passed over.
     pub(crate) fn new(alloc: Global, net: &Net) -> Result<Exits, AllocError>
         ensures { IfOk result (λ exits. AreAllExits net.now exits.last.items exits.before.items) }
     {
@@ -35,7 +35,7 @@ impl Exits {
         Ok(Exits { last, before })
     }
 
-    /// The last place without tokens from the transition to one that has no rank.
+    // The last place without tokens from the transition to one that has no rank.
     fn last_exit(&self, net: &Net, ranked: &[bool], transition: usize) -> Option<PlaceId>
         requires count { length ranked.now ≡ length net.now.transitions }
         requires exits { AreExitsLeft net.now ranked.now self.now.last.items self.now.before.items }
@@ -55,8 +55,8 @@ impl Exits {
         None
     }
 
-    /// The first transition without a rank all of whose places without tokens lead to ranked ones. The
-    /// places that do are passed over for good.
+    // The first transition without a rank all of whose places without tokens lead to ranked ones. The
+    // places that do are passed over for good.
     pub(crate) fn first_sink(&mut self, net: &Net, ranked: &[bool]) -> Option<usize>
         requires count { length ranked.now ≡ length net.now.transitions }
         requires exits { AreExitsLeft net.now ranked.now self.old.last.items self.old.before.items }
@@ -78,7 +78,7 @@ impl Exits {
     }
 }
 
-/// A circuit of exits: they are followed from `start` until a transition comes again.
+// A circuit of exits: they are followed from `start` until a transition comes again.
 pub(crate) fn circuit_from(
     alloc: Global,
     net: &Net,

@@ -21,7 +21,7 @@ impl Model for Live {
 }
 
 impl Live {
-    /// The value with these ranks. It takes no memory.
+    // The value with these ranks. It takes no memory.
     pub(crate) fn new(ranks: Vec<u32>) -> Live
         ensures { result ≡ ranks.items }
     {

@@ -11,11 +11,12 @@ use dioid_matrix::Matrix;
 use std::alloc::{AllocError, Global};
 use teg_net::{Net, OutOfMemory, PlaceId, TransitionId};
 
-/// Whether the last entry is of the same kind: of the same ends and tokens.
+// Whether the last entry is of the same kind: of the same ends and tokens.
 fn ends_in_kind(entries: &[Entry], entry: &Entry) -> bool
     ensures some { IsTrue result → 0 < length entries.now }
     ensures kind { IsTrue result → IsOfKind (last_of entries.now) entry.now }
-    ensures other { IsFalse result → 0 < length entries.now → IsOfKind (last_of entries.now) entry.now → ⊥ }
+    ensures other { IsFalse result → 0 < length entries.now
+        → IsOfKind (last_of entries.now) entry.now → ⊥ }
 {
     let count = entries.len();
     0 < count
@@ -24,8 +25,8 @@ fn ends_in_kind(entries: &[Entry], entry: &Entry) -> bool
         && entries[count - 1].tokens == entry.tokens
 }
 
-/// Adds an entry behind the others, or in place of the last where that is of the same kind and
-/// takes less time.
+// Adds an entry behind the others, or in place of the last where that is of the same kind and
+// takes less time.
 fn add(entries: &mut Vec<Entry>, entry: Entry) -> Result<(), AllocError>
     ensures { IfOk result (λ _. IsAdded entries.old.items entry entries.new.items) }
 {
@@ -40,7 +41,7 @@ fn add(entries: &mut Vec<Entry>, entry: Entry) -> Result<(), AllocError>
     Ok(())
 }
 
-/// The entry of the paths to this transition that begin with this place, where there are any.
+// The entry of the paths to this transition that begin with this place, where there are any.
 fn entry_of(net: &Net, times: &Matrix<Date>, id: PlaceId, to: usize) -> Option<Entry>
     requires times { AreFreeTimes net.now times.now }
     requires place { id.index < length net.now.places }
@@ -63,8 +64,8 @@ fn entry_of(net: &Net, times: &Matrix<Date>, id: PlaceId, to: usize) -> Option<E
     }
 }
 
-/// For each pair of transitions and number of tokens the greatest time of a path whose first place
-/// has so many tokens, and whose others have none.
+// For each pair of transitions and number of tokens the greatest time of a path whose first place
+// has so many tokens, and whose others have none.
 pub(crate) fn entries_of(
     alloc: Global,
     net: &Net,

@@ -74,7 +74,8 @@ pub fn standard_form(alloc: Global, net: &Net, live: &Live) -> Result<Form, OutO
     requires stands { IsRanking net.now live.now }
     ensures form { IfOk result (λ form. IsFormOf net.now form) }
     // A net has no other standard form.
-    ensures one { IfOk result (λ form. (other : FormLists) → IsFormOf net.now other → other ≡ form) }
+    ensures one { IfOk result (λ form. (other : FormLists) → IsFormOf net.now other → other
+        ≡ form) }
 {
     let times = free_times(alloc, net, live)?;
     let stars = stars_of(alloc, net, &times)?;

@@ -10,7 +10,7 @@ use std::alloc::{AllocError, Global};
 use teg_check::Live;
 use teg_net::{Net, OutOfMemory};
 
-/// The greatest holding times of the places without tokens, by rows of upstream transitions.
+// The greatest holding times of the places without tokens, by rows of upstream transitions.
 fn free_holds(alloc: Global, net: &Net) -> Result<Vec<Date>, AllocError>
     ensures { IfOk result (λ holds. AreFreeHolds net.now holds.items) }
 {
@@ -25,8 +25,8 @@ fn free_holds(alloc: Global, net: &Net) -> Result<Vec<Date>, AllocError>
     Ok(holds)
 }
 
-/// The greatest times of the paths without tokens, by rows of the transitions from which they lead:
-/// `Early` where there is none, and 0 or more on the diagonal, where the path is empty.
+// The greatest times of the paths without tokens, by rows of the transitions from which they lead:
+// `Early` where there is none, and 0 or more on the diagonal, where the path is empty.
 pub(crate) fn free_times(alloc: Global, net: &Net, live: &Live) -> Result<Matrix<Date>, OutOfMemory>
     requires stands { IsRanking net.now live.now }
     ensures { IfOk result (λ times. AreFreeTimes net.now times) }

@@ -5,15 +5,15 @@ ghost use Rattle.teg_form.specs.Order.{IsOrder};
 use std::alloc::{AllocError, Global};
 use teg_net::{Net, PlaceId};
 
-/// A place with its key: the number of its upstream transition by 1,001, plus its tokens, which are
-/// at most 1,000.
+// A place with its key: the number of its upstream transition by 1,001, plus its tokens, which are
+// at most 1,000.
 #[derive(Clone, Copy, Debug, Drop)]
 pub(crate) struct Marked {
     pub(crate) key: u64,
     pub(crate) place: PlaceId,
 }
 
-/// The places with tokens, in the order of their upstream transitions and then of their tokens.
+// The places with tokens, in the order of their upstream transitions and then of their tokens.
 pub(crate) fn by_source(alloc: Global, net: &Net) -> Result<Vec<Marked>, AllocError>
     ensures { IfOk result (λ order. IsOrder net.now order.items) }
 {

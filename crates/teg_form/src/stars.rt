@@ -9,12 +9,13 @@ use dioid_matrix::Matrix;
 use std::alloc::{AllocError, Global};
 use teg_net::{Net, TransitionId};
 
-/// The star entry of this pair of transitions, where there is one.
+// The star entry of this pair of transitions, where there is one.
 fn star_entry(net: &Net, times: &Matrix<Date>, to: usize, from: usize) -> Option<StarEntry>
     requires times { AreFreeTimes net.now times.now }
     requires to { to < length net.now.transitions }
     requires from { from < length net.now.transitions }
-    ensures none { IfNone result ((time : ℕ) → to ≢ from → IsTimeOfFreePath net.now from to time → ⊥) }
+    ensures none { IfNone result ((time : ℕ) → to ≢ from → IsTimeOfFreePath net.now from to time
+        → ⊥) }
     ensures entry { IfSome result (IsStarEntry net.now) }
     ensures to { IfSome result (λ e. e.to.index ≡ to) }
     ensures from { IfSome result (λ e. e.from.index ≡ from) }
@@ -33,7 +34,7 @@ fn star_entry(net: &Net, times: &Matrix<Date>, to: usize, from: usize) -> Option
     }
 }
 
-/// For each pair of different transitions that a path without tokens joins, the greatest time of one.
+// For each pair of different transitions that a path without tokens joins, the greatest time of one.
 pub(crate) fn stars_of(
     alloc: Global,
     net: &Net,

@@ -13,7 +13,7 @@ pub struct Circuit {
     pub places: Vec<PlaceId>,
 }
 
-/// The position of a place that leaves the lowest numbered transition.
+// The position of a place that leaves the lowest numbered transition.
 fn lowest_position(net: &Net, places: &[PlaceId]) -> usize
     requires some { 0 < length places.now }
     requires in_range { AreInRange net.now places.now }
@@ -37,8 +37,10 @@ impl Circuit {
         requires { IsCircuit net.now self.old.places.items }
         ensures turned { IsTurned self.old.places.items self.new.places.items }
         ensures circuit { IsCircuit net.now self.new.places.items }
-        ensures tokens { tokens_of net.now self.new.places.items ≡ tokens_of net.now self.old.places.items }
-        ensures time { time_of net.now self.new.places.items ≡ time_of net.now self.old.places.items }
+        ensures tokens { tokens_of net.now self.new.places.items
+            ≡ tokens_of net.now self.old.places.items }
+        ensures time { time_of net.now self.new.places.items
+            ≡ time_of net.now self.old.places.items }
         ensures lowest { BeginsLowest net.now self.new.places.items }
     {
         let lowest = lowest_position(net, &self.places);

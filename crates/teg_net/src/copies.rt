@@ -8,7 +8,7 @@ use crate::names::Name;
 use crate::net::Net;
 use std::alloc::{AllocError, Global};
 
-/// The same transition once more.
+// The same transition once more.
 fn transition_copy(alloc: Global, transition: &Transition) -> Result<Transition, AllocError>
     ensures { IfOk result (λ copy. copy ≡ transition.now) }
 {
@@ -19,7 +19,7 @@ fn transition_copy(alloc: Global, transition: &Transition) -> Result<Transition,
     })
 }
 
-/// The same place once more.
+// The same place once more.
 fn place_copy(alloc: Global, place: &Place) -> Result<Place, AllocError>
     ensures { IfOk result (λ copy. copy ≡ place.now) }
 {
@@ -35,7 +35,7 @@ fn place_copy(alloc: Global, place: &Place) -> Result<Place, AllocError>
     })
 }
 
-/// The same transitions once more, in order.
+// The same transitions once more, in order.
 fn transitions_copy(
     alloc: Global,
     transitions: &[Transition],
@@ -49,7 +49,7 @@ fn transitions_copy(
     Ok(copies)
 }
 
-/// The same places once more, in order.
+// The same places once more, in order.
 fn places_copy(alloc: Global, places: &[Place]) -> Result<Vec<Place>, AllocError>
     ensures { IfOk result (λ copies. copies.items ≡ places.now) }
 {

@@ -75,7 +75,7 @@ impl Model for DateList {
 }
 
 impl DateList {
-    /// The same dates once more.
+    // The same dates once more.
     pub(crate) fn copy(&self, alloc: Global) -> Result<DateList, AllocError>
         ensures { IfOk result (λ copy. copy ≡ self.now) }
     {

@@ -22,7 +22,7 @@ impl InputList {
     }
 }
 
-/// The date of a firing by division: whole rounds lead from it back into the list.
+// The date of a firing by division: whole rounds lead from it back into the list.
 fn date_by_list(list: &InputList, number: u64) -> Option<u128>
     requires number { 1 ≤ number }
     requires again { EndsOrGoesOn list.now.dates list.now.again }
@@ -40,7 +40,7 @@ fn date_by_list(list: &InputList, number: u64) -> Option<u128>
     Some(u128::from(dates[first as usize - 1]) + u128::from(rounds) * u128::from(again.gap))
 }
 
-/// The list of the transition, if it has one.
+// The list of the transition, if it has one.
 fn list_of(net: &Net, transition: TransitionId) -> Option<&InputList>
     ensures rules { IsNet net.now }
     ensures first { option_copied result ≡ list_of net.now transition.index }

@@ -49,7 +49,8 @@ impl<'n> NameOrder<'n> {
     /// The transition of this name; none exactly where no transition has it. It takes no memory.
     pub fn find(&self, name: &[u8]) -> Option<TransitionId>
         ensures none { (result ≡ None) ↔ All (λ t. t.name ≢ name.now) self.now.transitions }
-        ensures found { IfSome result (λ id. IsSomeAnd (slice_get self.now.transitions id.index) (λ t. t.name ≡ name.now)) }
+        ensures found { IfSome result (λ id. IsSomeAnd (slice_get self.now.transitions id.index)
+            (λ t. t.name ≡ name.now)) }
     {
         self.ids.get(name).copied()
     }

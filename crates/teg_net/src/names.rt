@@ -33,21 +33,21 @@ pub enum NameRefused {
     OutOfMemory,
 }
 
-/// Whether a name may have the byte.
+// Whether a name may have the byte.
 fn is_name_byte(byte: u8) -> bool
     ensures { result ≡ is_name_byte byte }
 {
     0x21 <= byte && byte != b'"' && byte != b',' && byte != 0x7F
 }
 
-/// Whether a name may have each byte of the text.
+// Whether a name may have each byte of the text.
 fn has_name_bytes(text: &str) -> bool
     ensures { result ≡ list_all is_name_byte text.now }
 {
     text.as_bytes().iter().all(|byte| is_name_byte(*byte))
 }
 
-/// Whether the text can be a name.
+// Whether the text can be a name.
 fn is_name(text: &str) -> bool
     ensures { result ≡ is_name text.now }
 {
@@ -71,7 +71,7 @@ impl Name {
         }
     }
 
-    /// The same name once more.
+    // The same name once more.
     pub(crate) fn copy(&self, alloc: Global) -> Result<Name, AllocError>
         ensures { IfOk result (λ copy. copy ≡ self.now) }
     {

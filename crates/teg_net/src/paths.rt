@@ -6,7 +6,7 @@ ghost use Rattle.teg_net.specs.Circuits.{IsPathBetween, IsPath, IsCircuit, AreIn
 use crate::entries::{PlaceId, TransitionId};
 use crate::net::Net;
 
-/// The transition at which the path from `start` ends; none where the places are no path from there.
+// The transition at which the path from `start` ends; none where the places are no path from there.
 fn path_end(net: &Net, places: &[PlaceId], start: TransitionId) -> Option<TransitionId>
     ensures none { IfNone result ((b : ℕ) → IsPathBetween net.now start.index places.now b → ⊥) }
     ensures end { IfSome result (λ end. IsPathBetween net.now start.index places.now end.index) }
@@ -23,8 +23,8 @@ fn path_end(net: &Net, places: &[PlaceId], start: TransitionId) -> Option<Transi
     Some(at)
 }
 
-/// The transition that the first place leaves; none where there is no first place, or it is no place
-/// of the net.
+// The transition that the first place leaves; none where there is no first place, or it is no place
+// of the net.
 fn path_start(net: &Net, places: &[PlaceId]) -> Option<TransitionId>
     ensures none { IfNone result (AreInRange net.now places.now → places.now ≡ []) }
     ensures start { IfSome result (λ start. IsStartOf net.now places.now start.index) }
@@ -45,7 +45,7 @@ pub fn is_path(net: &Net, places: &[PlaceId]) -> bool
     }
 }
 
-/// Whether one of the places leaves the transition.
+// Whether one of the places leaves the transition.
 fn any_leaves(net: &Net, places: &[PlaceId], transition: TransitionId) -> bool
     requires { AreInRange net.now places.now }
     ensures { IsTrue result ↔ Any (λ p. from_of net.now p ≡ transition.index) places.now }
@@ -56,7 +56,7 @@ fn any_leaves(net: &Net, places: &[PlaceId], transition: TransitionId) -> bool
         .any(|id| own[id.index as usize].from.index == transition.index)
 }
 
-/// Whether the places leave no transition twice.
+// Whether the places leave no transition twice.
 fn leaves_once(net: &Net, places: &[PlaceId]) -> bool
     requires { AreInRange net.now places.now }
     ensures { IsTrue result ↔ AllPairs (λ p q. from_of net.now p ≢ from_of net.now q) places.now }

@@ -26,7 +26,7 @@ impl Model for Ratio {
     ghost invariant = { λ r. IsLowestTerms (record { time = r.time; tokens = r.tokens }) };
 }
 
-/// The greatest common divisor, by Euclid's rule.
+// The greatest common divisor, by Euclid's rule.
 fn common_divisor(first: u64, second: u64) -> u64
     ensures { IsGcd first second result }
 {

@@ -7,7 +7,7 @@ ghost use Rattle.teg_net.specs.ReadyDates.{ready_date, ready_for, start_date, Is
 use crate::entries::{Place, PlaceId, TransitionId};
 use crate::net::Net;
 
-/// The date from which this token of the place is ready, counted from 1.
+// The date from which this token of the place is ready, counted from 1.
 fn ready_date(place: &Place, token: u64) -> u64
     requires { 1 ≤ token }
     ensures { result ≡ ready_date place.now token }
@@ -21,7 +21,7 @@ fn ready_date(place: &Place, token: u64) -> u64
     }
 }
 
-/// The ready date of the initial token that this firing takes from the place, and 0 where it takes none.
+// The ready date of the initial token that this firing takes from the place, and 0 where it takes none.
 fn ready_for(place: &Place, transition: TransitionId, number: u64) -> u64
     requires { 1 ≤ number }
     ensures { result ≡ ready_for transition.index number place.now }

@@ -25,15 +25,17 @@ pub struct Walk {
     pub steps: Vec<Step>,
 }
 
-/// The greatest firing number of a walk.
+// The greatest firing number of a walk.
 const GREATEST_NUMBER: u64 = 1_000_000_000_000_000_000;
 
-/// The firing to which the step leads; none where it does not leave this transition, is no place of
-/// the net, or leads past the greatest number.
+// The firing to which the step leads; none where it does not leave this transition, is no place of
+// the net, or leads past the greatest number.
 fn step_end(net: &Net, start: TransitionId, number: u64, step: Step) -> Option<(TransitionId, u64)>
     requires { number ≤ greatest_number }
-    ensures none { IfNone result ((b k : ℕ) → WalksWithin net.now start.index number (step ∷ []) b k → ⊥) }
-    ensures end { IfSome result (λ end. WalksWithin net.now start.index number (step ∷ []) end.0.index end.1) }
+    ensures none { IfNone result ((b k : ℕ) → WalksWithin net.now start.index number (step ∷ []) b k
+        → ⊥) }
+    ensures end { IfSome result (λ end. WalksWithin net.now start.index number (step ∷ [])
+        end.0.index end.1) }
 {
     let places = net.places();
     let (end, to) = match step {
@@ -52,8 +54,8 @@ fn step_end(net: &Net, start: TransitionId, number: u64, step: Step) -> Option<(
     Some((end, to))
 }
 
-/// The firing to which the steps lead; none where they do not follow each other from this firing on,
-/// or pass the greatest number.
+// The firing to which the steps lead; none where they do not follow each other from this firing on,
+// or pass the greatest number.
 fn steps_end(
     net: &Net,
     start: TransitionId,
@@ -61,8 +63,10 @@ fn steps_end(
     steps: &[Step],
 ) -> Option<(TransitionId, u64)>
     requires { number ≤ greatest_number }
-    ensures none { IfNone result ((b k : ℕ) → WalksWithin net.now start.index number steps.now b k → ⊥) }
-    ensures end { IfSome result (λ end. WalksWithin net.now start.index number steps.now end.0.index end.1) }
+    ensures none { IfNone result ((b k : ℕ) → WalksWithin net.now start.index number steps.now b k
+        → ⊥) }
+    ensures end { IfSome result (λ end. WalksWithin net.now start.index number steps.now end.0.index
+        end.1) }
 {
     let mut at = start;
     let mut count = number;
@@ -72,7 +76,7 @@ fn steps_end(
     Some((at, count))
 }
 
-/// Whether this is a firing of the net, with a number from 1 to the greatest one.
+// Whether this is a firing of the net, with a number from 1 to the greatest one.
 fn is_firing(net: &Net, transition: TransitionId, number: u64) -> bool
     ensures { IsTrue result ↔ IsFiring net.now transition.index number }
 {
@@ -90,7 +94,7 @@ pub fn is_walk(net: &Net, walk: &Walk) -> bool
         && steps_end(net, walk.start, walk.number, &walk.steps).is_some()
 }
 
-/// The holding time that the step takes.
+// The holding time that the step takes.
 fn step_time(net: &Net, step: Step) -> u128
     requires { IsStepOf net.now step }
     ensures value { result ≡ step_time net.now step }

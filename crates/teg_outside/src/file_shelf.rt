@@ -39,8 +39,10 @@ impl<'a, R: Files> FileShelf<'a, R> {
 // the answer is all of them, or they are more than the limit.
 fn read_up_to<F: Read>(alloc: Global, file: &mut F, limit: usize) -> Result<Vec<u8>, ShelfFault>
     ensures within { IfOk result (λ bytes. vec_len bytes ≤ limit) }
-    ensures whole { IfOk result (λ bytes. IfSome (F.remaining file.old) (λ left. bytes.items ≡ left)) }
-    ensures long { result ≡ Err TooLarge → IfSome (F.remaining file.old) (λ left. limit < length left) }
+    ensures whole { IfOk result (λ bytes. IfSome (F.remaining file.old)
+        (λ left. bytes.items ≡ left)) }
+    ensures long { result ≡ Err TooLarge → IfSome (F.remaining file.old)
+        (λ left. limit < length left) }
 {
     let mut bytes = Vec::new(alloc);
     let mut piece = [0u8; PIECE];
@@ -78,11 +80,16 @@ impl<R: Files> Shelf for FileShelf<'_, R> {
     /// The whole file of that name in the runtime. An error of std answers Failed. Failed and
     /// TooLarge raise their own count by one, and nothing else raises a count.
     fn read(&mut self, alloc: Global, name: &str, limit: usize) -> Result<Vec<u8>, ShelfFault>
-        ensures files { (counted self.new.faults self.new.overlong).files ≡ (counted self.old.faults self.old.overlong).files }
-        ensures faults { (counted self.old.faults self.old.overlong).faults ≤ (counted self.new.faults self.new.overlong).faults }
-        ensures overlong { (counted self.old.faults self.old.overlong).overlong ≤ (counted self.new.faults self.new.overlong).overlong }
-        ensures answer { ReadAnswers (counted self.old.faults self.old.overlong) (counted self.new.faults self.new.overlong) name.now limit (replied result) }
-        ensures counts { CountsFault (counted self.old.faults self.old.overlong) (counted self.new.faults self.new.overlong) (replied result) }
+        ensures files { (counted self.new.faults self.new.overlong).files
+            ≡ (counted self.old.faults self.old.overlong).files }
+        ensures faults { (counted self.old.faults self.old.overlong).faults ≤
+            (counted self.new.faults self.new.overlong).faults }
+        ensures overlong { (counted self.old.faults self.old.overlong).overlong ≤
+            (counted self.new.faults self.new.overlong).overlong }
+        ensures answer { ReadAnswers (counted self.old.faults self.old.overlong)
+            (counted self.new.faults self.new.overlong) name.now limit (replied result) }
+        ensures counts { CountsFault (counted self.old.faults self.old.overlong)
+            (counted self.new.faults self.new.overlong) (replied result) }
     {
         let answer = read_file(self.rt, alloc, name, limit);
         match &answer {

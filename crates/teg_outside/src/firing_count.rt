@@ -16,7 +16,8 @@ pub struct FiringCount {
 impl FiringCount {
     /// No firing seen. No memory is taken.
     pub fn new() -> Self
-        ensures { (firings : List Firing) → ⟦<FiringCount as Monitor>⟧.line_text result firings ≡ count_line (min (length firings) (2 ^ 64 - 1)) }
+        ensures { (firings : List Firing) → ⟦<FiringCount as Monitor>⟧.line_text result firings
+            ≡ count_line (min (length firings) (2 ^ 64 - 1)) }
     {
         FiringCount { count: 0 }
     }

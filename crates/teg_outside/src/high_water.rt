@@ -16,7 +16,8 @@ pub struct HighWater {
 impl HighWater {
     /// No firing seen. No memory is taken.
     pub fn new() -> Self
-        ensures { (firings : List Firing) → ⟦<HighWater as Monitor>⟧.line_text result firings ≡ high_water_line (greatest_tokens firings) }
+        ensures { (firings : List Firing) → ⟦<HighWater as Monitor>⟧.line_text result firings
+            ≡ high_water_line (greatest_tokens firings) }
     {
         HighWater { most: 0 }
     }

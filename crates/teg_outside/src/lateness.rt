@@ -17,7 +17,8 @@ pub struct Lateness {
 impl Lateness {
     /// No firing seen. No memory is taken.
     pub fn new() -> Self
-        ensures { (firings : List Firing) → ⟦<Lateness as Monitor>⟧.line_text result firings ≡ lateness_line (greatest_lateness firings) }
+        ensures { (firings : List Firing) → ⟦<Lateness as Monitor>⟧.line_text result firings
+            ≡ lateness_line (greatest_lateness firings) }
     {
         Lateness { most: 0 }
     }

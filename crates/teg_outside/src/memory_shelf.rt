@@ -81,7 +81,8 @@ impl Shelf for MemoryShelf {
         ensures files { (shelf_told self.new).files ≡ (shelf_told self.old).files }
         ensures faults { (shelf_told self.old).faults ≤ (shelf_told self.new).faults }
         ensures overlong { (shelf_told self.old).overlong ≤ (shelf_told self.new).overlong }
-        ensures answer { ReadAnswers (shelf_told self.old) (shelf_told self.new) name.now limit (replied result) }
+        ensures answer { ReadAnswers (shelf_told self.old) (shelf_told self.new) name.now limit
+            (replied result) }
         ensures rule { MemoryReads self.old self.new name.now limit (replied result) }
     {
         self.calls = self.calls.saturating_add(1);

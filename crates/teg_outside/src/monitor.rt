@@ -44,7 +44,8 @@ pub trait Monitor: Drop {
     /// Sees one more firing: what it would print after further ones is what it would have printed
     /// before after this one and those.
     fn see(&mut self, firing: Firing)
-        ensures { (more : List Firing) → line_text self.new more ≡ line_text self.old (firing ∷ more) };
+        ensures { (more : List Firing) → line_text self.new more
+            ≡ line_text self.old (firing ∷ more) };
 
     /// The text that it prints now, which has no line feed. OutOfMemory is free.
     fn line(&self, alloc: Global) -> Result<String, OutOfMemory>

@@ -52,5 +52,6 @@ pub trait Shelf {
         ensures files { (state self.new).files ≡ (state self.old).files }
         ensures faults { (state self.old).faults ≤ (state self.new).faults }
         ensures overlong { (state self.old).overlong ≤ (state self.new).overlong }
-        ensures answer { ReadAnswers (state self.old) (state self.new) name.now limit (replied result) };
+        ensures answer { ReadAnswers (state self.old) (state self.new) name.now limit
+            (replied result) };
 }

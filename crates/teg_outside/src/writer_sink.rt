@@ -30,8 +30,10 @@ impl<W: Write> WriterSink<W> {
 // may still have taken a first part of the piece.
 fn write_and_flush<W: Write>(inner: &mut W, piece: &[u8]) -> Option<usize>
     ensures within { IfSome result (λ n. (0 < n) × (n ≤ length piece.now)) }
-    ensures taken { IfSome result (λ n. Appends (W.contents inner.old) (W.contents inner.new) (take n piece.now)) }
-    ensures part { IsNone result → AppendsPrefix (W.contents inner.old) (W.contents inner.new) piece.now }
+    ensures taken { IfSome result (λ n. Appends (W.contents inner.old) (W.contents inner.new)
+        (take n piece.now)) }
+    ensures part { IsNone result → AppendsPrefix (W.contents inner.old) (W.contents inner.new)
+        piece.now }
 {
     let written = match inner.write(piece) {
         Ok(count) => count,
@@ -53,9 +55,11 @@ impl<W: Write> Sink for WriterSink<W> {
     fn write(&mut self, piece: &[u8]) -> Result<usize, SinkFault>
         ensures faults { self.old.faults ≤ self.new.faults }
         ensures answer { WriteAnswers (record { bytes = None; faults = self.old.faults }) (record { bytes = None; faults = self.new.faults }) piece.now result }
-        ensures taken { IfOk result (λ n. Appends (W.contents self.old.inner) (W.contents self.new.inner) (take n piece.now)) }
+        ensures taken { IfOk result (λ n. Appends (W.contents self.old.inner)
+            (W.contents self.new.inner) (take n piece.now)) }
         ensures counts { OnErr result (self.new.faults ≡ one_more self.old.faults) }
-        ensures part { OnErr result (AppendsPrefix (W.contents self.old.inner) (W.contents self.new.inner) piece.now) }
+        ensures part { OnErr result (AppendsPrefix (W.contents self.old.inner)
+            (W.contents self.new.inner) piece.now) }
     {
         if piece.is_empty() {
             return Ok(0);

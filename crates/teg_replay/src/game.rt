@@ -35,7 +35,7 @@ impl Model for Game {
     ghost view = { λ g. record { run = g.history.run; width = g.history.width; ends = g.ends; tokens = g.tokens } };
 }
 
-/// The initial tokens in all places.
+// The initial tokens in all places.
 fn initial_tokens(net: &Net) -> u64
     ensures { result ≡ tokens_after net.now [] }
 {
@@ -68,12 +68,13 @@ impl Game {
         self.history.run()
     }
 
-    /// Appends a firing that may follow the run, or changes nothing.
+    // Appends a firing that may follow the run, or changes nothing.
     fn accept(&mut self, net: &Net, fired: Fired, earliest: u64) -> Result<Firing, FireRefusal>
         requires stands { IsGameOf net.now self.old }
         requires few { length self.old.run < 2 ^ 40 }
         requires legal { IsLegalAfter net.now self.old.run fired }
-        requires earliest { IsEarliest net.now self.old.run fired.transition.index (next_number self.old.run fired.transition.index) earliest }
+        requires earliest { IsEarliest net.now self.old.run fired.transition.index
+            (next_number self.old.run fired.transition.index) earliest }
         ensures appended { IfOk result (λ _. self.new.run ≡ self.old.run ++ fired ∷ []) }
         ensures told { IfOk result (λ firing. IsFiringOf net.now self.old.run fired firing) }
         ensures memory { IfErr result (λ why. IsRightRefusal net.now self.old.run fired why) }

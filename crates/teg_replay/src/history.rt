@@ -9,7 +9,7 @@ use std::alloc::{AllocError, Global};
 use std::marker::Model;
 use teg_net::TransitionId;
 
-/// A run over a number of transitions. Contracts see that number and the run.
+// A run over a number of transitions. Contracts see that number and the run.
 #[derive(Debug, Drop)]
 pub(crate) struct History {
     run: Vec<Fired>,
@@ -27,7 +27,7 @@ impl Model for History {
     ghost invariant = { λ h. AreColumns h.run.items h.columns.items };
 }
 
-/// So many columns without dates.
+// So many columns without dates.
 fn empty_columns(alloc: Global, width: usize) -> Result<Vec<Column>, AllocError>
     ensures { IfOk result (λ columns. columns.items ≡ replicate width []) }
 {
@@ -39,7 +39,7 @@ fn empty_columns(alloc: Global, width: usize) -> Result<Vec<Column>, AllocError>
 }
 
 impl History {
-    /// No firing yet.
+    // No firing yet.
     pub(crate) fn new(alloc: Global, width: usize) -> Result<History, AllocError>
         ensures { IfOk result (λ history. history ≡ record { width = width; run = [] }) }
     {
@@ -50,14 +50,14 @@ impl History {
         })
     }
 
-    /// The run.
+    // The run.
     pub(crate) fn run(&self) -> &[Fired]
         ensures { result.now ≡ self.now.run }
     {
         &self.run
     }
 
-    /// The dates of the firings of the transition, in order.
+    // The dates of the firings of the transition, in order.
     pub(crate) fn dates_of(&self, transition: TransitionId) -> &[u64]
         requires { transition.index < self.now.width }
         ensures { result.now ≡ dates_of self.now.run transition.index }
@@ -65,7 +65,7 @@ impl History {
         self.columns[transition.index as usize].as_slice()
     }
 
-    /// The date of the last firing.
+    // The date of the last firing.
     pub(crate) fn last_date(&self) -> Option<u64>
         ensures { result ≡ last_date self.now.run }
     {
@@ -73,10 +73,11 @@ impl History {
         Some(last.date)
     }
 
-    /// Appends a firing. It makes all its growths first, so that it changes nothing where one is refused.
+    // Appends a firing. It makes all its growths first, so that it changes nothing where one is refused.
     pub(crate) fn push(&mut self, fired: Fired) -> Result<(), AllocError>
         requires { fired.transition.index < self.old.width }
-        ensures { self.new ≡ (if is_ok result then record self.old { run = self.old.run ++ fired ∷ [] } else self.old) }
+        ensures { self.new ≡ (if is_ok result then record self.old
+            { run = self.old.run ++ fired ∷ [] } else self.old) }
     {
         self.run.reserve(1)?;
         self.columns[fired.transition.index as usize].push(fired.date)?;

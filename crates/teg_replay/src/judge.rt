@@ -12,8 +12,8 @@ use crate::waits::{date_before, in_order, next_number, released, tokens_there};
 use run_laws::Fired;
 use teg_net::Net;
 
-/// The earliest date that the firing could have had, where it may follow the run; and else the first
-/// way in which it fails.
+// The earliest date that the firing could have had, where it may follow the run; and else the first
+// way in which it fails.
 pub(crate) fn judge(
     history: &History,
     ends: &EndLists,
@@ -25,7 +25,8 @@ pub(crate) fn judge(
     requires transition { fired.transition.index < length net.now.transitions }
     requires few { length history.now.run < 2 ^ 40 }
     ensures legal { IfOk result (λ _. IsLegalAfter net.now history.now.run fired) }
-    ensures earliest { IfOk result (λ date. IsEarliest net.now history.now.run fired.transition.index (next_number history.now.run fired.transition.index) date) }
+    ensures earliest { IfOk result (λ date. IsEarliest net.now history.now.run
+        fired.transition.index (next_number history.now.run fired.transition.index) date) }
     ensures fails { IfErr result (λ why. Fails net.now history.now.run fired why) }
 {
     let number = next_number(history, fired.transition);

@@ -14,7 +14,7 @@ use teg_due::LogRow;
 use teg_net::{Net, OutOfMemory};
 use teg_outside::Monitor;
 
-/// The answer where a row is refused.
+// The answer where a row is refused.
 fn refused(row: &LogRow, accepted: u64, why: FireRefusal) -> Result<Replayed, OutOfMemory>
     ensures told { IfOk result (λ replayed. replayed ≡ record { accepted = accepted; refused = Some (record { row = row.now.row; why = why }) }) }
     ensures failed { IfOk result (λ _. IsFailure why) }
@@ -44,8 +44,10 @@ pub fn replay(
     requires few { length log.now < 2 ^ 40 }
     requires rows { IsLogOf net.now log.now }
 
-    ensures replayed { Replays net.now log.now (λ firings. map (λ m. line_text m firings) monitors.old) (λ firings. map (λ m. line_text m firings) monitors.new) result }
-    ensures named { IfOk result (λ replayed. IfSome replayed.refused (λ refused. NamesPlaceOf net.now refused.why)) }
+    ensures replayed { Replays net.now log.now (λ firings. map (λ m. line_text m firings)
+        monitors.old) (λ firings. map (λ m. line_text m firings) monitors.new) result }
+    ensures named { IfOk result (λ replayed. IfSome replayed.refused
+        (λ refused. NamesPlaceOf net.now refused.why)) }
     ensures legal { IfOk result (λ replayed. AcceptsLegalRuns net.now log.now replayed) }
     ensures earliest { IfOk result (λ replayed. AcceptsEarliestRuns net.now log.now replayed) }
 {

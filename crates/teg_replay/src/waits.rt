@@ -14,7 +14,7 @@ use crate::refusal::FireRefusal;
 use run_laws::Fired;
 use teg_net::{Net, PlaceId, Role, TransitionId};
 
-/// The number that the next firing of the transition has.
+// The number that the next firing of the transition has.
 pub(crate) fn next_number(history: &History, transition: TransitionId) -> u64
     requires transition { transition.index < history.now.width }
     requires few { length history.now.run < 2 ^ 40 }
@@ -24,7 +24,7 @@ pub(crate) fn next_number(history: &History, transition: TransitionId) -> u64
     history.dates_of(transition).len() as u64 + 1
 }
 
-/// The date of the transition's last firing, and 0 where there is none.
+// The date of the transition's last firing, and 0 where there is none.
 pub(crate) fn date_before(history: &History, transition: TransitionId) -> u64
     requires { transition.index < history.now.width }
     ensures { result ≡ last_of (dates_of history.now.run transition.index) }
@@ -35,8 +35,8 @@ pub(crate) fn date_before(history: &History, transition: TransitionId) -> u64
     }
 }
 
-/// The date from which the place has its token for the firing of this number; none where the firing
-/// that brings it is missing.
+// The date from which the place has its token for the firing of this number; none where the firing
+// that brings it is missing.
 fn token_date(history: &History, net: &Net, id: PlaceId, number: u64) -> Option<u128>
     requires width { history.now.width ≡ length net.now.transitions }
     requires place { id.index < length net.now.places }
@@ -54,8 +54,8 @@ fn token_date(history: &History, net: &Net, id: PlaceId, number: u64) -> Option<
     }
 }
 
-/// The date from which all places into the transition have their tokens for its next firing.
-/// `Illegal` comes exactly where that of one of them is not there by the date of the firing.
+// The date from which all places into the transition have their tokens for its next firing.
+// `Illegal` comes exactly where that of one of them is not there by the date of the firing.
 pub(crate) fn tokens_there(
     history: &History,
     net: &Net,
@@ -66,8 +66,10 @@ pub(crate) fn tokens_there(
     requires transition { fired.transition.index < length net.now.transitions }
     requires into { AreInto net.now fired.transition.index into.now }
     requires few { length history.now.run < 2 ^ 40 }
-    ensures latest { IfOk result (λ date. IsLatestToken net.now history.now.run fired.transition.index (next_number history.now.run fired.transition.index) date) }
-    ensures tokens { IfOk result (λ _. HasTokensBy net.now history.now.run fired.transition.index (next_number history.now.run fired.transition.index) fired.date) }
+    ensures latest { IfOk result (λ date. IsLatestToken net.now history.now.run
+        fired.transition.index (next_number history.now.run fired.transition.index) date) }
+    ensures tokens { IfOk result (λ _. HasTokensBy net.now history.now.run fired.transition.index
+        (next_number history.now.run fired.transition.index) fired.date) }
     ensures fails { IfErr result (λ why. Fails net.now history.now.run fired why) }
 {
     let number = next_number(history, fired.transition);
@@ -94,7 +96,7 @@ pub(crate) fn tokens_there(
     Ok(latest)
 }
 
-/// Nothing, where the firing is not before the last one.
+// Nothing, where the firing is not before the last one.
 pub(crate) fn in_order(history: &History, fired: Fired) -> Result<(), FireRefusal>
     ensures in_order { IfOk result (λ _. IsNotBefore (last_date history.now.run) fired.date) }
     ensures fails { IfErr result (λ why. IsBackTo history.now.run fired why) }
@@ -105,7 +107,7 @@ pub(crate) fn in_order(history: &History, fired: Fired) -> Result<(), FireRefusa
     }
 }
 
-/// The date before which this firing of the input transition is not released; none is never.
+// The date before which this firing of the input transition is not released; none is never.
 fn release_date(ends: &EndLists, net: &Net, transition: TransitionId, number: u64) -> Option<u128>
     requires ends { AreEnds net.now ends.now }
     requires transition { transition.index < length net.now.transitions }
@@ -118,8 +120,8 @@ fn release_date(ends: &EndLists, net: &Net, transition: TransitionId, number: u6
     }
 }
 
-/// The date by which the transition's next firing is released, 0 where it waits for no release.
-/// `BeforeRelease` comes exactly where the input has a later date than that of the firing, or none.
+// The date by which the transition's next firing is released, 0 where it waits for no release.
+// `BeforeRelease` comes exactly where the input has a later date than that of the firing, or none.
 pub(crate) fn released(
     ends: &EndLists,
     net: &Net,
@@ -129,8 +131,10 @@ pub(crate) fn released(
     requires ends { AreEnds net.now ends.now }
     requires transition { fired.transition.index < length net.now.transitions }
     requires first { 1 ≤ number }
-    ensures latest { IfOk result (λ date. IsLatestRelease net.now fired.transition.index number date) }
-    ensures released { IfOk result (λ _. IsReleasedBy net.now fired.transition.index number fired.date) }
+    ensures latest { IfOk result (λ date. IsLatestRelease net.now fired.transition.index number
+        date) }
+    ensures released { IfOk result (λ _. IsReleasedBy net.now fired.transition.index number
+        fired.date) }
     ensures fails { IfErr result (λ why. IsUnreleased net.now fired number why) }
 {
     match net.transitions()[fired.transition.index as usize].role {
