@@ -392,8 +392,8 @@ def settled_cases():
     yield "date: overtaken after 19,990", ["date", "net", "c", "1000000"], {"net": late.text()}, DONE, "date c 1000000 10999989\n"
     yield ("date: overtaken after 199,000", ["date", "net", "c", "1000000", "--limit", "200000"],
            {"net": overtaken(0, 199_000, 40, 200).text()}, DONE, "date c 1000000 10999989\n")
-    yield ("transfer: 20 inputs overtaken after 990", ["transfer", "net"], {"net": overtaken(20, 990).text()}, DONE,
-           partial(overtaken_times, 20, 990))
+    yield overtaken_inputs(20, 990)
+    yield overtaken_inputs(200, 990)
     for tokens, bound in ([101, 103], 6_207_001), ([991, 997], 7_995_001):
         yield (f"bound: own places of {tokens[0]} and {tokens[1]} tokens", ["bound", "net"], {"net": joined_own_places(tokens).text()},
                DONE, f"bound {bound}\nsettled after 0 period {tokens[0] * tokens[1]}\n")
@@ -423,7 +423,8 @@ def chain_text(inputs):
 def rows_cases():
     """Files of rows."""
     yield late_ring(50)
-    yield late_ring(20, limited=False)
+    yield late_ring(200)
+    yield late_ring(50, limited=False)
     line, due = machines(400), "".join(f"m399,{k},{10**10 + 1000 * k}\n" for k in range(1, 10_001))
     yield "jit: 400 machines", ["jit", "net", "rows"], {"net": line.text(), "rows": due}, DONE, partial(plan_text, 400, 10_000)
     yield ("jit: a random net", ["jit", "net", "rows"],
@@ -450,10 +451,10 @@ def wide_replay(firings):
             f"replayed {firings} firings\nfirings {firings}\nhigh water 4000\ngreatest lateness 0\n")
 
 
-def dear_transfers():
-    for inputs, lead in (200, 990), (20, 9_900), (200, 9_900):
-        yield (f"transfer: {inputs} inputs overtaken after {lead:,}", ["transfer", "net"], {"net": overtaken(inputs, lead).text()},
-               DONE, partial(overtaken_times, inputs, lead))
+def overtaken_inputs(inputs, lead):
+    """Times of walks from inputs, which settle late."""
+    return (f"transfer: {inputs} inputs overtaken after {lead:,}", ["transfer", "net"], {"net": overtaken(inputs, lead).text()}, DONE,
+            partial(overtaken_times, inputs, lead))
 
 
 def answered_cases():
@@ -466,9 +467,8 @@ def answered_cases():
 
 def dear_cases():
     """What is known to take longer."""
-    yield from dear_transfers()
-    yield late_ring(200)
-    yield late_ring(50, limited=False)
+    yield overtaken_inputs(20, 9_900)
+    yield overtaken_inputs(200, 9_900)
     yield from dear_series()
     yield ("forever: 100 inputs and 209 rows of 10,000 dates behind a long chain", ["forever", "net", "rows"],
            {"net": long_chain(100, 209).text(), "rows": chain_rows(209)}, DONE, partial(chain_text, 100))
