@@ -131,7 +131,9 @@ def first_comment(path):
 def cited_proofs():
     """The modules of proofs/ that other crates cite, crate by crate."""
     cited = {}
-    for path in sorted(it for kind in ("antt", "rt") for it in TOP.glob(f"crates/*/*/**/*.{kind}")):
+    # (out/ may hold what was proved of earlier sources)
+    own = (it for part in ("src", "specs", "proofs") for kind in ("antt", "rt") for it in TOP.glob(f"crates/*/{part}/**/*.{kind}"))
+    for path in sorted(own):
         own = path.relative_to(TOP).parts[1]
         for crate, module in re.findall(r"use Rattle\.(\w+)\.proofs\.(\w+)\.", path.read_text()):
             if crate != own and (TOP / f"crates/{crate}/proofs/{module}.antt").is_file():
