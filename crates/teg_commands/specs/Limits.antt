@@ -10,9 +10,9 @@ abbrev pub most_machines : ℕ
 most_machines = 400
 
 -- the time of a target ratio, at most
-abbrev pub greatest_time : ℕ
-greatest_time = 1000000000000
+abbrev pub greatest_target_time : ℕ
+greatest_target_time = 1000000000000
 
 -- the tokens of a target ratio, at most
-abbrev pub most_tokens : ℕ
-most_tokens = 1000000
+abbrev pub most_target_tokens : ℕ
+most_target_tokens = 1000000

@@ -1,6 +1,6 @@
 //! The numbers that commands take, each a type with its bounds.
 ghost use Rattle.std.specs.Prelude.{◌≡◌, ◌≤◌, IfSome};
-ghost use Rattle.teg_commands.specs.Limits.{greatest_time, most_machines, most_tokens};
+ghost use Rattle.teg_commands.specs.Limits.{greatest_target_time, most_machines, most_target_tokens};
 ghost use Rattle.teg_dates.specs.Tables.{most_numbers};
 ghost use Rattle.teg_net.specs.Limits.{greatest_number};
 ghost use Rattle.teg_settle.specs.Refusals.{greatest_limit};
@@ -209,21 +209,21 @@ pub struct Target {
 
 impl Model for Target {
     ghost use Rattle.std.specs.Prelude.{ℕ, ◌≤◌};
-    ghost use Rattle.teg_commands.specs.Limits.{greatest_time, most_tokens};
+    ghost use Rattle.teg_commands.specs.Limits.{greatest_target_time, most_target_tokens};
 
     ghost Value = { ℕ × ℕ };
 
     ghost view = { λ r. (r.time, r.tokens) };
 
-    ghost invariant = { λ r. (r.time ≤ greatest_time) × (1 ≤ r.tokens) × (r.tokens ≤ most_tokens) };
+    ghost invariant = { λ r. (r.time ≤ greatest_target_time) × (1 ≤ r.tokens) × (r.tokens ≤ most_target_tokens) };
 }
 
 impl Target {
     /// This time to these tokens.
     pub fn new(time: u64, tokens: u64) -> Target
-        requires time { time ≤ greatest_time }
+        requires time { time ≤ greatest_target_time }
         requires some { 1 ≤ tokens }
-        requires few { tokens ≤ most_tokens }
+        requires few { tokens ≤ most_target_tokens }
         ensures { result ≡ (time, tokens) }
     {
         Target { time, tokens }
@@ -232,7 +232,7 @@ impl Target {
     /// The time.
     pub fn time(&self) -> u64
         ensures value { result ≡ self.now.0 }
-        ensures few { result ≤ greatest_time }
+        ensures few { result ≤ greatest_target_time }
     {
         self.time
     }
@@ -241,7 +241,7 @@ impl Target {
     pub fn tokens(&self) -> u64
         ensures value { result ≡ self.now.1 }
         ensures some { 1 ≤ result }
-        ensures few { result ≤ most_tokens }
+        ensures few { result ≤ most_target_tokens }
     {
         self.tokens
     }

@@ -32,11 +32,6 @@ pub after_net : (reply : Result (List ℕ) ShelfFault) (net : NetLists) (replies
 after_net reply net [] h = tt
 after_net reply net (next ∷ replies) h = (net, h)
 
--- after the last file nothing is read
-pub after_last : (which : Which) (reply : Result (List ℕ) ShelfFault) (mid new : ShelfState) (replies : List (Result (List ℕ) ShelfFault)) → ReadsAll mid new [] replies → GoesOn which reply replies
-after_last which reply mid new [] h = tt
-after_last which reply mid new (next ∷ replies) h = absurd h
-
 -- the first file is accepted, and the ending goes on with it
 pub accepted_at : {A : Type 0} (opens : Result (List ℕ) ShelfFault → Opening A → Type 0) (goes_on : A → List (Result (List ℕ) ShelfFault) → Status → List ℕ → Type 0)
     (which : Which) (name : List ℕ) (file : A) (files : List (Which × List ℕ)) (old mid new : ShelfState) (ending : Ending) →

@@ -8,7 +8,7 @@ use Rattle.teg_settle.specs.Refusals.{greatest_limit}
 use Rattle.teg_timetable.specs.Spreads.{greatest_period}
 use Rattle.teg_words.specs.Numbers.{number_of}
 use Rattle.teg_words.specs.Words.{Given, given_of}
-use Rattle.teg_commands.specs.Limits.{greatest_time, most_expression, most_machines, most_tokens}
+use Rattle.teg_commands.specs.Limits.{greatest_target_time, most_expression, most_machines, most_target_tokens}
 use Rattle.teg_run.specs.declared.request.NetCommand.{NetCommand}
 use Rattle.teg_run.specs.declared.request.NetCommand.TheVariants.{Check as CheckNet, List as ListNet, Form as FormNet, Cycle as CycleNet, Slack as SlackNet, Dates as DatesNet, Date as DateNet, Transfer as TransferNet, Migrate as MigrateNet, Size as SizeNet, Bound as BoundNet}
 use Rattle.teg_run.specs.declared.request.FileCommand.{FileCommand}
@@ -68,8 +68,8 @@ is_slash byte = byte == 47
 -- the time and the tokens of a target ratio: a number, `/`, and a number from 1 on
 abbrev pub target_asked : List ℕ → Option (ℕ × ℕ)
 target_asked word =
-    option_and_then (λ time. option_map (λ tokens. (time, tokens)) (number_of 1 most_tokens (after_first is_slash word)))
-    (number_of 0 greatest_time (before_first is_slash word))
+    option_and_then (λ time. option_map (λ tokens. (time, tokens)) (number_of 1 most_target_tokens (after_first is_slash word)))
+    (number_of 0 greatest_target_time (before_first is_slash word))
 
 -- `size NET PLACE A/B`
 abbrev pub size_asked : List (List ℕ) → Option (List ℕ) → Bool → Option Request
