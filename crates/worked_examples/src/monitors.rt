@@ -1,5 +1,5 @@
 //! Monitors that are handed in: each is dropped once, whatever the words, and sees nothing of a
-//! command without firings.
+//! command without firings; and those that are handed back have seen what a replay accepted.
 ghost use Rattle.std.specs.Prelude.{codes};
 
 use crate::bench::{call, shelf_of, sink_of};
@@ -8,7 +8,8 @@ use std::alloc::Global;
 use std::cell::Cell;
 use std::rc::Rc;
 use std::test::Fail;
-use teg_outside::{Firing, Monitor, OutOfMemory};
+use teg_outside::{Firing, FiringCount, Monitor, OutOfMemory};
+use teg_run::{Status, serve};
 
 // Adds to the shared count 1 when it is dropped, and 1,000 for each firing that it sees.
 struct Counter {
@@ -74,6 +75,26 @@ fn counted(alloc: Global, words: &[&str]) -> Result<u32, Fail> {
 fn monitors_are_dropped_once_and_see_nothing(rt: HostRuntime) -> Result<(), Fail> {
     for words in COMMANDS {
         assert!(rt; counted(rt.alloc(), words)? == 1, "{words:?}");
+    }
+    Ok(())
+}
+
+#[test]
+fn monitors_come_back(rt: HostRuntime) -> Result<(), Fail> {
+    let alloc = rt.alloc();
+    let mut words = Vec::new(alloc);
+    for word in ["replay", "net", "second"] {
+        words.push(String::from_str(alloc, word)?)?;
+    }
+    let mut monitors: Vec<Box<dyn Monitor>> = Vec::new(alloc);
+    monitors.push(Box::new(alloc, FiringCount::new())?)?;
+    let mut shelf = shelf_of(alloc, LOOP.as_bytes(), b"a,0\nb,3\na,4\n", &[])?;
+    let mut out = sink_of(alloc, 65536)?;
+    let (status, back) = serve(alloc, &words, &mut shelf, &mut out, monitors);
+    assert!(rt; status == Status::Log, "the third firing comes too early");
+    assert!(rt; back.len() == 1);
+    for monitor in &back {
+        assert!(rt; monitor.line(alloc)?.as_str() == "firings 2");
     }
     Ok(())
 }
