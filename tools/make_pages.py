@@ -163,8 +163,13 @@ def calls_of(crate):
     """The public functions of a crate, as they stand in its sources."""
     names, found = exported(crate), []
     for path in sorted((TOP / f"crates/{crate}/src").glob("**/*.rt")):
-        said, kind, is_trait, call = [], "", False, None
+        said, kind, is_trait, call, depth = [], "", False, None, 0
         for line in path.read_text().splitlines():
+            # (a clause may go on in further lines)
+            if depth > 0:
+                depth += line.count("{") - line.count("}")
+                call = None if depth == 0 and line.endswith(";") else call
+                continue
             block = re.match(r"(impl|pub trait)\b(?:<[^{]*?>)? *(?:\w+(?:<.*?>)? for )?&?(\w+)", line)
             if block:
                 kind, is_trait = block[2], block[1] == "pub trait"
@@ -178,9 +183,15 @@ def calls_of(crate):
             clause = re.match(r" +ensures (\w+) \{", line)
             if call and clause:
                 call.clauses.append(clause[1])
+            if call and re.match(r" +(ensures|requires)\b", line):
+                depth = line.count("{") - line.count("}")
+                call = None if depth == 0 and line.endswith(";") else call
+                continue
             if line.strip() in ("{", "{}") or line.endswith((" {", ";")) and not clause:
                 call = None
             doc = re.match(r" *///(.*)", line)
+            if doc and re.match(r" *\[.*\]: ", doc[1]):
+                continue
             said = said + [doc[1].strip()] if doc else said if line.strip().startswith("#[") else []
     return found
 
