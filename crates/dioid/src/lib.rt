@@ -5,7 +5,7 @@
 //! its operands fit, says so exactly where they do not, and the model obeys the laws of a dioid, of
 //! its star (least solutions) and of its residual (greatest solutions). Beside the traits it has the
 //! calls on dates that need no memory, and the one order of dates. It stands on nothing but std.
-//! Its examples stand in `base_examples`.
+//! Its examples stand in `library_examples`.
 #![tactic(auto)]
 
 mod algebra;

@@ -1,6 +1,6 @@
 -- One more step of a sum of products.
-use Rattle.std.proofs.Common.{◌≡◌, ℕ, ◌<◌, ◌≤◌, ◌*◌, ◌+◌, ap, sym, ◌∙◌, arith, subst, add-one, ⊎_elim, ◌-◌, ◌/◌, ◌%◌, List, [], ◌∷◌, ◌++◌, get_or, length-append, below_more, mul_comm}
-use Rattle.std.proofs.lemmas.List.{get_or_append_left, get_or-append_right, get_or_past}
+use Rattle.std.proofs.Common.{◌≡◌, ℕ, ◌<◌, ◌≤◌, ◌*◌, ◌+◌, ap, sym, ◌∙◌, arith, subst, add-one, ⊎_elim, ◌-◌, ◌/◌, ◌%◌, List, [], ◌∷◌, ◌++◌, get_or, length-append, below_more, below_none, refl, mul_comm, length}
+use Rattle.std.proofs.lemmas.List.{get_or_append_left, get_or-append_right, get_or_past, get_or_read}
 use Rattle.std.proofs.lemmas.Bool.{cases_lt}
 use Rattle.std.proofs.Math.Nat.{mul-le-mul_right}
 use Rattle.dioid.specs.declared.algebra.Dioid.{Ghosts as DioidOf}
@@ -8,16 +8,37 @@ use Rattle.dioid_matrix.specs.Lists.{HoldsEach}
 use Rattle.dioid_matrix.specs.Products.{StepFits}
 use Rattle.dioid_matrix.specs.Sums.{dot}
 use Rattle.dioid_matrix.specs.Tables.{AreElements}
+use Rattle.dioid_matrix.specs.Turns.{WayFits}
 
 module _ {M : Type 0} (d : DioidOf M) (a b : ℕ → M) where
-  pub dot_more : (k : ℕ) (before x y p after : M) → before ≡ dot d k a b → x ≡ a k → y ≡ b k → p ≡ d.product x y → after ≡ d.sum before p → after ≡ dot d (k + 1) a b
-  dot_more k before x y p after hb hx hy hp ha = rw add-one (ha ∙ ap (λ z. d.sum z p) hb ∙ ap (d.sum (dot d k a b)) (hp ∙ ap (λ z. d.product z y) hx ∙ ap (d.product (a k)) hy))
+  pub dot_more : (k : ℕ) (before x y after : M) → before ≡ dot d k a b → x ≡ a k → y ≡ b k → after ≡ d.sum before (d.product x y) → after ≡ dot d (k + 1) a b
+  dot_more k before x y after hb hx hy ha = rw add-one (rw (hb, hx, hy) at ha)
 
-  pub step_fits : (k : ℕ) (before x y p : M) → before ≡ dot d k a b → x ≡ a k → y ≡ b k → p ≡ d.product x y → d.product_fits x y → d.sum_fits before p → StepFits d a b k
-  step_fits k before x y p hb hx hy hp fits fit =
-      let xy : d.product_fits (a k) (b k) = subst (λ (z : M). d.product_fits z (b k)) hx (subst (λ (z : M). d.product_fits x z) hy fits) in
-      let pp : p ≡ d.product (a k) (b k) = hp ∙ ap (λ z. d.product z y) hx ∙ ap (d.product (a k)) hy in
-      (xy, λ _. subst (λ (z : M). d.sum_fits z (d.product (a k) (b k))) hb (subst (λ (z : M). d.sum_fits before z) pp fit))
+  pub step_fits : (k : ℕ) (before x y : M) → before ≡ dot d k a b → x ≡ a k → y ≡ b k → WayFits d before x y → StepFits d a b k
+  step_fits k before x y hb hx hy h = let fits = rw (hb, hx, hy) at h in (fits.0, λ _. fits.1)
+
+  pub step_misfits : (k : ℕ) (before x y : M) → 0 < k → before ≡ dot d k a b → x ≡ a k → y ≡ b k → ¬ WayFits d before x y → ¬ StepFits d a b k
+  step_misfits k before x y hk hb hx hy h f = let misfits = rw (hb, hx, hy) at h in misfits (f.0, f.1 hk)
+
+  -- one product, to which zero is added
+  pub first_dot : (x y p : M) → d.sum d.zero p ≡ p → x ≡ a 0 → y ≡ b 0 → p ≡ d.product x y → p ≡ dot d 1 a b
+  first_dot x y p neutral hx hy hp = sym neutral ∙ ap (d.sum d.zero) (rw (hx, hy) at hp)
+
+  pub first_fits : (x y : M) → x ≡ a 0 → y ≡ b 0 → d.product_fits x y → StepFits d a b 0
+  first_fits x y hx hy h = let fits = rw (hx, hy) at h in (fits, λ none. absurd (omega (arith, none)))
+
+  pub first_misfits : (x y : M) → x ≡ a 0 → y ≡ b 0 → ¬ d.product_fits x y → ¬ StepFits d a b 0
+  first_misfits x y hx hy h f = let misfits = rw (hx, hy) at h in misfits f.0
+
+-- a value that was read, where its place is written in another way
+pub read_as : {M : Type 0} (xs : List M) (at place : ℕ) (x z : M) → at < length xs → x ≡ get_or xs at x → at ≡ place → x ≡ get_or xs place z
+read_as xs at place x z h e same = get_or_read xs at x h e z ∙ ap (λ m. get_or xs m z) same
+
+-- the first place in a column of a table
+pub first_within : (n column columns len : ℕ) → 1 ≤ n → column < columns → len ≡ n * columns → column < len
+first_within n column columns len hn hc e =
+    let more : 1 * columns ≤ n * columns = mul-le-mul_right {m = 1} {n = n} columns hn in
+    omega (arith, more, e)
 
 -- a place in a table
 pub place_within : (k n column columns len : ℕ) → k < n → column < columns → len ≡ n * columns → k * columns + column < len
@@ -41,6 +62,10 @@ pub row_within : (place rows columns count len : ℕ) → 1 ≤ columns → plac
 row_within place rows columns count len hc hp e =
     let more : (place / columns + 1) * count ≤ rows * count = mul-le-mul_right {m = place / columns + 1} {n = rows} count (row_below place rows columns hc hp) in
     omega (arith, more, e)
+
+-- no place
+pub holds_none : {M : Type 0} (d : DioidOf M) (fits : ℕ → Type 0) (value : ℕ → M) → HoldsEach d 0 fits value []
+holds_none d fits value = record { len = refl; values = below_none _; elements = below_none _; fit = below_none _ }
 
 -- one place more
 pub holds_more : {M : Type 0} (d : DioidOf M) (n : ℕ) (fits : ℕ → Type 0) (value : ℕ → M) (xs : List M) (y : M) → HoldsEach d n fits value xs → fits n → y ≡ value n → d.is_element y → HoldsEach d (n + 1) fits value (xs ++ y ∷ [])

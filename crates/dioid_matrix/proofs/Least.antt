@@ -9,8 +9,9 @@ use Rattle.dioid_matrix.specs.Sums.{total, dot}
 use Rattle.dioid_matrix.specs.Stars.{steps_of, star_of, StarsAreLeast}
 use Rattle.dioid_matrix.proofs.Order.{Below, same, equal, trans, least_above, left_part, right_part, both, at_product, antisym, total_is, term_below, total_below}
 
-eqb_same : (i : ℕ) → eqb i i ≡ true
-eqb_same i = grind (arith, nat_tests)
+-- a number is found equal to itself
+pub is_itself : (i : ℕ) → eqb i i ≡ true
+is_itself i = grind (arith, nat_tests)
 
 eqb_true : (i j : ℕ) → eqb i j ≡ true → i ≡ j
 eqb_true i j h = grind (arith, nat_tests)
@@ -114,7 +115,7 @@ module _ {M : Type 0} (d : DioidOf M) (s : KleeneOf M) (closed : IsClosed d.is_e
     one_in_star : (n i : ℕ) → Below d.is_element d.sum d.one (star_of d s n a i i)
     one_in_star n i =
         let P : Bool → Type 0 = λ v. Below d.is_element d.sum d.one (cond v (d.sum (steps_of d s a n i i) d.one) (steps_of d s a n i i)) in
-        subst P (sym (eqb_same i)) (right_part closed laws (steps_is n i i) closed.one_is)
+        subst P (sym (is_itself i)) (right_part closed laws (steps_is n i i) closed.one_is)
 
     -- what holds of an entry of the star
     by_entry : (n i j : ℕ) (P : M → Type 0) → (j ≡ i → P (d.sum (steps_of d s a n i j) d.one)) → P (steps_of d s a n i j) → P (star_of d s n a i j)

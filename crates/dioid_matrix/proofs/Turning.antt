@@ -5,7 +5,7 @@ use Rattle.std.proofs.lemmas.List.{get_or_read}
 use Rattle.std.proofs.lemmas.Nat.{mul-add-lt, div-add-mod'}
 use Rattle.dioid.specs.declared.algebra.Dioid.{Ghosts as DioidOf}
 use Rattle.dioid.specs.declared.algebra.Kleene.{Ghosts as KleeneOf}
-use Rattle.dioid_matrix.specs.Lists.{AreLoops}
+use Rattle.dioid_matrix.specs.Lists.{HoldsEach, AreLoops}
 use Rattle.dioid_matrix.specs.Tables.{table_of, entry_of}
 use Rattle.dioid_matrix.specs.Turns.{loop_of, LoopFits, EntryFits}
 use Rattle.dioid_matrix.proofs.Cells.{row_below}
@@ -17,6 +17,15 @@ three {M} P {a} {b} {c} {w} {x} {y} ea eb ec h = subst (λ (v : M). P v x y) ea 
 -- what holds of a value that was read holds of the entry
 pub at_entry : {M : Type 0} (d : DioidOf M) (size : ℕ) (xs : List M) (P : M → Type 0) (place : ℕ) (old : M) → length xs ≡ size * size → place < size * size → old ≡ get_or xs place old → P old → P (entry_of d (table_of size size xs) (place / size) (place % size))
 at_entry d size xs P place old len hp ho h = subst P (get_or_read xs place old (rw len hp) ho d.zero ∙ ap (λ m. get_or xs m d.zero) (sym (div-add-mod' place size))) h
+
+-- the loops of the first columns, after which one does not fit or none is left
+pub loops_end : {M : Type 0} (d : DioidOf M) (s : KleeneOf M) (size : ℕ) (r : ℕ → ℕ → M) (k count : ℕ) (loops : List M) → HoldsEach d count (λ j. LoopFits d s (r k k) (r k j)) (λ j. loop_of d s (r k k) (r k j)) loops → count ≤ size → (count < size → ¬ LoopFits d s (r k k) (r k count)) → AreLoops d s size r k loops
+loops_end d s size r k count loops h few last = record {
+  few = omega (arith, h.len);
+  values = λ j hj. h.values j (omega (arith, h.len, hj));
+  fit = λ j hj. h.fit j (omega (arith, h.len, hj));
+  last = λ left f. last (omega (arith, h.len, left)) (subst (λ (n : ℕ). LoopFits d s (r k k) (r k n)) h.len f);
+}
 
 module _ {M : Type 0} (d : DioidOf M) (s : KleeneOf M) (size k : ℕ) (xs loops : List M) (are : AreLoops d s size (entry_of d (table_of size size xs)) k loops) (hk : k < size) (len : length xs ≡ size * size) where
   -- the same of the values that a turn takes

@@ -14,6 +14,10 @@ meet_below l f zero = f 0
 meet_below l f (suc zero) = f 0
 meet_below l f (suc (suc n)) = l.meet (meet_below l f (suc n)) (f (suc n))
 
+-- the residual of b by a fits, and so does its meet with the element before it
+abbrev pub MeetFits : {M : Type 0} → ResiduatedOf M → M → M → M → Type 0
+MeetFits l before a b = l.left_fits a b × l.meet_fits before (l.left a b)
+
 module _ {M : Type 0} (d : DioidOf M) where
   -- a x is at most b exactly where x is at most r
   abbrev pub IsGreatest : ℕ → ℕ → ℕ → (ℕ → ℕ → M) → (ℕ → ℕ → M) → (ℕ → ℕ → M) → Type 0

@@ -5,7 +5,7 @@
 //! fits, and otherwise the first one that does not; a star, and `solve_least` by it, gives the least
 //! solution of `x = a x + b`, a residual the greatest `x` with `a x` at most `b`. It stands on
 //! `dioid` alone, and `thiserror` derives the error traits of its refusal.
-//! Its examples stand in `base_examples`.
+//! Its examples stand in `library_examples`.
 #![tactic(auto)]
 
 ghost use Rattle.dioid_matrix.specs.Stars.{StarsAreLeast};

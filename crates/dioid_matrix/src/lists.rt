@@ -1,9 +1,11 @@
 //! Lists of entries: which are elements, and the sums and products of two.
-ghost use Rattle.std.specs.Prelude.{◌≡◌, ◌≤◌, ◌<◌, ◌+◌, ◌*◌, ◌^◌, ℕ, length, get_or};
+ghost use Rattle.std.specs.Prelude.{◌≡◌, IfOk, ◌≤◌, ◌<◌, ◌+◌, ◌*◌, ◌^◌, ℕ, length, get_or};
+ghost use Rattle.dioid.specs.Answer.{Answers};
 ghost use Rattle.dioid_matrix.specs.Lists.{AnswersCell, AnswersList};
 ghost use Rattle.dioid_matrix.specs.Products.{StepFits, IsProduct, ProductRefused};
 ghost use Rattle.dioid_matrix.specs.Sums.{dot, IsSum, SumRefused};
 ghost use Rattle.dioid_matrix.specs.Tables.{table_of, AreElements};
+ghost use Rattle.dioid_matrix.specs.Turns.{WayFits};
 
 use crate::refusals::{Cell, MatrixRefused};
 use dioid::{Dioid, Refused};
@@ -53,6 +55,21 @@ pub(crate) fn sums<D: Dioid>(
     Ok(values)
 }
 
+// The sum of an element and a product.
+pub(crate) fn plus_product<D: Dioid>(
+    alloc: Global,
+    before: &D,
+    left: &D,
+    right: &D,
+) -> Result<D, Refused>
+    ensures answer { Answers D.TAKES_MEMORY (WayFits D.Dioid before.now left.now right.now)
+        (D.sum before.now (D.product left.now right.now)) result }
+    ensures element { IfOk result D.is_element }
+{
+    let product = left.times(alloc, right)?;
+    before.plus(alloc, &product)
+}
+
 // The entry of a product: `count` entries of a row from `start` on, by those of a column.
 pub(crate) fn cell<D: Dioid>(
     alloc: Global,
@@ -76,12 +93,12 @@ pub(crate) fn cell<D: Dioid>(
         Err(Refused::OutOfMemory) => return Cell::NoMemoryLeft,
     };
     for middle in 1..count {
-        let product = match left[start + middle].times(alloc, &right[middle * columns + column]) {
-            Ok(product) => product,
-            Err(Refused::Range) => return Cell::Misfit(middle),
-            Err(Refused::OutOfMemory) => return Cell::NoMemoryLeft,
-        };
-        match sum.plus(alloc, &product) {
+        match plus_product(
+            alloc,
+            &sum,
+            &left[start + middle],
+            &right[middle * columns + column],
+        ) {
             Ok(value) => sum = value,
             Err(Refused::Range) => return Cell::Misfit(middle),
             Err(Refused::OutOfMemory) => return Cell::NoMemoryLeft,

@@ -4,8 +4,9 @@ ghost use Rattle.std.specs.Prelude.{◌≡◌, cond, IsTrue, IfOk, ◌≤◌, �
 ghost use Rattle.dioid.specs.Answer.{Answers};
 ghost use Rattle.dioid_matrix.specs.Lists.{AnswersList, AreLoops, IsPassed, PassRefused, IsLast, LastRefused};
 ghost use Rattle.dioid_matrix.specs.Tables.{entry_of, table_of, AreElements};
-ghost use Rattle.dioid_matrix.specs.Turns.{WayFits, IsStar, StarRefused};
+ghost use Rattle.dioid_matrix.specs.Turns.{IsStar, StarRefused};
 
+use crate::lists::plus_product;
 use crate::refusals::MatrixRefused;
 use dioid::{Dioid, Kleene, Refused};
 use std::alloc::{AllocError, Global};
@@ -40,16 +41,6 @@ pub(crate) fn loops<D: Kleene>(
     Ok(loops)
 }
 
-// An entry's next value: the old one, and the way in by the loops.
-pub(crate) fn turn<D: Dioid>(alloc: Global, old: &D, into: &D, loops: &D) -> Result<D, Refused>
-    ensures answer { Answers D.TAKES_MEMORY (WayFits D.Dioid old.now into.now loops.now)
-        (D.sum old.now (D.product into.now loops.now)) result }
-    ensures element { IfOk result D.is_element }
-{
-    let way = into.times(alloc, loops)?;
-    old.plus(alloc, &way)
-}
-
 // Step `k + 1` of the recursion, by the loops of row `k`.
 pub(crate) fn turned<D: Kleene>(
     alloc: Global,
@@ -77,7 +68,7 @@ pub(crate) fn turned<D: Kleene>(
                 column,
             });
         }
-        match turn(
+        match plus_product(
             alloc,
             &entries[place],
             &entries[row * size + k],

@@ -1,12 +1,23 @@
 //! Residuals of lists of entries: meets over the rows.
-ghost use Rattle.std.specs.Prelude.{◌≡◌, ◌≤◌, ◌<◌, ◌+◌, ◌*◌, ◌^◌, ℕ, length, get_or};
+ghost use Rattle.std.specs.Prelude.{◌≡◌, IfOk, ◌≤◌, ◌<◌, ◌+◌, ◌*◌, ◌^◌, ℕ, length, get_or};
+ghost use Rattle.dioid.specs.Answer.{Answers};
 ghost use Rattle.dioid_matrix.specs.Lists.{AnswersCell, AnswersList};
-ghost use Rattle.dioid_matrix.specs.Residuals.{meet_below, lefts, RowFits, IsResidual, ResidualRefused};
+ghost use Rattle.dioid_matrix.specs.Residuals.{meet_below, lefts, MeetFits, RowFits, IsResidual, ResidualRefused};
 ghost use Rattle.dioid_matrix.specs.Tables.{table_of, AreElements};
 
 use crate::refusals::{Cell, MatrixRefused};
 use dioid::{Refused, Residuated};
 use std::alloc::Global;
+
+// The meet of an element with a residual.
+fn meet_left<D: Residuated>(alloc: Global, before: &D, left: &D, right: &D) -> Result<D, Refused>
+    ensures answer { Answers D.TAKES_MEMORY (MeetFits D.Residuated.own before.now left.now right.now)
+        (D.meet before.now (D.left left.now right.now)) result }
+    ensures element { IfOk result D.is_element }
+{
+    let residual = left.left(alloc, right)?;
+    before.meet(alloc, &residual)
+}
 
 // The entry of a residual: the meet of the rows' residuals in column `column` of the left, which has
 // `middle` columns, and column `other` of the right, which has `columns`.
@@ -34,15 +45,12 @@ pub(crate) fn residue<D: Residuated>(
         Err(Refused::OutOfMemory) => return Cell::NoMemoryLeft,
     };
     for row in 1..rows {
-        let residual = match left[row * middle + column].left(
+        match meet_left(
             alloc,
+            &meet,
+            &left[row * middle + column],
             &right[row * columns + other],
         ) {
-            Ok(residual) => residual,
-            Err(Refused::Range) => return Cell::Misfit(row),
-            Err(Refused::OutOfMemory) => return Cell::NoMemoryLeft,
-        };
-        match meet.meet(alloc, &residual) {
             Ok(value) => meet = value,
             Err(Refused::Range) => return Cell::Misfit(row),
             Err(Refused::OutOfMemory) => return Cell::NoMemoryLeft,

@@ -5,7 +5,7 @@ use Rattle.std.proofs.lemmas.List.{length-set, length-replicate, get_or-set_same
 use Rattle.teg_net.specs.declared.entries.PlaceId.{PlaceId}
 use Rattle.teg_net.specs.Nets.{NetLists}
 use Rattle.teg_net.specs.Circuits.{from_of, place_at}
-use Rattle.teg_check.specs.Exits.{Leaves, IsExit, IsUnranked, IsUpTo, AreAllExits, AreExitsLeft, HaveExits, ExitsGoOn}
+use Rattle.teg_check.specs.Exits.{Leaves, IsExit, IsUnranked, IsUpTo, AreExitsLeft, HaveExits, ExitsGoOn}
 
 -- ---- the loop of `Exits::new`
 
@@ -126,72 +126,12 @@ other_listed net last before id h tokens =
       before_complete = λ q r l x y m. h.before_complete q r (below_or q.index id.index l (apart (from_of net q) q x)) x y m;
     }
 
-pub all_listed : (net : NetLists) (last before : List (Option PlaceId)) (i : ℕ) → length net.places ≤ i → ListedTo net last before i → AreAllExits net last before
-all_listed net last before i full h = record {
-  count = h.count;
-  links = record {
-    count = h.count_before;
-    sound = h.before_sound;
-    lower = h.before_lower;
-    complete = λ id q x y m. h.before_complete id q (omega (arith, x.in_range)) x y m;
-  };
-  sound = h.sound;
-  complete = λ t id x. h.complete t id x (omega (arith, x.in_range));
-}
-
 -- how many places stand up to the one that is told
 abbrev pub place_count : Option PlaceId → ℕ
 place_count None = 0
 place_count (Some id) = id.index + 1
 
 -- ---- exits that are left
-
--- before any transition is ranked
-pub all_left : (net : NetLists) (last before : List (Option PlaceId)) → AreAllExits net last before → AreExitsLeft net (replicate (length net.transitions) false) last before
-all_left net last before h = record {
-  count = h.count;
-  links = h.links;
-  sound = h.sound;
-  complete = λ t id x. h.complete t id x.leaves;
-  unranked = λ t some.
-      ⊎_elim
-      (λ (l : t < length net.transitions). get_or-replicate (length net.transitions) t false true l)
-      (λ (l : length net.transitions ≤ t). absurd (some (get_or_past last t None (omega (arith, h.count)))))
-      (cases_lt t (length net.transitions));
-}
-
--- the last exit of an unranked transition is told
-pub exit_told :
-    (net : NetLists) (ranked : List Bool) (last before : List (Option PlaceId)) (t : ℕ) (exit : Option PlaceId)
-    → AreExitsLeft net ranked last before → t < length net.transitions → IsUnranked ranked t
-    → ((id : PlaceId) → exit ≡ Some id → IsExit net ranked t id) → ((id : PlaceId) → IsExit net ranked t id → IsUpTo exit id)
-    → AreExitsLeft net ranked (set last t exit) before
-exit_told net ranked last before t exit h in' unranked sound complete =
-    let told : get_or (set last t exit) t None ≡ exit = get_or-set_same last t exit None (omega (arith, h.count)) in
-    let other = λ (s : ℕ) (q : s ≢ t). get_or-set_other last t s exit None q in
-    record {
-      count = length-set last t exit ∙ h.count;
-      links = h.links;
-      sound = λ s id e.
-          ⊎_elim
-          (λ (q : s ≡ t).
-          let there : exit ≡ Some id = sym told ∙ (ap (λ z. get_or (set last t exit) z None) (sym q) ∙ e) in
-          subst (λ z. Leaves net z id) (sym q) (sound id there).leaves)
-          (λ (q : s ≢ t). h.sound s id (sym (other s q) ∙ e))
-          (cases_eq s t);
-      complete = λ s id x.
-          ⊎_elim
-          (λ (q : s ≡ t).
-          let there : get_or (set last t exit) s None ≡ exit = ap (λ z. get_or (set last t exit) z None) q ∙ told in
-          rw there (complete id (subst (λ z. IsExit net ranked z id) q x)))
-          (λ (q : s ≢ t). rw (other s q) (h.complete s id x))
-          (cases_eq s t);
-      unranked = λ s some.
-          ⊎_elim
-          (λ (q : s ≡ t). rw q unranked)
-          (λ (q : s ≢ t). h.unranked s (λ e. some (other s q ∙ e)))
-          (cases_eq s t);
-    }
 
 set_is_true : (ranked : List Bool) (t : ℕ) → get_or (set ranked t true) t true ≡ false → ⊥
 set_is_true ranked t f =

@@ -6,7 +6,7 @@ use Rattle.std.proofs.lemmas.List.{length-set, get_or-set_same, get_or-set_other
 use Rattle.dioid.specs.declared.dates.Date.TheVariants.{Early}
 use Rattle.teg_dates.specs.DateCells.{date_of}
 use Rattle.teg_dates.specs.Passes.{HaveNext}
-use Rattle.teg_dates.specs.Windows.{WindowCells, IsWindow, HasColumnSet, HaveRowAdded, AreMoved, column_at, window_rows}
+use Rattle.teg_dates.specs.Windows.{WindowCells, IsWindow, HaveRowAdded, column_at, window_rows}
 use Rattle.teg_dates.proofs.Cells.{rows_below, rows_more}
 
 -- a column ends before each later one

@@ -8,5 +8,6 @@ mod Earliest
 mod Bounded
 mod Columns
 mod NextRow
+mod Raising
 mod Keeping
 mod Shortening

@@ -1,5 +1,5 @@
 -- Rows of a system's least dating are its first dates, and so are the rows of one number more.
-use Rattle.std.proofs.Common.{ℕ, ◌-◌, ◌*◌, ◌<◌, ◌≤◌, ◌≡◌, ◌++◌, List, length, get_or, refl, ap, ◌∙◌, arith, ⊎_elim, length-append}
+use Rattle.std.proofs.Common.{ℕ, ◌-◌, ◌<◌, ◌≤◌, ◌≡◌, ◌++◌, List, length, get_or, refl, ap, ◌∙◌, arith, ⊎_elim, length-append}
 use Rattle.std.proofs.lemmas.Bool.{cases_lt}
 use Rattle.std.proofs.lemmas.List.{get_or_append_left, get_or-append_right}
 use Rattle.dioid.specs.declared.dates.Date.{Date}
@@ -7,7 +7,7 @@ use Rattle.dioid.specs.declared.dates.Date.TheVariants.{Early}
 use Rattle.teg_net.specs.Nets.{NetLists}
 use Rattle.teg_model.specs.Systems.{System, Dating}
 use Rattle.teg_dates.specs.Tables.{TableDates, cell_of, date_in}
-use Rattle.teg_dates.specs.Rows.{IsRows, AreLeastRows, AreFirst, AreFirstLeast}
+use Rattle.teg_dates.specs.Rows.{AreLeastRows, AreFirst, AreFirstLeast}
 use Rattle.teg_dates.specs.Passes.{IsRowOf}
 use Rattle.teg_dates.proofs.Cells.{rows_before, cell_before}
 

@@ -9,7 +9,7 @@
 //! [`FirstRows`], up to number 10,000, in cells of eight bytes. The crate stands on `teg_net`, on
 //! `teg_check` for the ranks, on `teg_form` for the form that a stream is asked with, on `teg_model`
 //! for what a least dating is, on `circular_buffer`, and on `dioid` for dates.
-//! Its examples stand in `answer_examples`.
+//! Its examples stand in `library_examples`.
 #![tactic(auto)]
 
 mod date_cell;

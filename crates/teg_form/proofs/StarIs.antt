@@ -11,6 +11,7 @@ use Rattle.dioid_matrix.specs.Stars.{steps_of, star_of}
 use Rattle.dioid_matrix.specs.Tables.{Table, table_of, entry_of}
 use Rattle.dioid_matrix.specs.Turns.{IsStar, StarRefused}
 use Rattle.dioid_matrix.specs.declared.refusals.MatrixRefused.TheVariants.{Range}
+use Rattle.dioid_matrix.proofs.Least.{is_itself}
 use Rattle.teg_net.specs.Nets.{NetLists, IsNet}
 use Rattle.teg_net.specs.Circuits.{no_place, place_at, time_of}
 use Rattle.teg_check.specs.Ranks.{IsRanking}
@@ -22,9 +23,6 @@ use Rattle.teg_form.proofs.StarTimes.{path_below}
 
 different : (i j : ℕ) → i ≢ j → eqb i j ≡ false
 different i j h = grind (arith, nat_tests)
-
-alike : (i : ℕ) → eqb i i ≡ true
-alike i = grind (arith, nat_tests)
 
 module _ (net : NetLists) (ranks : List ℕ) (ok : IsNet net) (r : IsRanking net ranks) where
   hold_way : (a b : ℕ) (x : Date) → IsHoldBetween net a b x → IsWay net ranks a b x
@@ -65,7 +63,7 @@ module _ (net : NetLists) (ranks : List ℕ) (ok : IsNet net) (r : IsRanking net
         ⊎_elim
         (λ (q : i ≡ j).
         let early : x ≡ Early = no_way_back net ranks ok r i x (subst (λ z. IsWay net ranks i z x) (sym q) way) in
-        let test : eqb i j ≡ true = subst (λ z. eqb i z ≡ true) q (alike i) in
+        let test : eqb i j ≡ true = subst (λ z. eqb i z ≡ true) q (is_itself i) in
         let value : star_of d s size (entry_of d matrix) i j ≡ At (pos 0) =
         ap (λ v. cond v (d.sum x d.one) x) test ∙ is.sum_is x d.one ∙ ap (λ z. later_of z d.one) early ∙ is.one_is in
         subst (IsTimeBetween net i j) (sym value) (subst (λ z. IsTimeBetween net i z (At (pos 0))) q (empty_time i)))

@@ -6,7 +6,7 @@
 //! [`least_dates_are_by_form`] ties the form to dates. The crate stands on `teg_net`, on `teg_check`
 //! for the ranks of a live net, on `teg_model` for what a least dating is, on `dioid_matrix` for the
 //! star of a matrix, and on `dioid` for dates.
-//! Its examples stand in `answer_examples`.
+//! Its examples stand in `library_examples`.
 #![tactic(auto)]
 
 mod entries;

@@ -3,6 +3,5 @@ pub mod Straight
 pub mod Taking
 pub mod Splitting
 pub mod Through
-pub mod Pigeons
 pub mod Again
 pub mod Visits

@@ -24,13 +24,13 @@ past_by : (dates : List ℕ) (a : Again) (k r : ℕ) → length dates < k → ro
 past_by dates a k r l e =
     past_list dates (Some a) k l ∙ ap (λ n. Some (get_or dates (k - n * a.every - 1) 0 + n * a.gap)) e
 
-one_round : (long every k : ℕ) → 1 ≤ every → long < k → k - every ≤ long → rounds_past long every k ≡ 1
+pub one_round : (long every k : ℕ) → 1 ≤ every → long < k → k - every ≤ long → rounds_past long every k ≡ 1
 one_round long every k o l m =
     let few : k - long - 1 < 1 * every = omega arith in
     let none : (k - long - 1) / every < 1 = div_below (k - long - 1) every 1 (omega arith) few in
     omega arith
 
-more_rounds : (long every k : ℕ) → 1 ≤ every → long < k - every → rounds_past long every k ≡ rounds_past long every (k - every) + 1
+pub more_rounds : (long every k : ℕ) → 1 ≤ every → long < k - every → rounds_past long every k ≡ rounds_past long every (k - every) + 1
 more_rounds long every k o l =
     let is : k - long - 1 ≡ (k - every - long - 1) + every = omega arith in
     let step : ((k - every - long - 1) + every) / every ≡ (k - every - long - 1) / every + 1 = add-div_right (k - every - long - 1) (omega arith) in

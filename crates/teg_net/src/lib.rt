@@ -3,7 +3,7 @@
 //!
 //! A [`Net`] is seen by contracts as its three lists (`NetLists`), which keep the rules of `IsNet`.
 //! This crate stands on std alone; what speaks of dates of firings stands in crates above it.
-//! Its examples stand in `net_examples`.
+//! Its examples stand in `library_examples`.
 #![tactic(auto)]
 
 mod answers;

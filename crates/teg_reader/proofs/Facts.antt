@@ -30,9 +30,6 @@ le_of a b h = grind (arith, nat_tests)
 pub le_test : (a b : ℕ) → a ≤ b → nat_le a b ≡ true
 le_test a b h = grind (arith, nat_tests)
 
-pub equal_of : (a b : ℕ) → (a == b) ≡ true → a ≡ b
-equal_of a b h = grind (arith, nat_tests)
-
 pub one_less : (n : ℕ) → (n + 1) - 1 ≡ n
 one_less n = omega arith
 

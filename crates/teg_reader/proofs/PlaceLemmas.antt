@@ -11,7 +11,8 @@ use Rattle.teg_reader.specs.ReadyDates.{ready_of, has_ready_for_each, bad_ready}
 use Rattle.teg_reader.specs.Holds.{hold_of, too_slow}
 use Rattle.teg_reader.specs.Walks.{first_of}
 use Rattle.teg_reader.specs.Documents.{bad_places}
-use Rattle.teg_reader.proofs.Facts.{negated, or_true, equal_of}
+use Rattle.teg_reader.proofs.Facts.{negated, or_true}
+use Rattle.number_laws.proofs.Numbers.{same_number}
 use Rattle.teg_reader.proofs.ClearLemmas.{neither, all_passed}
 use Rattle.teg_reader.proofs.GraphLemmas.{none_unless}
 
@@ -30,7 +31,7 @@ ready_for_each d h =
     let count : length (map as_number (list_at key.Ready d)) ≡ length (list_at key.Ready d) = length-map (list_at key.Ready d) as_number in
     or_true (not (is_there key.Ready d)) (length (list_at key.Ready d) == number_at key.Tokens d) h
     (λ e. inl (count ∙ ap length (absent d (negated _ e))))
-    (λ e. inr (count ∙ equal_of _ _ e))
+    (λ e. inr (count ∙ same_number _ _ e))
 
 ready_fits : (d : Data) → bad_ready d ≡ None → has_ready_for_each d ≡ true
 unfolding bad_ready

@@ -4,7 +4,7 @@
 //! file, or want of memory; `write_net` answers bytes of which `document` is the net. The crate
 //! stands on `teg_net` for the net, on `toml` for the grammar and on `indexmap` for the numbers of
 //! names.
-//! Its examples stand in `net_examples`.
+//! Its examples stand in `library_examples`.
 #![tactic(auto)]
 
 mod bad_names;

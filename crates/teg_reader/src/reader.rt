@@ -73,6 +73,18 @@ fn look_at_places(alloc: Global, names: &IndexSet<&str>, top: &Value) -> Result<
     look_for_slow_places(alloc, names, list_at(top, Key::Transition), places)
 }
 
+// The net of good entries with these names, or what is wrong with it.
+#[tactic(auto, unfolding(crate::specs::Documents::tree_document, crate::specs::Documents::refused))]
+fn read_entries(alloc: Global, names: &IndexSet<&str>, top: &Value) -> Result<Net, ReadRefusal>
+    requires good { bad_entries (view top.now) ≡ None }
+    requires names { map deref names.now.keys ≡ names_of (list_at key.Transition (view top.now)) }
+    ensures { Answers (tree_document (view top.now)) result }
+{
+    look_at_graph(alloc, names, top)?;
+    look_at_places(alloc, names, top)?;
+    Ok(make_net(alloc, names, top)?)
+}
+
 // The net of a tree.
 #[tactic(auto, unfolding(crate::specs::Documents::tree_document, crate::specs::Documents::refused))]
 fn read_tree(alloc: Global, top: &Value) -> Result<Net, ReadRefusal>
@@ -80,9 +92,7 @@ fn read_tree(alloc: Global, top: &Value) -> Result<Net, ReadRefusal>
 {
     look_at_entries(alloc, top)?;
     let names = number_names(alloc, list_at(top, Key::Transition))?;
-    look_at_graph(alloc, &names, top)?;
-    look_at_places(alloc, &names, top)?;
-    Ok(make_net(alloc, &names, top)?)
+    read_entries(alloc, &names, top)
 }
 
 // The net of a table.

@@ -1,5 +1,5 @@
 //! How the delays of a timetable spread, or why they are not followed.
-ghost use Rattle.std.specs.Prelude.{◌≡◌, ◌≤◌, ◌+◌, length, IfOk, IfErr, IfSome};
+ghost use Rattle.std.specs.Prelude.{◌≡◌, ◌≤◌, ◌+◌, length, Some, IfOk, IfErr, IfSome};
 ghost use Rattle.delay_laws.specs.Tables.{IsTableOf, IsWorkable};
 ghost use Rattle.delay_laws.specs.Delays.{IsFormOfDelays};
 ghost use Rattle.settled_laws.specs.Forms.{IsSettledFormOf, settled_length};
@@ -34,6 +34,26 @@ fn ranks(alloc: Global, net: &Net) -> Result<Live, OutOfMemory>
     }
 }
 
+// The settled form of a net with these ranks, within the limit.
+fn settled_within(
+    alloc: Global,
+    net: &Net,
+    live: &Live,
+    limit: u32,
+) -> Result<SettledDates, DelayRefusal>
+    requires stands { IsRanking net.now live.now }
+    requires few { limit ≤ greatest_limit }
+    ensures form { IfOk result (IsSettledFormOf net.now) }
+    ensures within { IfOk result (λ form. settled_length form ≤ limit) }
+    ensures refused { IfErr result (IsSettlingRefusal net.now (Some limit)) }
+{
+    match settle_dates_within(alloc, net, live, limit) {
+        Ok(settled) => Ok(settled),
+        Err(SettleRefusal::TooLong { limit }) => Err(DelayRefusal::TooLong { limit }),
+        Err(SettleRefusal::OutOfMemory) => Err(DelayRefusal::OutOfMemory),
+    }
+}
+
 // The settled form of a live net, within the limit if there is one.
 fn settled_in(alloc: Global, net: &Net, limit: Option<u32>) -> Result<SettledDates, DelayRefusal>
     requires live { IsLive net.now }
@@ -45,11 +65,7 @@ fn settled_in(alloc: Global, net: &Net, limit: Option<u32>) -> Result<SettledDat
     let live = ranks(alloc, net)?;
     match limit {
         None => Ok(settle_dates(alloc, net, &live)?),
-        Some(limit) => match settle_dates_within(alloc, net, &live, limit) {
-            Ok(settled) => Ok(settled),
-            Err(SettleRefusal::TooLong { limit }) => Err(DelayRefusal::TooLong { limit }),
-            Err(SettleRefusal::OutOfMemory) => Err(DelayRefusal::OutOfMemory),
-        },
+        Some(limit) => settled_within(alloc, net, &live, limit),
     }
 }
 

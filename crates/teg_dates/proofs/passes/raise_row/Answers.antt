@@ -1,5 +1,5 @@
-use Rattle.std.proofs.Common.{ℕ, ◌-◌, ◌<◌, ◌≤◌, ◌≡◌, List, length, map, get_or, refl, sym, ap, arith}
-use Rattle.std.proofs.lemmas.List.{get_or_default, map-set}
+use Rattle.std.proofs.Common.{ℕ, ◌-◌, ◌<◌, ◌≤◌, ◌≡◌, List, length, map, get_or, refl, sym, ap, ◌∙◌, arith}
+use Rattle.std.proofs.lemmas.List.{get_or_default, length-map, map-set}
 use Rattle.dioid.specs.declared.dates.Date.{Date}
 use Rattle.dioid.specs.declared.dates.Date.TheVariants.{Early}
 use Rattle.teg_net.specs.declared.entries.Place.{Place}
@@ -14,6 +14,7 @@ use Rattle.teg_dates.specs.Order.{IsRankedPlace, IsOrder}
 use Rattle.teg_dates.specs.Passes.{seen_at, KeptRows, AreLeastRowsBack, ReachesBack}
 use Rattle.teg_dates.proofs.Filling.{FilledTo, source_is, lower_before, filled_more, filled_begins, filled_is}
 use Rattle.teg_dates.proofs.Earliest.{earliest, earliest_is_least, earliest_within}
+use Rattle.teg_dates.proofs.Raising.{turn_in}
 use Rattle.teg_dates.proofs.passes.raise_row.Goals as goal
 
 abbrev no_turn : Turn
@@ -49,6 +50,17 @@ loop-place-init g c = λ x h.
     let rel = g.S.Source.release c.args.source.now c.args.net.now in
     filled_begins c.args.net.now init rel x c.args.number (g.P.Past.rows c.args.past.now) c.args.order.now (map g.C.DateCell.held c.args.row.now) h
     c.requires.number c.requires.reach (c.requires.past x h) c.requires.begun
+
+pub raised-requires-clause-place : goal.raised-requires-clause-place
+raised-requires-clause-place g c = (c.requires.order.2.known c.loop-place.place-index no_turn c.loop-place-test.true).place
+
+pub raised-requires-clause-full : goal.raised-requires-clause-full
+raised-requires-clause-full g c = c.loop-place.auto.row ∙ sym (length-map c.args.row.now g.C.DateCell.held) ∙ c.requires.begun.full
+
+pub bounds-row-place : goal.bounds-row-place
+bounds-row-place g c =
+    let turn = turn_in c.args.net.now _ c.requires.rules (c.requires.order.2.known c.loop-place.place-index no_turn c.loop-place-test.true).place in
+    rw (c.loop-place.auto.row, ← length-map c.args.row.now g.C.DateCell.held, c.requires.begun.full) turn.to_in
 
 pub raised-requires-clause-within : goal.raised-requires-clause-within
 raised-requires-clause-within g c =

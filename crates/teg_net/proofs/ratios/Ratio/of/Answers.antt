@@ -1,5 +1,6 @@
 use Rattle.std.proofs.Common.{arith}
-use Rattle.teg_net.proofs.LowestTerms.{divisor_some, IsRatioOf-divided}
+use Rattle.number_laws.proofs.Fractions.{divisor_some}
+use Rattle.teg_net.proofs.LowestTerms.{IsRatioOf-divided}
 use Rattle.teg_net.proofs.ratios.Ratio.of.Goals as goal
 
 pub nonzero_div-result : goal.nonzero_div-result
