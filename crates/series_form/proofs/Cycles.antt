@@ -1,20 +1,18 @@
 -- Steps of a on places below w: from each place some of the first steps, fewer than lead back to it, comes below w over their number.
-use Rattle.std.proofs.Common.{◌≡◌, refl, ap, arith, ℕ, zero, suc, ◌+◌, ◌*◌, ◌-◌, ◌/◌, ◌%◌, ◌≤◌, ◌<◌, sym, ◌∙◌, ⊎_elim, true, cond, ltb, eqb}
+use Rattle.std.proofs.Common.{◌≡◌, refl, ap, arith, ℕ, zero, suc, ◌+◌, ◌*◌, ◌-◌, ◌/◌, ◌%◌, ◌≤◌, ◌<◌, sym, ◌∙◌, ⊎_elim, cond, ltb, eqb}
 use Rattle.std.proofs.lemmas.Bool.Decides.{nat_tests}
 use Rattle.std.proofs.lemmas.Nat.{mod_below, div-add-mod', div_below}
 use Rattle.std.proofs.Math.Nat.{le_of_mul-le-mul_right, mod-mod_of_dvd, add-mul-mod_self_right, dvd-mul_left, eq-or-lt_of_le, mul-mod_left}
+use Rattle.number_laws.proofs.Numbers.{zero_test}
 use Rattle.series_laws.specs.Needs.{turns_of, common}
 use Rattle.series_laws.proofs.FormValues.{first_ge, first_le}
 use Rattle.series_laws.proofs.Sums.{common_second}
-use Rattle.series_laws.proofs.Pigeons.{pigeons, difference}
-
-zero_eqb : (n : ℕ) → n ≡ 0 → eqb n 0 ≡ true
-zero_eqb n h = grind (arith, nat_tests)
+use Rattle.number_laws.proofs.Pigeons.{pigeons, difference}
 
 -- no fewer turns of a are a multiple of w
 pub turns_least : (a w m q : ℕ) → 0 < w → 0 < m → m * a ≡ q * w → turns_of a w ≤ m
 turns_least a w m q some more e =
-    first_le (λ k. eqb (k * a % w) 0) 1 (w - 1) m more (zero_eqb (m * a % w) (ap (λ (z : ℕ). z % w) e ∙ mul-mod_left q w))
+    first_le (λ k. eqb (k * a % w) 0) 1 (w - 1) m more (zero_test (m * a % w) (ap (λ (z : ℕ). z % w) e ∙ mul-mod_left q w))
 
 pub turns_some : (a w : ℕ) → 0 < turns_of a w
 turns_some a w = first_ge (λ m. eqb (m * a % w) 0) 1 (w - 1)

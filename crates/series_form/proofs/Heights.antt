@@ -19,7 +19,7 @@ use Rattle.series_laws.proofs.Sums.{form_repeats_own, common_positive, common_se
 use Rattle.series_form.specs.Bounds.{IsSeries, IsUpTo}
 use Rattle.series_form.specs.Leads.{AreNumbers, AreLedTo, IsReach, climb_of, cover_of, gain_from_before, height_past, lead_past, number_of, place_before, width_of}
 use Rattle.series_form.proofs.Cycles.{comes_low, turns_least, turns_some}
-use Rattle.series_laws.proofs.Pigeons.{difference}
+use Rattle.number_laws.proofs.Pigeons.{difference}
 use Rattle.series_form.proofs.Numbers.{abs_sum, abs_difference, moderate_fits, within_fits}
 use Rattle.series_form.proofs.Finished.{value_up_to, up_to_more, gap_up_to}
 use Rattle.series_form.proofs.PointwiseTables.{max_up_to}

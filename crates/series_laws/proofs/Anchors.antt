@@ -14,7 +14,8 @@ use Rattle.series_laws.specs.Periodic.{Repeats, times}
 use Rattle.series_laws.proofs.Repeating.{times_add, by_steps}
 use Rattle.series_laws.specs.Stars.{total, date_of, ArePositive, IsStarAt, scaled}
 use Rattle.series_laws.proofs.StarsRepeat.{star_repeats, scaled_product, scaled_zero, scaled_le_back, scaled_move, times_over, times_swap}
-use Rattle.series_laws.proofs.Items.{Item, at_product, lengths, worths, StepFree, Fit, lengths_append, worths_append, fit_first, fit_second, fit_join, free_first, free_second, free_join, lengths_most, Run, run_of, realised, Cores, cores_of}
+use Rattle.series_laws.proofs.Items.{Item, lengths, worths, StepFree, Fit, lengths_append, worths_append, fit_first, fit_second, fit_join, free_first, free_second, free_join, lengths_most, Run, run_of, realised, Cores, cores_of}
+use Rattle.dioid.proofs.Moves.{product_is_move}
 use Rattle.series_laws.proofs.Items.Item.{part, step}
 
 -- ---- case 2: a shift b whose ratio a / b no other shift exceeds
@@ -41,7 +42,7 @@ module _ (s : ℕ → Date) (n : ℕ) (x : ℤ) (b : ℕ) (a : ℤ) (pos_b : 0 <
 
   anchors_worths : (q : ℕ) (l : List Item) → worths s n x (anchors q l) ≡ move (times q a) (worths s n x l)
   anchors_worths zero l = sym (move_zero (worths s n x l))
-  anchors_worths (suc q) l = ap (λ z. date_product z (worths s n x (anchors q l))) anchor ∙ at_product a (worths s n x (anchors q l)) ∙ ap (move a) (anchors_worths q l) ∙ move_move (times q a) a (worths s n x l)
+  anchors_worths (suc q) l = ap (λ z. date_product z (worths s n x (anchors q l))) anchor ∙ product_is_move a (worths s n x (anchors q l)) ∙ ap (move a) (anchors_worths q l) ∙ move_move (times q a) a (worths s n x l)
 
   anchors_free : (q : ℕ) (l : List Item) → StepFree s n x l → StepFree s n x (anchors q l)
   anchors_free zero l h = h
@@ -54,7 +55,7 @@ module _ (s : ℕ → Date) (n : ℕ) (x : ℤ) (b : ℕ) (a : ℤ) (pos_b : 0 <
   module _ (star : ℕ → Date) (p : ℕ) (is : (k : ℕ) → IsStarAt s k (star k)) (repeats : Repeats s p n x) (pos_n : 0 < n) (near : b ≤ p + n)
       (cheap : (c : ℕ) → 0 < c → c ≤ p + n → Le (scaled b (s c)) (At (times c a))) (slow : times b x ≤ℤ times n a) where
     anchored_up : (k : ℕ) (l : List ℕ) → ArePositive l → total l ≡ k → Le (move a (date_of s l)) (star (k + b))
-    anchored_up k l pos_l e = le_trans (le_is (sym (at_product a (date_of s l)) ∙ ap (λ z. date_product z (date_of s l)) (sym anchor))) ((is (k + b)).below (b ∷ l) (pos_b, pos_l) (omega arith))
+    anchored_up k l pos_l e = le_trans (le_is (sym (product_is_move a (date_of s l)) ∙ ap (λ z. date_product z (date_of s l)) (sym anchor))) ((is (k + b)).below (b ∷ l) (pos_b, pos_l) (omega arith))
 
     by_run : (k : ℕ) (l : List ℕ) → total l ≡ k + b → (cores : Cores s n x p l) → Run s n x b cores.items → Le (date_of s l) (move a (star k))
     by_run k l e cores run =
@@ -74,7 +75,7 @@ module _ (s : ℕ → Date) (n : ℕ) (x : ℤ) (b : ℕ) (a : ℤ) (pos_b : 0 <
         let run_worth : Le (W r) (At (times (suc q) a)) = scaled_le_back b pos_b (le_trans (cheap_run m r (fit_first s n x m r v fit_rv) cheap slow) (le_is multiple)) in
         let parted : W cores.items ≡ date_product (W u) (date_product (W r) (W v)) = ap W run.is ∙ worths_append s n x u (r ++ v) ∙ ap (date_product (W u)) (worths_append s n x r v) in
         let taken : date_product (W u) (date_product (At (times (suc q) a)) (W v)) ≡ move a (W others) =
-        ap (date_product (W u)) (at_product (times (suc q) a) (W v)) ∙ product_move_right (times (suc q) a) (W u) (W v) ∙ ap (move (times (suc q) a)) (sym (worths_append s n x u v))
+        ap (date_product (W u)) (product_is_move (times (suc q) a) (W v)) ∙ product_move_right (times (suc q) a) (W u) (W v) ∙ ap (move (times (suc q) a)) (sym (worths_append s n x u v))
         ∙ sym (move_move (times q a) a (W (u ++ v))) ∙ ap (move a) (sym (anchors_worths q (u ++ v))) in
         let tail : StepFree s n x others ⊎ (p ≤ core) = ⊎_elim
         (λ free. let f : StepFree s n x (u ++ (r ++ v)) = subst (λ (z : List Item). StepFree s n x z) run.is free in

@@ -1,8 +1,8 @@
 -- The laws of forms.
 use Rattle.std.proofs.Common.{◌≡◌, ap, arith, ℕ, ◌+◌, ◌*◌, ◌-◌, ◌/◌, ◌%◌, ◌≤◌, ◌<◌, sym, ◌∙◌, suc, zero, eqb, true}
-use Rattle.std.proofs.lemmas.Bool.Decides.{nat_tests}
 use Rattle.std.proofs.lemmas.Nat.{mod-mul-add, div-add-mod'}
 use Rattle.std.proofs.Math.Nat.{mul-le-mul_right}
+use Rattle.number_laws.proofs.Numbers.{zero_test}
 use Rattle.series_laws.proofs.Repeating.{repeats_from}
 use Rattle.series_laws.proofs.FormValues.{value_in, value_repeats, first_le}
 use Rattle.series_laws.proofs.Canonical.{canonical_values, canonical_is, canonical_short, one_canonical}
@@ -11,9 +11,6 @@ use Rattle.series_laws.proofs.LeastForms.{period_divides, start_least}
 use Rattle.series_laws.specs.Needs.{turns_of, common}
 use Rattle.series_laws.proofs.Sums.{common_positive, common_second}
 use Rattle.series_laws.specs.FormLaws.{IsLeastCommon, AreFormLaws}
-
-zero_test : (n : ℕ) → n ≡ 0 → eqb n 0 ≡ true
-zero_test n h = grind (arith, nat_tests)
 
 least_common : (a b : ℕ) → 0 < a → 0 < b → IsLeastCommon a b (common a b)
 least_common a b pos_a pos_b = record {

@@ -11,10 +11,10 @@ use Rattle.dioid.specs.declared.dates.Date.{Date}
 use Rattle.dioid.specs.declared.dates.Date.TheVariants.{Early, At, Never}
 use Rattle.dioid.specs.Order.{Le}
 use Rattle.dioid.proofs.AtMost.{le_is, le_trans}
-use Rattle.dioid.proofs.Moves.{product_move_left, product_move_right, move_zero, move_move}
+use Rattle.dioid.proofs.Moves.{product_is_move, product_move_left, product_move_right, move_zero, move_move}
 use Rattle.series_laws.specs.Periodic.{Repeats, times}
 use Rattle.series_laws.proofs.Repeating.{repeats_times}
-use Rattle.series_laws.proofs.Pigeons.{pigeons, difference}
+use Rattle.number_laws.proofs.Pigeons.{pigeons, difference}
 use Rattle.series_laws.specs.Stars.{total, date_of, ArePositive, IsStarAt}
 
 pub times_commutes : (a b : Date) → date_product a b ≡ date_product b a
@@ -27,11 +27,6 @@ times_commutes (At s) Never = refl
 times_commutes Never Early = refl
 times_commutes Never (At t) = refl
 times_commutes Never Never = refl
-
-pub at_product : (x : ℤ) (a : Date) → date_product (At x) a ≡ move x a
-at_product x Early = refl
-at_product x (At t) = ap At (omega (arith, ints))
-at_product x Never = refl
 
 -- u (v w) is (v u) w, and v (u w)
 pub turned : (u v w : Date) → date_product u (date_product v w) ≡ date_product (date_product v u) w
@@ -163,7 +158,7 @@ module _ (s : ℕ → Date) (n : ℕ) (x : ℤ) where
     realised m (step ∷ items) core l k fit pos_core pos_l tail e = ⊎_elim
         (λ none. absurd none)
         (λ far. le_trans
-        (le_is (ap (λ z. date_product (s core) (date_product (date_of s l) z)) (at_product x (worths items))
+        (le_is (ap (λ z. date_product (s core) (date_product (date_of s l) z)) (product_is_move x (worths items))
         ∙ ap (date_product (s core)) (product_move_right x (date_of s l) (worths items))
         ∙ product_move_right x (s core) (date_product (date_of s l) (worths items))
         ∙ sym (product_move_left x (s core) (date_product (date_of s l) (worths items)))
@@ -183,7 +178,7 @@ module _ (s : ℕ → Date) (n : ℕ) (x : ℤ) where
 
   steps_worths : (m : ℕ) (l : List Item) → worths (steps m l) ≡ move (times m x) (worths l)
   steps_worths zero l = sym (move_zero (worths l))
-  steps_worths (suc m) l = at_product x (worths (steps m l)) ∙ ap (move x) (steps_worths m l) ∙ move_move (times m x) x (worths l)
+  steps_worths (suc m) l = product_is_move x (worths (steps m l)) ∙ ap (move x) (steps_worths m l) ∙ move_move (times m x) x (worths l)
 
   steps_fit : (m w : ℕ) (l : List Item) → 0 < n → n ≤ w → Fit w l → Fit w (steps m l)
   steps_fit zero w l h k f = f

@@ -9,7 +9,6 @@ pub mod FunctionLaws
 pub mod Items
 pub mod LeastForms
 pub mod Lefts
-pub mod Pigeons
 pub mod Products
 pub mod ProductsRepeat
 pub mod Repeating

@@ -5,6 +5,7 @@ use Rattle.std.proofs.lemmas.Int.{ints, clamps}
 use Rattle.std.proofs.lemmas.Bool.Decides.{nat_tests}
 use Rattle.std.proofs.lemmas.Nat.{div-mul-add, mod-mul-add, mod_below, div-add-mod'}
 use Rattle.std.proofs.Math.Nat.{eq-or-lt_of_le, le-mul_of_pos_right, mul-le-mul_right}
+use Rattle.number_laws.proofs.Numbers.{zero_test}
 use Rattle.dioid.specs.declared.dates.Date.{Date}
 use Rattle.dioid.specs.declared.dates.Date.TheVariants.{Early, At, Never}
 use Rattle.dioid.specs.Dates.{move}
@@ -46,9 +47,6 @@ turns_positive a b = first_ge (λ m. eqb (m * a % b) 0) 1 (b - 1)
 eqb_zero : (n : ℕ) → eqb n 0 ≡ true → n ≡ 0
 eqb_zero n h = grind (arith, nat_tests)
 
-zero_eqb : (n : ℕ) → n ≡ 0 → eqb n 0 ≡ true
-zero_eqb n h = grind (arith, nat_tests)
-
 pub common_positive : (a b : ℕ) → 0 < a → 0 < common a b
 common_positive a b pos_a = let h : 0 < turns_of a b = turns_positive a b in omega (arith, le-mul_of_pos_right (turns_of a b) pos_a)
 
@@ -63,7 +61,7 @@ common_second a b pos_b =
     let t : ℕ → Bool = λ m. eqb (m * a % b) 0 in
     let whole : 1 + (b - 1) ≡ b = omega arith in
     let turned : b * a ≡ a * b + 0 = omega arith in
-    let last : t (1 + (b - 1)) ≡ true = ap t whole ∙ zero_eqb (b * a % b) (ap (λ (z : ℕ). z % b) turned ∙ mod-mul-add a b 0 pos_b) in
+    let last : t (1 + (b - 1)) ≡ true = ap t whole ∙ zero_test (b * a % b) (ap (λ (z : ℕ). z % b) turned ∙ mod-mul-add a b 0 pos_b) in
     let none : common a b % b ≡ 0 = eqb_zero (common a b % b) (first_holds t 1 (b - 1) last) in
     let d : common a b / b * b + common a b % b ≡ common a b = div-add-mod' (common a b) b in
     omega arith
@@ -202,7 +200,7 @@ common_below a b pos_a pos_b =
     let pos_m : 1 ≤ m = positive m whole pos_c in
     let e : m * a ≡ turns_of b a * b + 0 = omega arith in
     let none : m * a % b ≡ 0 = ap (λ (z : ℕ). z % b) e ∙ mod-mul-add (turns_of b a) b 0 pos_b in
-    let low : turns_of a b ≤ m = first_le (λ m. eqb (m * a % b) 0) 1 (b - 1) m pos_m (zero_eqb (m * a % b) none) in
+    let low : turns_of a b ≤ m = first_le (λ m. eqb (m * a % b) 0) 1 (b - 1) m pos_m (zero_test (m * a % b) none) in
     omega (arith, mul-le-mul_right a low) where
       positive : (m : ℕ) → m * a ≡ common b a → 0 < common b a → 1 ≤ m
       positive zero e h = absurd (omega arith)

@@ -1,11 +1,9 @@
 -- Numbers of sixteen bytes that stand for dates.
-use Rattle.std.proofs.Common.{◌≡◌, ℕ, ℤ, pos, ◌+◌, ◌-◌, ◌≤◌, ◌<◌, ◌+ℤ◌, ◌-ℤ◌, arith, List, [], ◌∷◌, ◌++◌, length, get_or, map, to_z, of_z, FitsSigned}
-use Rattle.std.specs.Prelude.{◌≤ℤ◌, ◌<ℤ◌}
+use Rattle.std.proofs.Common.{◌≡◌, ℕ, ℤ, pos, ◌+◌, ◌-◌, ◌≤◌, ◌<◌, ◌+ℤ◌, arith, List, [], ◌∷◌, ◌++◌, length, get_or, map, to_z, of_z}
 use Rattle.std.specs.Int.{int_max, w128}
 use Rattle.std.specs.Int.RustNames.{unsigned_abs}
 use Rattle.std.proofs.lemmas.Int.{ints, fits_signed_from_abs}
 use Rattle.dioid.specs.declared.dates.Date.{Date}
-use Rattle.dioid.specs.declared.dates.Date.TheVariants.{Early, At, Never}
 use Rattle.series_form.specs.Bounds.{IsUpTo}
 use Rattle.series_form.proofs.Numbers.{abs_difference}
 use Rattle.series_ops.specs.Cells.{IsCellBy, far, greatest_listed, early_cell, never_cell, cell_of, date_in, AreCells}
@@ -26,35 +24,26 @@ long_scale = record {
   fits = λ z h. fits_signed_from_abs w128 z (omega arith);
 }
 
-pub in_never : (z : ℤ) → pos far <ℤ z → date_in z ≡ Never
-in_never z h = scale.in_never far greatest_listed 10000000000000000000000000000000000000 early_cell never_cell w128 long_scale z h
-
-pub in_early : (z : ℤ) → z <ℤ (pos 0 -ℤ pos far) → date_in z ≡ Early
-in_early z h = scale.in_early far greatest_listed 10000000000000000000000000000000000000 early_cell never_cell w128 long_scale z h
-
-pub in_number : (z : ℤ) → (pos 0 -ℤ pos far) ≤ℤ z → z ≤ℤ pos far → date_in z ≡ At z
-in_number z g h = scale.in_number far greatest_listed 10000000000000000000000000000000000000 early_cell never_cell w128 long_scale z g h
-
 pub kept : (d : Date) → IsUpTo greatest_listed d → date_in (cell_of d) ≡ d
 kept d h = scale.kept far greatest_listed 10000000000000000000000000000000000000 early_cell never_cell w128 long_scale d h
 
 pub is_cell : (d : Date) → IsUpTo greatest_listed d → IsCellBy far greatest_listed early_cell never_cell (cell_of d)
 is_cell d h = scale.is_cell far greatest_listed 10000000000000000000000000000000000000 early_cell never_cell w128 long_scale d h
 
-pub cells_fit : (x y : ℤ) → IsCellBy far greatest_listed early_cell never_cell x → IsCellBy far greatest_listed early_cell never_cell y → FitsSigned w128 (x +ℤ y)
-cells_fit x y h k = scale.cells_fit far greatest_listed 10000000000000000000000000000000000000 early_cell never_cell w128 long_scale x y h k
-
 pub sum_code : (x y : ℤ) → IsCellBy far greatest_listed early_cell never_cell x → IsCellBy far greatest_listed early_cell never_cell y → to_z w128 (of_z w128 (to_z w128 (of_z w128 x) +ℤ to_z w128 (of_z w128 y))) ≡ x +ℤ y
 sum_code x y h k = scale.sum_code far greatest_listed 10000000000000000000000000000000000000 early_cell never_cell w128 long_scale x y h k
+
+pub own_code : (x : ℤ) → IsCellBy far greatest_listed early_cell never_cell x → to_z w128 (of_z w128 x) ≡ x
+own_code x h = scale.own_code far greatest_listed 10000000000000000000000000000000000000 early_cell never_cell w128 long_scale x h
+
+pub cells_up_to : (l : List ℤ) (k : ℕ) → AreCells l → IsUpTo greatest_listed (listed (map date_in l) k)
+cells_up_to l k h = scale.cells_up_to far greatest_listed 10000000000000000000000000000000000000 early_cell never_cell w128 long_scale l k h
 
 pub dated_at : (l : List ℤ) (k : ℕ) → k < length l → listed (map date_in l) k ≡ date_in (get_or l k (pos 0))
 dated_at l k h = scale.dated_at far greatest_listed 10000000000000000000000000000000000000 early_cell never_cell w128 long_scale l k h
 
 pub cells_more : (l : List ℤ) (z : ℤ) → AreCells l → IsCellBy far greatest_listed early_cell never_cell z → AreCells (l ++ z ∷ [])
 cells_more l z h c = scale.cells_more far greatest_listed 10000000000000000000000000000000000000 early_cell never_cell w128 long_scale l z h c
-
-pub dated_more : (l : List ℤ) (z : ℤ) (d : Date) → date_in z ≡ d → map date_in (l ++ z ∷ []) ≡ map date_in l ++ d ∷ []
-dated_more l z d e = scale.dated_more far greatest_listed 10000000000000000000000000000000000000 early_cell never_cell w128 long_scale l z d e
 
 pub split_step : (l r : List ℤ) (k p m : ℕ) (best sum new : ℤ) → AreCells l → AreCells r → p + m < length l → k - (p + m) < length r
     → sum ≡ get_or l (p + m) (pos 0) +ℤ get_or r (k - (p + m)) (pos 0) → new ≡ int_max best sum

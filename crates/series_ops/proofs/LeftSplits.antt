@@ -96,7 +96,7 @@ star_same l m r q n k x y h em eq en ex = subst (λ (z : List Date). IsStarLeft 
 
 -- ---- the residual at a shift
 
-greatest_early : (f : ℕ → Date) (p m : ℕ) → ((j : ℕ) → j < m → f (p + j) ≡ Early) → greatest_from f p m ≡ Early
+pub greatest_early : (f : ℕ → Date) (p m : ℕ) → ((j : ℕ) → j < m → f (p + j) ≡ Early) → greatest_from f p m ≡ Early
 greatest_early f p zero h = refl
 greatest_early f p (suc m) h =
     ap (λ (z : Date). later_of z (f (p + m))) (greatest_early f p m (λ j w. h j (omega arith))) ∙ h m (omega arith)

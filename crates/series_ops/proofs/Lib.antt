@@ -1,9 +1,11 @@
+pub mod BegunLaws
 pub mod CellLaws
 pub mod FirstValues
 pub mod LeftParts
 pub mod LeftSplits
 pub mod LeftValues
 pub mod Many
+pub mod PieceLaws
 pub mod ProductPlans
 pub mod Refusing
 pub mod ScaleLaws

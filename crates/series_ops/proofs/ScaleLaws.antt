@@ -7,7 +7,8 @@ use Rattle.std.specs.Int.RustNames.{unsigned_abs}
 use Rattle.std.proofs.lemmas.Int.{ints, clamps, by_lt_z, to_z-of_z}
 use Rattle.std.proofs.lemmas.Bool.{cases_lt}
 use Rattle.std.proofs.lemmas.Bool.Decides.{nat_tests}
-use Rattle.std.proofs.lemmas.List.{get_or-map, get_or_push, get_or_append_left, length-append, map-append}
+use Rattle.std.proofs.lemmas.List.{get_or-map, length-map, get_or_push, get_or_append_left, length-append, map-append}
+use Rattle.std.proofs.Math.ListN.{get_or-eq_default}
 use Rattle.dioid.specs.Dates.{IsAtMostDate, later_of, date_product}
 use Rattle.dioid.specs.declared.dates.Date.{Date}
 use Rattle.dioid.specs.declared.dates.Date.TheVariants.{Early, At, Never}
@@ -114,7 +115,19 @@ module _ (far bound top : ℕ) (early never : ℤ) (width : Width) (scale : IsSc
       ap (λ (z : ℤ). to_z width (of_z width (z +ℤ to_z width (of_z width y)))) a
       ∙ ap (λ (z : ℤ). to_z width (of_z width (x +ℤ z))) b ∙ to_z-of_z width (x +ℤ y) (cells_fit x y h k)
 
+  -- one of them as the code reads it
+  pub own_code : (x : ℤ) → IsCellBy far bound early never x → to_z width (of_z width x) ≡ x
+  own_code x h = let low : unsigned_abs x ≤ top = cell_low x h in to_z-of_z width x (scale.fits x (omega arith))
+
   -- ---- lists
+
+  pub cells_up_to : (l : List ℤ) (k : ℕ) → AreCellsBy far bound early never l → IsUpTo bound (listed (map (date_by far) l) k)
+  cells_up_to l k h = ⊎_elim
+      (λ low. subst (λ (z : Date). IsUpTo bound z) (sym (get_or-map (date_by far) l k (pos 0) Early low)) (h k low).bound)
+      (λ high.
+      let size : length (map (date_by far) l) ≡ length l = length-map l (date_by far) in
+      subst (λ (z : Date). IsUpTo bound z) (sym (get_or-eq_default (map (date_by far) l) Early {n = k} (omega arith))) tt)
+      (cases_lt k (length l))
 
   pub dated_at : (l : List ℤ) (k : ℕ) → k < length l → listed (map (date_by far) l) k ≡ date_by far (get_or l k (pos 0))
   dated_at l k w = get_or-map (date_by far) l k (pos 0) Early w

@@ -1,6 +1,5 @@
 -- Numbers of eight bytes that stand for dates, and for the first ones of a longer list.
-use Rattle.std.proofs.Common.{◌≡◌, ℕ, ℤ, pos, ◌+◌, ◌-◌, ◌≤◌, ◌<◌, ◌+ℤ◌, ◌-ℤ◌, arith, ap, sym, ◌∙◌, subst, ⊎_elim, List, [], ◌∷◌, ◌++◌, length, get_or, map, to_z, of_z, FitsSigned}
-use Rattle.std.specs.Prelude.{◌≤ℤ◌, ◌<ℤ◌}
+use Rattle.std.proofs.Common.{◌≡◌, ℕ, ℤ, pos, ◌+◌, ◌-◌, ◌≤◌, ◌<◌, ◌+ℤ◌, arith, ap, sym, ◌∙◌, subst, ⊎_elim, List, [], ◌∷◌, ◌++◌, length, get_or, map, to_z, of_z}
 use Rattle.std.specs.Int.{int_max, w64}
 use Rattle.std.specs.Int.RustNames.{unsigned_abs}
 use Rattle.std.proofs.lemmas.Int.{ints, fits_signed_from_abs}
@@ -8,7 +7,6 @@ use Rattle.std.proofs.lemmas.Bool.{cases_lt}
 use Rattle.std.proofs.lemmas.List.{get_or_push, get_or_append_left, length-append}
 use Rattle.dioid.specs.Dates.{date_product}
 use Rattle.dioid.specs.declared.dates.Date.{Date}
-use Rattle.dioid.specs.declared.dates.Date.TheVariants.{Early, At, Never}
 use Rattle.series_form.specs.Bounds.{IsUpTo}
 use Rattle.series_form.proofs.Numbers.{abs_difference}
 use Rattle.series_ops.specs.Cells.{IsCellBy, short_far, greatest_short, early_short, never_short, short_of, short_date, AreShort, AreShortOf, IsPushed, greatest_listed, cell_of, date_in, AreCells}
@@ -31,23 +29,11 @@ short_scale = record {
   fits = λ z h. fits_signed_from_abs w64 z (omega arith);
 }
 
-pub short_in_never : (z : ℤ) → pos short_far <ℤ z → short_date z ≡ Never
-short_in_never z h = scale.in_never short_far greatest_short 4600000000000000000 early_short never_short w64 short_scale z h
-
-pub short_in_early : (z : ℤ) → z <ℤ (pos 0 -ℤ pos short_far) → short_date z ≡ Early
-short_in_early z h = scale.in_early short_far greatest_short 4600000000000000000 early_short never_short w64 short_scale z h
-
-pub short_in_number : (z : ℤ) → (pos 0 -ℤ pos short_far) ≤ℤ z → z ≤ℤ pos short_far → short_date z ≡ At z
-short_in_number z g h = scale.in_number short_far greatest_short 4600000000000000000 early_short never_short w64 short_scale z g h
-
 pub short_kept : (d : Date) → IsUpTo greatest_short d → short_date (short_of d) ≡ d
 short_kept d h = scale.kept short_far greatest_short 4600000000000000000 early_short never_short w64 short_scale d h
 
 pub is_short : (d : Date) → IsUpTo greatest_short d → IsCellBy short_far greatest_short early_short never_short (short_of d)
 is_short d h = scale.is_cell short_far greatest_short 4600000000000000000 early_short never_short w64 short_scale d h
-
-pub shorts_fit : (x y : ℤ) → IsCellBy short_far greatest_short early_short never_short x → IsCellBy short_far greatest_short early_short never_short y → FitsSigned w64 (x +ℤ y)
-shorts_fit x y h k = scale.cells_fit short_far greatest_short 4600000000000000000 early_short never_short w64 short_scale x y h k
 
 pub short_sum_code : (x y : ℤ) → IsCellBy short_far greatest_short early_short never_short x → IsCellBy short_far greatest_short early_short never_short y → to_z w64 (of_z w64 (to_z w64 (of_z w64 x) +ℤ to_z w64 (of_z w64 y))) ≡ x +ℤ y
 short_sum_code x y h k = scale.sum_code short_far greatest_short 4600000000000000000 early_short never_short w64 short_scale x y h k
@@ -57,9 +43,6 @@ short_dated_at l k h = scale.dated_at short_far greatest_short 46000000000000000
 
 pub shorts_more : (l : List ℤ) (z : ℤ) → AreShort l → IsCellBy short_far greatest_short early_short never_short z → AreShort (l ++ z ∷ [])
 shorts_more l z h c = scale.cells_more short_far greatest_short 4600000000000000000 early_short never_short w64 short_scale l z h c
-
-pub short_dated_more : (l : List ℤ) (z : ℤ) (d : Date) → short_date z ≡ d → map short_date (l ++ z ∷ []) ≡ map short_date l ++ d ∷ []
-short_dated_more l z d e = scale.dated_more short_far greatest_short 4600000000000000000 early_short never_short w64 short_scale l z d e
 
 pub short_split_step : (l r : List ℤ) (k p m : ℕ) (best sum new : ℤ) → AreShort l → AreShort r → p + m < length l → k - (p + m) < length r
     → sum ≡ get_or l (p + m) (pos 0) +ℤ get_or r (k - (p + m)) (pos 0) → new ≡ int_max best sum

@@ -16,7 +16,7 @@ use Rattle.series_form.specs.Bounds.{IsUpTo, IsSeries}
 use Rattle.series_form.proofs.Numbers.{moderate_fits}
 use Rattle.series_form.proofs.Finished.{up_to_more}
 use Rattle.series_form.proofs.PointwiseTables.{later_up_to, listed_up_to}
-use Rattle.series_laws.proofs.Items.{at_product}
+use Rattle.dioid.proofs.Moves.{product_is_move}
 use Rattle.series_ops.specs.Listed.{listed, AreUpTo}
 use Rattle.series_laws.specs.Product.{product_at, greatest}
 use Rattle.series_laws.proofs.Products.{product_commutes}
@@ -35,7 +35,7 @@ greatest_same f g p q zero h = refl
 greatest_same f g p q (suc m) h =
     ap (λ (z : Date). later_of z (f (p + m))) (greatest_same f g p q m (λ j w. h j (omega arith))) ∙ ap (later_of (greatest_from g q m)) (h m (omega arith))
 
-greatest_moved : (f g : ℕ → Date) (p q m : ℕ) (x : ℤ) → ((j : ℕ) → j < m → f (p + j) ≡ move x (g (q + j))) → greatest_from f p m ≡ move x (greatest_from g q m)
+pub greatest_moved : (f g : ℕ → Date) (p q m : ℕ) (x : ℤ) → ((j : ℕ) → j < m → f (p + j) ≡ move x (g (q + j))) → greatest_from f p m ≡ move x (greatest_from g q m)
 greatest_moved f g p q zero x h = refl
 greatest_moved f g p q (suc m) x h =
     ap (λ (z : Date). later_of z (f (p + m))) (greatest_moved f g p q m x (λ j w. h j (omega arith)))
@@ -56,7 +56,7 @@ greatest_whole f (suc k) =
     let e : suc k ≡ 0 + suc k = omega arith in
     ap (λ (z : Date). later_of z (f (suc k))) (greatest_whole f k) ∙ ap (λ (z : ℕ). later_of (greatest_from f 0 (suc k)) (f z)) e
 
-greatest_from_up_to : (f : ℕ → Date) (p m n : ℕ) → ((j : ℕ) → j < m → IsUpTo n (f (p + j))) → IsUpTo n (greatest_from f p m)
+pub greatest_from_up_to : (f : ℕ → Date) (p m n : ℕ) → ((j : ℕ) → j < m → IsUpTo n (f (p + j))) → IsUpTo n (greatest_from f p m)
 greatest_from_up_to f p zero n h = tt
 greatest_from_up_to f p (suc m) n h = later_up_to n (greatest_from f p m) (f (p + m)) (greatest_from_up_to f p m n (λ j w. h j (omega arith))) (h m (omega arith))
 
@@ -121,7 +121,7 @@ pub tail_carried : (f : Form) (t : ℕ → Date) (k : ℕ) (l : List Date) → 0
     → later_of (greatest_from (split_of (listed f.values) t k) (start_of f) (places_to (start_of f) f.period k)) (date_product (At f.step) (listed l (k - f.period))) ≡ tail_product f t k
 tail_carried f t k l pos_n fits e w =
     let before : date_product (At f.step) (listed l (k - f.period)) ≡ move f.step (tail_product f t (k - f.period)) =
-    at_product f.step (listed l (k - f.period)) ∙ ap (move f.step) (listed_is (tail_product f t) k l e (k - f.period) (omega arith)) in
+    product_is_move f.step (listed l (k - f.period)) ∙ ap (move f.step) (listed_is (tail_product f t) k l e (k - f.period) (omega arith)) in
     ap (λ (z : Date). later_of z (date_product (At f.step) (listed l (k - f.period)))) (tail_listed f t k fits)
     ∙ ap (later_of (greatest_from (split_of (value_at f) t k) (start_of f) (places_to (start_of f) f.period k))) before
     ∙ sym (product_carried (value_at f) t (start_of f) f.period k f.step (value_repeats f pos_n fits) w)
@@ -150,8 +150,8 @@ splits_up_to s t p k n m l e low w = all_up_to m (product_from s t p) k l e (λ 
     up_to_more n m (product_from s t p i) w (greatest_from_up_to (split_of s t i) p (suc i - p) n (λ j v. low (p + j) (i - (p + j)) (omega arith))))
 
 -- the sums in the tail of a series
-pub tails_up_to : (f : Form) (m l : List Date) (k : ℕ) → IsSeries f → AreUpTo 20001000000000000000000 m → k ≤ 20001 → l ≡ table (tail_product f (listed m)) k → AreUpTo 500000000000000000000000000 l
-tails_up_to f m l k h low w e = splits_up_to (value_at f) (listed m) (start_of f) k (20001000000000000000000 + 20001000000000000000000) 500000000000000000000000000 l e
+pub tails_up_to : (f : Form) (m l : List Date) (k : ℕ) → IsSeries f → AreUpTo 20001000000000000000000 m → k ≤ 20001 → l ≡ table (tail_product f (listed m)) k → AreUpTo 1000000000000000000000000000 l
+tails_up_to f m l k h low w e = splits_up_to (value_at f) (listed m) (start_of f) k (20001000000000000000000 + 20001000000000000000000) 1000000000000000000000000000 l e
     (λ i j u. added_up_to 20001000000000000000000 20001000000000000000000 (value_at f i) (listed m j) (listed_up_to f h i (omega arith)) (low j)) (omega arith)
 
 -- ---- the table

@@ -57,9 +57,6 @@ star_up_to f h (suc n) (suc j) w u = subst (λ (z : Date). IsUpTo (suc j * 20001
 pub star_moderate : (f : Form) → IsSeries f → (k : ℕ) → k ≤ 20000 → IsUpTo 500000000000000000000000000 (parts_star (value_at f) k)
 star_moderate f h k w = up_to_more (k * 20001000000000000000000) 500000000000000000000000000 (parts_star (value_at f) k) (omega arith) (star_up_to f h k k (omega arith) w)
 
-pub stars_up_to : (f : Form) → IsSeries f → (n : ℕ) (l : List Date) → n ≤ 20001 → l ≡ table (parts_star (value_at f)) n → AreUpTo 500000000000000000000000000 l
-stars_up_to f h n l short e = all_up_to 500000000000000000000000000 (parts_star (value_at f)) n l e (λ k w. star_moderate f h k (omega arith))
-
 -- ---- the values from shift 1 on, as a form
 
 module _ (f : Form) (h : IsSeries f) (l : List Date) (e : l ≡ table (later_part (value_at f)) (size_of f)) where
@@ -91,8 +88,8 @@ module _ (f : Form) (h : IsSeries f) (l : List Date) (e : l ≡ table (later_par
   pub later_carried : (k : ℕ) (m d : List Date) → m ≡ table (parts_star (value_at f)) (k + 1) → d ≡ table (tail_product later (parts_star (value_at f))) k → d ≡ table (tail_product later (listed m)) k
   later_carried k m d em ed = ed ∙ table_same (tail_product later (parts_star (value_at f))) (tail_product later (listed m)) k (λ i w. sym (later_tails k m em i (omega arith)))
 
-  pub later_tails_up : (k : ℕ) (d : List Date) → k ≤ 20000 → d ≡ table (tail_product later (parts_star (value_at f))) k → AreUpTo 500000000000000000000000000 d
-  later_tails_up k d short ed = splits_up_to (value_at later) (parts_star (value_at f)) (start_of later) k (20001000000000000000000 + 20000 * 20001000000000000000000) 500000000000000000000000000 d ed
+  pub later_tails_up : (k : ℕ) (d : List Date) → k ≤ 20000 → d ≡ table (tail_product later (parts_star (value_at f))) k → AreUpTo 1000000000000000000000000000 d
+  later_tails_up k d short ed = splits_up_to (value_at later) (parts_star (value_at f)) (start_of later) k (20001000000000000000000 + 20000 * 20001000000000000000000) 1000000000000000000000000000 d ed
       (λ i j u. added_up_to 20001000000000000000000 (20000 * 20001000000000000000000) (value_at later i) (parts_star (value_at f) j)
       (subst (λ (z : ℕ → Date). IsUpTo 20001000000000000000000 (z i)) (sym later_is) (listed_up_to f h (suc i) (omega arith)))
       (up_to_more (j * 20001000000000000000000) (20000 * 20001000000000000000000) (parts_star (value_at f) j) (omega arith) (star_up_to f h j j (omega arith) (omega arith))))

@@ -15,7 +15,7 @@ use series_form::Plan;
 use series_laws::Anchor;
 
 // A number many times over.
-fn many(count: usize, number: i128) -> i128
+pub(crate) fn many(count: usize, number: i128) -> i128
     requires count { count ≤ 20000 }
     requires number { unsigned_abs number ≤ 200000000000000000000000 }
     ensures value { result ≡ times count number }

@@ -2,6 +2,7 @@
 //! of numbers alone: a number far below all others stands for Early, one far above for Never.
 ghost use Rattle.std.specs.Prelude.{◌≡◌, ◌≤◌, ◌<◌, ◌+◌, ◌-◌, ◌++◌, ◌∷◌, [], length, map, IfOk};
 ghost use Rattle.std.specs.Int.{int_max};
+ghost use Rattle.series_laws.specs.Forms.{table};
 ghost use Rattle.series_form.specs.Bounds.{IsUpTo};
 ghost use Rattle.series_ops.specs.Cells.{far, greatest_listed, cell_of, conjugate_of, date_in, short_date, turned, AreCells, AreShort, IsPushed};
 ghost use Rattle.series_ops.specs.Listed.{listed, AreUpTo};
@@ -143,9 +144,21 @@ impl Cells {
 
     // How many there are.
     pub(crate) fn len(&self) -> usize
-        ensures { result ≡ length self.now }
+        ensures value { result ≡ length self.now }
+        ensures bound { AreUpTo greatest_listed self.now }
     {
         self.numbers.len()
+    }
+
+    // The date at a place, Early past them.
+    fn date(&self, place: usize) -> Date
+        ensures { result ≡ listed self.now place }
+    {
+        let numbers = self.numbers.as_slice();
+        if place < numbers.len() {
+            return date_of(numbers[place]);
+        }
+        Date::Early
     }
 
     // Adds a date behind the others.
@@ -172,6 +185,19 @@ pub(crate) fn collected(alloc: Global, dates: &[Date]) -> Result<Cells, AllocErr
         cells.push(dates[place])?;
     }
     Ok(cells)
+}
+
+// The first dates of a list, Early past it.
+pub(crate) fn dates_of(alloc: Global, cells: &Cells, size: usize) -> Result<Vec<Date>, AllocError>
+    ensures value { IfOk result (λ dates. dates.items ≡ table (listed cells.now) size) }
+    ensures bound { AreUpTo greatest_listed cells.now }
+{
+    let _size = cells.len();
+    let mut dates = Vec::new(alloc);
+    for place in 0..size {
+        dates.push(cells.date(place))?;
+    }
+    Ok(dates)
 }
 
 // The conjugates of the dates of a list.

@@ -6,8 +6,10 @@
 #![tactic(auto)]
 
 mod anchors;
+mod beginnings;
 mod cells;
 mod gains;
+mod pieces;
 mod products;
 mod residuals;
 mod splits;

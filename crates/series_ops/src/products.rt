@@ -14,6 +14,7 @@ ghost use Rattle.series_laws.specs.ProductNeeds.{lifts_of, waits_of, product_fir
 ghost use Rattle.series_ops.specs.Listed.{IsNumber, listed, AreUpTo};
 
 use crate::cells::{Cells, collected};
+use crate::pieces::sums_in_few_pieces;
 use crate::splits::{tail_value, value_with_tail};
 use crate::tables::{ended, first_values};
 use dioid::Date;
@@ -146,9 +147,19 @@ fn tail_list(
         (tail_product first.now (listed second.now)) count) }
 {
     let (period, step) = (first.period(), first.step());
+    let from = start(first);
+    let known = sums_in_few_pieces(alloc, parts, second, count, from, period, period)?;
     let mut tails = Vec::new(alloc);
     for shift in 0..count {
-        let next = tail_value(parts, period, step, second, tails.as_slice(), shift);
+        let next = tail_value(
+            parts,
+            period,
+            step,
+            second,
+            tails.as_slice(),
+            shift,
+            known.as_slice(),
+        );
         tails.push(next)?;
     }
     Ok(tails)
@@ -170,9 +181,12 @@ fn product_list(
         (product_at (value_at first.now) (listed second.now)) (length tails.now)) }
 {
     let from = start(first);
+    let (size, period) = (tails.len(), first.period());
+    let known = sums_in_few_pieces(alloc, parts, second, size, 0, from, period)?;
+    let known = known.as_slice();
     let mut values = Vec::new(alloc);
     for shift in 0..tails.len() {
-        values.push(value_with_tail(parts, from, second, tails[shift], shift))?;
+        values.push(value_with_tail(parts, from, second, tails[shift], shift, known))?;
     }
     Ok(values)
 }

@@ -11,10 +11,13 @@ ghost use Rattle.series_laws.specs.Needs.{need_of, tail_of};
 ghost use Rattle.series_laws.specs.Residual.{IsLeftAt};
 ghost use Rattle.series_laws.specs.ProductNeeds.{offsets_of, left_over, OffsetsDecide, left_at, long_left, short_left, left_plan, form_left};
 ghost use Rattle.series_ops.specs.Cells.{conjugate_of, turned};
+ghost use Rattle.series_ops.specs.Pieces.{AreSums};
 ghost use Rattle.series_ops.specs.Listed.{AreEarlyTo, AreUpTo, left_listed, star_left_listed, IsStarLeft};
 
-use crate::cells::{Cells, collected, conjugate, conjugates, conjugates_back, greatest_split};
-use crate::tables::{ended, first_values};
+use crate::cells::{Cells, collected, conjugate, conjugates, conjugates_back};
+use crate::pieces::sums_in_few_pieces;
+use crate::splits::greatest_at;
+use crate::tables::{ended, first_values, repeated};
 use dioid::Date;
 use series_form::{
     Plan, Series, SeriesRefused, Slopes, common_period, common_start, compare_slopes, start, tail,
@@ -137,6 +140,13 @@ fn places_begun(list: &[Date], most: usize) -> usize
     most
 }
 
+// Greatest sums that are known: of the places below the start of a series, and of the others.
+#[derive(Drop)]
+struct Known {
+    head: Vec<Date>,
+    rest: Vec<Date>,
+}
+
 // The least residual at a shift, over the places of the first list: below `from` of the one list,
 // from there on of the other, both conjugated and in reverse. A residual is the conjugate of the sum
 // with the conjugate, so that it is found by a greatest sum. The places below `begun`, where the
@@ -148,19 +158,25 @@ fn left_value(
     second: &Cells,
     by_star: &Cells,
     shift: usize,
+    known: &Known,
 ) -> Date
     requires begun { begun ≤ from }
     requires from { from < length first.now }
     requires early { AreEarlyTo begun first.now }
     requires second { shift + length first.now ≤ length second.now }
     requires by_star { shift + length first.now ≤ length by_star.now }
+    requires head { AreSums known.now.head.items first.now second.now begun (from - begun) }
+    requires rest { AreSums known.now.rest.items first.now by_star.now from
+        (length first.now - from) }
     ensures { result ≡ left_listed first.now (turned second.now) (map conjugate_of by_star.now) from
         shift }
 {
     let last = second.len() - 1 - shift;
-    let head = greatest_split(first, second, last, begun, from - begun);
+    let most = from - begun;
+    let head = greatest_at(known.head.as_slice(), first, second, last, begun, most);
     let last = by_star.len() - 1 - shift;
-    let rest = greatest_split(first, by_star, last, from, first.len() - from);
+    let most = first.len() - from;
+    let rest = greatest_at(known.rest.as_slice(), first, by_star, last, from, most);
     conjugate(head.later(rest))
 }
 
@@ -174,6 +190,7 @@ fn next_left(
     list: &Cells,
     by_star: &Cells,
     values: &[Date],
+    known: &Known,
 ) -> Date
     requires series { IsSeries first.now }
     requires decide { OffsetsDecide first.now second.now }
@@ -186,14 +203,42 @@ fn next_left(
     requires by_star { IsStarLeft (turned list.now) (map conjugate_of by_star.now) first.now.period
         first.now.step }
     requires values { values.now ≡ table (left_over first.now second.now) (length values.now) }
+    requires head { AreSums known.now.head.items parts.now list.now begun
+        (start_of first.now - begun) }
+    requires rest { AreSums known.now.rest.items parts.now by_star.now (start_of first.now)
+        (size_of first.now - start_of first.now) }
     requires count { length values.now ≤ 20000 }
     ensures { result ≡ left_over first.now second.now (length values.now) }
 {
     let shift = values.len();
     if shift < second.values().len() {
-        return left_value(parts, begun, start(first), list, by_star, shift);
+        return left_value(parts, begun, start(first), list, by_star, shift, known);
     }
     subtracted(Date::At(-second.step()), values[shift - second.period()])
+}
+
+// The greatest sums of the two parts of a residual, where they are found piece by piece.
+fn known_sums(
+    alloc: Global,
+    first: &Series,
+    parts: &Cells,
+    begun: usize,
+    list: &Cells,
+    by_star: &Cells,
+) -> Result<Known, AllocError>
+    requires parts { parts.now ≡ first.now.values }
+    requires begun { begun ≤ start_of first.now }
+    ensures head { IfOk result (λ known. AreSums known.head.items parts.now list.now begun
+        (start_of first.now - begun)) }
+    ensures rest { IfOk result (λ known. AreSums known.rest.items parts.now by_star.now
+        (start_of first.now) (size_of first.now - start_of first.now)) }
+{
+    let (from, period) = (start(first), first.period());
+    let size = list.len();
+    let head = sums_in_few_pieces(alloc, parts, list, size, begun, from - begun, period)?;
+    let (size, count) = (by_star.len(), parts.len() - from);
+    let rest = sums_in_few_pieces(alloc, parts, by_star, size, from, count, period)?;
+    Ok(Known { head, rest })
 }
 
 // The first values of the residual where the offsets decide, from the first values of the second
@@ -217,7 +262,9 @@ fn left_list(
     ensures { IfOk result (λ values. values.items ≡ table (left_over first.now second.now) count) }
 {
     let parts = collected(alloc, first.values())?;
-    let begun = places_begun(first.values(), start(first));
+    let from = start(first);
+    let begun = places_begun(first.values(), from);
+    let known = known_sums(alloc, first, &parts, begun, list, by_star)?;
     let mut values = Vec::new(alloc);
     for _shift in 0..count {
         let next = next_left(
@@ -228,6 +275,7 @@ fn left_list(
             list,
             by_star,
             values.as_slice(),
+            &known,
         );
         values.push(next)?;
     }
@@ -256,17 +304,6 @@ fn values_by_offsets(
     let ends = conjugates_back(alloc, list.as_slice())?;
     let ends_by_star = conjugates(alloc, by_star.as_slice())?;
     left_list(alloc, first, second, &ends, &ends_by_star, count)
-}
-
-// The one date, `count` times.
-fn repeated(alloc: Global, date: Date, count: usize) -> Result<Vec<Date>, AllocError>
-    ensures { IfOk result (λ values. values.items ≡ table (λ _. date) count) }
-{
-    let mut values = Vec::new(alloc);
-    for _place in 0..count {
-        values.push(date)?;
-    }
-    Ok(values)
 }
 
 // The first values of the residual where the first series is not Early everywhere.

@@ -4,6 +4,8 @@ ghost use Rattle.std.specs.Int.RustNames.{unsigned_abs};
 ghost use Rattle.dioid.specs.Dates.{date_product};
 ghost use Rattle.series_laws.specs.Forms.{form_with, table};
 ghost use Rattle.series_form.specs.Bounds.{IsUpTo};
+ghost use Rattle.series_ops.specs.Cells.{far};
+ghost use Rattle.series_ops.specs.Pieces.{window, AreSums};
 ghost use Rattle.series_ops.specs.Splits.{places_to, tail_product, with_tail};
 ghost use Rattle.series_ops.specs.Listed.{listed, AreUpTo};
 
@@ -11,9 +13,9 @@ use crate::cells::{Cells, greatest_split};
 use dioid::Date;
 
 // The two dates added.
-fn added(first: Date, second: Date) -> Date
-    requires first { IsUpTo 20001000000000000000000 first }
-    requires second { IsUpTo 500000000000000000000000000 second }
+pub(crate) fn added(first: Date, second: Date) -> Date
+    requires first { IsUpTo 4000000000000000000000000000 first }
+    requires second { IsUpTo 1000000000000000000000000000 second }
     ensures { result ≡ date_product first second }
 {
     match (first, second) {
@@ -24,7 +26,7 @@ fn added(first: Date, second: Date) -> Date
 }
 
 // How many of `most` places from `from` on are at most `shift`.
-fn places(from: usize, most: usize, shift: usize) -> usize
+pub(crate) fn places(from: usize, most: usize, shift: usize) -> usize
     ensures { result ≡ places_to from most shift }
 {
     if shift < from {
@@ -37,6 +39,29 @@ fn places(from: usize, most: usize, shift: usize) -> usize
     }
 }
 
+// The greatest sum at a shift whose first part is at one of `most` places from `from` on: one of
+// the known ones, else found by all splits.
+pub(crate) fn greatest_at(
+    known: &[Date],
+    first: &Cells,
+    second: &Cells,
+    shift: usize,
+    from: usize,
+    most: usize,
+) -> Date
+    requires first { from + most ≤ length first.now }
+    requires second { shift < length second.now }
+    requires known { AreSums known.now first.now second.now from most }
+    ensures value { result ≡ window (listed first.now) (listed second.now) from most shift }
+    ensures bound { IsUpTo far result }
+{
+    let (_first, _second) = (first.len(), second.len());
+    if shift < known.len() {
+        return known[shift];
+    }
+    greatest_split(first, second, shift, from, places(from, most, shift))
+}
+
 // The greatest sum at a shift whose first part is in the tail of a list, of which the last `period`
 // values go on by `step`: of those in the list, and of those of a period before, a step later.
 pub(crate) fn tail_value(
@@ -46,20 +71,21 @@ pub(crate) fn tail_value(
     second: &Cells,
     tails: &[Date],
     shift: usize,
+    known: &[Date],
 ) -> Date
     requires positive { 0 < period }
     requires period { period ≤ length values.now }
     requires step { unsigned_abs step ≤ 20001000000000000000000 }
     requires second { shift < length second.now }
     requires long { length tails.now ≡ shift }
-    requires tails_bound { AreUpTo 500000000000000000000000000 tails.now }
+    requires tails_bound { AreUpTo 1000000000000000000000000000 tails.now }
     requires tails { tails.now ≡ table (tail_product (form_with values.now period step)
         (listed second.now)) shift }
+    requires known { AreSums known.now values.now second.now (length values.now - period) period }
     ensures { result ≡ tail_product (form_with values.now period step) (listed second.now) shift }
 {
     let from = values.len() - period;
-    let count = places(from, period, shift);
-    let here = greatest_split(values, second, shift, from, count);
+    let here = greatest_at(known, values, second, shift, from, period);
     if shift < period {
         return here;
     }
@@ -74,11 +100,12 @@ pub(crate) fn value_with_tail(
     second: &Cells,
     tail: Date,
     shift: usize,
+    known: &[Date],
 ) -> Date
     requires from { from ≤ length values.now }
     requires second { shift < length second.now }
+    requires known { AreSums known.now values.now second.now 0 from }
     ensures { result ≡ with_tail (listed values.now) (listed second.now) from tail shift }
 {
-    let count = places(0, from, shift);
-    greatest_split(values, second, shift, 0, count).later(tail)
+    greatest_at(known, values, second, shift, 0, from).later(tail)
 }

@@ -4,7 +4,8 @@ ghost use Rattle.dioid.specs.declared.dates.Date.TheVariants.{At, Never};
 ghost use Rattle.series_laws.specs.Periodic.{times};
 ghost use Rattle.series_laws.specs.Forms.{size_of, value_at, table, Form, HasValues, IsCanonical, monomial_at};
 ghost use Rattle.series_form.specs.Bounds.{IsUpTo, IsSeries};
-ghost use Rattle.series_laws.specs.Needs.{need_of};
+ghost use Rattle.series_laws.specs.Pointwise.{sum_at};
+ghost use Rattle.series_laws.specs.Needs.{need_of, sum_plan};
 ghost use Rattle.series_form.specs.declared.forms.SeriesRefused.{SeriesRefused};
 ghost use Rattle.dioid.specs.Order.{Le};
 ghost use Rattle.series_form.specs.Answer.{AnswersOf, Answers, IsBeginning, form_before};
@@ -13,8 +14,9 @@ ghost use Rattle.series_ops.specs.Listed.{AreUpTo, later_part};
 ghost use Rattle.series_laws.specs.StarOf.{parts_star, above_zero, IsStarOf};
 
 use crate::anchors::plan_of_parts;
+use crate::beginnings::{greatest_begun, nothing_begun, renewed};
 use crate::cells::Cells;
-use crate::splits::{tail_value, value_with_tail};
+use crate::splits::tail_value;
 use crate::tables::ended;
 use dioid::Date;
 use series_form::{
@@ -66,7 +68,8 @@ fn later_values(alloc: Global, series: &Series, count: usize) -> Result<Cells, A
 }
 
 // The star over lists of parts at the shifts up to `need`, by the values from shift 1 on and the
-// sums whose first part is in their tail. The work is the need times the number of those values.
+// sums whose first part is in their tail. The work is the need times the number of those values, or
+// where these have few pieces the need times the number of pieces.
 fn star_list(
     alloc: Global,
     first: &Series,
@@ -83,12 +86,15 @@ fn star_list(
     let mut stars = Vec::new(alloc);
     let mut cells = Cells::new(alloc);
     let mut tails = Vec::new(alloc);
+    let mut begun = nothing_begun(alloc);
     stars.push(Date::At(0))?;
     cells.push(Date::At(0))?;
     for shift in 0..need {
-        let tail = tail_value(rest, period, step, &cells, tails.as_slice(), shift);
+        let more = renewed(alloc, begun, rest, &cells, from, period)?;
+        begun = more;
+        let tail = tail_value(rest, period, step, &cells, tails.as_slice(), shift, &[]);
         tails.push(tail)?;
-        let best = value_with_tail(rest, from, &cells, tail, shift);
+        let best = greatest_begun(&begun, rest, &cells, shift, from).later(tail);
         let next = Date::At(0).later(best);
         cells.push(next)?;
         stars.push(next)?;
@@ -125,6 +131,23 @@ fn star_by_plan(alloc: Global, first: &Series, plan: Plan) -> Result<Series, Ser
     }
 }
 
+// From where the star repeats, by the sum with the monomial of shift 1 and date 0 and its plan.
+fn plan_with(first: &Series, one: &Series, plan: Plan, values: Vec<Date>) -> Plan
+    requires left { IsSeries first.now }
+    requires right { IsSeries one.now }
+    requires one { HasValues one.now (monomial_at 1 (pos 0)) }
+    requires plan { plan ≡ sum_plan first.now one.now }
+    requires short { need_of plan ≤ 20000 }
+    requires values { values.items ≡ table (sum_at (value_at first.now) (value_at one.now))
+        (need_of plan) }
+    ensures value { result ≡ star_plan first.now }
+    ensures bound { result.from ≤ 1000000000000000000000000000000000 }
+{
+    let need = plan.from as usize + plan.turn;
+    let next = later_at(first, one, need);
+    plan_by_sum(values, plan.turn, next, need)
+}
+
 // The star with the monomial of shift 1 and date 0 at hand.
 fn star_with(alloc: Global, first: &Series, one: &Series) -> Result<Series, SeriesRefused>
     requires low { Le (value_at first.now 0) (At (pos 0)) }
@@ -139,8 +162,7 @@ fn star_with(alloc: Global, first: &Series, one: &Series) -> Result<Series, Seri
     }
     match sum_values(alloc, first, one, need as usize) {
         Ok(values) => {
-            let next = later_at(first, one, need as usize);
-            let plan = plan_by_sum(values, plan.turn, next, need as usize);
+            let plan = plan_with(first, one, plan, values);
             star_by_plan(alloc, first, plan)
         }
         Err(_) => Err(SeriesRefused::OutOfMemory),

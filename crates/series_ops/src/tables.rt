@@ -27,6 +27,17 @@ pub(crate) fn first_values(
     Ok(values)
 }
 
+// The one date, `count` times.
+pub(crate) fn repeated(alloc: Global, date: Date, count: usize) -> Result<Vec<Date>, AllocError>
+    ensures { IfOk result (λ values. values.items ≡ table (λ _. date) count) }
+{
+    let mut values = Vec::new(alloc);
+    for _place in 0..count {
+        values.push(date)?;
+    }
+    Ok(values)
+}
+
 // The series of a list whose last value is the one after the list of its form.
 pub(crate) fn ended(mut values: Vec<Date>, turn: usize) -> Result<Series, SeriesRefused>
     requires some { 0 < length values.items }

@@ -12,7 +12,8 @@ use Rattle.teg_calc.specs.declared.tokens.Part.TheVariants.{Letters, Unit as Uni
 use Rattle.teg_calc.specs.Trees.{Tree}
 use Rattle.teg_calc.specs.Reading.{count_of, open_brackets}
 use Rattle.teg_calc.specs.Readers.{Level, Stand, State, state, start, operand, within, operator, step, run, takes_comma, sign_of, digit_of, begun_by, letters_of, gone_on, date_on, shift_on, factor_of, factored_outside, operand_by, operator_by, word_end, word_on, letter_by, name_by, token_by, step_by, within_step, behind_step}
-use Rattle.teg_calc.proofs.Signs.{IsSign, is_open, is_close, sign_is, decide, is_eq}
+use Rattle.teg_calc.proofs.Signs.{IsSign, is_open, is_close, sign_is, decide}
+use Rattle.number_laws.proofs.Numbers.{same_number}
 
 -- ---- bytes that open or close no bracket
 
@@ -119,7 +120,7 @@ letter_is (x ∷ xs) (suc i) b h e = letter_is xs i b h.1 e
 no_letter : (x : Option ℕ) (word : Word) (read b : ℕ) (o : List Level) (i : Level) (n : State) → b < 97 → slice_get (letters_of word) read ≡ x → letter_by x word read o i b ≡ Some n → ⊥
 no_letter None word read b o i n low g e = cc
 no_letter (Some letter) word read b o i n low g e = decide (letter == b)
-    (λ z. let same : letter ≡ b = is_eq letter b z in let high : 97 ≤ letter = letter_is (letters_of word) read letter (letters_are word) g in omega arith)
+    (λ z. let same : letter ≡ b = same_number letter b z in let high : 97 ≤ letter = letter_is (letters_of word) read letter (letters_are word) g in omega arith)
     (λ z. let none : None ≡ Some n = rw z at e in cc)
 
 -- a byte by which no part goes on
@@ -203,9 +204,9 @@ closes_one (operator t) o i n e = one_less _ o n e
 -- one byte more changes the depth as it changes the brackets of the text
 step_depth : (s n : State) (b : ℕ) → step s b ≡ Some n → length n.outer + cond (b == 41) 1 0 ≡ length s.outer + cond (b == 40) 1 0
 step_depth s n b e = decide (b == 40)
-    (λ z. let v : b ≡ 40 = is_eq b 40 z in let k : length n.outer ≡ length s.outer + 1 = opens_one s.stand s.outer s.inner n (rw v at e) in rw v (omega arith))
+    (λ z. let v : b ≡ 40 = same_number b 40 z in let k : length n.outer ≡ length s.outer + 1 = opens_one s.stand s.outer s.inner n (rw v at e) in rw v (omega arith))
     (λ z. decide (b == 41)
-    (λ y. let v : b ≡ 41 = is_eq b 41 y in let k : length n.outer + 1 ≡ length s.outer = closes_one s.stand s.outer s.inner n (rw v at e) in rw v (omega arith))
+    (λ y. let v : b ≡ 41 = same_number b 41 y in let k : length n.outer + 1 ≡ length s.outer = closes_one s.stand s.outer s.inner n (rw v at e) in rw v (omega arith))
     (λ y. let k : length n.outer ≡ length s.outer = plain_same s.stand b s.outer s.inner n (record {
       not_open = λ v. let no : (b == 40) ≡ true = rw v refl in cc;
       not_close = λ v. let no : (b == 41) ≡ true = rw v refl in cc;

@@ -2,6 +2,7 @@
 use Rattle.std.proofs.Common.{◌≡◌, refl, arith, ℕ, Bool, true, false}
 use Rattle.std.specs.Prelude.{◌==◌}
 use Rattle.std.proofs.lemmas.Bool.Decides.{nat_tests}
+use Rattle.number_laws.proofs.Numbers.{same_number}
 use Rattle.teg_calc.specs.declared.bytes.Sign.{Sign}
 use Rattle.teg_calc.specs.declared.bytes.Sign.TheVariants.{Blank, Open, Close, Comma, Plus, Dot, Other}
 use Rattle.teg_calc.specs.Readers.{sign_of}
@@ -21,18 +22,15 @@ pub decide : {P : Type 0} (test : Bool) → (test ≡ true → P) → (test ≡ 
 decide true yes_then no_then = yes_then refl
 decide false yes_then no_then = no_then refl
 
-pub is_eq : (b n : ℕ) → (b == n) ≡ true → b ≡ n
-is_eq b n h = grind (arith, nat_tests)
-
 not_eq : (b n : ℕ) → (b == n) ≡ false → b ≡ n → ⊥
 not_eq b n h e = grind (arith, nat_tests)
 
 pub sign_is : (b : ℕ) → IsSign b (sign_of b)
 sign_is b =
-    decide (b == 32) (λ e. rw e (is_blank (is_eq b 32 e))) (λ blank.
-    decide (b == 40) (λ e. rw (blank, e) (is_open (is_eq b 40 e))) (λ opens.
-    decide (b == 41) (λ e. rw (blank, opens, e) (is_close (is_eq b 41 e))) (λ closes.
-    decide (b == 44) (λ e. rw (blank, opens, closes, e) (is_comma (is_eq b 44 e))) (λ comma.
-    decide (b == 43) (λ e. rw (blank, opens, closes, comma, e) (is_plus (is_eq b 43 e))) (λ plus.
-    decide (b == 46) (λ e. rw (blank, opens, closes, comma, plus, e) (is_dot (is_eq b 46 e))) (λ dot.
+    decide (b == 32) (λ e. rw e (is_blank (same_number b 32 e))) (λ blank.
+    decide (b == 40) (λ e. rw (blank, e) (is_open (same_number b 40 e))) (λ opens.
+    decide (b == 41) (λ e. rw (blank, opens, e) (is_close (same_number b 41 e))) (λ closes.
+    decide (b == 44) (λ e. rw (blank, opens, closes, e) (is_comma (same_number b 44 e))) (λ comma.
+    decide (b == 43) (λ e. rw (blank, opens, closes, comma, e) (is_plus (same_number b 43 e))) (λ plus.
+    decide (b == 46) (λ e. rw (blank, opens, closes, comma, plus, e) (is_dot (same_number b 46 e))) (λ dot.
     rw (blank, opens, closes, comma, plus, dot) (is_other (not_eq b 40 opens) (not_eq b 41 closes))))))))

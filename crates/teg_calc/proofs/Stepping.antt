@@ -14,7 +14,8 @@ use Rattle.teg_calc.specs.declared.tokens.Part.TheVariants.{Letters, Unit as Uni
 use Rattle.teg_calc.specs.Trees.{Tree}
 use Rattle.teg_calc.specs.Grammar.{FactorText, eps_word, never_word, blanks, spaced, factor_text, factor_tree}
 use Rattle.teg_calc.specs.Readers.{Level, level, Stand, State, state, start, operand, within, operator, step, run, nested, multiplied, sign_of, begun_by, letters_of, gone_on, factor_of, factored, behind_step, within_step, operand_by, word_end, word_on, letter_by, name_by, token_by, step_by}
-use Rattle.teg_calc.proofs.Signs.{IsSign, is_blank, is_open, sign_is, decide, is_eq}
+use Rattle.teg_calc.proofs.Signs.{IsSign, is_blank, is_open, sign_is, decide}
+use Rattle.number_laws.proofs.Numbers.{same_number}
 use Rattle.teg_calc.proofs.Holding.{IsHead, IsCallHead, IsNameText, Holds}
 use Rattle.teg_calc.proofs.TokenSteps.{IfPart, begun_text, gone_text, letters_more}
 use Rattle.teg_calc.proofs.Behind.{reached, opens, blank_more, factor_holds, spaced_token, token_text, with_byte, part_more, ends_holds, operator_holds}
@@ -100,7 +101,7 @@ letter_holds word read b o i n w h e = by_letter (slice_get (letters_of word) re
 
   by_letter : (x : Option ℕ) → slice_get (letters_of word) read ≡ x → letter_by x word read o i b ≡ Some n → Holds n (w ++ (b ∷ []))
   by_letter None g k = cc
-  by_letter (Some letter) g k = decide (letter == b) (λ z. let same : letter ≡ b = is_eq letter b z in on_letter (g ∙ ap (λ (x : ℕ). Some x) same) (rw z at k)) (λ z. let none : None ≡ Some n = rw z at k in cc)
+  by_letter (Some letter) g k = decide (letter == b) (λ z. let same : letter ≡ b = same_number letter b z in on_letter (g ∙ ap (λ (x : ℕ). Some x) same) (rw z at k)) (λ z. let none : None ≡ Some n = rw z at k in cc)
 
 -- a name of a call with its blanks, and the bracket behind it
 name_opens : (o : List Level) (i : Level) (c : Call) (name : List ℕ) (w : List ℕ) (h : Holds (state o i (within (Name c))) w) → IsNameText name h.is_last.token

@@ -9,7 +9,8 @@ use Rattle.std.proofs.lemmas.Option.{unwrap_or-slice_get}
 use Rattle.teg_calc.specs.declared.tokens.Part.{Part}
 use Rattle.teg_calc.specs.declared.tokens.Part.TheVariants.{Letters, Unit as UnitPart, Name, Shift, Delta, Date}
 use Rattle.teg_calc.specs.Readers.{digit_of, begun_by, gone_on, shift_on, date_on}
-use Rattle.teg_calc.proofs.Signs.{decide, is_eq}
+use Rattle.teg_calc.proofs.Signs.{decide}
+use Rattle.number_laws.proofs.Numbers.{same_number}
 use Rattle.teg_calc.proofs.Holding.{AreDigitsOf, IsPartText, IsLetters, IsShiftText, IsDateText}
 
 -- where there is a part, its text is this
@@ -24,12 +25,12 @@ no_digits = record { digits_are = tt; count_is = refl; few = omega arith; value_
 -- a first letter
 pub begun_text : (b : ℕ) → IfPart (begun_by b) (b ∷ [])
 begun_text b =
-    decide (b == 103) (λ e. let v : b ≡ 103 = is_eq b 103 e in rw (e, v) (record { digits = []; are = no_digits; text_is = refl })) (λ g.
-    decide (b == 101) (λ e. let v : b ≡ 101 = is_eq b 101 e in rw (g, e, v) refl) (λ u.
-    decide (b == 110) (λ e. let v : b ≡ 110 = is_eq b 110 e in rw (g, u, e, v) (record { within = omega arith; text_is = refl })) (λ n.
-    decide (b == 115) (λ e. let v : b ≡ 115 = is_eq b 115 e in rw (g, u, n, e, v) (record { within = omega arith; text_is = refl })) (λ s.
-    decide (b == 109) (λ e. let v : b ≡ 109 = is_eq b 109 e in rw (g, u, n, s, e, v) (record { within = omega arith; text_is = refl })) (λ m.
-    decide (b == 108) (λ e. let v : b ≡ 108 = is_eq b 108 e in rw (g, u, n, s, m, e, v) (record { within = omega arith; text_is = refl })) (λ l.
+    decide (b == 103) (λ e. let v : b ≡ 103 = same_number b 103 e in rw (e, v) (record { digits = []; are = no_digits; text_is = refl })) (λ g.
+    decide (b == 101) (λ e. let v : b ≡ 101 = same_number b 101 e in rw (g, e, v) refl) (λ u.
+    decide (b == 110) (λ e. let v : b ≡ 110 = same_number b 110 e in rw (g, u, e, v) (record { within = omega arith; text_is = refl })) (λ n.
+    decide (b == 115) (λ e. let v : b ≡ 115 = same_number b 115 e in rw (g, u, n, e, v) (record { within = omega arith; text_is = refl })) (λ s.
+    decide (b == 109) (λ e. let v : b ≡ 109 = same_number b 109 e in rw (g, u, n, s, e, v) (record { within = omega arith; text_is = refl })) (λ m.
+    decide (b == 108) (λ e. let v : b ≡ 108 = same_number b 108 e in rw (g, u, n, s, m, e, v) (record { within = omega arith; text_is = refl })) (λ l.
     rw (g, u, n, s, m, l) tt))))))
 
 -- one digit more
@@ -67,10 +68,10 @@ date_text shift minus count value b z h = decide (nat_lt count 19) (λ e. let fe
 -- a part that goes on by a byte
 pub gone_text : (part : Part) (b : ℕ) (z : List ℕ) → IsPartText part z → IfPart (gone_on part b) (z ++ (b ∷ []))
 gone_text (Letters word read) b z h = tt
-gone_text UnitPart b z h = decide (b == 112) (λ e. let v : b ≡ 112 = is_eq b 112 e in rw (e, v, h) (record { within = omega arith; text_is = refl })) (λ e. rw e tt)
+gone_text UnitPart b z h = decide (b == 112) (λ e. let v : b ≡ 112 = same_number b 112 e in rw (e, v, h) (record { within = omega arith; text_is = refl })) (λ e. rw e tt)
 gone_text (Name call) b z h = tt
 gone_text (Shift count value) b z h = decide (b == 100) (λ e. rw e (decide (count == 0) (λ g. rw g tt) (λ g.
-    let v : b ≡ 100 = is_eq b 100 e in
+    let v : b ≡ 100 = same_number b 100 e in
     let c : length h.digits ≡ count = h.are.count_is in
     rw g (record {
       digits = h.digits;
@@ -78,7 +79,7 @@ gone_text (Shift count value) b z h = decide (b == 100) (λ e. rw e (decide (cou
       value_is = h.are.value_is;
       text_is = rw (h.text_is, v) refl;
     })))) (λ e. rw e (shift_text count value b z h))
-gone_text (Delta shift) b z h = decide (b == 45) (λ e. let v : b ≡ 45 = is_eq b 45 e in rw e (record {
+gone_text (Delta shift) b z h = decide (b == 45) (λ e. let v : b ≡ 45 = same_number b 45 e in rw e (record {
   digits = h.digits;
   are = h.are;
   value_is = h.value_is;

@@ -1,13 +1,32 @@
-use Rattle.std.proofs.Common.{◌∙◌, ap, length, List}
+use Rattle.std.proofs.Common.{◌≡◌, refl, ◌∙◌, ap, arith, length, List}
 use Rattle.dioid.specs.declared.dates.Date.{Date}
-use Rattle.series_laws.specs.Forms.{value_at}
+use Rattle.series_laws.specs.Forms.{size_of, value_at}
 use Rattle.series_form.proofs.Finished.{table_push}
 use Rattle.series_laws.specs.Product.{product_at}
 use Rattle.series_ops.specs.Listed.{listed}
 use Rattle.series_ops.specs.Splits.{tail_product, with_tail}
 use Rattle.series_ops.proofs.FirstValues.{listed_is}
-use Rattle.series_ops.proofs.SplitLaws.{parted_listed}
+use Rattle.series_ops.proofs.SplitLaws.{parted_listed, values_up_to}
+use Rattle.series_ops.proofs.PieceLaws.{sums_same}
 use Rattle.series_ops.proofs.products.product_list.Goals as goal
+
+pub sums_in_few_pieces-requires : goal.sums_in_few_pieces-requires
+sums_in_few_pieces-requires c =
+    let some = c.period-period.ensures.series.canonical.form.period_positive in
+    let here : c.period-period.result ≡ c.args.first.now.period = c.period-period.ensures.value in
+    let size : length c.args.parts.now ≡ size_of c.args.first.now = ap length c.requires.parts in
+    let short = c.period-period.ensures.series.short in
+    let from = c.start-from.ensures.value in
+    record {
+      places = omega arith;
+      short = omega arith;
+      period = omega arith;
+      first = values_up_to c.args.first.now c.args.parts.now c.period-period.ensures.series c.requires.parts;
+    }
+
+pub value_with_tail-requires-clause-known : goal.value_with_tail-requires-clause-known
+value_with_tail-requires-clause-known c = sums_same c.in_ok-known.known.items c.as_slice-known.result.now c.args.parts.now c.args.parts.now c.args.second.now
+    0 0 c.start-from.result c.start-from.result c.in_ok-known.ensures c.as_slice-known.ensures.value refl refl refl
 
 pub loop-shift-preserved : goal.loop-shift-preserved
 loop-shift-preserved c = c.in_ok-push.ensures.items

@@ -3,9 +3,10 @@ use Rattle.std.proofs.lemmas.List.{length-map}
 use Rattle.dioid.specs.Dates.{date_left}
 use Rattle.dioid.specs.declared.dates.Date.{Date}
 use Rattle.dioid.specs.declared.dates.Date.TheVariants.{Early, At}
-use Rattle.series_laws.specs.Forms.{size_of}
+use Rattle.series_laws.specs.Forms.{size_of, start_of}
 use Rattle.series_ops.specs.Cells.{conjugate_of, turned}
 use Rattle.series_ops.specs.Listed.{AreEarlyTo, left_listed}
+use Rattle.series_ops.specs.Pieces.{AreSums}
 use Rattle.series_ops.proofs.LeftParts.{list_reaches, left_listed_is, left_later_is, overs_up_to, negative_code}
 use Rattle.series_ops.proofs.LeftSplits.{turned_length}
 use Rattle.series_ops.proofs.residuals.next_left.Goals as goal
@@ -29,6 +30,9 @@ left_value-requires c =
       early = subst (λ (z : List Date). AreEarlyTo c.args.begun z) (sym c.requires.parts) c.requires.early;
       second = omega arith;
       by_star = omega arith;
+      head = subst (λ (z : ℕ). AreSums c.args.known.now.head.items c.args.parts.now c.args.list.now c.args.begun (z - c.args.begun)) (sym start) c.requires.head;
+      rest = subst (λ (z : ℕ). AreSums c.args.known.now.rest.items c.args.parts.now c.args.by_star.now z (length c.args.parts.now - z)) (sym start)
+          (subst (λ (z : ℕ). AreSums c.args.known.now.rest.items c.args.parts.now c.args.by_star.now (start_of c.args.first.now) (z - start_of c.args.first.now)) (sym parts) c.requires.rest);
     }
 
 pub returns-then-shift-values : goal.returns-then-shift-values

@@ -1,4 +1,4 @@
-use Rattle.std.proofs.Common.{◌≡◌, ◌≤◌, ◌+◌, ◌∙◌, ap, sym, subst, arith, suc, pos, List, [], ◌∷◌, ◌++◌, length}
+use Rattle.std.proofs.Common.{◌≡◌, ℕ, refl, ◌≤◌, ◌+◌, ◌∙◌, ap, sym, subst, arith, suc, pos, List, [], ◌∷◌, ◌++◌, length}
 use Rattle.dioid.specs.Dates.{later_of}
 use Rattle.dioid.specs.declared.dates.Date.{Date}
 use Rattle.dioid.specs.declared.dates.Date.TheVariants.{At}
@@ -10,8 +10,10 @@ use Rattle.series_ops.specs.Cells.{greatest_listed}
 use Rattle.series_ops.specs.Listed.{listed, later_part}
 use Rattle.series_ops.specs.Splits.{tail_product}
 use Rattle.series_laws.specs.StarOf.{parts_star}
+use Rattle.series_ops.specs.Pieces.{IsBegun}
+use Rattle.series_ops.proofs.BegunLaws.{begun_none, begun_pushed}
 use Rattle.series_ops.proofs.SplitLaws.{passed_form, passed_step}
-use Rattle.series_ops.proofs.StarValues.{star_moderate, later_fits, later_tails, later_carried, later_tails_up, star_next}
+use Rattle.series_ops.proofs.StarValues.{star_moderate, later_fits, later_tails, later_carried, later_tails_up, later_up, star_next}
 use Rattle.series_ops.proofs.stars.star_list.Goals as goal
 
 pub loop-shift-init : goal.loop-shift-init
@@ -19,6 +21,7 @@ loop-shift-init c = (
   c.in_ok-push.ensures.items ∙ ap (λ (z : List Date). z ++ (At (pos 0) ∷ [])) c.new-stars.ensures.items,
   c.in_ok-push-2.ensures ∙ ap (λ (z : List Date). z ++ (At (pos 0) ∷ [])) c.new-cells.ensures,
   c.new-tails.ensures.items,
+  begun_none c.args.rest.now _ (start_of c.args.first.now) c.nothing_begun-begun.result.count c.nothing_begun-begun.result.sums.items c.nothing_begun-begun.ensures.count c.nothing_begun-begun.ensures.sums,
 )
 
 pub tail_value-tail-requires : goal.tail_value-tail-requires
@@ -38,6 +41,7 @@ tail_value-tail-requires c =
       period = omega arith;
       step = passed_step f c.step-step.result c.step-step.ensures.series c.step-step.ensures.value;
       second = omega arith;
+      known = refl;
       long = ap length tails ∙ table_length (tail_product (form_with c.args.rest.now f.period f.step) (parts_star (value_at f))) c.loop-shift.shift;
       tails_bound = later_tails_up f c.period-period.ensures.series c.args.rest.now c.requires.rest c.loop-shift.shift c.as_slice.result.now (omega arith) tails;
       tails = later_carried f c.period-period.ensures.series c.args.rest.now c.requires.rest c.loop-shift.shift c.loop-shift.cells c.as_slice.result.now stars tails
@@ -45,13 +49,33 @@ tail_value-tail-requires c =
           (sym (passed_form f c.args.rest.now c.period-period.result c.step-step.result c.step-step.ensures.series c.period-period.ensures.value c.step-step.ensures.value));
     }
 
-pub value_with_tail-best-requires : goal.value_with_tail-best-requires
-value_with_tail-best-requires c =
+pub renewed-requires : goal.renewed-requires
+renewed-requires c =
     let f = c.args.first.now in
     let whole : length c.args.rest.now ≡ size_of f = ap length c.requires.rest ∙ table_length (later_part (value_at f)) (size_of f) in
     let here : c.start-from.result ≡ start_of f = c.start-from.ensures.value in
     let size : length c.loop-shift.cells ≡ c.loop-shift.shift + 1 = ap length c.loop-shift.invariant.1 ∙ table_length (parts_star (value_at f)) (c.loop-shift.shift + 1) in
-    record { from = omega arith; second = omega arith }
+    let short = c.period-period.ensures.series.short in
+    let some = c.period-period.ensures.series.canonical.form.period_positive in
+    let own = c.period-period.ensures.value in
+    let need = c.requires.need in
+    let more = c.loop-shift-test.true in
+    record {
+      most = omega arith;
+      short = omega arith;
+      long = omega arith;
+      period = omega arith;
+      first = later_up f c.period-period.ensures.series c.args.rest.now c.requires.rest;
+      old = subst (λ (z : ℕ). IsBegun c.loop-shift.begun.count c.loop-shift.begun.sums.items c.args.rest.now c.loop-shift.cells z) (sym here) c.loop-shift.invariant.3;
+    }
+
+pub greatest_begun-requires : goal.greatest_begun-requires
+greatest_begun-requires c =
+    let f = c.args.first.now in
+    let whole : length c.args.rest.now ≡ size_of f = ap length c.requires.rest ∙ table_length (later_part (value_at f)) (size_of f) in
+    let here : c.start-from.result ≡ start_of f = c.start-from.ensures.value in
+    let size : length c.loop-shift.cells ≡ c.loop-shift.shift + 1 = ap length c.loop-shift.invariant.1 ∙ table_length (parts_star (value_at f)) (c.loop-shift.shift + 1) in
+    record { first = omega arith; second = omega arith; begun = c.in_ok-more.ensures }
 
 pub push-requires-in-loop-shift-2 : goal.push-requires-in-loop-shift-2
 push-requires-in-loop-shift-2 c =
@@ -63,7 +87,7 @@ push-requires-in-loop-shift-2 c =
     c.tail_value-tail.ensures ∙ ap (λ (z : Form). tail_product z (listed c.loop-shift.cells) c.loop-shift.shift)
     (passed_form f c.args.rest.now c.period-period.result c.step-step.result c.step-step.ensures.series c.period-period.ensures.value c.step-step.ensures.value) in
     let next : c.later-next.result ≡ parts_star (value_at f) (c.loop-shift.shift + 1) =
-    c.later-next.ensures.value ∙ ap (later_of (At (pos 0))) c.value_with_tail-best.ensures
+    c.later-next.ensures.value ∙ ap (later_of (At (pos 0))) (c.later-best.ensures.value ∙ ap (λ (z : Date). later_of z c.tail_value-tail.result) c.greatest_begun.ensures)
     ∙ star_next f c.period-period.ensures.series c.args.rest.now c.requires.rest c.loop-shift.shift c.start-from.result c.loop-shift.cells c.tail_value-tail.result c.loop-shift.invariant.1 c.start-from.ensures.value tail
     ∙ ap (parts_star (value_at f)) following in
     subst (λ (z : Date). IsUpTo greatest_listed z) (sym next) (star_moderate f c.period-period.ensures.series (c.loop-shift.shift + 1) (omega arith))
@@ -76,11 +100,13 @@ loop-shift-preserved c =
     c.tail_value-tail.ensures ∙ ap (λ (z : Form). tail_product z (listed c.loop-shift.cells) c.loop-shift.shift)
     (passed_form f c.args.rest.now c.period-period.result c.step-step.result c.step-step.ensures.series c.period-period.ensures.value c.step-step.ensures.value) in
     let next : c.later-next.result ≡ parts_star (value_at f) (c.loop-shift.shift + 1) =
-    c.later-next.ensures.value ∙ ap (later_of (At (pos 0))) c.value_with_tail-best.ensures
+    c.later-next.ensures.value ∙ ap (later_of (At (pos 0))) (c.later-best.ensures.value ∙ ap (λ (z : Date). later_of z c.tail_value-tail.result) c.greatest_begun.ensures)
     ∙ star_next f c.period-period.ensures.series c.args.rest.now c.requires.rest c.loop-shift.shift c.start-from.result c.loop-shift.cells c.tail_value-tail.result c.loop-shift.invariant.1 c.start-from.ensures.value tail
     ∙ ap (parts_star (value_at f)) following in (
       c.in_ok-push-5.ensures.items ∙ table_push (parts_star (value_at f)) (c.loop-shift.shift + 1) c.loop-shift.stars.items _ c.loop-shift.invariant.0 next,
       c.in_ok-push-4.ensures ∙ table_push (parts_star (value_at f)) (c.loop-shift.shift + 1) c.loop-shift.cells _ c.loop-shift.invariant.1 next,
       c.in_ok-push-3.ensures.items ∙ table_push (tail_product (form_with c.args.rest.now f.period f.step) (parts_star (value_at f))) c.loop-shift.shift c.loop-shift.tails.items _ c.loop-shift.invariant.2
           (tail ∙ later_tails f c.period-period.ensures.series c.args.rest.now c.requires.rest c.loop-shift.shift c.loop-shift.cells c.loop-shift.invariant.1 c.loop-shift.shift (omega arith)),
+      begun_pushed c.in_ok-more.more.count c.in_ok-more.more.sums.items c.args.rest.now c.loop-shift.cells _ (start_of f) _
+          (subst (λ (z : ℕ). IsBegun c.in_ok-more.more.count c.in_ok-more.more.sums.items c.args.rest.now c.loop-shift.cells z) c.start-from.ensures.value c.in_ok-more.ensures) c.in_ok-push-4.ensures,
     )

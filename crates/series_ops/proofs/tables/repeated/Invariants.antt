@@ -1,6 +1,6 @@
 use Rattle.std.proofs.Common.{◌≡◌}
 use Rattle.series_laws.specs.Forms.{table}
-use Rattle.series_ops.proofs.residuals.repeated.Given as goal
+use Rattle.series_ops.proofs.tables.repeated.Given as goal
 
 abbrev pub invariant-loop-place : goal.invariant-loop-place
 invariant-loop-place l = l.values.items ≡ table (λ _. l.date) l._place

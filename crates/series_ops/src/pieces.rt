@@ -1,0 +1,345 @@
+//! The greatest sums over lists of which the first goes on by equal steps, piece by piece: each is
+//! found from the one of half as many places, so that the work grows with the number of pieces and
+//! not with the number of places.
+ghost use Rattle.std.specs.Prelude.{◌≡◌, ◌≤◌, ◌<◌, ◌+◌, ◌-◌, ◌*◌, IfOk, IfSome, length, min, true};
+ghost use Rattle.std.specs.Int.RustNames.{unsigned_abs};
+ghost use Rattle.dioid.specs.declared.dates.Date.TheVariants.{Early, At};
+ghost use Rattle.dioid.specs.Dates.{move};
+ghost use Rattle.series_laws.specs.Periodic.{times};
+ghost use Rattle.series_laws.specs.Forms.{table};
+ghost use Rattle.series_form.specs.Bounds.{IsUpTo};
+ghost use Rattle.series_ops.specs.Cells.{greatest_listed};
+ghost use Rattle.series_ops.specs.Pieces.{carried_at, joined_at, window, AreSums, IsPiece, RepeatsIn};
+ghost use Rattle.series_ops.specs.Listed.{listed, AreUpTo};
+
+use crate::anchors::many;
+use crate::cells::{Cells, dates_of};
+use crate::splits::added;
+use crate::tables::repeated;
+use dioid::Date;
+use std::alloc::{AllocError, Global};
+
+// Places of a list one after another: `turns` times `size` of them, each turn a step above the one
+// before.
+#[derive(Clone, Copy)]
+struct Piece {
+    size: usize,
+    turns: usize,
+    step: i128,
+}
+
+// The sum of a date with the value `back` shifts before, Early where there is none.
+fn carried(others: &[Date], back: usize, date: Date, shift: usize) -> Date
+    requires shift { shift < length others.now }
+    requires date { IsUpTo 4000000000000000000000000000 date }
+    requires others { AreUpTo 1000000000000000000000000000 others.now }
+    ensures { result ≡ carried_at (listed others.now) back date shift }
+{
+    if shift < back {
+        return Date::Early;
+    }
+    added(date, others[shift - back])
+}
+
+// The later of each sum and of the sum of a date with another list `back` shifts before.
+fn joined(
+    alloc: Global,
+    sums: &[Date],
+    others: &[Date],
+    back: usize,
+    date: Date,
+) -> Result<Vec<Date>, AllocError>
+    requires size { length sums.now ≡ length others.now }
+    requires date { IsUpTo 4000000000000000000000000000 date }
+    requires others { AreUpTo 1000000000000000000000000000 others.now }
+    ensures { IfOk result (λ values. values.items ≡ table (joined_at (listed sums.now)
+        (listed others.now) back date) (length sums.now)) }
+{
+    let mut values = Vec::new(alloc);
+    for shift in 0..sums.len() {
+        values.push(sums[shift].later(carried(others, back, date, shift)))?;
+    }
+    Ok(values)
+}
+
+// The greatest sums whose first part is at one of `count` places from `from` on, place by place.
+fn sums_by_places(
+    alloc: Global,
+    first: &[Date],
+    second: &[Date],
+    from: usize,
+    count: usize,
+) -> Result<Vec<Date>, AllocError>
+    requires places { from + count ≤ length first.now }
+    requires first { AreUpTo 20001000000000000000000 first.now }
+    requires second { AreUpTo greatest_listed second.now }
+    ensures { IfOk result (λ values. values.items ≡ table (window (listed first.now)
+        (listed second.now) from count) (length second.now)) }
+{
+    let mut sums = repeated(alloc, Date::Early, second.len())?;
+    for place in 0..count {
+        let date = first[from + place];
+        let next = joined(alloc, sums.as_slice(), second, from + place, date)?;
+        sums = next;
+    }
+    Ok(sums)
+}
+
+// The same of a piece.
+fn sums_by_turns(
+    alloc: Global,
+    first: &[Date],
+    second: &[Date],
+    from: usize,
+    piece: Piece,
+) -> Result<Vec<Date>, AllocError>
+    requires piece { IsPiece (listed first.now) from piece }
+    requires places { from + piece.size * piece.turns ≤ length first.now }
+    requires short { length first.now ≤ 20000 }
+    requires first { AreUpTo 20001000000000000000000 first.now }
+    requires second { AreUpTo greatest_listed second.now }
+    ensures { IfOk result (λ values. values.items ≡ table (window (listed first.now)
+        (listed second.now) from (piece.size * piece.turns)) (length second.now)) }
+{
+    let mut sums = sums_by_places(alloc, first, second, from, piece.size)?;
+    let mut done = 1;
+    for _turn in 0..piece.turns {
+        let more = lesser(done, piece.turns - done);
+        let next = with_turns(alloc, sums, piece.size * more, more, piece.step)?;
+        sums = next;
+        done += more;
+    }
+    Ok(sums)
+}
+
+// The later of each sum and of the one `back` shifts before, so many steps later.
+fn with_turns(
+    alloc: Global,
+    sums: Vec<Date>,
+    back: usize,
+    more: usize,
+    step: i128,
+) -> Result<Vec<Date>, AllocError>
+    requires more { more ≤ 20000 }
+    requires back { more ≡ 0 → back ≡ 0 }
+    requires step { unsigned_abs step ≤ 40002000000000000000000 }
+    requires sums { AreUpTo 1000000000000000000000000000 sums.items }
+    ensures { IfOk result (λ values. values.items ≡ table (joined_at (listed sums.items)
+        (listed sums.items) back (At (times more step))) (length sums.items)) }
+{
+    if more == 0 {
+        return Ok(sums);
+    }
+    let known = sums.as_slice();
+    joined(alloc, known, known, back, Date::At(many(more, step)))
+}
+
+// The lesser of two numbers.
+fn lesser(first: usize, second: usize) -> usize
+    ensures { result ≡ min first second }
+{
+    if first < second { first } else { second }
+}
+
+// What the second date is above the first, 0 unless both are numbers.
+fn step_between(first: Date, second: Date) -> i128
+    requires first { IsUpTo 20001000000000000000000 first }
+    requires second { IsUpTo 20001000000000000000000 second }
+    ensures { unsigned_abs result ≤ 40002000000000000000000 }
+{
+    match (first, second) {
+        (Date::At(first), Date::At(second)) => second - first,
+        _ => 0,
+    }
+}
+
+// Whether the second date is the first, moved by a step.
+fn is_moved(first: Date, second: Date, step: i128) -> bool
+    requires first { IsUpTo 20001000000000000000000 first }
+    requires step { unsigned_abs step ≤ 40002000000000000000000 }
+    ensures { result ≡ true → second ≡ move step first }
+{
+    match (first, second) {
+        (Date::At(first), Date::At(second)) => second == first + step,
+        (Date::Early, Date::Early) | (Date::Never, Date::Never) => true,
+        _ => false,
+    }
+}
+
+// How many turns of `size` places from `from` on go on by a step, of those that `most` places have
+// room for.
+fn turns_from(first: &[Date], from: usize, most: usize, size: usize, step: i128) -> usize
+    requires places { from + most ≤ length first.now }
+    requires positive { 0 < size }
+    requires room { size ≤ most }
+    requires first { AreUpTo 20001000000000000000000 first.now }
+    requires step { unsigned_abs step ≤ 40002000000000000000000 }
+    ensures some { 0 < result }
+    ensures room { size * result ≤ most }
+    ensures repeats { RepeatsIn (listed first.now) from (size * result) size step }
+{
+    for place in 0..most - size {
+        if !is_moved(first[from + place], first[from + place + size], step) {
+            return 1 + place / size;
+        }
+    }
+    most / size
+}
+
+// The piece from a place on.
+fn piece_from(first: &[Date], from: usize, most: usize, period: usize) -> Piece
+    requires places { from + most ≤ length first.now }
+    requires some { 0 < most }
+    requires period { 0 < period }
+    requires first { AreUpTo 20001000000000000000000 first.now }
+    ensures piece { IsPiece (listed first.now) from result }
+    ensures room { result.size * result.turns ≤ most }
+    ensures fits { result.size ≤ most }
+{
+    let size = if period < most { period } else { 1 };
+    let step = if size < most {
+        step_between(first[from], first[from + size])
+    } else {
+        0
+    };
+    let turns = turns_from(first, from, most, size, step);
+    Piece { size, turns, step }
+}
+
+// How many places are gone through in the time of a pass over all sums.
+const PLACES_A_PASS: usize = 40;
+
+// How many in that of the passes over a piece, besides those over its first turn.
+const PLACES_A_PIECE: usize = 600;
+
+// Whether so many places have so few pieces that these take less time.
+fn is_short_in_pieces(first: &[Date], from: usize, count: usize, period: usize) -> bool
+    requires places { from + count ≤ length first.now }
+    requires short { length first.now ≤ 20000 }
+    requires period { 0 < period }
+    requires first { AreUpTo 20001000000000000000000 first.now }
+{
+    let mut done = 0;
+    let mut work = 0;
+    for _place in 0..count {
+        if done < count && work < count {
+            let piece = piece_from(first, from + done, count - done, period);
+            done += piece.size * piece.turns;
+            work += PLACES_A_PASS * piece.size + PLACES_A_PIECE;
+        }
+    }
+    work < count
+}
+
+// The greatest sums whose first part is at one of so many places.
+#[derive(Drop)]
+struct PartialSums {
+    places: usize,
+    values: Vec<Date>,
+}
+
+// The sums over one piece more, if there is one.
+fn with_piece(
+    alloc: Global,
+    begun: PartialSums,
+    first: &[Date],
+    second: &[Date],
+    from: usize,
+    count: usize,
+    period: usize,
+) -> Result<PartialSums, AllocError>
+    requires places { from + count ≤ length first.now }
+    requires short { length first.now ≤ 20000 }
+    requires period { 0 < period }
+    requires first { AreUpTo 20001000000000000000000 first.now }
+    requires second { AreUpTo greatest_listed second.now }
+    requires begun { begun.values.items ≡ table (window (listed first.now) (listed second.now) from
+        begun.places) (length second.now) }
+    requires within { begun.places ≤ count }
+    ensures values { IfOk result (λ next. next.values.items ≡ table (window (listed first.now)
+        (listed second.now) from next.places) (length second.now)) }
+    ensures within { IfOk result (λ next. next.places ≤ count) }
+    ensures more { IfOk result (λ next. min (begun.places + 1) count ≤ next.places) }
+{
+    if begun.places >= count {
+        return Ok(begun);
+    }
+    let at = from + begun.places;
+    let piece = piece_from(first, at, count - begun.places, period);
+    let more = sums_by_turns(alloc, first, second, at, piece)?;
+    let known = begun.values.as_slice();
+    let values = joined(alloc, known, more.as_slice(), 0, Date::At(0))?;
+    let places = begun.places + piece.size * piece.turns;
+    Ok(PartialSums { places, values })
+}
+
+// The greatest sums whose first part is at one of `count` places from `from` on, piece by piece.
+fn sums_by_pieces(
+    alloc: Global,
+    first: &[Date],
+    second: &[Date],
+    from: usize,
+    count: usize,
+    period: usize,
+) -> Result<Vec<Date>, AllocError>
+    requires places { from + count ≤ length first.now }
+    requires short { length first.now ≤ 20000 }
+    requires period { 0 < period }
+    requires first { AreUpTo 20001000000000000000000 first.now }
+    requires second { AreUpTo greatest_listed second.now }
+    ensures { IfOk result (λ values. values.items ≡ table (window (listed first.now)
+        (listed second.now) from count) (length second.now)) }
+{
+    let values = repeated(alloc, Date::Early, second.len())?;
+    let mut begun = PartialSums { places: 0, values };
+    for _place in 0..count {
+        let next = with_piece(alloc, begun, first, second, from, count, period)?;
+        begun = next;
+    }
+    Ok(begun.values)
+}
+
+// The stride of the few pieces of so many places: 1, or the period; none where there are many.
+fn stride_of(first: &[Date], from: usize, count: usize, period: usize) -> Option<usize>
+    requires places { from + count ≤ length first.now }
+    requires short { length first.now ≤ 20000 }
+    requires period { 0 < period }
+    requires first { AreUpTo 20001000000000000000000 first.now }
+    ensures { IfSome result (λ stride. 0 < stride) }
+{
+    if is_short_in_pieces(first, from, count, 1) {
+        return Some(1);
+    }
+    if is_short_in_pieces(first, from, count, period) {
+        return Some(period);
+    }
+    None
+}
+
+// The greatest sums whose first part is at one of `count` places from `from` on, at the first
+// `size` shifts, where the first list has few pieces, of equal steps from place to place or from
+// period to period; and else none.
+pub(crate) fn sums_in_few_pieces(
+    alloc: Global,
+    first: &Cells,
+    second: &Cells,
+    size: usize,
+    from: usize,
+    count: usize,
+    period: usize,
+) -> Result<Vec<Date>, AllocError>
+    requires places { from + count ≤ length first.now }
+    requires short { length first.now ≤ 20000 }
+    requires period { 0 < period }
+    requires first { AreUpTo 20001000000000000000000 first.now }
+    ensures { IfOk result (λ values. AreSums values.items first.now second.now from count) }
+{
+    let dates = dates_of(alloc, first, first.len())?;
+    let own = dates.as_slice();
+    let Some(stride) = stride_of(own, from, count, period) else {
+        return Ok(Vec::new(alloc));
+    };
+    let others = dates_of(alloc, second, size)?;
+    let sums = sums_by_pieces(alloc, own, others.as_slice(), from, count, stride)?;
+    Ok(sums)
+}
