@@ -19,10 +19,11 @@ use Rattle.teg_model.specs.Datings.{IsLeastDating, extended_places, implicit_pla
 use Rattle.teg_loops.specs.Loops.{EndsBelow}
 use Rattle.teg_loops.proofs.Taking.{Keeps, sum_most}
 use Rattle.teg_loops.proofs.Straight.{loop_short}
-use Rattle.bound_laws.proofs.Best.{Setting, IsCriticalIn, bound}
-use Rattle.bound_laws.proofs.Onward.{IsCommonIn, goes_on}
+use Rattle.bound_laws.proofs.Best.{Setting, IsCriticalIn}
+use Rattle.bound_laws.proofs.Onward.{IsCommonIn, goes_on, start_in}
 use Rattle.bound_laws.specs.Critical.{IsCriticalAt, IsCommon, IsStrong}
 use Rattle.std.proofs.lemmas.List.Sums.{sum_by-cons}
+use Rattle.number_laws.proofs.Numbers.{some_of}
 use Rattle.teg_loops.proofs.Taking.{closed_keeps}
 use Rattle.bound_laws.specs.Laws.{DatesGoOnPastTheBound, factorial, FactorialsAreCommon, StepsAreWhole, StillNetsStayAtZero}
 use Rattle.bound_laws.proofs.Unrolled.{unrolled, own_is, own_path, path_in, same_sums, once_in, IsWait, kinds}
@@ -53,10 +54,6 @@ ends_in net ok = record {
 -- a circuit of the net is one of the net with its implicit places, and has the same sums
 own_circuit : (net : NetLists) (ps : List PlaceId) → IsCircuit net ps → IsCircuit (unrolled net) ps
 own_circuit net ps c = record { not_empty = c.not_empty; closed = (c.closed.0, path_in net ps c.closed.0 c.closed.0 c.closed.1); leaves_once = once_in net ps (IsPathBetween-in_range net ps c.closed.0 c.closed.0 c.closed.1) c.leaves_once }
-
-some_of : (n : ℕ) → (n ≡ 0 → ⊥) → 1 ≤ n
-some_of zero h = absurd (h refl)
-some_of (suc n) h = omega arith
 
 circuit_keeps : (net : NetLists) (hold tokens a b : ℕ) → IsStrong net hold tokens a b → (ps : List PlaceId) → IsCircuit (unrolled net) ps → Keeps (unrolled net) a b ps
 circuit_keeps net hold tokens a b s ps c = ⊎_elim
@@ -97,10 +94,6 @@ common_in net a b L la h c ps crit =
     let own = IsPathBetween-in_range net chosen.0 c c chosen.1.at in
     let marks : tokens_of net chosen.0 ≡ tokens_of (unrolled net) chosen.0 = sym (same_sums net (λ p. p.tokens) chosen.0 own) in
     (chosen.0, critical_in net a b c chosen.0 chosen.1, chosen.2, chosen.3 ∙ ap (λ (z : ℕ). chosen.2 * z) marks)
-
-start_in : (net : NetLists) (n a b : ℕ) (ps : List PlaceId) → EndsBelow net n → IsPathBetween net a ps b → 0 < length ps → a < n
-start_in net n a b [] e h l = absurd (omega arith)
-start_in net n a b (p ∷ ps) e h l = subst (λ (z : ℕ). z < n) h.1 (e.from_in p h.0)
 
 -- enough tokens make a walk long
 long_enough : (n tokens len m total : ℕ) → 1 ≤ tokens → m ≤ n * tokens → n * tokens * ((n - 1) * tokens + n * tokens) < total → total ≤ len * tokens → (n - 1) * m + n * m ≤ len

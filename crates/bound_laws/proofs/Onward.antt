@@ -5,6 +5,7 @@ use Rattle.std.proofs.lemmas.Bool.{cases_lt}
 use Rattle.std.proofs.lemmas.List.{length-append}
 use Rattle.std.proofs.lemmas.List.Sums.{sum_by-append}
 use Rattle.std.proofs.Math.Nat.{mul-le-mul_right, mul-le-mul_left}
+use Rattle.number_laws.proofs.Numbers.{some_times}
 use Rattle.teg_net.specs.declared.entries.PlaceId.{PlaceId}
 use Rattle.teg_net.specs.Nets.{NetLists}
 use Rattle.teg_net.specs.Circuits.{place_at, IsPathBetween, time_of, tokens_of}
@@ -16,6 +17,11 @@ use Rattle.teg_loops.proofs.Again.{round_in, round_off, round_sum}
 use Rattle.teg_loops.proofs.Visits.{Meets, FirstVisit, first_visit, joined_meets, rounds, rounds_lead, rounds_sum}
 use Rattle.bound_laws.proofs.Best.{Setting, IsCriticalIn, MeetsCritical, bound, best_meets}
 
+-- a path of some places begins at a transition of the net
+pub start_in : (net : NetLists) (n a b : ℕ) (ps : List PlaceId) → EndsBelow net n → IsPathBetween net a ps b → 0 < length ps → a < n
+start_in net n a b [] e h l = absurd (omega arith)
+start_in net n a b (p ∷ ps) e h l = subst (λ (z : ℕ). z < n) h.1 (e.from_in p h.0)
+
 -- a walk with m tokens fewer, or some multiple, that loses no more
 pub record Swapped (e : NetLists) (a b j t c m : ℕ) (ps : List PlaceId) : Type 0 where
   pub times : ℕ
@@ -25,10 +31,6 @@ pub record Swapped (e : NetLists) (a b j t c m : ℕ) (ps : List PlaceId) : Type
   pub meets : Meets e t walk c
   pub tokens : tokens_of e ps ≡ tokens_of e walk + times * m
   pub loss : b * time_of e ps ≤ b * time_of e walk + a * (times * m)
-
-some_times : (x m q : ℕ) → 1 ≤ x → x ≡ q * m → 1 ≤ q
-some_times x m zero l e = absurd (omega arith)
-some_times x m (suc q) l e = omega arith
 
 swap_loss : (a b time rest round x q m : ℕ) → time ≡ rest + round → b * round ≤ a * x → x ≡ q * m → b * time ≤ b * rest + a * (q * m)
 swap_loss a b time rest round x q m e l f =
@@ -181,10 +183,6 @@ cut_down_on e n T C P a b y s t c k cs lt lc crit far (suc fuel) (suc u) j ps l 
 abbrev pub IsCommonIn : NetLists → ℕ → ℕ → ℕ → Type 0
 IsCommonIn e a b L = (c : ℕ) (ps : List PlaceId) → IsCriticalIn e a b c ps → (qs : List PlaceId) × IsCriticalIn e a b c qs × (u : ℕ) × (L ≡ u * tokens_of e qs)
 
-start_below : (e : NetLists) (n a b : ℕ) (ps : List PlaceId) → EndsBelow e n → IsPathBetween e a ps b → 0 < length ps → a < n
-start_below e n a b [] ends h l = absurd (omega arith)
-start_below e n a b (p ∷ ps) ends h l = subst (λ (z : ℕ). z < n) h.1 (ends.from_in p h.0)
-
 cancel_le : (b x z : ℕ) → 1 ≤ b → b * x ≤ b * z → x ≤ z
 cancel_le b x z lb l = ⊎_elim
     (λ (p : z < x). let more : b * (z + 1) ≤ b * x = mul-le-mul_left b (omega arith) in let parts : b * (z + 1) ≡ b * z + b = grind arith in absurd (omega arith))
@@ -237,7 +235,7 @@ goes_on e n T C P a b y s lb L S common step t k lt far =
           let crit : IsCriticalIn e a b meets.at cs = chosen.1 in
           let u : ℕ = chosen.2 in
           let multiple : L ≡ u * tokens_of e cs = chosen.3 in
-          let cut : CutDown e a b best.0 t k (u * tokens_of e cs) ps = cut_down_on e n T C P a b y s t meets.at k cs lt (start_below e n meets.at meets.at cs s.ends crit.at crit.circuit.not_empty) crit far (suc u) u best.0 ps (omega arith) best.3 meets.meets (omega arith) in
+          let cut : CutDown e a b best.0 t k (u * tokens_of e cs) ps = cut_down_on e n T C P a b y s t meets.at k cs lt (start_in e n meets.at meets.at cs s.ends crit.at crit.circuit.not_empty) crit far (suc u) u best.0 ps (omega arith) best.3 meets.meets (omega arith) in
           let one : time_of e cut.walk ≤ y t k = s.greatest t k best.0 cut.walk lt best.2 cut.leads cut.tokens in
           let two : b * time_of e cut.walk ≤ b * y t k = mul-le-mul_left b one in
           let three : a * (u * tokens_of e cs) ≡ a * L = ap (λ (z : ℕ). a * z) (sym multiple) in

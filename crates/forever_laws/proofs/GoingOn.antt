@@ -2,15 +2,13 @@
 use Rattle.std.proofs.Common.{ℕ, zero, suc, ◌+◌, ◌-◌, ◌*◌, ◌/◌, ◌<◌, ◌≤◌, ◌≡◌, [], ◌∷◌, true, false, leb, length, get_or, Option, Some, None, refl, sym, ap, ◌∙◌, arith, ⊎_elim}
 use Rattle.std.proofs.lemmas.Bool.{cases_Bool, cases_lt}
 use Rattle.std.proofs.lemmas.Bool.Decides.{nat_tests}
-use Rattle.std.proofs.lemmas.Nat.{div_below}
-use Rattle.std.proofs.Math.Nat.{add-div_right}
 use Rattle.dioid.specs.Dates.{IsAtMostDate}
 use Rattle.teg_net.specs.declared.entries.Role.TheVariants.{Input}
 use Rattle.teg_net.specs.declared.entries.InputList.{InputList}
 use Rattle.teg_net.specs.Limits.{greatest_date}
 use Rattle.teg_net.specs.Nets.{NetLists, IsInputOf, lists_of}
 use Rattle.teg_net.specs.Inputs.{rounds_past, moved_by}
-use Rattle.teg_net.proofs.InputDates.{date_le}
+use Rattle.teg_net.proofs.InputDates.{one_round, more_rounds, date_le}
 use Rattle.teg_model.specs.Datings.{as_date}
 use Rattle.teg_settle.proofs.Listing.{dates_climb}
 use Rattle.forever_laws.specs.declared.rows.EndlessRow.{EndlessRow}
@@ -43,18 +41,6 @@ due_past : (r : EndlessRow) (k m : ℕ) → length r.dates < k → rounds_past (
 due_past r k m l e =
     let b : leb k (length r.dates) ≡ false = grind (arith, nat_tests) in
     rw b (ap (λ n. get_or r.dates (k - n * r.every - 1) 0 + n * r.gap) e)
-
-one_round : (long every k : ℕ) → 1 ≤ every → long < k → k - every ≤ long → rounds_past long every k ≡ 1
-one_round long every k o l m =
-    let few : k - long - 1 < 1 * every = omega arith in
-    let none : (k - long - 1) / every < 1 = div_below (k - long - 1) every 1 (omega arith) few in
-    omega arith
-
-more_rounds : (long every k : ℕ) → 1 ≤ every → long < k - every → rounds_past long every k ≡ rounds_past long every (k - every) + 1
-more_rounds long every k o l =
-    let is : k - long - 1 ≡ (k - every - long - 1) + every = omega arith in
-    let step : ((k - every - long - 1) + every) / every ≡ (k - every - long - 1) / every + 1 = add-div_right (k - every - long - 1) (omega arith) in
-    ap (λ n. n / every + 1) is ∙ ap (λ n. n + 1) step
 
 -- past the list each due date is that of `every` firings before, plus the gap
 goes_back : (r : EndlessRow) (k : ℕ) → 1 ≤ r.every → r.every ≤ length r.dates → length r.dates < k → due_number r k ≡ due_number r (k - r.every) + r.gap

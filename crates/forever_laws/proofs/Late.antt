@@ -5,6 +5,7 @@ use Rattle.std.proofs.lemmas.Bool.{cases_lt}
 use Rattle.std.proofs.lemmas.List.Sums.{sum_by-append}
 use Rattle.std.proofs.lemmas.Nat.{mod_below, div-add-mod'}
 use Rattle.std.proofs.Math.Nat.{mul-le-mul_right, mul-le-mul_left}
+use Rattle.number_laws.proofs.Numbers.{some_times}
 use Rattle.teg_net.specs.declared.entries.PlaceId.{PlaceId}
 use Rattle.teg_net.specs.Nets.{NetLists}
 use Rattle.teg_net.specs.Circuits.{place_at, IsPathBetween, IsCircuit, time_of, tokens_of}
@@ -72,10 +73,6 @@ due_back every gap size d again (suc q) j l =
     let f : d (j + suc q * every) ≡ d (j + q * every + every) = ap d e in
     let g : suc q * gap ≡ q * gap + gap = omega arith in
     omega arith
-
-some_times : (x m q : ℕ) → 1 ≤ x → x ≡ q * m → 1 ≤ q
-some_times x m zero l e = absurd (omega arith)
-some_times x m (suc q) l e = omega arith
 
 -- the walk that goes round often enough is late
 steep_late : (every last gap T t0 q time r w du total : ℕ) → 1 ≤ every → t0 ≤ T → gap * q < time → w * every ≤ gap * (1 + T + every) → gap * (1 + T + every) < w * every + every → r ≡ last + 1 + w

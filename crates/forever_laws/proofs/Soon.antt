@@ -1,9 +1,10 @@
 -- The least late number of a row is not great: a late number is late soon, for the walks of a net.
-use Rattle.std.proofs.Common.{ℕ, zero, suc, ◌+◌, ◌*◌, ◌^◌, ◌<◌, ◌≤◌, ◌≡◌, List, length, refl, sym, ap, arith, ⊎_elim, ◌⊎◌, inl, inr}
+use Rattle.std.proofs.Common.{ℕ, zero, suc, ◌+◌, ◌*◌, ◌^◌, ◌<◌, ◌≤◌, ◌≡◌, List, length, sym, ap, arith, ⊎_elim, ◌⊎◌, inl, inr}
 use Rattle.std.specs.Prelude.{pos}
 use Rattle.std.proofs.lemmas.Bool.{cases_lt}
 use Rattle.std.proofs.lemmas.Int.{ints}
 use Rattle.std.proofs.Math.Nat.{mul-le-mul_right, mul-le-mul_left}
+use Rattle.number_laws.proofs.Numbers.{some_of}
 use Rattle.dioid.specs.declared.dates.Date.{Date}
 use Rattle.dioid.specs.declared.dates.Date.TheVariants.{At}
 use Rattle.teg_net.specs.declared.entries.PlaceId.{PlaceId}
@@ -40,10 +41,6 @@ marks_in net ok id l = all_extended_in net (λ p. p.tokens ≤ most_tokens) (λ 
 
 holds_in : (net : NetLists) → IsNet net → (id : PlaceId) → id.index < length (extended_places net) → (place_at (unrolled net) id).hold ≤ greatest_hold
 holds_in net ok id l = all_extended_in net (λ p. p.hold ≤ greatest_hold) (λ i d m. (ok.each_place i d m).hold_in) (λ t m. omega arith) id.index no_place l
-
-some_of : (n : ℕ) → (n ≡ 0 → ⊥) → 1 ≤ n
-some_of zero h = absurd (h refl)
-some_of (suc n) h = omega arith
 
 -- with its implicit places the net is still live
 live_in : (net : NetLists) → IsLive net → (ps : List PlaceId) → IsCircuit (unrolled net) ps → 1 ≤ tokens_of (unrolled net) ps

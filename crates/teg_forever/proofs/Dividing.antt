@@ -34,7 +34,7 @@ use Rattle.teg_forever.specs.declared.releases.ForeverRefusal.TheVariants.{Late,
 use Rattle.teg_forever.specs.Columns.{IsStopped}
 use Rattle.teg_forever.specs.Divisions.{AreAlike, AreDivisions, AreFirstsTo, IsAlikeAt, IsDivided, IsKeptIn, IsMeetOver, IsMeetTo, IsMisfit, IsPlaceOf, IsRefusedAt, IsResidualOf, refusal_at}
 use Rattle.teg_forever.specs.Releases.{SettlesWithin}
-use Rattle.teg_forever.proofs.Series.{got_is, got_within, some_is}
+use Rattle.teg_forever.proofs.Series.{behind, got_is, got_within, some_is}
 
 -- ---- rows that ask the same dates
 
@@ -44,7 +44,7 @@ same_dates r s h k =
     ap (λ (l : List ℕ). as_date (list_date l (Some (again_of r)) (k + 1))) h.dates ∙ ap (λ (a : Again). as_date (list_date s.dates (Some a) (k + 1))) again
 
 -- have the same due series
-alike_due : (r s : EndlessRow) → AreAlike r s → (f : Form) → IsDueSeries r f → IsDueSeries s f
+pub alike_due : (r s : EndlessRow) → AreAlike r s → (f : Form) → IsDueSeries r f → IsDueSeries s f
 alike_due r s h f is = record { canonical = is.canonical; dates = λ k. is.dates k ∙ same_dates r s h k }
 
 pub alike_itself : (rows : List EndlessRow) (i : ℕ) → i < length rows → IsAlikeAt rows i i
@@ -110,10 +110,6 @@ divisions_kept rows old new x (Ok place) h same right kept = record {
   each = all_kept rows old.list.items new.list.items x place kept right h.each;
 }
 divisions_kept rows old new x (Err e) h same right kept = tt
-
-behind : {A : Type 0} (xs : List A) (x : A) → slice_get (xs ++ x ∷ []) (length xs) ≡ Some x
-behind [] x = refl
-behind (y ∷ xs) x = behind xs x
 
 -- it stands where it was put
 pub kept_place : (old new : List Divided) (x : Divided) (place : ℕ) → IsKeptIn old x new place → IsPlaceOf new x.due x.walk place

@@ -5,6 +5,7 @@ use Rattle.std.specs.Option.{option_map_or}
 use Rattle.std.proofs.lemmas.Bool.{cases_Bool, cases_lt}
 use Rattle.std.proofs.lemmas.Bool.Decides.{nat_tests}
 use Rattle.std.proofs.lemmas.List.Elements.{All-append}
+use Rattle.number_laws.proofs.Numbers.{same_number}
 use Rattle.teg_net.specs.declared.entries.Transition.{Transition}
 use Rattle.teg_net.specs.declared.entries.Role.TheVariants.{Input}
 use Rattle.teg_net.specs.Nets.{NetLists, IsInput}
@@ -79,9 +80,6 @@ beside_more Is [] [] t r h i = (i, tt)
 beside_more Is [] (s ∷ releases) t r h i = absurd h
 beside_more Is (u ∷ ts) [] t r h i = absurd h
 beside_more Is (u ∷ ts) (s ∷ releases) t r h i = (h.0, beside_more Is ts releases t r h.1 i)
-
-pub same_number : (t u : ℕ) → (t == u) ≡ true → t ≡ u
-same_number t u h = grind (arith, nat_tests)
 
 self : (u : ℕ) → (u == u) ≡ true
 self u = grind (arith, nat_tests)

@@ -6,7 +6,9 @@ pub mod Itself
 pub mod LateNumbers
 pub mod LateTurns
 pub mod ReadBack
+pub mod Repeated
 pub mod Residues
 pub mod RowRules
+pub mod SameWalks
 pub mod Series
 pub mod Written

@@ -24,7 +24,8 @@ use Rattle.teg_forever.specs.declared.releases.ForeverRefusal.TheVariants.{Late,
 use Rattle.teg_forever.specs.Releases.{IsFine, IsReleaseOf, ForeverRefused, SettlesWithin, longest_form}
 use Rattle.teg_forever.specs.Columns.{IsReleaseBy, IsStopped, AreReleasesBelow}
 use Rattle.teg_forever.specs.Divisions.{IsMeetOver}
-use Rattle.teg_forever.proofs.InputLists.{input_within, same_number}
+use Rattle.teg_forever.proofs.InputLists.{input_within}
+use Rattle.number_laws.proofs.Numbers.{same_number}
 
 module _ (net : NetLists) (rows : List EndlessRow) (u : ℕ) (ok : IsNet net) (live : IsLive net) (ends : IsEndlessOf net rows) (input : IsInput net u) (exist : ColumnsExist) (m : Gain) (meet : IsMeetOver net rows u (length rows) m) where
   -- an input whose walk times settle is fine where each row fits

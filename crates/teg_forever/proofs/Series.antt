@@ -1,5 +1,5 @@
 -- Series that are made of lists.
-use Rattle.std.proofs.Common.{ℕ, inl, inr, ◌≡◌, ◌+◌, ◌<◌, ◌≤◌, List, Option, Some, None, Result, Ok, Err, length, get_or, sym, subst, ap, ◌∙◌, arith}
+use Rattle.std.proofs.Common.{ℕ, inl, inr, ◌≡◌, ◌+◌, ◌<◌, ◌≤◌, List, [], ◌∷◌, ◌++◌, Option, Some, None, Result, Ok, Err, length, get_or, refl, sym, subst, ap, ◌∙◌, arith}
 use Rattle.std.specs.Prelude.{IfOk, slice_get}
 use Rattle.dioid.specs.declared.dates.Date.{Date}
 use Rattle.series_laws.specs.Forms.{Form, value_at, HasValues, IsCanonical}
@@ -74,3 +74,8 @@ got_is xs i x d e = elim (slice_get_cases xs i).1 [
   | inl (y, w, here, is) ↦ get_or_default xs i d y w ∙ is ∙ some_is (slice_get xs i) y x here e
   | inr (past, here) ↦ (let c : None ≡ Some x = sym here ∙ e in cc)
 ]
+
+-- what is put behind a list stands there
+pub behind : {A : Type 0} (xs : List A) (x : A) → slice_get (xs ++ x ∷ []) (length xs) ≡ Some x
+behind [] x = refl
+behind (y ∷ xs) x = behind xs x

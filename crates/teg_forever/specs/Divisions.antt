@@ -1,10 +1,10 @@
 -- Working definitions of the residuals of due series by walk series: what is kept of them, and what they tell of an input.
-use Rattle.std.specs.Prelude.{ℕ, ◌≡◌, ◌<◌, ◌∷◌, ◌++◌, [], List, Some, All, length, get_or, slice_get, take, ⊤}
+use Rattle.std.specs.Prelude.{ℕ, ◌-◌, ◌≡◌, ◌<◌, ◌∷◌, ◌++◌, [], List, Some, All, IsTrue, length, get_or, slice_get, take, ⊤}
 use Rattle.dioid.specs.declared.algebra.Refused.{Refused}
 use Rattle.dioid.specs.declared.algebra.Refused.TheVariants.{Range, OutOfMemory as NoRoom}
 use Rattle.dioid_matrix.specs.Residuals.{RowFits}
 use Rattle.series_ops.specs.declared.gains.Gain.{Gain}
-use Rattle.series_ops.specs.Gains.{gain_left, LeftFits}
+use Rattle.series_ops.specs.Gains.{gain_left, gain_meet, LeftFits, MeetFits}
 use Rattle.periodic_laws.specs.Equations.{gains}
 use Rattle.teg_net.specs.declared.entries.TransitionId.{TransitionId}
 use Rattle.teg_net.specs.Nets.{NetLists}
@@ -12,6 +12,7 @@ use Rattle.forever_laws.specs.declared.rows.EndlessRow.{EndlessRow}
 use Rattle.forever_laws.specs.Columns.{AreColumns, IsDueSeries, gain_residuals, residual_over}
 use Rattle.teg_forever.specs.declared.divisions.Divided.{Divided}
 use Rattle.teg_forever.specs.declared.divisions.Divisions.{Divisions}
+use Rattle.teg_forever.specs.declared.residuals.Meet.{Meet}
 use Rattle.teg_forever.specs.declared.releases.ForeverRefusal.{ForeverRefusal}
 use Rattle.teg_forever.specs.declared.releases.ForeverRefusal.TheVariants.{Late, TooLong, TooWide, OutOfMemory}
 
@@ -90,6 +91,24 @@ pub record IsMeetTo (walks dues : ℕ → Gain) (count : ℕ) (meet : Gain) : Ty
 -- the same of the columns of the input
 abbrev pub IsMeetOver : NetLists → List EndlessRow → ℕ → ℕ → Gain → Type 0
 IsMeetOver net rows u count meet = (walks dues : ℕ → Gain) → AreColumns net u rows walks dues → IsMeetTo walks dues count meet
+
+-- the meet of two series, which fits
+pub record AreMet (first second meet : Gain) : Type 0 where
+  pub value : meet ≡ gain_meet first second
+  pub fit : MeetFits first second
+
+-- the meet stays where it meets once more the residual of the last of so many rows
+abbrev pub StaysOver : NetLists → List EndlessRow → ℕ → ℕ → Gain → Type 0
+StaysOver net rows u count meet = (walks dues : ℕ → Gain) → AreColumns net u rows walks dues → AreMet meet (gain_left (walks (count - 1)) (dues (count - 1))) meet
+
+-- the meet over so many rows, and where it tells so, it stays
+pub record IsMeetSoFar (net : NetLists) (rows : List EndlessRow) (u count : ℕ) (m : Meet) : Type 0 where
+  pub over : IsMeetOver net rows u count m.gain
+  pub stays : IsTrue m.stays → StaysOver net rows u count m.gain
+
+-- the row at this place has the walk series and the due series of the row before
+abbrev pub IsAsBefore : NetLists → List EndlessRow → ℕ → ℕ → Type 0
+IsAsBefore net rows u i = (walks dues : ℕ → Gain) → AreColumns net u rows walks dues → (walks i ≡ walks (i - 1)) × (dues i ≡ dues (i - 1))
 
 -- the row at place i does not fit, and has this number in the file
 pub record MisfitsAt (net : NetLists) (rows : List EndlessRow) (u i row : ℕ) : Type 0 where

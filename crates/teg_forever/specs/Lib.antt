@@ -1,6 +1,9 @@
 pub mod Rows
 pub mod Releases
 pub mod Columns
+pub mod Asked
+pub mod Alike
 pub mod Divisions
 pub mod Searches
 pub mod Texts
+pub mod Twins

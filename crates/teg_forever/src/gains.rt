@@ -3,10 +3,14 @@ ghost use Rattle.std.specs.Prelude.{◌≡◌, ◌<◌, ◌≤◌, Ok, length, m
 ghost use Rattle.dioid.specs.declared.dates.Date.TheVariants.{At};
 ghost use Rattle.teg_net.specs.Circuits.{IsLive};
 ghost use Rattle.teg_net.specs.Nets.{IsInput, IsNet};
-ghost use Rattle.settled_laws.specs.Forms.{settled_length};
+ghost use Rattle.series_form.specs.Answer.{AnswersOf};
+ghost use Rattle.series_laws.specs.Forms.{HasValues, value_at};
+ghost use Rattle.series_laws.specs.Periodic.{Rising};
+ghost use Rattle.settled_laws.specs.Forms.{row_of, settled_length};
 ghost use Rattle.teg_settle.specs.Transfers.{IsTransferOf};
 ghost use Rattle.forever_laws.specs.Columns.{IsDueSeries, IsWalkSeries};
 ghost use Rattle.forever_laws.specs.Rows.{IsEndlessRow};
+ghost use Rattle.teg_forever.specs.Alike.{told_form};
 ghost use Rattle.teg_forever.specs.Columns.{FitsIfMade};
 ghost use Rattle.teg_forever.specs.Releases.{longest_form};
 
@@ -51,6 +55,28 @@ pub(crate) fn due_gain(alloc: Global, net: &Net, row: &EndlessRow) -> Result<Gai
     gain_of(Series::from_list(alloc, list.as_slice(), row.every as usize, row.gap as i128))
 }
 
+// The series of the dates that a form tells of a transition.
+fn told_series(
+    alloc: Global,
+    settled: &Settled,
+    transition: TransitionId,
+) -> Result<Series, SeriesRefused>
+    requires transition { transition.index < length settled.now.rows }
+    requires some { 0 < settled.now.period }
+    requires fits { settled.now.period ≤ length (row_of settled.now transition.index) }
+    requires rising { Rising (value_at (told_form settled.now transition.index)) }
+    ensures { AnswersOf (λ r. HasValues r (value_at (told_form settled.now transition.index)))
+        (length (row_of settled.now transition.index))
+        (length (row_of settled.now transition.index)) result }
+{
+    Series::from_list(
+        alloc,
+        settled.row(transition),
+        settled.period() as usize,
+        settled.step(transition),
+    )
+}
+
 // The series of the times of walks from the input to a transition.
 pub(crate) fn walk_gain(
     alloc: Global,
@@ -69,10 +95,5 @@ pub(crate) fn walk_gain(
 {
     forms_are_series();
     series_fit();
-    gain_of(Series::from_list(
-        alloc,
-        settled.row(transition),
-        settled.period() as usize,
-        settled.step(transition),
-    ))
+    gain_of(told_series(alloc, settled, transition))
 }

@@ -1,27 +1,25 @@
 //! The latest releases of the inputs, one by one.
-ghost use Rattle.std.specs.Prelude.{◌≡◌, ◌<◌, ◌≤◌, ◌+◌, length, IfOk, IfErr, OnOk};
+ghost use Rattle.std.specs.Prelude.{◌≡◌, ◌<◌, ◌≤◌, ◌+◌, Some, length, slice_get, IfOk, IfErr, OnOk};
 ghost use Rattle.due_laws.specs.Dues.{InputsMeet, inputs_at_zero};
-ghost use Rattle.teg_check.specs.Ranks.{IsRanking};
-ghost use Rattle.teg_net.specs.Circuits.{IsLive};
-ghost use Rattle.teg_net.specs.Nets.{IsInput, IsNet};
-ghost use Rattle.teg_settle.specs.Transfers.{IsTransferOf};
-ghost use Rattle.settled_laws.specs.Forms.{settled_length};
-ghost use Rattle.forever_laws.specs.Rows.{IsEndlessOf, due_on};
+ghost use Rattle.teg_net.specs.Nets.{IsInput};
+ghost use Rattle.forever_laws.specs.Rows.{due_on};
+ghost use Rattle.teg_forever.specs.Asked.{CanMeet, IsAsked};
 ghost use Rattle.teg_forever.specs.Columns.{AreReleasesBelow, IsReleaseBy, IsStopped};
 ghost use Rattle.teg_forever.specs.Divisions.{AreDivisions};
-ghost use Rattle.teg_forever.specs.Releases.{ForeverRefused, IsFine, IsReleaseOf, longest_form};
+ghost use Rattle.teg_forever.specs.Releases.{ForeverRefused, IsFine, IsReleaseOf};
 
 use crate::divisions::Divisions;
 use crate::releases::{ForeverRefusal, Release};
 use crate::residuals::meet_of;
+use crate::twins::twin_before;
 use dioid::Date;
 use forever_laws::{EndlessRow, columns_exist, residuals_are_latest_dates};
 use series_form::Series;
-use std::alloc::Global;
+use std::alloc::{AllocError, Global};
 use teg_check::Live;
 use teg_due::is_input;
 use teg_net::{Net, TransitionId};
-use teg_settle::{SettleRefusal, Settled, transfer};
+use teg_settle::{SettleRefusal, Settled, transfer, walk_times_settle};
 
 // The longest settled form of walk times that is taken.
 const LONGEST_FORM: u32 = 20_000;
@@ -47,12 +45,7 @@ fn release_over(
     rows: &[EndlessRow],
     divisions: &mut Divisions,
 ) -> Result<Release, ForeverRefusal>
-    requires rules { IsNet net.now }
-    requires live { IsLive net.now }
-    requires input { IsInput net.now input.index }
-    requires transfer { IsTransferOf net.now input.index settled.now }
-    requires short { settled_length settled.now ≤ longest_form }
-    requires rows { IsEndlessOf net.now rows.now }
+    requires asked { IsAsked net.now settled.now input.index rows.now }
     requires some { 1 ≤ length rows.now }
     requires meet { InputsMeet net.now (due_on rows.now) inputs_at_zero }
     requires divisions { AreDivisions rows.now divisions.old }
@@ -76,12 +69,8 @@ fn release_of(
     rows: &[EndlessRow],
     divisions: &mut Divisions,
 ) -> Result<Release, ForeverRefusal>
-    requires rules { IsNet net.now }
-    requires stands { IsRanking net.now live.now }
-    requires live { IsLive net.now }
+    requires given { CanMeet net.now live.now rows.now }
     requires input { IsInput net.now input.index }
-    requires rows { IsEndlessOf net.now rows.now }
-    requires meet { InputsMeet net.now (due_on rows.now) inputs_at_zero }
     requires divisions { AreDivisions rows.now divisions.old }
     ensures divisions { OnOk result (AreDivisions rows.now divisions.new) }
     ensures fine { IfOk result (λ _. IsFine net.now rows.now input.index) }
@@ -99,6 +88,55 @@ fn release_of(
     release_over(alloc, net, &settled, input, rows, divisions)
 }
 
+// The same release once more.
+fn release_copy(alloc: Global, release: &Release) -> Result<Release, AllocError>
+    ensures { IfOk result (λ copy. copy ≡ release.now) }
+{
+    match release {
+        Release::Free => Ok(Release::Free),
+        Release::Latest { series } => {
+            let series = series.duplicate(alloc)?;
+            Ok(Release::Latest { series })
+        }
+    }
+}
+
+// The release that stands at this place, once more.
+fn release_at(alloc: Global, releases: &[Release], place: usize) -> Result<Release, ForeverRefusal>
+    requires { place < length releases.now }
+    ensures copy { IfOk result (λ copy. slice_get releases.now place ≡ Some copy) }
+    ensures memory { IfErr result (λ e. e ≡ ForeverRefusal.OutOfMemory) }
+{
+    let copy = release_copy(alloc, &releases[place])?;
+    Ok(copy)
+}
+
+// The release of the next input: that of one before it whose places lead on alike, if there is one.
+fn next_release(
+    alloc: Global,
+    net: &Net,
+    live: &Live,
+    input: TransitionId,
+    rows: &[EndlessRow],
+    divisions: &mut Divisions,
+    releases: &[Release],
+) -> Result<Release, ForeverRefusal>
+    requires given { CanMeet net.now live.now rows.now }
+    requires input { IsInput net.now input.index }
+    requires divisions { AreDivisions rows.now divisions.old }
+    requires releases { AreReleasesBelow net.now rows.now input.index releases.now }
+    ensures divisions { OnOk result (AreDivisions rows.now divisions.new) }
+    ensures fine { IfOk result (λ _. IsFine net.now rows.now input.index) }
+    ensures release { IfOk result (IsReleaseOf net.now rows.now input.index) }
+    ensures stopped { IfErr result (IsStopped net.now rows.now input) }
+{
+    walk_times_settle();
+    match twin_before(net, input) {
+        Some(place) => release_at(alloc, releases, place),
+        None => release_of(alloc, net, live, input, rows, divisions),
+    }
+}
+
 // The release of one transition more, if it is an input.
 fn add_release(
     alloc: Global,
@@ -109,12 +147,8 @@ fn add_release(
     divisions: &mut Divisions,
     releases: &mut Vec<Release>,
 ) -> Result<(), ForeverRefusal>
-    requires rules { IsNet net.now }
-    requires stands { IsRanking net.now live.now }
-    requires live { IsLive net.now }
+    requires given { CanMeet net.now live.now rows.now }
     requires input { input.index < length net.now.transitions }
-    requires rows { IsEndlessOf net.now rows.now }
-    requires meet { InputsMeet net.now (due_on rows.now) inputs_at_zero }
     requires divisions { AreDivisions rows.now divisions.old }
     requires releases { AreReleasesBelow net.now rows.now input.index releases.old.items }
     ensures releases { OnOk result (AreReleasesBelow net.now rows.now (input.index + 1)
@@ -125,7 +159,15 @@ fn add_release(
     if !is_input(net, input) {
         return Ok(());
     }
-    let release = release_of(alloc, net, live, input, rows, divisions)?;
+    let release = next_release(
+        alloc,
+        net,
+        live,
+        input,
+        rows,
+        divisions,
+        releases.as_slice(),
+    )?;
     if releases.push(release).is_err() {
         return Err(ForeverRefusal::OutOfMemory);
     }
@@ -140,11 +182,7 @@ fn releases_by(
     rows: &[EndlessRow],
     divisions: &mut Divisions,
 ) -> Result<Vec<Release>, ForeverRefusal>
-    requires rules { IsNet net.now }
-    requires stands { IsRanking net.now live.now }
-    requires live { IsLive net.now }
-    requires rows { IsEndlessOf net.now rows.now }
-    requires meet { InputsMeet net.now (due_on rows.now) inputs_at_zero }
+    requires given { CanMeet net.now live.now rows.now }
     requires divisions { AreDivisions rows.now divisions.old }
     ensures releases { IfOk result (λ releases. AreReleasesBelow net.now rows.now
         (length net.now.transitions) releases.items) }
@@ -165,11 +203,7 @@ pub(crate) fn releases_of(
     live: &Live,
     rows: &[EndlessRow],
 ) -> Result<Vec<Release>, ForeverRefusal>
-    requires rules { IsNet net.now }
-    requires stands { IsRanking net.now live.now }
-    requires live { IsLive net.now }
-    requires rows { IsEndlessOf net.now rows.now }
-    requires meet { InputsMeet net.now (due_on rows.now) inputs_at_zero }
+    requires given { CanMeet net.now live.now rows.now }
     ensures releases { IfOk result (λ releases. AreReleasesBelow net.now rows.now
         (length net.now.transitions) releases.items) }
     ensures stopped { IfErr result (ForeverRefused net.now rows.now) }

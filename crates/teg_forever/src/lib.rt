@@ -12,6 +12,7 @@
 //! Its examples stand in `worked_examples`.
 #![tactic(auto)]
 
+mod alike;
 mod answers;
 mod divisions;
 mod gains;
@@ -23,6 +24,7 @@ mod releases;
 mod residuals;
 mod rows;
 mod texts;
+mod twins;
 
 pub use answers::forever;
 pub use forever_laws::EndlessRow;

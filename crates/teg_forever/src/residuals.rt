@@ -1,16 +1,12 @@
 //! The meet over the rows of the residuals of their due series by the walk series of an input.
-ghost use Rattle.std.specs.Prelude.{◌≡◌, ◌<◌, ◌≤◌, length, true, IfErr, IfOk, OnOk};
+ghost use Rattle.std.specs.Prelude.{◌≡◌, ◌<◌, ◌≤◌, ◌+◌, Err, length, true, IfErr, IfOk, IsTrue, OnOk};
 ghost use Rattle.dioid.specs.Answer.{Answers};
 ghost use Rattle.series_ops.specs.Gains.{gain_meet, MeetFits};
-ghost use Rattle.teg_net.specs.Circuits.{IsLive};
-ghost use Rattle.teg_net.specs.Nets.{IsInput, IsNet};
-ghost use Rattle.teg_settle.specs.Transfers.{IsTransferOf};
-ghost use Rattle.settled_laws.specs.Forms.{settled_length};
-ghost use Rattle.forever_laws.specs.Rows.{IsEndlessOf};
+ghost use Rattle.teg_forever.specs.Asked.{IsAsked};
 ghost use Rattle.teg_forever.specs.Columns.{IsStopped};
-ghost use Rattle.teg_forever.specs.Divisions.{AreDivisions, IsMeetOver, IsRefusedAt, IsResidualOf, refusal_at};
-ghost use Rattle.teg_forever.specs.Releases.{longest_form};
+ghost use Rattle.teg_forever.specs.Divisions.{AreDivisions, AreMet, IsMeetOver, IsMeetSoFar, IsRefusedAt, IsResidualOf, refusal_at};
 
+use crate::alike::is_as_before;
 use crate::divisions::Divisions;
 use crate::gains::walk_gain;
 use crate::releases::ForeverRefusal;
@@ -34,14 +30,45 @@ fn refusal_at(why: Refused, input: TransitionId, row: &EndlessRow) -> ForeverRef
     }
 }
 
-// The meet of two series. With itself a series is not gone through again.
-fn met(alloc: Global, meet: Gain, residual: &Gain) -> Result<Gain, Refused>
-    ensures { Answers true (MeetFits meet residual.now) (gain_meet meet residual.now) result }
+// The meet over some rows, and whether it is known to stay where it meets the residual of the last of
+// them once more.
+#[derive(Drop)]
+struct Meet {
+    gain: Gain,
+    stays: bool,
+}
+
+// Whether the meet of a series and a residual stays where it meets the residual once more.
+fn stays(before: &Gain, residual: &Gain, meet: &Gain) -> bool
+    requires { AreMet before.now residual.now meet.now }
+    ensures { IsTrue result → AreMet meet.now residual.now meet.now }
 {
     if meet.series.equals(&residual.series) {
-        return Ok(meet);
+        return true;
     }
-    meet.meet(alloc, residual)
+    meet.series.equals(&before.series)
+}
+
+// The meet of two series. With itself a series is not gone through again.
+fn met(alloc: Global, meet: Gain, residual: &Gain) -> Result<Meet, Refused>
+    ensures met { IfOk result (λ m. AreMet meet residual.now m.gain) }
+    ensures stays { IfOk result (λ m. IsTrue m.stays → AreMet m.gain residual.now m.gain) }
+    ensures misfit { IfErr result (λ why. Answers true (MeetFits meet residual.now)
+        (gain_meet meet residual.now) (Err why)) }
+{
+    if meet.series.equals(&residual.series) {
+        return Ok(Meet {
+            gain: meet,
+            stays: true,
+        });
+    }
+    match meet.meet(alloc, residual) {
+        Ok(less) => {
+            let stays = stays(&meet, residual, &less);
+            Ok(Meet { gain: less, stays })
+        }
+        Err(why) => Err(why),
+    }
 }
 
 // The place of the residual of a row.
@@ -54,12 +81,7 @@ fn residual_at(
     place: usize,
     divisions: &mut Divisions,
 ) -> Result<usize, ForeverRefusal>
-    requires rules { IsNet net.now }
-    requires live { IsLive net.now }
-    requires input { IsInput net.now input.index }
-    requires transfer { IsTransferOf net.now input.index settled.now }
-    requires short { settled_length settled.now ≤ longest_form }
-    requires rows { IsEndlessOf net.now rows.now }
+    requires asked { IsAsked net.now settled.now input.index rows.now }
     requires place { place < length rows.now }
     requires divisions { AreDivisions rows.now divisions.old }
     ensures divisions { OnOk result (AreDivisions rows.now divisions.new) }
@@ -76,6 +98,85 @@ fn residual_at(
     }
 }
 
+// The residual of the first row.
+fn first_meet(
+    alloc: Global,
+    net: &Net,
+    settled: &Settled,
+    input: TransitionId,
+    rows: &[EndlessRow],
+    divisions: &mut Divisions,
+) -> Result<Meet, ForeverRefusal>
+    requires asked { IsAsked net.now settled.now input.index rows.now }
+    requires some { 1 ≤ length rows.now }
+    requires divisions { AreDivisions rows.now divisions.old }
+    ensures divisions { OnOk result (AreDivisions rows.now divisions.new) }
+    ensures meet { IfOk result (IsMeetSoFar net.now rows.now input.index 1) }
+    ensures refused { IfErr result (IsRefusedAt net.now rows.now input 0) }
+{
+    let at = residual_at(alloc, net, settled, input, rows, 0, divisions)?;
+    let series = divisions.residual(at).series.duplicate(alloc)?;
+    Ok(Meet {
+        gain: Gain { series },
+        stays: true,
+    })
+}
+
+// The meet of the meet over the rows before with the residual of a row.
+fn meet_with(
+    alloc: Global,
+    net: &Net,
+    settled: &Settled,
+    input: TransitionId,
+    rows: &[EndlessRow],
+    place: usize,
+    divisions: &mut Divisions,
+    meet: Gain,
+) -> Result<Meet, ForeverRefusal>
+    requires asked { IsAsked net.now settled.now input.index rows.now }
+    requires some { 0 < place }
+    requires place { place < length rows.now }
+    requires divisions { AreDivisions rows.now divisions.old }
+    requires meet { IsMeetOver net.now rows.now input.index place meet }
+    ensures divisions { OnOk result (AreDivisions rows.now divisions.new) }
+    ensures meet { IfOk result (IsMeetSoFar net.now rows.now input.index (place + 1)) }
+    ensures refused { IfErr result (IsRefusedAt net.now rows.now input place) }
+{
+    let at = residual_at(alloc, net, settled, input, rows, place, divisions)?;
+    match met(alloc, meet, divisions.residual(at)) {
+        Ok(met) => Ok(met),
+        Err(why) => Err(refusal_at(why, input, &rows[place])),
+    }
+}
+
+// The same; a row as the one before is not gone through again where the meet stays.
+fn next_meet(
+    alloc: Global,
+    net: &Net,
+    settled: &Settled,
+    input: TransitionId,
+    rows: &[EndlessRow],
+    place: usize,
+    divisions: &mut Divisions,
+    meet: Meet,
+) -> Result<Meet, ForeverRefusal>
+    requires asked { IsAsked net.now settled.now input.index rows.now }
+    requires some { 0 < place }
+    requires place { place < length rows.now }
+    requires divisions { AreDivisions rows.now divisions.old }
+    requires meet { IsMeetSoFar net.now rows.now input.index place meet }
+    ensures divisions { OnOk result (AreDivisions rows.now divisions.new) }
+    ensures meet { IfOk result (IsMeetSoFar net.now rows.now input.index (place + 1)) }
+    ensures refused { IfErr result (IsRefusedAt net.now rows.now input place) }
+{
+    if meet.stays && is_as_before(net, settled, input, rows, place, divisions) {
+        return Ok(meet);
+    }
+    meet_with(
+        alloc, net, settled, input, rows, place, divisions, meet.gain,
+    )
+}
+
 // The meet over the rows of the residuals of their due series by the walk series of an input, or the
 // first row that does not fit.
 pub(crate) fn meet_of(
@@ -86,12 +187,7 @@ pub(crate) fn meet_of(
     rows: &[EndlessRow],
     divisions: &mut Divisions,
 ) -> Result<Gain, ForeverRefusal>
-    requires rules { IsNet net.now }
-    requires live { IsLive net.now }
-    requires input { IsInput net.now input.index }
-    requires transfer { IsTransferOf net.now input.index settled.now }
-    requires short { settled_length settled.now ≤ longest_form }
-    requires rows { IsEndlessOf net.now rows.now }
+    requires asked { IsAsked net.now settled.now input.index rows.now }
     requires some { 1 ≤ length rows.now }
     requires divisions { AreDivisions rows.now divisions.old }
     ensures divisions { OnOk result (AreDivisions rows.now divisions.new) }
@@ -99,17 +195,9 @@ pub(crate) fn meet_of(
     ensures stopped { IfErr result (IsStopped net.now rows.now input) }
 {
     columns_exist();
-    let first = residual_at(alloc, net, settled, input, rows, 0, divisions)?;
-    let mut meet = match divisions.residual(first).duplicate(alloc) {
-        Ok(meet) => meet,
-        Err(_) => return Err(ForeverRefusal::OutOfMemory),
-    };
+    let mut meet = first_meet(alloc, net, settled, input, rows, divisions)?;
     for place in 1..rows.len() {
-        let at = residual_at(alloc, net, settled, input, rows, place, divisions)?;
-        meet = match met(alloc, meet, divisions.residual(at)) {
-            Ok(less) => less,
-            Err(why) => return Err(refusal_at(why, input, &rows[place])),
-        };
+        meet = next_meet(alloc, net, settled, input, rows, place, divisions, meet)?;
     }
-    Ok(meet)
+    Ok(meet.gain)
 }
