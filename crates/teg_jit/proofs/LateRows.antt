@@ -23,7 +23,6 @@ use Rattle.teg_due.specs.declared.rows.DueRow.{DueRow}
 use Rattle.teg_jit.specs.DueDates.{due_in, NameFirings}
 use Rattle.teg_jit.specs.DueNumbers.{AreDatesOfRows, AreNumbersOfRows}
 use Rattle.teg_jit.specs.Refusals.{KeepsRow, IsFirstLate}
-use Rattle.teg_jit.specs.FirstLate.{IsFirstExceeded}
 use Rattle.teg_jit.specs.LatestCells.{most_cell_date}
 use Rattle.teg_jit.proofs.Begun.{no_row}
 use Rattle.teg_jit.proofs.DueRows.{row_of_due}
@@ -86,22 +85,6 @@ all_kept net x rows h kept = (
       let named = r.2 no_row in
       rw (named.0, named.1, named.2) at (kept r.0 no_row r.1),
 )
-
--- where each row's date is at least that of the dating it is kept
-pub row_is_kept : (x : ℕ → ℕ → Date) (rows : List DueRow) (dates : List ℕ) (j : ℕ) (q : DueRow) → AreNumbersOfRows x rows dates → j < length rows → get_or dates j 0 ≤ (get_or rows j q).date → KeepsRow x (get_or rows j q)
-row_is_kept x rows dates j q h l below = rw (h.each j q l) (omega (arith, ints))
-
--- and so the first row that is not is the first that the dating exceeds
-pub exceeded_is : (x : ℕ → ℕ → Date) (rows : List DueRow) (dates : List ℕ) (i : ℕ) → AreNumbersOfRows x rows dates → i < length rows
-    → ((j : ℕ) (q : DueRow) → j < length rows → j < i → get_or dates j 0 ≤ (get_or rows j q).date) → ((d : DueRow) → (get_or rows i d).date < get_or dates i 0)
-    → IsFirstExceeded x rows i (get_or dates i 0)
-exceeded_is x rows dates i h l before late = record {
-  within = l;
-  kept = λ j q m n. row_is_kept x rows dates j q h m (before j q m n);
-  is_least = λ d. h.each i d l;
-  fits = h.small i l;
-  late = late;
-}
 
 no_never : (z : ℤ) → Never ≡ on_date z → ⊥
 no_never z e = at_most_is Never (on_date z) e

@@ -1,35 +1,11 @@
 -- Latest dates in eight bytes each.
-use Rattle.std.proofs.Common.{ℕ, zero, suc, ◌+◌, ◌*◌, ◌<◌, ◌≤◌, ◌≡◌, ◌≢◌, List, ◌∷◌, true, false, eqb, length, get_or, set, map, replicate, refl, sym, ap, ◌∙◌, arith, ⊎_elim}
-use Rattle.std.specs.Prelude.{◌/◌, ◌%◌}
-use Rattle.std.proofs.lemmas.Bool.{cases_Bool, cases_lt}
-use Rattle.std.proofs.lemmas.Bool.Decides.{nat_tests}
+use Rattle.std.proofs.Common.{ℕ, zero, suc, ◌<◌, ◌≤◌, ◌≡◌, List, ◌∷◌, length, get_or, set, map, replicate, refl, sym, ap, ◌∙◌, arith, ⊎_elim}
+use Rattle.std.proofs.lemmas.Bool.{cases_lt}
 use Rattle.std.proofs.lemmas.List.{get_or-map, map-set, length-map, get_or-replicate, get_or_past, length-replicate}
-use Rattle.std.proofs.lemmas.Nat.{div-mul-add, mod-mul-add, div_below}
 use Rattle.teg_dates.specs.DateCells.{no_number}
-use Rattle.teg_jit.specs.declared.answers.Onward.{Onward}
 use Rattle.teg_jit.specs.declared.answers.LatestDate.{LatestDate}
-use Rattle.teg_jit.specs.declared.answers.LatestDate.TheVariants.{Free, At}
-use Rattle.teg_jit.specs.LatestCells.{step_numbers, most_cell_date, step_of_number, latest_of}
-
--- but for the greatest, eight bytes are a date and a first step
-pub latest_is : (c : ℕ) → c ≢ no_number → latest_of c ≡ At (c / step_numbers) (step_of_number (c % step_numbers))
-latest_is c apart =
-    ⊎_elim
-    (λ (e : eqb c no_number ≡ true). let same : c ≡ no_number = grind (arith, nat_tests) in absurd (apart same))
-    (λ (e : eqb c no_number ≡ false). rw e refl)
-    (cases_Bool (eqb c no_number))
-
--- those of a date and a step
-pub packed_is : (d s : ℕ) (o : Onward) → d < most_cell_date → s ≤ 4001 → step_of_number s ≡ o → latest_of (d * step_numbers + s) ≡ At d o
-packed_is d s o l m is =
-    let date : (d * step_numbers + s) / step_numbers ≡ d = div-mul-add d step_numbers s (omega arith) in
-    let step : (d * step_numbers + s) % step_numbers ≡ s = mod-mul-add d step_numbers s (omega arith) in
-    latest_is (d * step_numbers + s) (λ e. absurd (omega arith)) ∙ rw (date, step, is) refl
-
-pub date_fits : (c : ℕ) → c ≤ no_number → c / step_numbers < most_cell_date
-date_fits c l = div_below c step_numbers most_cell_date (omega arith) (omega arith)
-
--- ---- lists
+use Rattle.teg_jit.specs.declared.answers.LatestDate.TheVariants.{Free}
+use Rattle.teg_jit.specs.LatestCells.{latest_of}
 
 free_of : (n : ℕ) → map latest_of (replicate n no_number) ≡ replicate n Free
 free_of zero = refl

@@ -1,5 +1,5 @@
 //! The least dates at the firings of a due list, taken from one row of dates after another.
-ghost use Rattle.std.specs.Prelude.{◌≡◌, ◌≤◌, ℕ, length, All, IfOk};
+ghost use Rattle.std.specs.Prelude.{◌≡◌, ◌≤◌, ℕ, length, All, IfOk, OnOk};
 ghost use Rattle.dioid.specs.declared.dates.Date.{Date};
 ghost use Rattle.teg_check.specs.Ranks.{IsRanking};
 ghost use Rattle.teg_model.specs.Datings.{IsLeastDating};
@@ -77,6 +77,31 @@ fn take_dates(
     }
 }
 
+// The same from the first row of dates on.
+fn fill_dates(
+    alloc: Global,
+    net: &Net,
+    live: &Live,
+    order: &[Numbered],
+    rows: &[DueRow],
+    cells: &mut [u64],
+    dates: &mut [u64],
+) -> Result<(), OutOfMemory>
+    requires stands { IsRanking net.now live.now }
+    requires order { AreNumbered rows.now order.now }
+    requires due { NameFirings net.now rows.now }
+    requires few { All (λ r. r.number ≤ most_numbers) rows.now }
+    requires cells { length cells.old ≡ length net.now.transitions }
+    requires dates { length dates.old ≡ length rows.now }
+    ensures dates { OnOk result ((x : ℕ → ℕ → Date) → IsLeastDating net.now x
+        → AreDatesOfRows x rows.now dates.new) }
+    ensures exists { IfOk result (λ _. (x : ℕ → ℕ → Date) × IsLeastDating net.now x) }
+{
+    let mut first = FirstRows::new(alloc, net, live)?;
+    take_dates(net, &mut first, order, rows, cells, dates);
+    Ok(())
+}
+
 // The dates of the rows' firings by the least dating of the net: cells of eight bytes.
 pub(crate) fn dates_of_rows(
     alloc: Global,
@@ -92,9 +117,8 @@ pub(crate) fn dates_of_rows(
     ensures exists { IfOk result (λ _. (x : ℕ → ℕ → Date) × IsLeastDating net.now x) }
 {
     let order = by_number(alloc, rows)?;
-    let mut first = FirstRows::new(alloc, net, live)?;
     let mut cells = vec![in alloc; 0u64; net.transitions().len()]?;
     let mut dates = vec![in alloc; 0u64; rows.len()]?;
-    take_dates(net, &mut first, &order, rows, &mut cells, &mut dates);
+    fill_dates(alloc, net, live, &order, rows, &mut cells, &mut dates)?;
     Ok(dates)
 }

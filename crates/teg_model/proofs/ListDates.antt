@@ -11,7 +11,7 @@ use Rattle.teg_model.specs.Datings.{as_date, listed}
 use Rattle.teg_model.specs.Bounds.{IsWithin}
 use Rattle.teg_model.proofs.Within.{AreWithin}
 
-as_date_within : (o : Option ℕ) (n : ℕ) → IfSome o (λ d. d ≤ n) → IsWithin n (as_date o)
+pub as_date_within : (o : Option ℕ) (n : ℕ) → IfSome o (λ d. d ≤ n) → IsWithin n (as_date o)
 as_date_within None n h = tt
 as_date_within (Some d) n h = (omega (arith, ints), omega (arith, ints, h))
 

@@ -1,11 +1,12 @@
 //! What a firing waits for: the tokens of the places into its transition, the firings before it, and a release.
-ghost use Rattle.std.specs.Prelude.{◌≡◌, ◌<◌, ◌≤◌, ◌+◌, ◌^◌, IfOk, IfErr, length, ◌-◌};
+ghost use Rattle.std.specs.Prelude.{◌≡◌, ◌<◌, ◌≤◌, ◌+◌, ◌^◌, IfOk, IfErr, Some, length, ◌-◌};
 ghost use Rattle.teg_net.specs.Circuits.{place_at};
 ghost use Rattle.teg_net.specs.Inputs.{input_date};
-ghost use Rattle.run_laws.specs.Runs.{dates_of, next_number, token_date, HasTokensBy, IsReleasedBy, last_date, IsNotBefore};
+ghost use Rattle.run_laws.specs.Runs.{dates_of, next_number, token_date, HasTokensBy, IsReleasedBy, IsThereBy, last_date, IsNotBefore};
 ghost use Rattle.run_laws.specs.Earliest.{last_of};
 ghost use Rattle.teg_replay.specs.Failures.{Fails};
 ghost use Rattle.teg_replay.specs.Games.{AreEnds, AreInto};
+ghost use Rattle.teg_replay.specs.declared.refusal.FireRefusal.TheVariants.{BeforeRelease};
 ghost use Rattle.teg_replay.specs.Waits.{IsLatestToken, IsLatestRelease, IsBackTo, IsUnreleased};
 
 use crate::ends::EndLists;
@@ -120,6 +121,19 @@ fn release_date(ends: &EndLists, net: &Net, transition: TransitionId, number: u6
     }
 }
 
+// The date of a release, where there is one by the date of the firing.
+fn released_by(fired: Fired, release: Option<u128>) -> Result<u64, FireRefusal>
+    ensures date { IfOk result (λ date. release ≡ Some date) }
+    ensures there { IfOk result (λ date. date ≤ fired.date) }
+    ensures told { IfErr result (λ why. why ≡ BeforeRelease release) }
+    ensures late { IfErr result (λ _. IsThereBy fired.date release → ⊥) }
+{
+    match release {
+        Some(date) if date <= u128::from(fired.date) => Ok(date as u64),
+        _ => Err(FireRefusal::BeforeRelease { release }),
+    }
+}
+
 // The date by which the transition's next firing is released, 0 where it waits for no release.
 // `BeforeRelease` comes exactly where the input has a later date than that of the firing, or none.
 pub(crate) fn released(
@@ -141,10 +155,7 @@ pub(crate) fn released(
         Role::Internal | Role::Output => Ok(0),
         Role::Input => {
             let release = release_date(ends, net, fired.transition, number);
-            match release {
-                Some(date) if date <= u128::from(fired.date) => Ok(date as u64),
-                _ => Err(FireRefusal::BeforeRelease { release }),
-            }
+            released_by(fired, release)
         }
     }
 }

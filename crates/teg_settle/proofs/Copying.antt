@@ -1,8 +1,8 @@
 -- A settled form that is copied from rows of the least dating stands for it.
-use Rattle.std.proofs.Common.{ℕ, zero, suc, ◌+◌, ◌-◌, ◌<◌, ◌≤◌, ◌≡◌, List, [], ◌∷◌, ◌++◌, map, Vec, length, get_or, refl, ap, ◌∙◌, arith, ⊎_elim}
+use Rattle.std.proofs.Common.{ℕ, zero, suc, ◌+◌, ◌-◌, ◌<◌, ◌≤◌, ◌≡◌, List, [], ◌∷◌, ◌++◌, All, map, Vec, length, get_or, refl, sym, ap, subst, ◌∙◌, arith, ⊎_elim}
 use Rattle.std.specs.declared.alloc.Global.{Global}
 use Rattle.std.specs.Prelude.{ℤ, pos}
-use Rattle.std.proofs.lemmas.List.{get_or_default, length-map}
+use Rattle.std.proofs.lemmas.List.{get_or_default, get_or-map, length-map}
 use Rattle.dioid.specs.declared.dates.Date.{Date}
 use Rattle.dioid.specs.declared.dates.Date.TheVariants.{Early, Never}
 use Rattle.dioid.specs.Dates.{move}
@@ -15,8 +15,9 @@ use Rattle.settled_laws.proofs.Telling.{form_tells}
 use Rattle.teg_dates.specs.Tables.{TableDates, date_at}
 use Rattle.teg_settle.specs.declared.releases.Repetition.{Repetition}
 use Rattle.teg_settle.specs.Kept.{IsKept}
-use Rattle.teg_settle.specs.Copies.{AreDatesOf}
-use Rattle.teg_settle.specs.Windows.{read_step, IsWindow, IsToldBy}
+use Rattle.teg_settle.specs.Copies.{AreDatesOf, IsFormOf}
+use Rattle.teg_settle.specs.Stored.{stored_form}
+use Rattle.teg_settle.specs.Windows.{read_step, IsToldBy}
 
 -- a fact of each element and of one more
 pub more : {X : Type 0} (P : ℕ → X → Type 0) (d : X) (xs : List X) (y : X) → ((t : ℕ) → t < length xs → P t (get_or xs t d)) → P (length xs) y → (t : ℕ) → t < length xs + 1 → P t (get_or (xs ++ y ∷ []) t d)
@@ -38,18 +39,26 @@ pub record IsCopy (net : NetLists) (table : TableDates) (f : Repetition) (s : Se
   pub dates : (t : ℕ) → t < length net.transitions → AreDatesOf table t (f.after + f.period) (row_of s t)
   pub moves : (t : ℕ) → t < length net.transitions → step_of s t ≡ read_step table f.period t
 
--- what the loop over the transitions has copied at its end
-pub copied : (net : NetLists) (table : TableDates) (f : Repetition) (rows : List (Vec Date Global)) (steps : List ℤ) (i : ℕ) → i ≡ length net.transitions → length rows ≡ i → length steps ≡ i
-    → ((t : ℕ) → t < i → AreDatesOf table t (f.after + f.period) (get_or (map (λ r. r.items) rows) t [])) → ((t : ℕ) → t < i → get_or steps t (pos 0) ≡ read_step table f.period t)
-    → IsCopy net table f (record { after = f.after; period = f.period; rows = map (λ r. r.items) rows; steps = steps })
-copied net table f rows steps i end many few dates moves = record {
-  after = refl;
-  period = refl;
-  rows_count = omega (arith, length-map rows (λ r. r.items));
-  steps_count = omega arith;
-  dates = λ t l. dates t (omega arith);
-  moves = λ t l. moves t (omega arith);
-}
+-- the dates and the steps of all transitions, each its own
+pub copied : (net : NetLists) (table : TableDates) (f : Repetition) (rows : List (Vec Date Global)) (steps : List ℤ) (own : List ℕ)
+    → length own ≡ length net.transitions → ((t : ℕ) → t < length net.transitions → get_or own t 0 ≡ t)
+    → ((t : ℕ) → t < length net.transitions → AreDatesOf table t (f.after + f.period) (get_or (map (λ r. r.items) rows) t [])) → ((t : ℕ) → t < length net.transitions → get_or steps t (pos 0) ≡ read_step table f.period t)
+    → IsCopy net table f (stored_form f.after f.period (map (λ r. r.items) rows) steps own)
+copied net table f rows steps own count each dates moves =
+    let row : ℕ → List Date = λ i. get_or (map (λ r. r.items) rows) i [] in
+    let step : ℕ → ℤ = λ i. get_or steps i (pos 0) in
+    record {
+      after = refl;
+      period = refl;
+      rows_count = length-map own row ∙ count;
+      steps_count = length-map own step ∙ count;
+      dates = λ t l. subst (AreDatesOf table t (f.after + f.period)) (sym (get_or-map row own t 0 [] (omega (arith, l, count)) ∙ ap row (each t l))) (dates t l);
+      moves = λ t l. get_or-map step own t 0 (pos 0) (omega (arith, l, count)) ∙ (ap step (each t l) ∙ moves t l);
+    }
+
+-- their numbers are those of rows
+pub own_in : (n : ℕ) (rows : List (Vec Date Global)) (own : List ℕ) → length rows ≡ n → length own ≡ n → ((t : ℕ) → t < n → get_or own t 0 ≡ t) → All (λ i. i < length (map (λ r. r.items) rows)) own
+own_in n rows own count long each = λ i d l. rw (get_or_default own i d 0 l) (omega (arith, each i (omega (arith, l, long)), length-map rows (λ r. r.items), count, l, long))
 
 copy_sizes : (net : NetLists) (rows : TableDates) (f : Repetition) (s : SettledForm) → IsCopy net rows f s → 1 ≤ f.period → HasSizes (length net.transitions) s
 copy_sizes net rows f s c one = record {
@@ -62,33 +71,36 @@ copy_sizes net rows f s c one = record {
 }
 
 -- a step is 0 where the last dates are all this one, which no step moves
-copy_still : (net : NetLists) (rows : TableDates) (f : Repetition) (x : Dating) (t : ℕ) (d : Date) → IsWindow net rows f.period → f.after + f.period + f.period ≤ rows.count → IsToldBy net rows f x → t < length net.transitions
+copy_still : (net : NetLists) (rows : TableDates) (f : Repetition) (x : Dating) (t : ℕ) (d : Date) → IsToldBy net rows f x → t < length net.transitions
     → ((s : ℤ) → move s d ≡ d) → ((e : Date) → between d e ≡ pos 0) → IsTail (x t) f.after f.period d → read_step rows f.period t ≡ pos 0
-copy_still net rows f x t d w fits told l stays none tail =
+copy_still net rows f x t d told l stays none tail =
+    let w = told.window in
+    let fits = told.fits in
     let one = w.some in
     let end : ℕ = rows.count - f.period in
     let last : x t end ≡ d = tail_on (x t) f.after f.period (read_step rows f.period t) d one (stays (read_step rows f.period t)) (λ k m. told.repeats.again t k l m) tail end end (omega arith) (omega arith) in
     ap (λ e. between e (date_at rows t rows.count)) (told.dates t end l (omega arith) (omega arith) ∙ last) ∙ none (date_at rows t rows.count)
 
-pub copy_stands : (net : NetLists) (rows : TableDates) (f : Repetition) (s : SettledForm) (x : Dating) → IsCopy net rows f s → IsWindow net rows f.period → f.after + f.period + f.period ≤ rows.count → IsToldBy net rows f x → StandsFor (length net.transitions) s x
-copy_stands net rows f s x c w fits told = record {
-  sizes = copy_sizes net rows f s c w.some;
+pub copy_stands : (net : NetLists) (rows : TableDates) (f : Repetition) (s : SettledForm) (x : Dating) → IsCopy net rows f s → IsToldBy net rows f x → StandsFor (length net.transitions) s x
+copy_stands net rows f s x c told = record {
+  sizes = copy_sizes net rows f s c told.window.some;
   dates = λ t k l o m. (c.dates t l).same k o (omega (arith, c.after, c.period)) ∙ told.dates t k l o (omega (arith, c.after, c.period));
   repeats = record {
-    at_least_one = omega (arith, c.period, w.some);
+    at_least_one = omega (arith, c.period, told.window.some);
     again = λ t k l m. rw (c.period, c.moves t l) (told.repeats.again t k l (omega (arith, c.after)));
   };
   still = λ t l e. c.moves t l
       ∙ ⊎_elim
-      (λ (n : IsTail (x t) s.after s.period Never). copy_still net rows f x t Never w fits told l (λ s. refl) (λ e. refl) (rw (c.after, c.period) at n))
-      (λ (n : IsTail (x t) s.after s.period Early). copy_still net rows f x t Early w fits told l (λ s. refl) (λ e. refl) (rw (c.after, c.period) at n))
+      (λ (n : IsTail (x t) s.after s.period Never). copy_still net rows f x t Never told l (λ s. refl) (λ e. refl) (rw (c.after, c.period) at n))
+      (λ (n : IsTail (x t) s.after s.period Early). copy_still net rows f x t Early told l (λ s. refl) (λ e. refl) (rw (c.after, c.period) at n))
       e;
 }
 
-pub copy_kept : (net : NetLists) (rows : TableDates) (f : Repetition) (s : SettledForm) (x : Dating) → IsNet net → IsCopy net rows f s → IsWindow net rows f.period → f.after + f.period + f.period ≤ rows.count → IsToldBy net rows f x → IsKept s
-copy_kept net rows f s x ok c w fits told =
-    let stands = copy_stands net rows f s x c w fits told in
-    let few = w.few in
+pub copy_kept : (net : NetLists) (rows : TableDates) (f : Repetition) (s : SettledForm) (x : Dating) → IsNet net → IsCopy net rows f s → IsToldBy net rows f x → IsKept s
+copy_kept net rows f s x ok c told =
+    let stands = copy_stands net rows f s x c told in
+    let few = told.window.few in
+    let fits = told.fits in
     record {
       sizes = rw c.rows_count stands.sizes;
       few = omega (arith, c.rows_count, ok.few_transitions);
@@ -97,3 +109,6 @@ copy_kept net rows f s x ok c w fits told =
           let in' : t < length net.transitions = omega (arith, c.rows_count) in
           rw (form_tells (length net.transitions) s x stands t k in' o) (told.within t k in' o m);
     }
+
+pub copy_form : (net : NetLists) (rows : TableDates) (f : Repetition) (s : SettledForm) → IsCopy net rows f s → IsFormOf net rows f s
+copy_form net rows f s c = record { after = c.after; period = c.period; stands = λ x told. copy_stands net rows f s x c told }

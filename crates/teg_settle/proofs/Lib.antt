@@ -8,7 +8,10 @@ pub mod Limiting
 pub mod OwnForms
 pub mod Reaching
 pub mod Transferring
+mod Numbering
+mod Spreading
 mod ReachedPart
+mod PartTold
 pub mod WalkForms
 mod Witnessed
 pub mod OneTransfer

@@ -1,11 +1,11 @@
 -- The settling length and a limit: what the search finds, or does not find, says which is greater.
-use Rattle.std.proofs.Common.{ℕ, ◌+◌, ◌*◌, ◌<◌, ◌≤◌, ◌≡◌, List, length, arith, ⊎_elim}
+use Rattle.std.proofs.Common.{ℕ, ◌+◌, ◌*◌, ◌<◌, ◌≤◌, ◌≡◌, List, arith, ⊎_elim}
 use Rattle.std.specs.Prelude.{All}
 use Rattle.std.proofs.lemmas.Bool.{cases_lt}
 use Rattle.teg_net.specs.Nets.{NetLists, IsNet}
 use Rattle.teg_check.specs.Ranks.{IsRanking}
 use Rattle.teg_model.specs.Systems.{Dating}
-use Rattle.settled_laws.specs.Forms.{SettledForm, settled_length, step_of, StandsFor}
+use Rattle.settled_laws.specs.Forms.{SettledForm}
 use Rattle.teg_dates.specs.Tables.{TableDates}
 use Rattle.teg_settle.specs.declared.releases.Releases.{Releases}
 use Rattle.teg_settle.specs.declared.releases.Repetition.{Repetition}
@@ -13,8 +13,12 @@ use Rattle.teg_settle.specs.declared.refusals.SettleRefusal.{SettleRefusal}
 use Rattle.teg_settle.specs.declared.refusals.SettleRefusal.TheVariants.{TooLong, OutOfMemory}
 use Rattle.teg_settle.specs.Refusals.{IsRightRefusal}
 use Rattle.teg_settle.specs.Releases.{OnlyInputsWait}
-use Rattle.teg_settle.specs.Windows.{IsReady, AreRowsOf, IsRefuted, IsSeen, IsToldBy, IsLeastForm, LeastSettlesPast}
+use Rattle.teg_settle.specs.declared.search.Found.{Found}
+use Rattle.teg_settle.specs.Copies.{IsFormOf}
+use Rattle.teg_settle.specs.Searches.{IsFound}
+use Rattle.teg_settle.specs.Windows.{IsReady, IsRefuted, IsSeen, IsToldBy, IsLeastForm, LeastSettlesPast}
 use Rattle.teg_settle.proofs.Leasts.{least, least_is, dates_on}
+use Rattle.teg_settle.proofs.Tested.{window_of}
 
 pub ready : (net : NetLists) (r : Releases) (ranks : List ℕ) (most : ℕ) → IsNet net → IsRanking net ranks → OnlyInputsWait net r.waits.items → 1 ≤ most → All (λ p. p.tokens ≤ most) net.places → IsReady net r most
 ready net r ranks most ok ranking waits some tokens = record { is_net = ok; ranks = ranks; ranking = ranking; waits = waits; some = some; tokens = tokens }
@@ -24,10 +28,10 @@ pub past_unseen : (net : NetLists) (r : Releases) (most limit last : ℕ) → Is
 past_unseen net r most limit last h is none = (
   least net r most h,
   least_is net r most h,
-  λ f stands. ⊎_elim
-      (λ (far : limit < settled_length f). far)
-      (λ (near : settled_length f ≤ limit). absurd (none f.period (least net r most h) (least_is net r most h) f.after (step_of f) stands.repeats (omega arith)))
-      (cases_lt limit (settled_length f)),
+  λ after period step rep. ⊎_elim
+      (λ (far : limit < after + period). far)
+      (λ (near : after + period ≤ limit). absurd (none period (least net r most h) (least_is net r most h) after step rep (omega arith)))
+      (cases_lt limit (after + period)),
 )
 
 -- the shortest form is longer than the limit
@@ -36,32 +40,46 @@ past_seen net r most limit rows f h seen far =
     let z : Dating = least net r most h in (
       z,
       least_is net r most h,
-      λ g stands.
-          let after = seen.least_after z (least_is net r most h) g.after g.period (step_of g) stands.repeats in
-          let period = seen.least_period z (least_is net r most h) g.after g.period (step_of g) stands.repeats in
+      λ k p step rep.
+          let after = seen.least_after z (least_is net r most h) k p step rep in
+          let period = seen.least_period z (least_is net r most h) k p step rep in
           omega arith,
     )
 
--- the rows that show it tell the least dating
-pub told : (net : NetLists) (r : Releases) (most : ℕ) (rows : TableDates) (f : Repetition) (h : IsReady net r most) → AreRowsOf net r rows → IsSeen net r rows f → IsToldBy net rows f (least net r most h)
-told net r most rows f h a seen = record {
-  dates = a.least.least (least net r most h) (least_is net r most h);
-  repeats = seen.repeats (least net r most h) (least_is net r most h);
-  within = λ t k l o m. dates_on net r most h (least net r most h) (least_is net r most h) t k o m;
-}
+module _ (net : NetLists) (r : Releases) (f : Found) (h : IsFound net r f) where
+  abbrev most : ℕ
+  most = h.ready.0
 
--- and a form that stands for it with this number and this period is the shortest
-pub least_form : (net : NetLists) (r : Releases) (most : ℕ) (rows : TableDates) (f : Repetition) (s : SettledForm) (h : IsReady net r most) → IsSeen net r rows f → s.after ≡ f.after → s.period ≡ f.period
-    → StandsFor (length net.transitions) s (least net r most h) → IsLeastForm net r s
-least_form net r most rows f s h seen after period stands = (
-  least net r most h,
-  least_is net r most h,
-  record {
-    stands = stands;
-    least_period = λ k p u g. rw period (seen.least_period (least net r most h) (least_is net r most h) k p u g);
-    least_after = λ k p u g. rw after (seen.least_after (least net r most h) (least_is net r most h) k p u g);
-  },
-)
+  abbrev z : Dating
+  z = least net r most h.ready.1
+
+  -- the rows that were found tell the least dating
+  tells : IsToldBy net f.rows f.form (least net r h.ready.0 h.ready.1)
+  tells =
+      let is = least_is net r most h.ready.1 in
+      let one = (h.seen.repeats z is).at_least_one in
+      record {
+        window = window_of net r most h.ready.1 f.rows h.rows f.form.period one (omega (arith, h.seen.fits));
+        fits = h.seen.fits;
+        dates = h.rows.least.least z is;
+        repeats = h.seen.repeats z is;
+        within = λ t k l o m. dates_on net r most h.ready.1 z is t k o m;
+      }
+
+  pub found_told : (x : Dating) × IsToldBy net f.rows f.form x
+  found_told = (z, tells)
+
+  -- and a form of them is the shortest
+  pub found_form : (s : SettledForm) → IsFormOf net f.rows f.form s → IsLeastForm net r s
+  found_form s made = (
+    z,
+    least_is net r most h.ready.1,
+    record {
+      stands = made.stands z tells;
+      least_period = λ k p u g. rw made.period (h.seen.least_period z (least_is net r most h.ready.1) k p u g);
+      least_after = λ k p u g. rw made.after (h.seen.least_after z (least_is net r most h.ready.1) k p u g);
+    },
+  )
 
 pub refusal_weaker : (P Q : Type 0) (limit : ℕ) (e : SettleRefusal) → (P → Q) → IsRightRefusal P limit e → IsRightRefusal Q limit e
 refusal_weaker P Q limit (TooLong l) f h = (h.0, f h.1)

@@ -16,6 +16,7 @@ use Rattle.teg_net.proofs.InputDates.{IsInputDates-list_date, list_date-most}
 use Rattle.teg_model.specs.Bounds.{IsWithin}
 use Rattle.teg_model.specs.Datings.{as_date}
 use Rattle.teg_settle.proofs.Releasing.{moved_date}
+use Rattle.teg_model.proofs.ListDates.{as_date_within}
 
 -- what holds of all elements holds of one that is got
 pub got_rules : {X : Type 0} (P : X → Type 0) (xs : List X) (i : ℕ) → All P xs → IfSome (slice_get xs i) P
@@ -26,10 +27,6 @@ got_rules P (x ∷ xs) (suc i) h = got_rules P xs i (λ j d l. h (suc j) d (omeg
 as_date_late : (o : Option ℕ) → IsAtMostDate (At (pos 0)) (as_date o)
 as_date_late None = tt
 as_date_late (Some d) = omega (arith, ints)
-
-as_date_within : (o : Option ℕ) (n : ℕ) → IfSome o (λ d. d ≤ n) → IsWithin n (as_date o)
-as_date_within None n h = tt
-as_date_within (Some d) n h = (omega (arith, ints), omega (arith, ints, h))
 
 inside : (dates : List ℕ) (u : ℕ → Option ℕ) (k : ℕ) → ((j : ℕ) → 1 ≤ j → j ≤ length dates → u j ≡ Some (get_or dates (j - 1) 0)) → IsNonDecreasing dates → 1 ≤ k → k + 1 ≤ length dates
     → IsAtMostDate (as_date (u k)) (as_date (u (k + 1)))

@@ -3,7 +3,7 @@ use Rattle.std.proofs.Common.{ℕ, ◌≡◌, List}
 use Rattle.teg_net.specs.Nets.{NetLists, IsNet}
 use Rattle.teg_check.specs.Ranks.{IsRanking}
 use Rattle.teg_check.proofs.Liveness.{ranking_is_live}
-use Rattle.settled_laws.specs.Forms.{SettledForm, IsSettledFormOf, NetSettlesPast}
+use Rattle.settled_laws.specs.Forms.{SettledForm, step_of, IsSettledFormOf, NetSettlesPast}
 use Rattle.slope_laws.proofs.FormSlopes.{settled_forms_have_slopes}
 use Rattle.teg_settle.specs.declared.refusals.SettleRefusal.{SettleRefusal}
 use Rattle.teg_settle.specs.declared.releases.Tokens.TheVariants.{Ready}
@@ -20,7 +20,7 @@ module _ (net : NetLists) (r : Releases) (ready : r.tokens ≡ Ready) (waits : A
   own_form f h = (h.0, own_least net r ready waits h.0 h.1, h.2)
 
   pub own_refusal : (limit : ℕ) (e : SettleRefusal) → IsRightRefusal (LeastSettlesPast net r limit) limit e → IsRightRefusal (NetSettlesPast net limit) limit e
-  own_refusal limit e = refusal_weaker (LeastSettlesPast net r limit) (NetSettlesPast net limit) limit e (λ h. (h.0, own_least net r ready waits h.0 h.1, h.2))
+  own_refusal limit e = refusal_weaker (LeastSettlesPast net r limit) (NetSettlesPast net limit) limit e (λ h. (h.0, own_least net r ready waits h.0 h.1, λ f s. h.2 f.after f.period (step_of f) s.repeats))
 
   pub own_slopes : (ranks : List ℕ) → IsNet net → IsRanking net ranks → (f : SettledForm) → IsLeastForm net r f → HasSlopes net f
   own_slopes ranks ok ranking f h =

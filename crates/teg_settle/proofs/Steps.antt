@@ -1,6 +1,6 @@
 -- What rows of a net show, in the words of its least dating.
-use Rattle.std.proofs.Common.{ℕ, ◌+◌, ◌<◌, ◌≤◌, ◌≡◌, List, Option, Some, None, IsSome, IfSome, IfNone, MatchOption, length, refl, sym, arith}
-use Rattle.teg_net.specs.Nets.{NetLists, IsNet}
+use Rattle.std.proofs.Common.{ℕ, ◌<◌, ◌≤◌, ◌≡◌, Option, Some, None, IsSome, IfSome, IfNone, MatchOption, length, refl, sym, arith}
+use Rattle.teg_net.specs.Nets.{NetLists}
 use Rattle.teg_net.specs.Circuits.{IsLive}
 use Rattle.teg_model.specs.Systems.{Dating}
 use Rattle.teg_model.specs.Datings.{IsLeastDating, listed, system_of}

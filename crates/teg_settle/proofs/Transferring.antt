@@ -1,5 +1,5 @@
 -- The system of an input alone has as its least dating the greatest times of walks from the input's first firing.
-use Rattle.std.proofs.Common.{ℕ, zero, suc, ◌+◌, ◌-◌, ◌<◌, ◌≤◌, ◌≡◌, ◌≢◌, List, ◌∷◌, true, false, eqb, cond, length, Option, Some, None, refl, sym, ap, subst, ◌∙◌, arith, ⊎_elim, inl, inr}
+use Rattle.std.proofs.Common.{ℕ, zero, suc, ◌+◌, ◌-◌, ◌<◌, ◌≤◌, ◌≡◌, ◌≢◌, List, ◌∷◌, true, false, eqb, length, Option, Some, None, refl, sym, ap, subst, ◌∙◌, arith, ⊎_elim, inl, inr}
 use Rattle.std.specs.Prelude.{pos, ◌⊎◌, slice_get, IsSomeAnd}
 use Rattle.std.proofs.lemmas.Bool.{cases_lt, cases_eq, cases_Bool}
 use Rattle.std.proofs.lemmas.Bool.Decides.{nat_tests}
@@ -19,7 +19,7 @@ use Rattle.teg_net.specs.Nets.{NetLists, IsNet, IsInput}
 use Rattle.teg_net.specs.Walks.{Walks, walk_time, step_time}
 use Rattle.teg_net.specs.Inputs.{date_by}
 use Rattle.teg_check.specs.Ranks.{IsRanking}
-use Rattle.teg_model.specs.Systems.{Dating, System, IsLeastIn}
+use Rattle.teg_model.specs.Systems.{Dating, IsLeastIn}
 use Rattle.teg_model.specs.Starts.{IsStartIn}
 use Rattle.teg_model.specs.Datings.{as_date, system_with}
 use Rattle.teg_model.specs.WalkDates.{IsGreatestOfWalksIn}
@@ -29,16 +29,10 @@ use Rattle.teg_settle.specs.declared.releases.Tokens.TheVariants.{Absent}
 use Rattle.teg_settle.specs.declared.releases.Wait.TheVariants.{Nothing, Dates}
 use Rattle.teg_settle.specs.declared.releases.Releases.{Releases}
 use Rattle.teg_settle.specs.Releases.{initial_by, release_as, wait_in, release_by, system_for, AreWaits, wait_from, OnlyInputsWait}
+use Rattle.teg_settle.specs.Alone.{alone, released}
 use Rattle.teg_settle.specs.Transfers.{IsGreatestWalkTime, AreWalkTimes}
 use Rattle.teg_dates.proofs.Ranking.{rank_of, ranks_of}
 use Rattle.teg_settle.proofs.Owning.{least_same, waits_within}
-
--- the input is released at 0, and nothing else at all
-abbrev pub released : ℕ → ℕ → ℕ → Date
-released input t k = cond (eqb input t) (At (pos 0)) Early
-
-abbrev pub alone : NetLists → ℕ → System
-alone net input = system_with net (initial_by Absent) (released input)
 
 is_transition : (o : Option Transition) → o ≡ None → IsSomeAnd o (λ x. x.role ≡ Input) → ⊥
 is_transition None e h = h

@@ -10,7 +10,8 @@ use Rattle.periodic_laws.specs.Laws.{SystemsSettle}
 use Rattle.teg_settle.specs.declared.releases.Tokens.TheVariants.{Absent}
 use Rattle.teg_settle.specs.Releases.{initial_by}
 use Rattle.teg_settle.specs.Laws.{WalkTimesSettle}
-use Rattle.teg_settle.proofs.Transferring.{released, input_within, times_from}
+use Rattle.teg_settle.specs.Alone.{released}
+use Rattle.teg_settle.proofs.Transferring.{input_within, times_from}
 
 released_periodic : (input t : ℕ) → IsPeriodic (released input t)
 released_periodic input t = record {

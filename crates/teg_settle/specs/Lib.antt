@@ -1,4 +1,5 @@
 pub mod Kept
+pub mod Stored
 pub mod Shown
 pub mod Refusals
 pub mod Releases
@@ -7,7 +8,9 @@ pub mod Witnesses
 pub mod Searches
 pub mod Copies
 pub mod Transfers
+pub mod Alone
 pub mod Reached
+pub mod Spread
 pub mod Endless
 pub mod Steps
 pub mod Slopes

@@ -9,7 +9,7 @@ use Rattle.teg_net.specs.Nets.{NetLists, IsNet}
 use Rattle.teg_check.specs.Ranks.{IsRanking}
 use Rattle.teg_model.specs.Systems.{IsLeastIn}
 use Rattle.teg_model.specs.Bounds.{IsWithin, greatest_least_date}
-use Rattle.settled_laws.specs.Forms.{SettledForm, RepeatsAfter, IsShortest, SettlesPast}
+use Rattle.settled_laws.specs.Forms.{SettledForm, RepeatsAfter, IsShortest}
 use Rattle.settled_laws.specs.Windows.{between}
 use Rattle.teg_dates.specs.Tables.{TableDates, HasDatesOf, date_at}
 use Rattle.teg_dates.specs.Rows.{IsRows, AreLeastRows}
@@ -71,6 +71,13 @@ pub record AreRowsOf (net : NetLists) (r : Releases) (rows : TableDates) : Type 
   pub least : AreLeastRows net (system_for r net) rows
   pub few : rows.count ≤ most_window
 
+-- rows of the least dating that are enough for a form of this period to be seen
+pub record IsTrial (net : NetLists) (r : Releases) (rows : TableDates) (most period : ℕ) : Type 0 where
+  pub ready : IsReady net r most
+  pub made : AreRowsOf net r rows
+  pub window : IsWindow net rows period
+  pub fits : most + period + period ≤ rows.count
+
 -- no form of this period begins early enough to be seen in so many rows
 abbrev pub IsRefuted : NetLists → Releases → ℕ → ℕ → ℕ → Type 0
 IsRefuted net r most count period =
@@ -91,8 +98,10 @@ pub record IsSeen (net : NetLists) (r : Releases) (rows : TableDates) (f : Repet
   pub least_period : (x : ℕ → ℕ → Date) → IsLeastIn (system_for r net) x → (k p : ℕ) (s : ℕ → ℤ) → RepeatsAfter (length net.transitions) x k p s → f.period ≤ p
   pub least_after : (x : ℕ → ℕ → Date) → IsLeastIn (system_for r net) x → (k p : ℕ) (s : ℕ → ℤ) → RepeatsAfter (length net.transitions) x k p s → f.after ≤ k
 
--- the rows have the dates of x, which go on past them by their steps, within the bound of least dates
+-- the rows have the dates of x, which go on past them by their steps, within the bound of least dates, and room for two periods
 pub record IsToldBy (net : NetLists) (rows : TableDates) (f : Repetition) (x : ℕ → ℕ → Date) : Type 0 where
+  pub window : IsWindow net rows f.period
+  pub fits : f.after + f.period + f.period ≤ rows.count
   pub dates : HasDatesOf net x rows
   pub repeats : RepeatsAfter (length net.transitions) x f.after f.period (read_step rows f.period)
   pub within : (t k : ℕ) → t < length net.transitions → 1 ≤ k → k ≤ greatest_number → IsWithin greatest_least_date (x t k)
@@ -101,6 +110,10 @@ pub record IsToldBy (net : NetLists) (rows : TableDates) (f : Repetition) (x : �
 abbrev pub IsLeastForm : NetLists → Releases → SettledForm → Type 0
 IsLeastForm net r f = (x : ℕ → ℕ → Date) × IsLeastIn (system_for r net) x × IsShortest (length net.transitions) f x
 
--- the least dating has no form of at most this length
+-- each number past which the dates go on, and the period in which they do, exceed this together
+abbrev pub RepeatsPast : ℕ → (ℕ → ℕ → Date) → ℕ → Type 0
+RepeatsPast count x limit = (after period : ℕ) (step : ℕ → ℤ) → RepeatsAfter count x after period step → limit < after + period
+
+-- so it is with the least dating
 abbrev pub LeastSettlesPast : NetLists → Releases → ℕ → Type 0
-LeastSettlesPast net r limit = (x : ℕ → ℕ → Date) × IsLeastIn (system_for r net) x × SettlesPast (length net.transitions) x limit
+LeastSettlesPast net r limit = (x : ℕ → ℕ → Date) × IsLeastIn (system_for r net) x × RepeatsPast (length net.transitions) x limit

@@ -13,3 +13,7 @@ abbrev pub Refutes : NetLists → Releases → TableDates → ℕ → ℕ → Wi
 Refutes net r rows period after (Fall place) = All (IsRisingPlace rows period) net.places → ⊥
 Refutes net r rows period after (Firing transition number) = IsMovedPast rows period after → ⊥
 Refutes net r rows period after (Release transition number) = AreReleasedAlike net r rows period after → ⊥
+
+-- something shows it
+abbrev pub IsRefutedPast : NetLists → Releases → TableDates → ℕ → ℕ → Type 0
+IsRefutedPast net r rows period after = (w : Witness) × Refutes net r rows period after w

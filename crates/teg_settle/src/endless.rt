@@ -9,7 +9,7 @@ ghost use Rattle.teg_settle.specs.Slopes.{HasSlopes};
 ghost use Rattle.teg_settle.specs.Windows.{IsReady};
 
 use crate::releases::{Releases, Tokens};
-use crate::search::{Found, dates_of, form_of, grow, most_tokens, seen};
+use crate::search::{Found, dates_of, form_of, grow, ready_tokens, seen};
 use crate::settled::Settled;
 use crate::shown::SettledDates;
 use periodic_laws::least_datings_repeat;
@@ -58,11 +58,10 @@ fn found(alloc: Global, net: &Net, live: &Live, releases: &Releases) -> Result<F
     requires stands { IsRanking net.now live.now }
     requires tokens { releases.now.tokens ≡ Tokens.Ready }
     requires waits { AreWaits net.now (wait_of net.now) releases.now.waits.items }
-    ensures ready { (most : ℕ) × IsReady net.now releases.now most }
     ensures found { IfOk result (IsFound net.now releases.now) }
 {
     least_datings_repeat();
-    let most = most_tokens(net);
+    let most = ready_tokens(net, live, releases);
     endless(alloc, net, live, releases, most)
 }
 

@@ -1,8 +1,10 @@
 //! The settled form of the least dating of a net, and that of the times of walks from an input.
-ghost use Rattle.std.specs.Prelude.{◌+◌, ◌≤◌, IfErr, IfOk};
+ghost use Rattle.std.specs.Prelude.{◌+◌, ◌<◌, ◌≤◌, IfErr, IfOk, length, slice_index};
 ghost use Rattle.settled_laws.specs.Forms.{IsSettledFormOf, NetSettlesPast, settled_length};
 ghost use Rattle.teg_check.specs.Ranks.{IsRanking};
 ghost use Rattle.teg_net.specs.Nets.{IsInput};
+ghost use Rattle.teg_net.specs.Circuits.{IsLive};
+ghost use Rattle.teg_settle.specs.Alone.{AloneSettlesPast, IsAloneForm};
 ghost use Rattle.teg_settle.specs.Refusals.{IsRightRefusal, greatest_limit};
 ghost use Rattle.teg_settle.specs.Releases.{OnlyInputsWait};
 ghost use Rattle.teg_settle.specs.Searches.{IsFound};
@@ -10,15 +12,15 @@ ghost use Rattle.teg_settle.specs.Slopes.{HasSlopes};
 ghost use Rattle.teg_settle.specs.Transfers.{IsTransferOf, TransferSettlesPast};
 ghost use Rattle.teg_settle.specs.Windows.{IsLeastForm, IsReady, LeastSettlesPast};
 
-use crate::reached::part_from;
+use crate::reached::{Part, part_from};
 use crate::refusals::SettleRefusal;
 use crate::releases::Releases;
-use crate::search::{Found, dates_of, form_of, most_tokens, search};
+use crate::search::{Found, dates_of, form_of, ready_tokens, search};
 use crate::settled::Settled;
 use crate::shown::SettledDates;
 use std::alloc::Global;
-use teg_check::Live;
-use teg_net::{Net, TransitionId};
+use teg_check::{CheckRefusal, Live, check};
+use teg_net::{Net, OutOfMemory, TransitionId};
 
 // Rows that show the shortest form of the least dating of the net with these releases, if its length
 // is within the limit: rows of twice the limit and the tokens of a place show each form of such a
@@ -68,7 +70,7 @@ fn within(
     ensures too_long { IfErr result (IsRightRefusal (LeastSettlesPast net.now releases.now limit)
         limit) }
 {
-    let most = most_tokens(net);
+    let most = ready_tokens(net, live, releases);
     let found = found_within(alloc, net, live, releases, most, limit)?;
     Ok(form_of(alloc, net, releases, &found)?)
 }
@@ -89,7 +91,7 @@ fn dates_within(
     ensures too_long { IfErr result (IsRightRefusal (LeastSettlesPast net.now releases.now limit)
         limit) }
 {
-    let most = most_tokens(net);
+    let most = ready_tokens(net, live, releases);
     let found = found_within(alloc, net, live, releases, most, limit)?;
     Ok(dates_of(alloc, net, releases, found)?)
 }
@@ -137,20 +139,76 @@ pub fn settle_dates_within(
     dates_within(alloc, net, live, &releases, limit)
 }
 
+// Ranks of a live net.
+fn ranks_of(alloc: Global, net: &Net) -> Result<Live, OutOfMemory>
+    requires { IsLive net.now }
+    ensures { IfOk result (IsRanking net.now) }
+{
+    match check(alloc, net) {
+        Ok(live) => Ok(live),
+        Err(CheckRefusal::TokenFree { .. }) => unreachable!(),
+        Err(CheckRefusal::OutOfMemory) => Err(OutOfMemory),
+    }
+}
+
+// The same form of a live net without initial tokens in which this input alone is released.
+fn settle_alone(
+    alloc: Global,
+    net: &Net,
+    input: TransitionId,
+    limit: u32,
+) -> Result<Settled, SettleRefusal>
+    requires live { IsLive net.now }
+    requires input { IsInput net.now input.index }
+    requires few { limit ≤ greatest_limit }
+    ensures form { IfOk result (IsAloneForm net.now input.index) }
+    ensures within { IfOk result (λ form. settled_length form ≤ limit) }
+    ensures too_long { IfErr result (IsRightRefusal (AloneSettlesPast net.now input.index limit)
+        limit) }
+{
+    let live = ranks_of(alloc, net)?;
+    let releases = Releases::of_input(alloc, net, input)?;
+    within(alloc, net, &live, &releases, limit)
+}
+
+// The same form of the part of a net, by the new number of an input.
+fn settle_part(
+    alloc: Global,
+    part: &Part,
+    input: TransitionId,
+    limit: u32,
+) -> Result<Settled, SettleRefusal>
+    requires within { input.index < length part.now.new.items }
+    requires live { IsLive part.now.net }
+    requires input { IsInput part.now.net (slice_index part.now.new.items input.index) }
+    requires few { limit ≤ greatest_limit }
+    ensures form { IfOk result (IsAloneForm part.now.net
+        (slice_index part.now.new.items input.index)) }
+    ensures within { IfOk result (λ form. settled_length form ≤ limit) }
+    ensures too_long { IfErr result (IsRightRefusal (AloneSettlesPast part.now.net
+        (slice_index part.now.new.items input.index) limit) limit) }
+{
+    let own = TransitionId {
+        index: part.new[input.index as usize],
+    };
+    settle_alone(alloc, &part.net, own, limit)
+}
+
 /// The shortest settled form of the greatest times of walks from the first firing of this input to
 /// each firing of each transition (chapters 2 and 3); a firing to which no such walk leads has the date
 /// `Early`. Its number and its period are both least over all transitions. `limit` is at most 200,000,
 /// and `TooLong` comes exactly where the length of that form exceeds it. `OutOfMemory` comes only where
-/// no memory is found. It takes the time of [`settle_within`] for the places that such walks come
-/// through alone: those that they do not reach are left out once, in time of order `n p` at most.
+/// no memory is found. It takes the time of [`settle_within`] for the transitions and the places that
+/// such walks come to alone: those that they do not reach are left out once, in time of order
+/// `n (n + p)` at most.
 pub fn transfer(
     alloc: Global,
     net: &Net,
-    live: &Live,
+    _live: &Live,
     input: TransitionId,
     limit: u32,
 ) -> Result<Settled, SettleRefusal>
-    requires stands { IsRanking net.now live.now }
+    requires stands { IsRanking net.now _live.now }
     requires input { IsInput net.now input.index }
     requires few { limit ≤ greatest_limit }
     ensures form { IfOk result (IsTransferOf net.now input.index) }
@@ -159,6 +217,8 @@ pub fn transfer(
         limit) }
 {
     let part = part_from(alloc, net, input)?;
-    let releases = Releases::of_input(alloc, &part, input)?;
-    within(alloc, &part, live, &releases, limit)
+    match settle_part(alloc, &part, input, limit) {
+        Ok(form) => Ok(form.spread(alloc, &part.marks, &part.new)?),
+        Err(refusal) => Err(refusal),
+    }
 }

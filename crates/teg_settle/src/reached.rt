@@ -1,15 +1,30 @@
-//! The part of a net that the walks from an input reach. All else waits for nothing, and its dates
-//! are none, so that no rows are made by the places that begin there.
-ghost use Rattle.std.specs.Prelude.{◌≡◌, ◌<◌, length, IfOk, IsTrue};
-ghost use Rattle.std.specs.List.{filter};
+//! The part of a net that the walks from an input reach: the transitions where such a walk ends, under
+//! new numbers, and the places between them. All else waits for nothing, and has no dates.
+ghost use Rattle.std.specs.Prelude.{◌≡◌, ◌<◌, ◌≤◌, length, All, IfOk, IsTrue};
+ghost use Rattle.teg_net.specs.Limits.{most_transitions};
 ghost use Rattle.teg_net.specs.Nets.{IsInput, IsNet};
-ghost use Rattle.teg_settle.specs.Reached.{AreClosed, IsPartFrom, begins_marked, is_marked};
+ghost use Rattle.teg_settle.specs.Reached.{AreClosed, AreThose, IsNumbering, IsPartFrom, LeadsOn, begins_marked, is_marked, places_from, renumbered};
 
 use std::alloc::{AllocError, Global};
 use teg_net::{DateList, Name, Net, OutOfMemory, Place, Transition, TransitionId};
 
+// The part of a net, whether each transition of the net is in it, and its new number.
+#[derive(Debug, Drop)]
+pub(crate) struct Part {
+    pub(crate) net: Net,
+    pub(crate) marks: Vec<bool>,
+    pub(crate) new: Vec<u32>,
+}
+
+// The marked transitions in order, and of each of them its place among these.
+#[derive(Debug, Drop)]
+struct Numbers {
+    old: Vec<u32>,
+    new: Vec<u32>,
+}
+
 // Whether the transition is marked.
-fn is_marked(marks: &[bool], transition: TransitionId) -> bool
+pub(crate) fn is_marked(marks: &[bool], transition: TransitionId) -> bool
     ensures { result ≡ is_marked marks.now transition.index }
 {
     let index = transition.index as usize;
@@ -59,7 +74,8 @@ fn are_closed(net: &Net, input: TransitionId, marks: &[bool]) -> bool
 // Marks of all transitions, which are closed.
 fn all_marks(alloc: Global, net: &Net, input: TransitionId) -> Result<Vec<bool>, AllocError>
     requires { input.index < length net.now.transitions }
-    ensures { IfOk result (λ marks. AreClosed net.now input.index marks.items) }
+    ensures count { IfOk result (λ marks. length marks.items ≡ length net.now.transitions) }
+    ensures closed { IfOk result (λ marks. AreClosed net.now input.index marks.items) }
 {
     let marks = vec![in alloc; true; net.transitions().len()]?;
     Ok(marks)
@@ -68,7 +84,8 @@ fn all_marks(alloc: Global, net: &Net, input: TransitionId) -> Result<Vec<bool>,
 // Marks of the transitions that walks from the input reach: each pass marks one more, or they are closed.
 fn marks_from(alloc: Global, net: &Net, input: TransitionId) -> Result<Vec<bool>, AllocError>
     requires { input.index < length net.now.transitions }
-    ensures { IfOk result (λ marks. AreClosed net.now input.index marks.items) }
+    ensures count { IfOk result (λ marks. length marks.items ≡ length net.now.transitions) }
+    ensures closed { IfOk result (λ marks. AreClosed net.now input.index marks.items) }
 {
     let count = net.transitions().len();
     let mut marks = vec![in alloc; false; count]?;
@@ -103,59 +120,111 @@ fn transition_copy(alloc: Global, transition: &Transition) -> Result<Transition,
     })
 }
 
-// The same place once more.
-fn place_copy(alloc: Global, place: &Place) -> Result<Place, AllocError>
-    ensures { IfOk result (λ copy. copy ≡ place.now) }
+// The place between the new numbers of its transitions, without ready dates.
+fn renumbered(alloc: Global, place: &Place, new: &[u32]) -> Result<Place, AllocError>
+    requires from { place.now.from.index < length new.now }
+    requires to { place.now.to.index < length new.now }
+    ensures { IfOk result (λ copy. copy ≡ renumbered new.now place.now) }
 {
     let name = name_copy(alloc, &place.name)?;
-    let ready = Vec::from_slice(alloc, place.ready.as_slice())?;
     Ok(Place {
         name,
-        from: place.from,
-        to: place.to,
+        from: TransitionId {
+            index: new[place.from.index as usize],
+        },
+        to: TransitionId {
+            index: new[place.to.index as usize],
+        },
         hold: place.hold,
         tokens: place.tokens,
-        ready: DateList::new(ready),
+        ready: DateList::new(Vec::new(alloc)),
     })
 }
 
-// The same transitions once more, in order.
-fn transitions_copy(
-    alloc: Global,
-    transitions: &[Transition],
-) -> Result<Vec<Transition>, AllocError>
-    ensures { IfOk result (λ copies. copies.items ≡ transitions.now) }
+// The marked transitions in order, and of each of them its place among these.
+fn numbers_of(alloc: Global, marks: &[bool]) -> Result<Numbers, AllocError>
+    requires { length marks.now ≤ most_transitions }
+    ensures { IfOk result (λ n. IsNumbering marks.now (length marks.now) n.old.items n.new.items) }
 {
-    let mut copies = Vec::new(alloc);
-    for transition in transitions {
-        copies.push(transition_copy(alloc, transition)?)?;
+    let mut old = Vec::new(alloc);
+    let mut new = Vec::new(alloc);
+    for index in 0..marks.len() {
+        new.push(old.len() as u32)?;
+        let id = TransitionId {
+            index: index as u32,
+        };
+        if is_marked(marks, id) {
+            old.push(id.index)?;
+        }
     }
-    Ok(copies)
+    Ok(Numbers { old, new })
 }
 
-// The places that begin at a marked transition, in order.
-fn places_from(alloc: Global, places: &[Place], marks: &[bool]) -> Result<Vec<Place>, AllocError>
-    ensures { IfOk result (λ kept. kept.items ≡ filter (begins_marked marks.now) places.now) }
+// The transitions of these numbers once more, in order.
+fn those_of(
+    alloc: Global,
+    transitions: &[Transition],
+    old: &[u32],
+) -> Result<Vec<Transition>, AllocError>
+    requires { All (λ t. t < length transitions.now) old.now }
+    ensures { IfOk result (λ those. AreThose transitions.now old.now those.items) }
+{
+    let mut those = Vec::new(alloc);
+    for number in old {
+        those.push(transition_copy(alloc, &transitions[*number as usize])?)?;
+    }
+    Ok(those)
+}
+
+// The places that begin at a marked transition, in order, between new numbers.
+fn places_from(
+    alloc: Global,
+    net: &Net,
+    marks: &[bool],
+    new: &[u32],
+) -> Result<Vec<Place>, AllocError>
+    requires { length new.now ≡ length net.now.transitions }
+    ensures { IfOk result (λ kept. kept.items ≡ places_from marks.now new.now net.now.places) }
 {
     let mut kept = Vec::new(alloc);
-    for place in places {
+    for place in net.places() {
         if is_marked(marks, place.from) {
-            kept.push(place_copy(alloc, place)?)?;
+            kept.push(renumbered(alloc, place, new)?)?;
         }
     }
     Ok(kept)
 }
 
-// The part of the net that the walks from the input reach: all transitions, and the places that begin
-// where such a walk ends. It takes time of order `n p` at most for n transitions and p places.
-pub(crate) fn part_from(alloc: Global, net: &Net, input: TransitionId) -> Result<Net, OutOfMemory>
+// The marked transitions as a net, with the places between them.
+fn net_of(alloc: Global, net: &Net, marks: &[bool], numbers: &Numbers) -> Result<Net, AllocError>
+    requires numbers { IsNumbering marks.now (length net.now.transitions) numbers.now.old.items
+        numbers.now.new.items }
+    requires leads_on { LeadsOn net.now marks.now }
+    requires some { 1 ≤ length numbers.now.old.items }
+    ensures transitions { IfOk result (λ part. AreThose net.now.transitions numbers.now.old.items
+        part.transitions) }
+    ensures places { IfOk result (λ part. part.places ≡ places_from marks.now numbers.now.new.items
+        net.now.places) }
+{
+    let transitions = those_of(alloc, net.transitions(), &numbers.old)?;
+    let places = places_from(alloc, net, marks, &numbers.new)?;
+    Ok(Net::new(transitions, places, Vec::new(alloc)))
+}
+
+// The part of the net that the walks from the input reach: the transitions where such a walk ends, and
+// the places that begin there. It takes time of order `n p` at most for n transitions and p places.
+pub(crate) fn part_from(alloc: Global, net: &Net, input: TransitionId) -> Result<Part, OutOfMemory>
     requires { IsInput net.now input.index }
     ensures part { IfOk result (IsPartFrom net.now input.index) }
     ensures rules { IsNet net.now }
 {
-    let own = net.places();
+    let _own = net.transitions();
     let marks = marks_from(alloc, net, input)?;
-    let transitions = transitions_copy(alloc, net.transitions())?;
-    let places = places_from(alloc, own, &marks)?;
-    Ok(Net::new(transitions, places, Vec::new(alloc)))
+    let numbers = numbers_of(alloc, &marks)?;
+    let own = net_of(alloc, net, &marks, &numbers)?;
+    Ok(Part {
+        net: own,
+        marks,
+        new: numbers.new,
+    })
 }

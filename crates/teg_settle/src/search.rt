@@ -4,8 +4,9 @@ ghost use Rattle.teg_net.specs.Nets.{IsNet};
 ghost use Rattle.teg_check.specs.Ranks.{IsRanking};
 ghost use Rattle.settled_laws.specs.Forms.{settled_length};
 ghost use Rattle.teg_dates.specs.Order.{OrdersPlaces};
+ghost use Rattle.teg_settle.specs.Releases.{OnlyInputsWait};
 ghost use Rattle.teg_settle.specs.Searches.{IsFound};
-ghost use Rattle.teg_settle.specs.Windows.{AreRowsOf, IsLeastForm, IsReady, IsRefuted, IsSeen, IsSeenFrom, most_window};
+ghost use Rattle.teg_settle.specs.Windows.{AreRowsOf, IsLeastForm, IsReady, IsRefuted, IsSeen, IsSeenFrom, IsTrial, most_window};
 ghost use Rattle.teg_settle.specs.Witnesses.{Refutes};
 
 use crate::releases::{Releases, Repetition};
@@ -31,10 +32,7 @@ const FIRST_PAIRS: u64 = 16;
 // The least number past which the dates go on in this period, if the rows are enough to see it. What
 // fails soonest is tested first: a few pairs of rows, then the lists, then all other pairs.
 fn seen_from(net: &Net, releases: &Releases, rows: &Rows, most: u64, period: u64) -> Option<u64>
-    requires ready { IsReady net.now releases.now most }
-    requires rows { AreRowsOf net.now releases.now rows.now }
-    requires some { 1 ≤ period }
-    requires fits { most + period + period ≤ rows.now.count }
+    requires { IsTrial net.now releases.now rows.now most period }
     ensures { MatchOption result (IsRefuted net.now releases.now most rows.now.count period)
         (IsSeenFrom net.now releases.now rows.now most period) }
 {
@@ -62,10 +60,7 @@ fn found_against(
     most: u64,
     period: u64,
 ) -> Option<Witness>
-    requires ready { IsReady net.now releases.now most }
-    requires rows { AreRowsOf net.now releases.now rows.now }
-    requires some { 1 ≤ period }
-    requires fits { most + period + period ≤ rows.now.count }
+    requires { IsTrial net.now releases.now rows.now most period }
     ensures { IfSome result (Refutes net.now releases.now rows.now period
         (rows.now.count - most - period - period)) }
 {
@@ -74,42 +69,20 @@ fn found_against(
     witness_against(net, releases, rows, period, latest, near)
 }
 
-// Another firing of a transition that a witness names, which refutes this period.
-fn other_against(
+// The witnesses that refute this period too, with what they lead to.
+fn known_against(
     net: &Net,
     releases: &Releases,
     rows: &Rows,
     most: u64,
     period: u64,
     witnesses: Witnesses,
-) -> Option<Witness>
-    requires ready { IsReady net.now releases.now most }
-    requires rows { AreRowsOf net.now releases.now rows.now }
-    requires some { 1 ≤ period }
-    requires fits { most + period + period ≤ rows.now.count }
+) -> Option<Witnesses>
+    requires { IsTrial net.now releases.now rows.now most period }
     ensures { IfSome result (λ _. IsRefuted net.now releases.now most rows.now.count period) }
 {
     let latest = rows.count() - most - period - period;
-    witnesses.other(net, releases, rows, period, latest)
-}
-
-// A witness that refutes this period too.
-fn still_against(
-    net: &Net,
-    releases: &Releases,
-    rows: &Rows,
-    most: u64,
-    period: u64,
-    witnesses: Witnesses,
-) -> Option<Witness>
-    requires ready { IsReady net.now releases.now most }
-    requires rows { AreRowsOf net.now releases.now rows.now }
-    requires some { 1 ≤ period }
-    requires fits { most + period + period ≤ rows.now.count }
-    ensures { IfSome result (λ _. IsRefuted net.now releases.now most rows.now.count period) }
-{
-    let latest = rows.count() - most - period - period;
-    witnesses.refute(net, releases, rows, period, latest)
+    witnesses.against(net, releases, rows, period, latest)
 }
 
 // The number from which this period is seen, or the witnesses with what refutes it. Those that there
@@ -122,19 +95,12 @@ fn tried(
     period: u64,
     witnesses: Witnesses,
 ) -> Result<u64, Witnesses>
-    requires ready { IsReady net.now releases.now most }
-    requires rows { AreRowsOf net.now releases.now rows.now }
-    requires some { 1 ≤ period }
-    requires fits { most + period + period ≤ rows.now.count }
+    requires { IsTrial net.now releases.now rows.now most period }
     ensures { MatchResult result (IsSeenFrom net.now releases.now rows.now most period)
         (λ _. IsRefuted net.now releases.now most rows.now.count period) }
 {
-    match still_against(net, releases, rows, most, period, witnesses) {
-        Some(_) => return Err(witnesses),
-        None => {}
-    }
-    match other_against(net, releases, rows, most, period, witnesses) {
-        Some(witness) => return Err(witnesses.joined(Some(witness))),
+    match known_against(net, releases, rows, most, period, witnesses) {
+        Some(more) => return Err(more),
         None => {}
     }
     match seen_from(net, releases, rows, most, period) {
@@ -190,7 +156,7 @@ pub(crate) fn grow(
 }
 
 // The greatest number of tokens in a place, at least 1.
-pub(crate) fn most_tokens(net: &Net) -> u64
+fn most_tokens(net: &Net) -> u64
     ensures some { 1 ≤ result }
     ensures few { result ≤ 1000 }
     ensures most { All (λ p. p.tokens ≤ result) net.now.places }
@@ -201,6 +167,16 @@ pub(crate) fn most_tokens(net: &Net) -> u64
         most = most.max(u64::from(place.tokens));
     }
     most
+}
+
+// The same number of a live net: with it the net and releases of its inputs are ready for a search.
+pub(crate) fn ready_tokens(net: &Net, _live: &Live, releases: &Releases) -> u64
+    requires stands { IsRanking net.now _live.now }
+    requires waits { OnlyInputsWait net.now releases.now.waits.items }
+    ensures ready { IsReady net.now releases.now result }
+    ensures few { result ≤ 1000 }
+{
+    most_tokens(net)
 }
 
 // The shortest form that at most `last` rows show: the rows are doubled until they show one, so that
@@ -241,7 +217,6 @@ pub(crate) fn form_of(
     releases: &Releases,
     found: &Found,
 ) -> Result<Settled, OutOfMemory>
-    requires ready { (most : ℕ) × IsReady net.now releases.now most }
     requires found { IsFound net.now releases.now found.now }
     ensures form { IfOk result (IsLeastForm net.now releases.now) }
     ensures length { IfOk result (λ form. settled_length form
@@ -257,7 +232,6 @@ pub(crate) fn dates_of(
     releases: &Releases,
     found: Found,
 ) -> Result<SettledDates, OutOfMemory>
-    requires ready { (most : ℕ) × IsReady net.now releases.now most }
     requires found { IsFound net.now releases.now found }
     ensures form { IfOk result (IsLeastForm net.now releases.now) }
     ensures length { IfOk result (λ form. settled_length form

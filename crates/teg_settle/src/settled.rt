@@ -1,15 +1,18 @@
 //! A settled form in memory.
-ghost use Rattle.std.specs.Prelude.{ℕ, ◌≡◌, ◌<◌, ◌≤◌, ◌+◌, ◌+ℤ◌, ◌*ℤ◌, FitsSigned, IfOk, pos, length};
+ghost use Rattle.std.specs.Prelude.{ℕ, ◌≡◌, ◌<◌, ◌≤◌, ◌+◌, ◌-◌, ◌*◌, ◌/◌, ◌+ℤ◌, ◌*ℤ◌, FitsSigned, IfOk, IsTrue, pos, length, map, slice_index, slice_index_or, [], if◌then◌else◌};
 ghost use Rattle.std.specs.Int.{w128};
-ghost use Rattle.teg_net.specs.Limits.{greatest_number};
+ghost use Rattle.teg_net.specs.Limits.{greatest_number, most_transitions};
 ghost use Rattle.dioid.specs.declared.dates.Date.{Date};
-ghost use Rattle.settled_laws.specs.Forms.{StandsFor, row_of, step_of, date_of};
-ghost use Rattle.teg_settle.specs.Copies.{AreDatesOf};
+ghost use Rattle.settled_laws.specs.Forms.{row_of, step_of, date_of};
+ghost use Rattle.teg_settle.specs.Copies.{AreDatesOf, IsFormOf};
 ghost use Rattle.teg_settle.specs.Kept.{IsKept};
-ghost use Rattle.teg_settle.specs.Windows.{IsToldBy, IsWindow};
+ghost use Rattle.teg_settle.specs.Reached.{is_marked};
+ghost use Rattle.teg_settle.specs.Spread.{IsSpread};
+ghost use Rattle.teg_settle.specs.Windows.{IsToldBy};
 
+use crate::reached::is_marked;
 use crate::releases::Repetition;
-use crate::window::step_in;
+use crate::shown::steps_of;
 use dioid::Date;
 use std::alloc::{AllocError, Global};
 use std::marker::Model;
@@ -18,25 +21,27 @@ use teg_net::{Net, TransitionId};
 
 /// A settled form (chapter 3): a number, a period of at least 1, and for each transition of a net the
 /// dates of the numbers from 1 to number plus period, and a step. Past the number each date is that of
-/// a period before, moved by the step. Dates and steps are in the user's unit. No call takes memory.
+/// a period before, moved by the step. Dates and steps are in the user's unit. Transitions without
+/// dates share one row. No call takes memory.
 #[derive(Debug, Drop)]
 pub struct Settled {
     after: u64,
     period: u64,
     rows: Vec<Vec<Date>>,
     steps: Vec<i128>,
+    own: Vec<usize>,
 }
 
 impl Model for Settled {
     ghost use Rattle.std.specs.Prelude.{map};
     ghost use Rattle.settled_laws.specs.Forms.{SettledForm};
-    ghost use Rattle.teg_settle.specs.Kept.{IsKept};
+    ghost use Rattle.teg_settle.specs.Stored.{IsStored, stored_form};
 
     ghost Value = { SettledForm };
 
-    ghost view = { λ s. record { after = s.after; period = s.period; rows = map (λ r. r.items) s.rows.items; steps = s.steps.items } };
+    ghost view = { λ s. stored_form s.after s.period (map (λ r. r.items) s.rows.items) s.steps.items s.own.items };
 
-    ghost invariant = { λ s. IsKept (record { after = s.after; period = s.period; rows = map (λ r. r.items) s.rows.items; steps = s.steps.items }) };
+    ghost invariant = { λ s. IsStored s.after s.period (map (λ r. r.items) s.rows.items) s.steps.items s.own.items };
 }
 
 // The number so many steps on.
@@ -47,6 +52,30 @@ pub(crate) fn moved(number: i128, rounds: u64, step: i128) -> i128
 {
     let all = rounds as i128 * step;
     number + all
+}
+
+// A number of a form's dates, and by how many periods it stands before another number.
+#[derive(Clone, Copy, Debug, Drop)]
+pub(crate) struct Back {
+    pub(crate) number: u64,
+    pub(crate) rounds: u64,
+}
+
+// The number among the last period of so many dates to which this many periods lead back.
+pub(crate) fn back_from(number: u64, settled: u64, period: u64) -> Back
+    requires some { 1 ≤ period }
+    requires long { period ≤ settled }
+    requires past { settled < number }
+    ensures rounds { result.rounds ≡ (number - settled - 1) / period + 1 }
+    ensures number { result.number ≡ number - result.rounds * period }
+    ensures first { 1 ≤ result.number }
+    ensures last { result.number ≤ settled }
+{
+    let rounds = (number - settled - 1) / period + 1;
+    Back {
+        number: number - rounds * period,
+        rounds,
+    }
 }
 
 // The first `count` dates of the transition.
@@ -67,6 +96,65 @@ fn dates_of(
     Ok(dates)
 }
 
+// The same of each transition.
+fn table_of(alloc: Global, net: &Net, rows: &Rows, count: u64) -> Result<Vec<Vec<Date>>, AllocError>
+    requires width { rows.now.width ≡ length net.now.transitions }
+    requires few { count ≤ rows.now.count }
+    ensures count { IfOk result (λ table. length table.items ≡ length net.now.transitions) }
+    ensures rows { IfOk result (λ table. (t : ℕ) → t < length net.now.transitions
+        → AreDatesOf rows.now t count (slice_index_or (map (λ r. r.items) table.items) t [])) }
+{
+    let mut table = Vec::new(alloc);
+    for index in 0..net.transitions().len() {
+        let id = TransitionId {
+            index: index as u32,
+        };
+        table.push(dates_of(alloc, rows, id, count)?)?;
+    }
+    Ok(table)
+}
+
+// The numbers below this one, in order.
+fn numbers_below(alloc: Global, count: usize) -> Result<Vec<usize>, AllocError>
+    ensures count { IfOk result (λ numbers. length numbers.items ≡ count) }
+    ensures each { IfOk result (λ numbers. (i : ℕ) → i < count → slice_index numbers.items i ≡ i) }
+{
+    let mut numbers = Vec::new(alloc);
+    for index in 0..count {
+        numbers.push(index)?;
+    }
+    Ok(numbers)
+}
+
+// For each transition the number that its new number has, and another where it is not marked.
+fn owned_by(
+    alloc: Global,
+    own: &[usize],
+    marks: &[bool],
+    new: &[u32],
+    other: usize,
+) -> Result<Vec<usize>, AllocError>
+    requires few { length new.now ≤ most_transitions }
+    requires known { (t : ℕ) → t < length new.now → IsTrue (is_marked marks.now t)
+        → slice_index new.now t < length own.now }
+    ensures count { IfOk result (λ owned. length owned.items ≡ length new.now) }
+    ensures each { IfOk result (λ owned. (t : ℕ) → t < length new.now → slice_index owned.items t
+        ≡ (if is_marked marks.now t then slice_index own.now (slice_index new.now t) else other)) }
+{
+    let mut owned = Vec::new(alloc);
+    for index in 0..new.len() {
+        let id = TransitionId {
+            index: index as u32,
+        };
+        if is_marked(marks, id) {
+            owned.push(own[new[index] as usize])?;
+        } else {
+            owned.push(other)?;
+        }
+    }
+    Ok(owned)
+}
+
 impl Settled {
     // The form that the rows show, with the dates that it needs of them.
     pub(crate) fn of_rows(
@@ -75,30 +163,41 @@ impl Settled {
         rows: &Rows,
         form: Repetition,
     ) -> Result<Settled, AllocError>
-        requires window { IsWindow net.now rows.now form.period }
-        requires fits { form.after + form.period + form.period ≤ rows.now.count }
         requires told { (x : ℕ → ℕ → Date) × IsToldBy net.now rows.now form x }
-        ensures after { IfOk result (λ settled. settled.after ≡ form.after) }
-        ensures period { IfOk result (λ settled. settled.period ≡ form.period) }
-        ensures stands { IfOk result (λ settled. (x : ℕ → ℕ → Date)
-            → IsToldBy net.now rows.now form x → StandsFor (length net.now.transitions) settled x) }
+        ensures { IfOk result (IsFormOf net.now rows.now form) }
     {
-        let count = form.after + form.period;
-        let mut table = Vec::new(alloc);
-        let mut steps = Vec::new(alloc);
-        for index in 0..net.transitions().len() {
-            let id = TransitionId {
-                index: index as u32,
-            };
-            table.push(dates_of(alloc, rows, id, count)?)?;
-            steps.push(step_in(net, rows, form.period, id))?;
-        }
+        let table = table_of(alloc, net, rows, form.after + form.period)?;
+        let steps = steps_of(alloc, net, rows, form.period)?;
+        let own = numbers_below(alloc, net.transitions().len())?;
         Ok(Settled {
             after: form.after,
             period: form.period,
             rows: table,
             steps,
+            own,
         })
+    }
+
+    // The form for more transitions, of which the marked ones have these new numbers here, and the
+    // others have no dates.
+    pub(crate) fn spread(
+        self,
+        alloc: Global,
+        marks: &[bool],
+        new: &[u32],
+    ) -> Result<Settled, AllocError>
+        requires few { length new.now ≤ most_transitions }
+        requires known { (t : ℕ) → t < length new.now → IsTrue (is_marked marks.now t)
+            → slice_index new.now t < length self.rows }
+        ensures { IfOk result (IsSpread marks.now new.now self) }
+    {
+        let mut settled = self;
+        let other = settled.rows.len();
+        let early = vec![in alloc; Date::Early; (settled.after + settled.period) as usize]?;
+        settled.own = owned_by(alloc, &settled.own, marks, new, other)?;
+        settled.rows.push(early)?;
+        settled.steps.push(0)?;
+        Ok(settled)
     }
 
     /// The number past which the dates go on by their steps, 0 or more.
@@ -122,7 +221,7 @@ impl Settled {
         requires transition { transition.index < length self.now.rows }
         ensures value { result.now ≡ row_of self.now transition.index }
     {
-        &self.rows[transition.index as usize]
+        &self.rows[self.own[transition.index as usize]]
     }
 
     /// By what the dates of this transition move in a period; 0 where they stay Never or Early.
@@ -130,7 +229,7 @@ impl Settled {
         requires transition { transition.index < length self.now.rows }
         ensures value { result ≡ step_of self.now transition.index }
     {
-        self.steps[transition.index as usize]
+        self.steps[self.own[transition.index as usize]]
     }
 
     /// The date of the firing of this number, from 1 to 10^18, of this transition: one of its row, or
@@ -146,10 +245,9 @@ impl Settled {
         if number <= settled {
             return row[number as usize - 1];
         }
-        let rounds = (number - settled - 1) / self.period + 1;
-        let before = number - rounds * self.period;
-        match row[before as usize - 1] {
-            Date::At(date) => Date::At(moved(date, rounds, self.step(transition))),
+        let back = back_from(number, settled, self.period);
+        match row[back.number as usize - 1] {
+            Date::At(date) => Date::At(moved(date, back.rounds, self.step(transition))),
             other => other,
         }
     }

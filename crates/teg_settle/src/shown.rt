@@ -2,12 +2,13 @@
 ghost use Rattle.std.specs.Prelude.{ℕ, ◌≡◌, ◌<◌, ◌≤◌, ◌+◌, IfOk, length, pos, slice_index_or};
 ghost use Rattle.teg_net.specs.Limits.{greatest_number};
 ghost use Rattle.teg_net.specs.Nets.{IsNet};
-ghost use Rattle.settled_laws.specs.Forms.{StandsFor, date_of, row_date, settled_length, step_of};
+ghost use Rattle.settled_laws.specs.Forms.{date_of, row_date, settled_length, step_of};
+ghost use Rattle.teg_settle.specs.Copies.{IsFormOf};
 ghost use Rattle.teg_settle.specs.Kept.{IsKept};
 ghost use Rattle.teg_settle.specs.Windows.{IsToldBy, IsWindow, read_step};
 
 use crate::releases::Repetition;
-use crate::settled::moved;
+use crate::settled::{back_from, moved};
 use crate::window::step_in;
 use dioid::Date;
 use std::alloc::{AllocError, Global};
@@ -37,7 +38,12 @@ impl Model for SettledDates {
 }
 
 // The steps of the last period of the rows.
-fn steps_of(alloc: Global, net: &Net, rows: &Rows, period: u64) -> Result<Vec<i128>, AllocError>
+pub(crate) fn steps_of(
+    alloc: Global,
+    net: &Net,
+    rows: &Rows,
+    period: u64,
+) -> Result<Vec<i128>, AllocError>
     requires window { IsWindow net.now rows.now period }
     ensures rules { IsNet net.now }
     ensures count { IfOk result (λ steps. length steps.items ≡ length net.now.transitions) }
@@ -62,13 +68,8 @@ impl SettledDates {
         rows: Rows,
         form: Repetition,
     ) -> Result<SettledDates, AllocError>
-        requires window { IsWindow net.now rows form.period }
-        requires fits { form.after + form.period + form.period ≤ rows.count }
         requires told { (x : ℕ → ℕ → Date) × IsToldBy net.now rows form x }
-        ensures after { IfOk result (λ settled. settled.after ≡ form.after) }
-        ensures period { IfOk result (λ settled. settled.period ≡ form.period) }
-        ensures stands { IfOk result (λ settled. (x : ℕ → ℕ → Date) → IsToldBy net.now rows form x
-            → StandsFor (length net.now.transitions) settled x) }
+        ensures { IfOk result (IsFormOf net.now rows form) }
     {
         let steps = steps_of(alloc, net, &rows, form.period)?;
         Ok(SettledDates { form, rows, steps })
@@ -120,10 +121,9 @@ impl SettledDates {
         if number <= settled {
             return self.row_date(transition, number);
         }
-        let rounds = (number - settled - 1) / self.form.period + 1;
-        let before = number - rounds * self.form.period;
-        match self.row_date(transition, before) {
-            Date::At(date) => Date::At(moved(date, rounds, self.step(transition))),
+        let back = back_from(number, settled, self.form.period);
+        match self.row_date(transition, back.number) {
+            Date::At(date) => Date::At(moved(date, back.rounds, self.step(transition))),
             other => other,
         }
     }

@@ -7,7 +7,7 @@ ghost use Rattle.teg_settle.specs.Steps.{AreOwnReleases, ShowsForm, ShowsNoForm,
 ghost use Rattle.teg_settle.specs.Windows.{most_window};
 
 use crate::releases::{Releases, Repetition};
-use crate::search::{most_tokens, seen};
+use crate::search::{ready_tokens, seen};
 use periodic_laws::least_datings_repeat;
 use std::alloc::Global;
 use teg_check::Live;
@@ -41,6 +41,6 @@ pub fn shown_form(net: &Net, _live: &Live, releases: &Releases, rows: &Rows) -> 
     least_datings_repeat();
     // The rows keep their limits.
     let _count = rows.count();
-    let most = most_tokens(net);
+    let most = ready_tokens(net, _live, releases);
     seen(net, releases, rows, most)
 }

@@ -2,7 +2,7 @@
 //! first.
 ghost use Rattle.std.specs.Prelude.{◌≡◌, ◌+◌, ◌<◌, ◌≤◌, All, IfSome, IsTrue};
 ghost use Rattle.teg_settle.specs.Windows.{AreReleasedAlike, IsMovedPast, IsRisingPlace, IsWindow, most_window};
-ghost use Rattle.teg_settle.specs.Witnesses.{Refutes};
+ghost use Rattle.teg_settle.specs.Witnesses.{IsRefutedPast, Refutes};
 
 use crate::releases::Releases;
 use crate::window::{is_step, moved_past, rises_along, step_in};
@@ -358,8 +358,8 @@ impl Witnesses {
         }
     }
 
-    // Whether one of them refutes this period.
-    pub(crate) fn refute(
+    // One of them that refutes this period.
+    fn still(
         self,
         net: &Net,
         releases: &Releases,
@@ -377,7 +377,7 @@ impl Witnesses {
     }
 
     // Another firing of a transition that one of them names, which refutes this period.
-    pub(crate) fn other(
+    fn other(
         self,
         net: &Net,
         releases: &Releases,
@@ -392,6 +392,29 @@ impl Witnesses {
         match other_number(net, releases, rows, period, after, self.last) {
             Some(witness) => Some(witness),
             None => other_number(net, releases, rows, period, after, self.before),
+        }
+    }
+
+    // These, if one of them refutes this period; or with another firing of a transition that one of
+    // them names, if that does.
+    pub(crate) fn against(
+        self,
+        net: &Net,
+        releases: &Releases,
+        rows: &Rows,
+        period: u64,
+        after: u64,
+    ) -> Option<Witnesses>
+        requires window { IsWindow net.now rows.now period }
+        requires after { after ≤ most_window }
+        ensures { IfSome result (λ _. IsRefutedPast net.now releases.now rows.now period after) }
+    {
+        match self.still(net, releases, rows, period, after) {
+            Some(_) => Some(self),
+            None => match self.other(net, releases, rows, period, after) {
+                Some(witness) => Some(self.joined(Some(witness))),
+                None => None,
+            },
         }
     }
 }

@@ -7,7 +7,7 @@ use Rattle.teg_dates.specs.Tables.{cell_of}
 use Rattle.teg_jit.specs.declared.order.Depth.{Depth}
 use Rattle.teg_jit.specs.Plans.{latest_in}
 use Rattle.teg_jit.specs.GoingBack.{date_there}
-use Rattle.teg_jit.proofs.Passing.{none_depth, read_place, place_none, place_some, has_room, number_done}
+use Rattle.teg_jit.proofs.Passing.{none_depth, place_none, place_some, has_room, number_done, read_place}
 use Rattle.teg_jit.proofs.passes.pass_places.Goals as goal
 use Rattle.teg_jit.proofs.passes.pass_places.Goals.{in-Some, in-None}
 

@@ -1,39 +1,32 @@
-use Rattle.std.proofs.lemmas.Result.{IfOk-weaker, IfErr-weaker}
-use Rattle.teg_net.specs.Nets.{IsNet}
-use Rattle.teg_settle.specs.Reached.{IsPartFrom}
-use Rattle.teg_settle.specs.Refusals.{IsRightRefusal}
-use Rattle.teg_settle.specs.Transfers.{IsTransferOf, TransferSettlesPast}
-use Rattle.teg_settle.specs.Windows.{IsLeastForm, LeastSettlesPast}
+use Rattle.std.proofs.Common.{arith}
+use Rattle.teg_settle.specs.Transfers.{TransferSettlesPast}
 use Rattle.teg_settle.proofs.Limiting.{refusal_weaker}
-use Rattle.teg_settle.proofs.ReachedPart.{ranked_part, part_waits, form_of_part, past_of_part}
+use Rattle.teg_settle.proofs.PartTold.{live_part, input_there, form_told, past_told}
+use Rattle.teg_settle.proofs.Transferring.{input_within}
 use Rattle.teg_settle.proofs.limited.transfer.Goals as goal
 
-pub within-requires-clause-stands : goal.within-requires-clause-stands
-within-requires-clause-stands c = ranked_part c.args.net.now c.in_ok-part.part c.args.input.index c.in_ok-part.ensures.part c.requires.input c.args.live.now c.requires.stands
-
-pub within-requires-clause-waits : goal.within-requires-clause-waits
-within-requires-clause-waits c =
-    part_waits c.args.net.now c.in_ok-part.part c.args.input.index c.in_ok-part.ensures.part c.requires.input c.in_ok-releases.releases c.in_ok-releases.ensures.waits
-
-pub returns-clause-form : goal.returns-clause-form
-returns-clause-form c =
+pub settle_part-requires : goal.settle_part-requires
+settle_part-requires c =
     let net = c.args.net.now in
-    let part = c.in_ok-part.part in
-    let r = c.in_ok-releases.releases in
-    let made = c.in_ok-releases.ensures in
-    let input = c.args.input.index in
-    IfOk-weaker c.within.result (IsLeastForm part r) (IsTransferOf net input)
-    (form_of_part net part input c.in_ok-part.ensures.part c.requires.input r made.waits c.args.live.now c.part_from.ensures.rules c.requires.stands made.tokens) c.within.ensures.form
+    let h = c.in_ok-part.ensures.part in
+    record {
+      within = omega (arith, h.numbers.long, input_within net c.args.input.index c.requires.input);
+      live = live_part net c.args.input.index c.in_ok-part.part h c.part_from.ensures.rules c.requires.input c.args._live.now c.requires.stands;
+      input = input_there net c.args.input.index c.in_ok-part.part h c.part_from.ensures.rules c.requires.input;
+      few = c.requires.few;
+    }
 
 pub returns-clause-too_long : goal.returns-clause-too_long
 returns-clause-too_long c =
-    let net = c.args.net.now in
-    let part = c.in_ok-part.part in
-    let r = c.in_ok-releases.releases in
-    let made = c.in_ok-releases.ensures in
-    let input = c.args.input.index in
     let limit = c.args.limit in
-    IfErr-weaker c.within.result (IsRightRefusal (LeastSettlesPast part r limit) limit) (IsRightRefusal (TransferSettlesPast net input limit) limit)
-    (λ e. refusal_weaker (LeastSettlesPast part r limit) (TransferSettlesPast net input limit) limit e
-    (past_of_part net part input c.in_ok-part.ensures.part c.requires.input r made.waits c.args.live.now c.part_from.ensures.rules c.requires.stands made.tokens limit))
-    c.within.ensures.too_long
+    let h = c.in_ok-part.ensures.part in
+    refusal_weaker _ (TransferSettlesPast c.args.net.now c.args.input.index limit) limit c.in-Err.refusal
+    (past_told c.args.net.now c.args.input.index c.in_ok-part.part h c.part_from.ensures.rules c.requires.input c.args._live.now c.requires.stands limit)
+    (rw c.in-Err.is at c.settle_part.ensures.too_long)
+
+pub returns-in-Ok-clause-form : goal.returns-in-Ok-clause-form
+returns-in-Ok-clause-form c =
+    let h = c.in_ok-part.ensures.part in
+    let spread = rw (c.deref.ensures.value, c.deref-in-Ok.ensures.value) at c.in_ok-spread-in-Ok.ensures in
+    form_told c.args.net.now c.args.input.index c.in_ok-part.part h c.part_from.ensures.rules c.requires.input c.args._live.now c.requires.stands c.in-Ok.form c.in_ok-spread-in-Ok.field-0
+    (rw c.in-Ok.is at c.settle_part.ensures.form) spread

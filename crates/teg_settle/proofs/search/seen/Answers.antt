@@ -1,7 +1,19 @@
 use Rattle.std.proofs.Common.{◌≡◌, ◌<◌, ◌≤◌, arith, ⊎_elim}
 use Rattle.std.proofs.lemmas.Bool.{cases_lt}
-use Rattle.teg_settle.proofs.Tested.{seen_is_least}
+use Rattle.teg_settle.proofs.Tested.{seen_is_least, window_of}
 use Rattle.teg_settle.proofs.search.seen.Goals as goal
+
+pub tried-requires : goal.tried-requires
+tried-requires c =
+    let some = c.requires.ready.some in
+    let count = c.count-count.ensures.value in
+    let test = c.loop-period-test.true in
+    record {
+      ready = c.requires.ready;
+      made = c.requires.rows;
+      window = window_of c.args.net.now c.args.releases.now c.args.most c.requires.ready c.args.rows.now c.requires.rows c.loop-period.period (omega arith) (omega arith);
+      fits = omega arith;
+    }
 
 pub returns-in-Ok : goal.returns-in-Ok
 returns-in-Ok c =

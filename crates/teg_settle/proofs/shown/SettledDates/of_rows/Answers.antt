@@ -1,25 +1,21 @@
-use Rattle.std.proofs.Common.{arith}
-use Rattle.teg_settle.proofs.Copying.{copy_stands, copy_kept}
+use Rattle.teg_settle.proofs.Copying.{copy_form, copy_kept}
 use Rattle.teg_settle.proofs.Showing.{shown_is_copy}
+use Rattle.std.proofs.Common.{arith}
 use Rattle.teg_settle.proofs.shown.SettledDates.of_rows.Goals as goal
 
 pub invariant_of-result : goal.invariant_of-result
 invariant_of-result c =
     let net = c.args.net.now in
-    let rows = c.args.rows in
-    let f = c.args.form in
     let made = c.in_ok-steps.ensures in
-    let copy = shown_is_copy net rows f c.in_ok-steps.steps.items c.requires.window.width made.count made.each in
+    let told = c.requires.told in
+    let copy = shown_is_copy net c.args.rows c.args.form c.in_ok-steps.steps.items told.1.window.width made.count made.each in
     record {
-      kept = copy_kept net rows f _ c.requires.told.0 c.steps_of.ensures.rules copy c.requires.window c.requires.fits c.requires.told.1;
-      fits = omega (arith, c.requires.fits);
+      kept = copy_kept net c.args.rows c.args.form _ told.0 c.steps_of.ensures.rules copy told.1;
+      fits = omega (arith, told.1.fits);
     }
 
-pub returns-clause-stands : goal.returns-clause-stands
-returns-clause-stands c = λ x told.
+pub returns : goal.returns
+returns c =
     let net = c.args.net.now in
-    let rows = c.args.rows in
-    let f = c.args.form in
     let made = c.in_ok-steps.ensures in
-    let copy = shown_is_copy net rows f c.in_ok-steps.steps.items c.requires.window.width made.count made.each in
-    copy_stands net rows f _ x copy c.requires.window c.requires.fits told
+    copy_form net c.args.rows c.args.form _ (shown_is_copy net c.args.rows c.args.form c.in_ok-steps.steps.items c.requires.told.1.window.width made.count made.each)

@@ -1,0 +1,44 @@
+-- What is asked of the part of a net that the walks from an input reach, and what it tells of the net.
+use Rattle.std.proofs.Common.{ℕ, ◌<◌, ◌≡◌, true, List, length, get_or, arith}
+use Rattle.teg_net.specs.Nets.{NetLists, IsNet, IsInput}
+use Rattle.teg_net.specs.Circuits.{IsLive}
+use Rattle.teg_check.specs.Ranks.{IsRanking}
+use Rattle.settled_laws.specs.Forms.{SettledForm, step_of}
+use Rattle.teg_settle.specs.declared.reached.Part.{Part}
+use Rattle.teg_settle.specs.Alone.{IsAloneForm, AloneSettlesPast}
+use Rattle.teg_settle.specs.Reached.{is_marked, IsPartFrom}
+use Rattle.teg_settle.specs.Spread.{IsSpread}
+use Rattle.teg_settle.specs.Transfers.{IsTransferOf, TransferSettlesPast}
+use Rattle.teg_settle.proofs.ReachedPart.{part_is_live, part_input, told_by, told_least, told_shortest, repeats_in_part}
+use Rattle.teg_settle.proofs.Transferring.{alone_times, input_within}
+
+module _ (net : NetLists) (input : ℕ) (part : Part) (h : IsPartFrom net input part) (ok : IsNet net) (given : IsInput net input) where
+  pub input_new : get_or part.new.items input 0 < length part.net.transitions
+  input_new = omega (arith, h.transitions.count, h.numbers.found input (input_within net input given) h.closed.begins)
+
+  pub input_there : IsInput part.net (get_or part.new.items input 0)
+  input_there = part_input net part.marks.items h.old part.new.items h.numbers h.closed.leads_on part.net h.transitions h.places ok h.wide input h.closed.begins given
+
+  pub new_within : (t : ℕ) → t < length part.new.items → is_marked part.marks.items t ≡ true → get_or part.new.items t 0 < length part.net.transitions
+  new_within t l on = omega (arith, h.transitions.count, h.numbers.found t (omega (arith, l, h.numbers.long)) on)
+
+  module _ (ranks : List ℕ) (ranking : IsRanking net ranks) where
+    pub live_part : IsLive part.net
+    live_part = part_is_live net part.marks.items h.old part.new.items h.numbers h.closed.leads_on part.net h.transitions h.places ok ranks ranking
+
+    pub form_told : (f g : SettledForm) → IsAloneForm part.net (get_or part.new.items input 0) f → IsSpread part.marks.items part.new.items f g → IsTransferOf net input g
+    form_told f g a spread =
+        let least = told_least net part.marks.items h.old part.new.items h.numbers h.closed.leads_on part.net h.transitions h.places ok h.wide input h.closed.begins a.0 a.1 in (
+          told_by net part.marks.items h.old part.new.items h.numbers h.closed.leads_on part.net h.transitions h.places ok h.wide input h.closed.begins a.0,
+          alone_times net input ranks ok ranking given _ least,
+          told_shortest net part.marks.items h.old part.new.items h.numbers h.closed.leads_on part.net h.transitions h.places ok h.wide input h.closed.begins a.0 f g spread a.2,
+        )
+
+    pub past_told : (limit : ℕ) → AloneSettlesPast part.net (get_or part.new.items input 0) limit → TransferSettlesPast net input limit
+    past_told limit a =
+        let least = told_least net part.marks.items h.old part.new.items h.numbers h.closed.leads_on part.net h.transitions h.places ok h.wide input h.closed.begins a.0 a.1 in (
+          told_by net part.marks.items h.old part.new.items h.numbers h.closed.leads_on part.net h.transitions h.places ok h.wide input h.closed.begins a.0,
+          alone_times net input ranks ok ranking given _ least,
+          λ f stands. a.2 f.after f.period _
+              (repeats_in_part net part.marks.items h.old part.new.items h.numbers h.closed.leads_on part.net h.transitions h.places ok h.wide input h.closed.begins a.0 f.after f.period (step_of f) stands.repeats),
+        )
