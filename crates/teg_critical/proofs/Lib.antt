@@ -9,6 +9,6 @@ pub mod Queueing
 pub mod Stepping
 pub mod Listed
 pub mod LossFacts
-pub mod Reading
+pub mod Ending
 pub mod Telling
 pub mod EachPlace

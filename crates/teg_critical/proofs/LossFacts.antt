@@ -1,5 +1,5 @@
 -- What a certificate gives for the loss of one place.
-use Rattle.std.proofs.Common.{ℕ, ℤ, pos, ◌*◌, ◌<◌, ◌≤◌, ◌≡◌, ◌+ℤ◌, ◌-ℤ◌, List, length, get_or, Option, Some, None, sym, ap, subst, ◌∙◌, arith, ⊎_elim}
+use Rattle.std.proofs.Common.{ℕ, ℤ, pos, ◌*◌, ◌<◌, ◌≤◌, ◌≡◌, ◌+ℤ◌, ◌-ℤ◌, List, length, get_or, Option, Some, None, refl, sym, ap, subst, ◌∙◌, arith, ⊎_elim}
 use Rattle.std.specs.Prelude.{◌≤ℤ◌}
 use Rattle.std.specs.Int.Signed.{pos-nat_abs, yes_non_neg}
 use Rattle.std.proofs.Math.IntN.{nat_abs}
@@ -22,9 +22,10 @@ use Rattle.teg_net.specs.Parts.{to_of, IsPlaceOfPart}
 use Rattle.teg_net.specs.ReducedTimes.{IsWithin}
 use Rattle.teg_net.specs.GreatestRatios.{ratio_in, ratio_at, IsFirstGreatest}
 use Rattle.teg_net.specs.Certificates.{potential_at, IsBestCertificate, IsPartCertificate, IsCertificate}
+use Rattle.teg_cycle.specs.BestRatios.{named_ratio, best_ratio_of}
 use Rattle.teg_critical.specs.declared.losses.Loss.{Loss}
 use Rattle.teg_critical.specs.Losses.{most_lost, count_of, IsLost, CanLose, ratio_of, potentials_of, IsLossOf, IsLossIn, part_at, part_of, IsPlaceLoss}
-use Rattle.teg_critical.specs.Told.{IsSmallRatio, IsBestOf, CanLoseBy}
+use Rattle.teg_critical.specs.Told.{IsSmallRatio, CanLoseBy}
 use Rattle.teg_critical.proofs.Listed.{potential_within}
 
 -- what lies between two whole numbers
@@ -54,7 +55,23 @@ told_facts net part_of k (Best ratio circuit potentials) r h e =
     let same : ratio ≡ r = cc in
     subst (IsToldBy net) same (record { small = record { time = h.time_in; tokens = h.tokens_in }; some = h.terms.some; places = circuit.places.items; circuit = h.circuit; attains = h.attains })
 
-module _ (net : NetLists) (answer : CycleAnswer) (h : IsCertificate net answer) (best : Fraction) (b : IsBestOf answer best) where
+-- the part that the answer names tells this ratio
+record IsBestOf (answer : CycleAnswer) (r : Fraction) : Type 0 where
+  pub part : ℕ
+  pub best : answer.best ≡ Some part
+  pub told : ratio_at answer.parts.items part ≡ Some r
+
+named : (answers : List PartAnswer) (best : Option ℕ) (r : Fraction) → named_ratio answers best ≡ Some r → (k : ℕ) × (best ≡ Some k) × (ratio_at answers k ≡ Some r)
+named answers None r e = let f : ⊥ = cc in absurd f
+named answers (Some k) r e = (k, refl, e)
+
+best_of : (answer : CycleAnswer) (r : Fraction) → best_ratio_of answer ≡ Some r → IsBestOf answer r
+best_of answer r e = let w = named answer.parts.items answer.best r e in record { part = w.0; best = w.1; told = w.2 }
+
+module _ (net : NetLists) (answer : CycleAnswer) (h : IsCertificate net answer) (best : Fraction) (is_best : best_ratio_of answer ≡ Some best) where
+  b : IsBestOf answer best
+  b = best_of answer best is_best
+
   part_in : b.part < length answer.parts.items
   part_in = ⊎_elim
       (λ (l : b.part < length answer.parts.items). l)

@@ -19,6 +19,7 @@ use Rattle.teg_critical.specs.declared.searches.Step.{Step}
 use Rattle.teg_critical.specs.Losses.{most_loss}
 use Rattle.teg_critical.specs.Searches.{told_at, IsWithin, is_settled, unsettled, IsSearching, IsNearest, IsOver, IsRelaxed, entry, nearest_first, AreQueued, IsQueueing}
 use Rattle.teg_critical.proofs.Searching.{within_more, within_some, IsTold, within_told}
+use Rattle.teg_critical.proofs.Settling.{true_false}
 use Rattle.teg_critical.proofs.Stepping.{RelaxedUpTo}
 
 abbrev Entry : Type 0
@@ -145,9 +146,6 @@ told_in least t x h = ⊎_elim
     (λ (l : t < length least). l)
     (λ (l : length least ≤ t). absurd (subst (λ z. IsWithin z x) (get_or_past least t None l) h))
     (cases_lt t (length least))
-
-true_false : (b : Bool) → b ≡ true → b ≡ false → ⊥
-true_false b e f = cc
 
 -- nothing is told and none is settled
 none_told : (n u : ℕ) → get_or (replicate {A = Option ℕ} n None) u None ≡ None

@@ -1,6 +1,7 @@
 -- Slacks do not depend on how the greatest ratio is written, and a place has one.
-use Rattle.std.proofs.Common.{ℕ, zero, suc, ◌*◌, ◌≤◌, ◌≡◌, refl, sym, ap, arith}
+use Rattle.std.proofs.Common.{ℕ, ◌*◌, ◌≤◌, ◌≡◌, refl, sym, ap, arith}
 use Rattle.std.proofs.Math.Nat.{mul-le-mul_left, le_of_mul-le-mul_left}
+use Rattle.number_laws.proofs.Numbers.{some_of}
 use Rattle.teg_net.specs.declared.entries.PlaceId.{PlaceId}
 use Rattle.teg_net.specs.Nets.{NetLists}
 use Rattle.teg_net.specs.Ratios.{Fraction}
@@ -11,10 +12,6 @@ use Rattle.teg_critical.specs.declared.slacks.Slack.TheVariants.{NoCircuit, Crit
 use Rattle.teg_critical.specs.Slacks.{IsCritical, IsSlackOf, raised}
 use Rattle.teg_critical.specs.Laws.{SlacksAreOne, SlacksAreOfTheNet}
 use Rattle.teg_critical.proofs.GapLaws.{any_places}
-
-some_of : (n : ℕ) → (n ≡ 0 → ⊥) → 1 ≤ n
-some_of zero h = absurd (h refl)
-some_of (suc n) h = omega arith
 
 -- the same ratio, by products
 abbrev IsSame : Fraction → Fraction → Type 0

@@ -16,7 +16,7 @@ use Rattle.teg_critical.specs.Losses.{most_loss, loss_at}
 use Rattle.teg_critical.specs.Searches.{amount_in, loss_of, IsWay, told_at, IsStepBy, AreStepsFrom, IsWithin, unsettled, is_settled, IsSearching, IsNearest, IsRelaxed}
 use Rattle.teg_critical.proofs.Searching.{within_more, within_some, IsTold, within_told}
 
-true_false : (b : Bool) → b ≡ true → b ≡ false → ⊥
+pub true_false : (b : Bool) → b ≡ true → b ≡ false → ⊥
 true_false b e f = cc
 
 -- where a transition is settled one fewer is open

@@ -11,6 +11,7 @@ use Rattle.teg_net.specs.Limits.{most_transitions}
 use Rattle.teg_net.specs.Nets.{NetLists}
 use Rattle.teg_net.specs.Circuits.{from_of, IsPathBetween}
 use Rattle.teg_net.specs.Parts.{to_of}
+use Rattle.teg_critical.specs.declared.endings.Ending.{Ending}
 use Rattle.teg_critical.specs.declared.losses.Loss.{Loss}
 use Rattle.teg_critical.specs.declared.searches.Step.{Step}
 use Rattle.teg_critical.specs.Losses.{most_loss, loss_at}
@@ -38,11 +39,15 @@ IsLeastLoss net losses a b (Some d) = ((ps : List PlaceId) × IsWay net losses a
 abbrev pub told_at : List (Option ℕ) → ℕ → Option ℕ
 told_at least t = slice_index_or least t None
 
--- the least losses of the paths from one transition to each
-pub record AreLeastLosses (net : NetLists) (losses : List (Option Loss)) (start : ℕ) (least : List (Option ℕ)) : Type 0 where
-  pub count : length least ≡ length net.transitions
-  pub each : (t : ℕ) → t < length net.transitions → IsLeastLoss net losses start t (told_at least t)
-  pub small : (t d : ℕ) → told_at least t ≡ Some d → d ≤ most_transitions * most_loss
+-- the least that the paths lose from the end of the place back to its start
+pub record IsToldBack (net : NetLists) (losses : List (Option Loss)) (back : List (Option ℕ)) (e : Ending) : Type 0 where
+  pub least : IsLeastLoss net losses e.end e.start (told_at back e.start)
+  pub small : (d : ℕ) → told_at back e.start ≡ Some d → d ≤ most_transitions * most_loss
+
+-- the same of several places
+pub record AreToldBack (net : NetLists) (losses : List (Option Loss)) (back : List (Option ℕ)) (endings : List Ending) : Type 0 where
+  pub count : length back ≡ length net.transitions
+  pub each : All (IsToldBack net losses back) endings
 
 -- ---- steps
 
@@ -88,6 +93,10 @@ unsettled settled = sum_by (λ s. if s then 0 else 1) settled
 -- the transition is settled, or not
 abbrev pub is_settled : List Bool → ℕ → Bool
 is_settled settled t = slice_index_or settled t true
+
+-- the starts of these places are settled
+abbrev pub AreSettled : List Bool → List Ending → Type 0
+AreSettled settled endings = All (λ e. is_settled settled e.start ≡ true) endings
 
 -- what is told is the loss of some path; settled transitions are told no more than others, and their steps are taken
 pub record IsSearching (net : NetLists) (losses : List (Option Loss)) (start : ℕ) (least : List (Option ℕ)) (settled : List Bool) : Type 0 where

@@ -1,16 +1,16 @@
 -- Working definitions of how each place is told its slack.
-use Rattle.std.specs.Prelude.{ℕ, ◌*◌, ◌/◌, ◌<◌, ◌≤◌, ◌≡◌, List, length, Option, Some, slice_index_or}
+use Rattle.std.specs.Prelude.{ℕ, ◌*◌, ◌/◌, ◌<◌, ◌≤◌, ◌≡◌, List, length, Option, slice_index_or, replicate, All}
 use Rattle.teg_net.specs.declared.entries.PlaceId.{PlaceId}
 use Rattle.teg_net.specs.declared.entries.Place.{Place}
 use Rattle.teg_net.specs.declared.answers.Potential.{Potential}
 use Rattle.teg_net.specs.declared.answers.CycleAnswer.{CycleAnswer}
 use Rattle.teg_net.specs.Limits.{greatest_hold, greatest_ratio, most_tokens}
-use Rattle.teg_net.specs.Nets.{NetLists}
+use Rattle.teg_net.specs.Nets.{NetLists, IsNet}
 use Rattle.teg_net.specs.Ratios.{Fraction}
 use Rattle.teg_net.specs.Circuits.{IsLive}
-use Rattle.teg_net.specs.Parts.{to_of}
-use Rattle.teg_net.specs.GreatestRatios.{ratio_at, IsGreatestRatio, IsAnyPlace}
+use Rattle.teg_net.specs.GreatestRatios.{IsGreatestRatio, IsAnyPlace}
 use Rattle.teg_net.specs.Certificates.{potential_at, IsCertificate}
+use Rattle.teg_critical.specs.declared.endings.Ending.{Ending}
 use Rattle.teg_critical.specs.declared.losses.Loss.{Loss}
 use Rattle.teg_critical.specs.declared.slacks.Slack.{Slack}
 use Rattle.teg_critical.specs.declared.slacks.Slack.TheVariants.{NoCircuit, Critical, Rise}
@@ -21,12 +21,6 @@ use Rattle.teg_critical.specs.Losses.{count_of, CanLose, AreLosses}
 pub record IsSmallRatio (r : Fraction) : Type 0 where
   pub time : r.time ≤ greatest_ratio
   pub tokens : r.tokens ≤ greatest_ratio
-
--- the ratio that the answer tells as the greatest
-pub record IsBestOf (answer : CycleAnswer) (r : Fraction) : Type 0 where
-  pub part : ℕ
-  pub best : answer.best ≡ Some part
-  pub told : ratio_at answer.parts.items part ≡ Some r
 
 -- a place loses in a part with this ratio, which is no greater, and these potentials, and all keep their limits
 pub record CanLoseBy (best own : Fraction) (potentials : List Potential) (p : Place) : Type 0 where
@@ -51,14 +45,19 @@ pub record CanTell (net : NetLists) (r : Fraction) (losses : List (Option Loss))
   pub lost : AreLosses net answer r losses
   pub live : IsLive net
   pub greatest : IsGreatestRatio net IsAnyPlace r
+  pub rules : IsNet net
   pub small : IsSmallRatio r
 
 -- what is told of the place
 abbrev pub slack_at : List Slack → PlaceId → Slack
 slack_at slacks p = slice_index_or slacks p.index NoCircuit
 
--- the places that end below transition e are told their slack, and of the others nothing is told yet
-pub record AreToldUpTo (net : NetLists) (r : Fraction) (e : ℕ) (slacks : List Slack) : Type 0 where
-  pub each : length slacks ≡ length net.places
-  pub told : (p : PlaceId) → p.index < length net.places → to_of net p < e → IsSlackOf net r p (slack_at slacks p)
-  pub others : (p : PlaceId) → p.index < length net.places → e ≤ to_of net p → slack_at slacks p ≡ NoCircuit
+-- these places are told their slack, and what was told rightly before still is
+pub record AreToldMore (net : NetLists) (r : Fraction) (endings : List Ending) (old new : List Slack) : Type 0 where
+  pub count : length new ≡ length old
+  pub told : All (λ e. IsSlackOf net r e.place (slack_at new e.place)) endings
+  pub kept : (p : PlaceId) → IsSlackOf net r p (slack_at old p) → IsSlackOf net r p (slack_at new p)
+
+-- no place is told anything yet
+abbrev pub AreUntold : NetLists → List Slack → Type 0
+AreUntold net slacks = slacks ≡ replicate (length net.places) NoCircuit

@@ -1,22 +1,25 @@
 //! The slack of each place, by what the best path back from its end to its start lacks.
-ghost use Rattle.std.specs.Prelude.{◌≡◌, ◌<◌, ◌+◌, length, All, IfOk, IfNone, IfSome, None};
+ghost use Rattle.std.specs.Prelude.{◌≡◌, ◌<◌, length, All, IfOk, Some};
 ghost use Rattle.teg_net.specs.Ratios.{Fraction};
 ghost use Rattle.teg_net.specs.Nets.{IsNet};
 ghost use Rattle.teg_net.specs.Circuits.{IsLive};
-ghost use Rattle.teg_net.specs.Parts.{to_of};
 ghost use Rattle.teg_net.specs.GreatestRatios.{IsGreatestRatio, IsAnyPlace, HasNoCircuit};
 ghost use Rattle.teg_net.specs.Certificates.{IsCertificate};
+ghost use Rattle.teg_cycle.specs.BestRatios.{best_ratio_of};
 ghost use Rattle.teg_critical.specs.declared.slacks.Slack.TheVariants.{NoCircuit};
-ghost use Rattle.teg_critical.specs.Slacks.{IsOnCircuit, IsSlackOf, AreSlacks};
+ghost use Rattle.teg_critical.specs.Slacks.{IsSlackOf, AreSlacks};
+ghost use Rattle.teg_critical.specs.Endings.{IsEnding};
 ghost use Rattle.teg_critical.specs.Losses.{LeavesGap};
-ghost use Rattle.teg_critical.specs.Searches.{AreLeastLosses};
-ghost use Rattle.teg_critical.specs.Told.{IsBestOf, IsSlackOfGap, CanTell, AreToldUpTo};
+ghost use Rattle.teg_critical.specs.Searches.{AreSteps, AreToldBack, IsToldBack};
+ghost use Rattle.teg_critical.specs.Told.{IsSlackOfGap, CanTell, AreToldMore, AreUntold};
 
+use crate::endings::{Ending, by_end, group_length};
 use crate::losses::{Loss, losses_of};
-use crate::searches::{all_steps, least_losses};
+use crate::searches::{Steps, all_steps, least_losses};
 use crate::slacks::{Slack, Slacks};
 use std::alloc::{AllocError, Global};
-use teg_net::{CycleAnswer, Net, OutOfMemory, PartAnswer, PlaceId, Ratio};
+use teg_cycle::best_ratio;
+use teg_net::{CycleAnswer, Net, OutOfMemory, Ratio};
 
 // The slack that a loss of the whole round tells.
 fn slack_by(total: u128, scale: u64, best: Ratio) -> Slack
@@ -33,54 +36,74 @@ fn slack_by(total: u128, scale: u64, best: Ratio) -> Slack
     }
 }
 
-// The slack of a place, where it ends at this transition and a circuit passes it, given the least
-// that paths from there lose.
+// The slack of a place, given the least that the paths back from its end to its start lose.
 fn slack_from(
     net: &Net,
     best: Ratio,
     losses: &[Option<Loss>],
-    end: usize,
     back: &[Option<u128>],
-    place: PlaceId,
-) -> Option<Slack>
+    ending: Ending,
+) -> Slack
     requires can { CanTell net.now best losses.now }
-    requires back { AreLeastLosses net.now losses.now end back.now }
-    requires place { place.index < length net.now.places }
-    ensures none { IfNone result (to_of net.now place ≡ end → IsOnCircuit net.now place → ⊥) }
-    ensures end { IfSome result (λ _. to_of net.now place ≡ end) }
-    ensures slack { IfSome result (IsSlackOf net.now best place) }
+    requires ending { IsEnding net.now ending }
+    requires count { length back.now ≡ length net.now.transitions }
+    requires back { IsToldBack net.now losses.now back.now ending }
+    ensures { IsSlackOf net.now best ending.place result }
 {
-    let own = &net.places()[place.index as usize];
-    if own.to.index as usize != end {
-        return None;
-    }
-    let loss = losses[place.index as usize]?;
-    let rest = back[own.from.index as usize]?;
-    Some(slack_by(loss.amount + rest, loss.scale, best))
+    let _net = net;
+    let Some(loss) = losses[ending.place.index as usize] else {
+        return Slack::NoCircuit;
+    };
+    let Some(rest) = back[ending.start] else {
+        return Slack::NoCircuit;
+    };
+    slack_by(loss.amount + rest, loss.scale, best)
 }
 
-// Tells the places that end at this transition, given the least that paths from there lose.
+// Tells these places, given the least that the paths back from their ends to their starts lose.
 fn tell_places(
     net: &Net,
     best: Ratio,
     losses: &[Option<Loss>],
-    end: usize,
+    endings: &[Ending],
     back: &[Option<u128>],
     slacks: &mut [Slack],
 )
     requires can { CanTell net.now best losses.now }
-    requires back { AreLeastLosses net.now losses.now end back.now }
-    requires told { AreToldUpTo net.now best end slacks.old }
-    ensures { AreToldUpTo net.now best (end + 1) slacks.new }
+    requires endings { All (IsEnding net.now) endings.now }
+    requires back { AreToldBack net.now losses.now back.now endings.now }
+    requires count { length slacks.old ≡ length net.now.places }
+    ensures { AreToldMore net.now best endings.now slacks.old slacks.new }
 {
-    for index in 0..net.places().len() {
-        let place = PlaceId {
-            index: index as u32,
-        };
-        if let Some(slack) = slack_from(net, best, losses, end, back, place) {
-            slacks[index] = slack;
-        }
+    for ending in endings {
+        slacks[ending.place.index as usize] = slack_from(net, best, losses, back, *ending);
     }
+}
+
+// Tells each place, those that end at one transition after one search from there.
+fn tell_all(
+    alloc: Global,
+    net: &Net,
+    best: Ratio,
+    losses: &[Option<Loss>],
+    steps: &[Steps],
+    slacks: &mut [Slack],
+) -> Result<(), AllocError>
+    requires can { CanTell net.now best losses.now }
+    requires steps { AreSteps net.now losses.now steps.now }
+    requires untold { AreUntold net.now slacks.old }
+    ensures { IfOk result (λ _. AreSlacks net.now best slacks.new) }
+{
+    let order = by_end(alloc, net, losses)?;
+    let mut rest = order.as_slice();
+    'tell: while !rest.is_empty() {
+        let count = group_length(rest);
+        let group = &rest[..count];
+        let back = least_losses(alloc, net, losses, steps, rest[0].end, group)?;
+        tell_places(net, best, losses, group, &back, slacks);
+        rest = &rest[count..];
+    }
+    Ok(())
 }
 
 // The slack of each place at the greatest ratio.
@@ -92,17 +115,14 @@ fn slacks_at(
 ) -> Result<Vec<Slack>, AllocError>
     requires certificate { IsCertificate net.now answer.now }
     requires live { IsLive net.now }
-    requires best { IsBestOf answer.now best }
+    requires best { best_ratio_of answer.now ≡ Some best }
     ensures slacks { IfOk result (λ slacks. AreSlacks net.now best slacks.items) }
     ensures greatest { IfOk result (λ _. IsGreatestRatio net.now IsAnyPlace best) }
 {
     let losses = losses_of(alloc, net, answer, best)?;
     let steps = all_steps(alloc, net, &losses)?;
     let mut slacks = vec![in alloc; Slack::NoCircuit; net.places().len()]?;
-    for end in 0..net.transitions().len() {
-        let back = least_losses(alloc, net, &losses, &steps, end)?;
-        tell_places(net, best, &losses, end, &back, &mut slacks);
-    }
+    tell_all(alloc, net, best, &losses, &steps, &mut slacks)?;
     Ok(slacks)
 }
 
@@ -113,19 +133,6 @@ fn no_slacks(alloc: Global, net: &Net) -> Result<Vec<Slack>, AllocError>
     ensures rules { IfOk result (λ _. IsNet net.now) }
 {
     vec![in alloc; Slack::NoCircuit; net.places().len()]
-}
-
-// The greatest ratio that the answer tells.
-fn best_ratio(net: &Net, answer: &CycleAnswer) -> Option<Ratio>
-    requires { IsCertificate net.now answer.now }
-    ensures none { IfNone result (answer.now.best ≡ None) }
-    ensures some { IfSome result (IsBestOf answer.now) }
-{
-    let part = answer.best?;
-    match &answer.parts[part as usize] {
-        PartAnswer::NoCircuit => None,
-        PartAnswer::Best { ratio, .. } => Some(*ratio),
-    }
 }
 
 /// The slack of each place of a live net (chapters 2 and 3), by an answer on its cycle times that
@@ -146,7 +153,7 @@ pub fn critical(alloc: Global, net: &Net, answer: &CycleAnswer) -> Result<Slacks
     ensures none { IfOk result (λ slacks. HasNoCircuit net.now IsAnyPlace
         → All (λ s. s ≡ NoCircuit) slacks) }
 {
-    match best_ratio(net, answer) {
+    match best_ratio(answer) {
         Some(best) => Ok(Slacks::new(slacks_at(alloc, net, answer, best)?)),
         None => Ok(Slacks::new(no_slacks(alloc, net)?)),
     }

@@ -1,10 +1,11 @@
 //! What places lose against the net's greatest ratio: by the potentials of the answer no place
 //! gains, so that the best path back is one that loses least (chapter 3).
-ghost use Rattle.std.specs.Prelude.{◌≡◌, ◌≤◌, ◌<◌, ◌*◌, length, IfOk};
+ghost use Rattle.std.specs.Prelude.{◌≡◌, ◌≤◌, ◌<◌, ◌*◌, length, IfOk, Some};
 ghost use Rattle.teg_net.specs.Limits.{greatest_hold, most_tokens};
 ghost use Rattle.teg_net.specs.Certificates.{potential_at, IsCertificate};
+ghost use Rattle.teg_cycle.specs.BestRatios.{best_ratio_of};
 ghost use Rattle.teg_critical.specs.Losses.{most_lost, most_loss, count_of, IsLost, CanLose, loss_at_best, IsLossOf, IsPlaceLoss, AreLosses};
-ghost use Rattle.teg_critical.specs.Told.{IsSmallRatio, IsBestOf, CanLoseBy};
+ghost use Rattle.teg_critical.specs.Told.{IsSmallRatio, CanLoseBy};
 
 use std::alloc::{AllocError, Global};
 use teg_net::{CycleAnswer, Net, PartAnswer, Place, PlaceId, Potential, Ratio, TransitionId};
@@ -84,7 +85,7 @@ fn loss_by(best: Ratio, own: Ratio, potentials: &[Potential], place: &Place) -> 
 // What a place loses; none where its ends lie in two parts.
 fn loss_of(net: &Net, answer: &CycleAnswer, best: Ratio, place: PlaceId) -> Option<Loss>
     requires certificate { IsCertificate net.now answer.now }
-    requires best { IsBestOf answer.now best }
+    requires best { best_ratio_of answer.now ≡ Some best }
     requires place { place.index < length net.now.places }
     ensures { IsPlaceLoss net.now answer.now best place result }
 {
@@ -111,7 +112,7 @@ pub(crate) fn losses_of(
     best: Ratio,
 ) -> Result<Vec<Option<Loss>>, AllocError>
     requires certificate { IsCertificate net.now answer.now }
-    requires best { IsBestOf answer.now best }
+    requires best { best_ratio_of answer.now ≡ Some best }
     ensures { IfOk result (λ losses. AreLosses net.now answer.now best losses.items) }
 {
     let mut losses = Vec::new(alloc);

@@ -1,11 +1,14 @@
-//! The least that paths lose from one transition on, to each transition (Dijkstra's algorithm): of
-//! the transitions that are not settled the nearest is settled, and its steps are taken.
-ghost use Rattle.std.specs.Prelude.{◌≡◌, ◌≤◌, ◌<◌, ◌+◌, ◌*◌, ◌++◌, ◌∷◌, [], ℕ, length, replicate, All, IfOk, IfNone, IfSome, IsTrue, None, Some, false, is_ok, if◌then◌else◌};
+//! The least that the paths from one transition lose back to the starts of the places that end there
+//! (Dijkstra's algorithm): of the transitions that are not settled the nearest is settled, and its
+//! steps are taken, until all these starts are settled.
+ghost use Rattle.std.specs.Prelude.{◌≡◌, ◌≤◌, ◌<◌, ◌+◌, ◌*◌, ◌++◌, ◌∷◌, [], ℕ, length, replicate, take, All, IfOk, IfNone, IfSome, IsTrue, None, Some, false, is_ok, if◌then◌else◌};
 ghost use Rattle.std.specs.BinaryHeap.{heap_items, heap_len};
 ghost use Rattle.teg_net.specs.Limits.{most_transitions};
 ghost use Rattle.teg_critical.specs.Losses.{most_loss, AreKeptSmall};
-ghost use Rattle.teg_critical.specs.Searches.{IsStepOf, AreSteps, IsWithin, IsRelaxed, AreQueued, AreLeastLosses};
+ghost use Rattle.teg_critical.specs.Endings.{IsEndingAt};
+ghost use Rattle.teg_critical.specs.Searches.{IsStepOf, AreSteps, IsWithin, IsRelaxed, AreQueued, AreSettled, AreToldBack};
 
+use crate::endings::Ending;
 use crate::losses::Loss;
 use std::alloc::{AllocError, Global};
 use std::cmp::Reverse;
@@ -139,30 +142,54 @@ fn relax(
     Ok(())
 }
 
-// The least that paths from this transition lose, to each. What is told of a transition waits in a
-// queue until the transition is settled; an entry of a settled transition is passed over.
+// The first of these places, from this one on, whose start is not settled; how many they are where
+// there is none.
+fn first_open(wanted: &[Ending], from: usize, settled: &[bool]) -> usize
+    requires from { from ≤ length wanted.now }
+    requires starts { All (λ e. e.start < length settled.now) wanted.now }
+    requires before { AreSettled settled.now (take from wanted.now) }
+    ensures bound { result ≤ length wanted.now }
+    ensures settled { AreSettled settled.now (take result wanted.now) }
+{
+    let mut next = from;
+    'open: while next < wanted.len() && settled[wanted[next].start] {
+        next += 1;
+    }
+    next
+}
+
+// The least that paths from this transition lose, to the start of each of these places, which end
+// there. What is told of a transition waits in a queue until the transition is settled; an entry of
+// a settled transition is passed over. The search ends once the starts of the places are settled.
 pub(crate) fn least_losses(
     alloc: Global,
     net: &Net,
     losses: &[Option<Loss>],
     steps: &[Steps],
-    start: usize,
+    end: usize,
+    wanted: &[Ending],
 ) -> Result<Vec<Option<u128>>, AllocError>
     requires count { length losses.now ≡ length net.now.places }
     requires steps { AreSteps net.now losses.now steps.now }
-    requires start { start < length net.now.transitions }
-    ensures { IfOk result (λ least. AreLeastLosses net.now losses.now start least.items) }
+    requires end { end < length net.now.transitions }
+    requires wanted { All (IsEndingAt net.now end) wanted.now }
+    ensures { IfOk result (λ least. AreToldBack net.now losses.now least.items wanted.now) }
 {
     let count = net.transitions().len();
     let mut least = vec![in alloc; None; count]?;
     let mut settled = vec![in alloc; false; count]?;
     let mut queue = BinaryHeap::new(alloc);
-    least[start] = Some(0);
-    queue.push(Reverse((0, start)))?;
+    let mut next = 0;
+    least[end] = Some(0);
+    queue.push(Reverse((0, end)))?;
     'search: while let Some(Reverse((loss, at))) = queue.pop() {
         if !settled[at] {
             settled[at] = true;
             relax(steps[at].as_slice(), loss, &mut least, &mut queue)?;
+            next = first_open(wanted, next, &settled);
+            if next == wanted.len() {
+                return Ok(least);
+            }
         }
     }
     Ok(least)

@@ -11,7 +11,7 @@ use Rattle.teg_net.specs.Ratios.{Fraction}
 use Rattle.teg_net.specs.Parts.{IsPlaceOfPart, to_of}
 use Rattle.teg_howard.specs.Policies.{Policy, Enters, first_id, offer_of, Improves}
 use Rattle.teg_howard.specs.FoundCircuits.{policy_of, potentials, IsMarked, IsBar, IsBetter}
-use Rattle.teg_howard.proofs.Turns.{same_id}
+use Rattle.teg_net.proofs.Reading.{same_id}
 
 -- the greatest offer to t so far, which the policy has taken
 pub record Greatest (net : NetLists) (parts : List ℕ) (part a b : ℕ) (v : ℕ → ℤ) (t : ℕ) (p : PlaceId) (z : ℤ) (i : ℕ) : Type 0 where

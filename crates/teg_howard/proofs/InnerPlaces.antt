@@ -8,7 +8,7 @@ use Rattle.teg_net.specs.declared.entries.PlaceId.{PlaceId}
 use Rattle.teg_net.specs.Nets.{NetLists}
 use Rattle.teg_net.specs.Parts.{IsPlaceOfPart}
 use Rattle.teg_howard.specs.InnerPlaces.{ListsPlaces}
-use Rattle.teg_howard.proofs.Turns.{same_id}
+use Rattle.teg_net.proofs.Reading.{same_id}
 
 -- the list has the places of the part below i
 pub record PlacesTo (net : NetLists) (parts : List ℕ) (part : ℕ) (ids : List PlaceId) (i : ℕ) : Type 0 where

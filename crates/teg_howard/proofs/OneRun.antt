@@ -13,7 +13,8 @@ use Rattle.teg_howard.specs.Policies.{Policy, IsPolicy, IsBestCircuit, LeadsBack
 use Rattle.teg_net.specs.PartAnswers.{first_transition_of}
 use Rattle.teg_howard.specs.Rounds.{chosen, potential, place_in, value_in, choice_in, IsRound, IsRoundOf, IsFirstRound, KeepsCircuit, Follows, IsRunTo, IsPolicyRun}
 use Rattle.teg_net.specs.Ratios.{IsRatioOf}
-use Rattle.teg_howard.proofs.Turns.{same_id, cases_member, better_is_policy, still_back_to_root}
+use Rattle.teg_howard.proofs.Turns.{cases_member, better_is_policy, still_back_to_root}
+use Rattle.teg_net.proofs.Reading.{same_id}
 use Rattle.teg_howard.proofs.Routing.{all_home}
 use Rattle.teg_howard.proofs.Optimum.{some_token}
 use Rattle.teg_howard.proofs.Listing.{only_members}

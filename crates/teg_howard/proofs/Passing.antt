@@ -11,10 +11,7 @@ use Rattle.teg_howard.specs.Policies.{Policy, IsPolicy, step_back, LeadsBack}
 use Rattle.teg_howard.specs.FoundCircuits.{IsMarked}
 use Rattle.teg_howard.specs.CircuitStarts.{IsLowestOnCircuit, IsLowestBack, walk_at, IsPassed, AreStarts}
 use Rattle.teg_howard.proofs.Back.{back_add, back_member}
-
-pub cases_walk : (o : Option ℕ) → (o ≡ None) ⊎ ((z : ℕ) × (o ≡ Some z))
-cases_walk None = inl refl
-cases_walk (Some z) = inr (z, refl)
+use Rattle.teg_parts.proofs.Ordering.{cases_number}
 
 some_not_none : (o : Option ℕ) (z : ℕ) → o ≡ Some z → o ≢ None
 some_not_none o z e n = cc
@@ -266,7 +263,7 @@ module _ (net : NetLists) (π : Policy) where
 
     module _ (starts : List Bool) (passed new : List (Option ℕ)) (i end : ℕ) (h : Started starts passed i) (w : IsPassed net π i passed new end) where
       was : (t : ℕ) → (walk_at passed t ≡ None) ⊎ (walk_at passed t ≢ None)
-      was t = ⊎_elim (λ (e : walk_at passed t ≡ None). inl e) (λ (e : (z : ℕ) × (walk_at passed t ≡ Some z)). inr (some_not_none (walk_at passed t) e.0 e.1)) (cases_walk (walk_at passed t))
+      was t = ⊎_elim (λ (e : walk_at passed t ≡ None). inl e) (λ (e : (z : ℕ) × (walk_at passed t ≡ Some z)). inr (some_not_none (walk_at passed t) e.0 e.1)) (cases_number (walk_at passed t))
 
       now_below : (t k : ℕ) → walk_at new t ≡ Some k → k < i + 1
       now_below t k e =
@@ -302,7 +299,7 @@ module _ (net : NetLists) (π : Policy) where
           let same = w.kept end (some_not_none (walk_at passed end) n.0 n.1) in
           let is : i ≡ n.0 = let s = n.1 in cc in
           absurd (omega arith))
-          (cases_walk (walk_at passed end))
+          (cases_number (walk_at passed end))
 
       pub end_old : (walk_at new end ≡ Some i → ⊥) → walk_at passed end ≢ None
       end_old out e = out (w.fresh end e w.at_end).0

@@ -13,9 +13,7 @@ use Rattle.teg_net.specs.ReducedTimes.{reduced_time, reduced_time_of}
 use Rattle.teg_howard.proofs.Search.{FirstBelow, first_below}
 use Rattle.teg_howard.proofs.Back.{trail, length-trail, back_add, get_or-trail, back_member, trail_leads, trail_inside, trail_own, trail_circuit, first_return, to_a_circuit}
 use Rattle.teg_howard.proofs.Sums.{weight_is, weight-append, below_along, above_by_one, trail_add, own_trail, sum_back}
-
-pub same_id : (p q : PlaceId) → p.index ≡ q.index → p ≡ q
-same_id p q e = ap (λ i. let r : PlaceId = record { index = i } in r) e
+use Rattle.teg_net.proofs.Reading.{same_id}
 
 pub cases_id : (p q : PlaceId) → (p ≡ q) ⊎ (p ≢ q)
 cases_id p q = ⊎_elim (λ (e : p.index ≡ q.index). inl (same_id p q e)) (λ (e : p.index ≢ q.index). inr (λ f. e (ap (λ r. r.index) f))) (cases_eq p.index q.index)

@@ -13,7 +13,8 @@ use Rattle.teg_howard.specs.Policies.{Policy, IsPolicy, IsPolicyCircuit, IsBestC
 use Rattle.teg_net.specs.PartAnswers.{first_transition_of}
 use Rattle.teg_net.specs.ReducedTimes.{reduced_time}
 use Rattle.teg_howard.proofs.Back.{back_member, back_add}
-use Rattle.teg_howard.proofs.Turns.{same_id, cases_improves}
+use Rattle.teg_howard.proofs.Turns.{cases_improves}
+use Rattle.teg_net.proofs.Reading.{same_id}
 use Rattle.teg_howard.proofs.Walks.{same_circuit}
 
 one_between : (x y : ℤ) → x ≤ℤ y → y ≤ℤ x → x ≡ y

@@ -10,7 +10,7 @@ use Rattle.teg_net.specs.Nets.{NetLists}
 use Rattle.teg_parts.specs.declared.places_along.PlacesAlong.{PlacesAlong}
 use Rattle.teg_parts.specs.declared.places_along.Way.{Way}
 use Rattle.teg_parts.specs.PlacesAlong.{near_of, IsHighestBelow, ArePlacesAlong, AddsPlacesAlong}
-use Rattle.teg_parts.proofs.Marks.{same_id}
+use Rattle.teg_net.proofs.Reading.{same_id}
 
 -- ---- the links
 pub record LinkedTo (net : NetLists) (way : Way) (highest lower : List (Option PlaceId)) (i : ℕ) : Type 0 where

@@ -1,15 +1,10 @@
 -- Marks and numbers of transitions: what one more leaves, and how many are left.
-use Rattle.std.proofs.Common.{ℕ, ◌+◌, ◌*◌, ◌<◌, ◌≤◌, ◌≡◌, ◌≢◌, List, ◌++◌, Option, Some, None, Result, Ok, Err, Bool, true, false, not, is_some, cond, count_by, length, get_or, set, take, drop, refl, sym, ap, subst, ◌∙◌, arith, rules, inl, inr, ⊎_elim}
+use Rattle.std.proofs.Common.{ℕ, ◌+◌, ◌*◌, ◌<◌, ◌≤◌, ◌≡◌, ◌≢◌, List, ◌++◌, Option, Some, None, Result, Ok, Err, Bool, true, false, not, is_some, cond, count_by, length, get_or, set, refl, sym, ap, ◌∙◌, arith, rules, inl, inr, ⊎_elim}
 use Rattle.std.specs.Prelude.{◌⊎◌, IfOk, IsSome}
 use Rattle.std.proofs.lemmas.Bool.{cases_eq, cases_lt}
-use Rattle.std.proofs.lemmas.List.{get_or-set_same, get_or-set_other, get_or_past, get_or-replicate, length-replicate, take-append-le}
-use Rattle.std.proofs.Math.Seq.{take-length}
+use Rattle.std.proofs.lemmas.List.{get_or-set_same, get_or-set_other, get_or_past, get_or-replicate, length-replicate}
 use Rattle.std.proofs.lemmas.List.Sums.{sum_by-set}
 use lib.ListN.{replicate}
-use Rattle.teg_net.specs.declared.entries.PlaceId.{PlaceId}
-
-pub same_id : (p q : PlaceId) → p.index ≡ q.index → p ≡ q
-same_id p q e = ap (λ i. let r : PlaceId = record { index = i } in r) e
 
 pub false_not_true : (b : Bool) → b ≡ false → b ≡ true → ⊥
 false_not_true b e f = cc
@@ -51,13 +46,6 @@ pub work_less : (u v places a b : ℕ) → v + 1 ≡ u → b ≤ a + places → 
 work_less u v places a b e l =
     let w : u * (places + 1) ≡ (v + 1) * (places + 1) = ap (λ x. x * (places + 1)) (sym e) in
     omega arith
-
--- ---- results and numbers
--- a list written back whole
-pub written_back : {A : Type 0} (new old : List A) (n : ℕ) → length new ≡ n → take n (new ++ drop (length new) old) ≡ new
-written_back new old n e =
-    let all : take (length new) (new ++ drop (length new) old) ≡ new = take-append-le (length new) new (drop (length new) old) (omega arith) ∙ take-length new in
-    subst (λ m. take m (new ++ drop (length new) old) ≡ new) e all
 
 -- what holds where a call was right leads on
 pub IfOk_then : {A E : Type 0} (r : Result A E) {P Q : A → Type 0} → IfOk r P → ((x : A) → P x → Q x) → IfOk r Q

@@ -7,7 +7,8 @@ use Rattle.teg_net.specs.Nets.{NetLists}
 use Rattle.teg_net.specs.Circuits.{from_of}
 use Rattle.teg_net.specs.Parts.{to_of, IsPlaceOfPart}
 use Rattle.teg_parts.specs.Numbers.{component_at, number_of, without, Blocks, AreBlocked, IsFree, IsOpenFor}
-use Rattle.teg_parts.proofs.Marks.{same_id, false_not_true, set_flag, set_flag_before}
+use Rattle.teg_parts.proofs.Marks.{false_not_true, set_flag, set_flag_before}
+use Rattle.teg_net.proofs.Reading.{same_id}
 
 -- ---- which components are blocked
 pub record BlockedTo (net : NetLists) (components : List ℕ) (numbers : List (Option ℕ)) (blocked : List Bool) (i : ℕ) : Type 0 where

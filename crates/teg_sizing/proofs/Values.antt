@@ -4,7 +4,7 @@ use Rattle.std.specs.Prelude.{◌≤ℤ◌, All, Contains}
 use Rattle.std.specs.Int.{w128}
 use Rattle.std.proofs.lemmas.Int.{ints, by_lt_z, to_z-of_z, fits_signed_from_abs}
 use Rattle.std.proofs.lemmas.Bool.{cases_eq}
-use Rattle.std.proofs.lemmas.List.{length-append, get_or_append_left, get_or-append_right, get_or_read}
+use Rattle.std.proofs.lemmas.List.{length-append, get_or_append_left, get_or-append_right}
 use Rattle.std.proofs.lemmas.List.Sums.{sum_by-append, sum_by-cons}
 use Rattle.std.proofs.Math.Nat.{mul-le-mul_right}
 use Rattle.teg_net.specs.declared.entries.PlaceId.{PlaceId}
@@ -12,20 +12,11 @@ use Rattle.teg_net.specs.declared.entries.Place.{Place}
 use Rattle.teg_net.specs.Limits.{greatest_hold, most_tokens}
 use Rattle.teg_net.specs.Nets.{NetLists}
 use Rattle.teg_net.specs.Ratios.{Fraction}
-use Rattle.teg_net.specs.Circuits.{no_place, place_at, time_of, tokens_of}
+use Rattle.teg_net.specs.Circuits.{place_at, time_of, tokens_of}
 use Rattle.teg_sizing.specs.Rounds.{IsTarget, weight_of, value_of, Avoids, most_weight, most_value, IsAtLeast}
+use Rattle.teg_net.proofs.Reading.{same_id}
 
 -- ---- reading
-
--- an entry read from a list is that of an equal list, whatever stands past the end
-pub read : {X : Type 0} (xs ys : List X) (i : ℕ) (q d : X) → xs ≡ ys → i < length ys → q ≡ get_or xs i q → q ≡ get_or ys i d
-read xs ys i q d e l is = get_or_read ys i q l (is ∙ ap (λ z. get_or z i q) e) d
-
-pub read_place : (net : NetLists) (xs : List Place) (p : PlaceId) (q : Place) → xs ≡ net.places → p.index < length net.places → q ≡ get_or xs p.index q → q ≡ place_at net p
-read_place net xs p q e l is = read xs net.places p.index q no_place e l is
-
-pub same_id : (p q : PlaceId) → p.index ≡ q.index → p ≡ q
-same_id p q e = ap (λ (z : ℕ). record { index = z }) e
 
 -- ---- what is told
 

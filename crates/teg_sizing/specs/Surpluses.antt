@@ -1,11 +1,13 @@
 -- Working definitions of circuits above a target ratio, and of the best of those that pass a place.
-use Rattle.std.specs.Prelude.{ℕ, ℤ, pos, ◌≤ℤ◌, ◌<◌, ◌≤◌, ◌≡◌, ◌≢◌, List, length, Some, None, Contains}
+use Rattle.std.specs.Prelude.{ℕ, ℤ, pos, ◌+◌, ◌≤ℤ◌, ◌<◌, ◌≤◌, ◌≡◌, ◌≢◌, List, length, Some, None, Contains}
 use Rattle.teg_net.specs.declared.entries.PlaceId.{PlaceId}
 use Rattle.teg_net.specs.Nets.{NetLists}
 use Rattle.teg_net.specs.Ratios.{Fraction}
 use Rattle.teg_net.specs.Circuits.{IsCircuit}
+use Rattle.teg_net.specs.Parts.{to_of}
 use Rattle.teg_sizing.specs.declared.rounds.Cell.{Cell}
 use Rattle.teg_sizing.specs.Rounds.{value_of, Avoids, most_value, value_at, by_at}
+use Rattle.teg_sizing.specs.Paths.{AreOfNet, HaveToldAll}
 
 -- no circuit that avoids the place is above the target
 abbrev pub NoneIsAbove : NetLists → Fraction → PlaceId → Type 0
@@ -52,3 +54,17 @@ pub record IsBetter (cells : List Cell) (t : ℕ) : Type 0 where
 -- of no transition it does
 abbrev pub NoneIsBetter : List Cell → Type 0
 NoneIsBetter cells = (t : ℕ) → t < length cells → by_at cells t ≡ None
+
+-- the rounds from everywhere by all places but this one, one more than there are transitions
+pub record AreRoundsApart (net : NetLists) (r : Fraction) (p : PlaceId) (rounds : List (List Cell)) : Type 0 where
+  pub first : List Cell
+  pub starts : StartsEverywhere (length net.transitions) first
+  pub told : HaveToldAll net r p first (length net.transitions + 1) rounds
+  pub of_net : AreOfNet net rounds
+
+-- the rounds from the end of the place by all places but this one, as many as there are transitions
+pub record AreRoundsBack (net : NetLists) (r : Fraction) (p : PlaceId) (rounds : List (List Cell)) : Type 0 where
+  pub first : List Cell
+  pub starts : StartsAt (length net.transitions) (to_of net p) first
+  pub told : HaveToldAll net r p first (length net.transitions) rounds
+  pub of_net : AreOfNet net rounds

@@ -1,7 +1,9 @@
 //! Circuits above the target: those that avoid the place, and the best of those that pass it.
 ghost use Rattle.std.specs.Prelude.{◌<◌, length, IfOk, IfNone, IfSome, Some};
+ghost use Rattle.teg_net.specs.Nets.{IsNet};
+ghost use Rattle.teg_sizing.specs.Paths.{last_round};
 ghost use Rattle.teg_sizing.specs.Rounds.{IsTarget};
-ghost use Rattle.teg_sizing.specs.Surpluses.{NoneIsAbove, IsAboveApart, StartsEverywhere, StartsAt, NonePasses, IsBestThrough};
+ghost use Rattle.teg_sizing.specs.Surpluses.{NoneIsAbove, IsAboveApart, StartsEverywhere, StartsAt, IsBetter, AreRoundsApart, AreRoundsBack, NonePasses, IsBestThrough};
 
 use crate::loops::first_loop;
 use crate::rounds::{Cell, Round, better_at, last_cells, rounds, weight};
@@ -41,6 +43,44 @@ fn only_at(alloc: Global, count: usize, start: TransitionId) -> Result<Round, Al
     Ok(Round::new(cells))
 }
 
+// The rounds from everywhere, by all places but this one.
+fn rounds_apart(
+    alloc: Global,
+    net: &Net,
+    target: Ratio,
+    place: PlaceId,
+) -> Result<Vec<Round>, AllocError>
+    requires { IsTarget target }
+    ensures apart { IfOk result (λ all. AreRoundsApart net.now target place all.items) }
+    ensures rules { IfOk result (λ _. IsNet net.now) }
+{
+    let count = net.transitions().len();
+    let first = everywhere(alloc, count)?;
+    let all = rounds(alloc, net, target, place, first, count + 1)?;
+    Ok(all)
+}
+
+// A circuit in the path by which the last of these rounds tells more of the transition.
+fn loop_of(
+    alloc: Global,
+    net: &Net,
+    target: Ratio,
+    place: PlaceId,
+    all: &[Round],
+    end: usize,
+) -> Result<Vec<PlaceId>, AllocError>
+    requires rules { IsNet net.now }
+    requires apart { AreRoundsApart net.now target place all.now }
+    requires better { IsBetter (last_round all.now) end }
+    ensures { IfOk result (λ own. IsAboveApart net.now target place own.items) }
+{
+    let _target = target;
+    let _place = place;
+    let path = trace(alloc, net, all, end)?;
+    let own = first_loop(alloc, net, &path)?;
+    Ok(own)
+}
+
 // A circuit above the target that avoids the place; none where there is none.
 pub(crate) fn above_apart(
     alloc: Global,
@@ -53,14 +93,30 @@ pub(crate) fn above_apart(
     ensures some { IfOk result (λ found. IfSome found (λ own. IsAboveApart net.now target place
         own.items)) }
 {
-    let count = net.transitions().len();
-    let first = everywhere(alloc, count)?;
-    let all = rounds(alloc, net, target, place, first, count + 1)?;
+    let all = rounds_apart(alloc, net, target, place)?;
     let Some(end) = better_at(last_cells(&all)) else {
         return Ok(None);
     };
-    let path = trace(alloc, net, &all, end)?;
-    Ok(Some(first_loop(alloc, net, &path)?))
+    Ok(Some(loop_of(alloc, net, target, place, &all, end)?))
+}
+
+// The rounds from the end of the place, by all places but this one.
+fn rounds_back(
+    alloc: Global,
+    net: &Net,
+    target: Ratio,
+    place: PlaceId,
+) -> Result<Vec<Round>, AllocError>
+    requires target { IsTarget target }
+    requires place { place.index < length net.now.places }
+    ensures back { IfOk result (λ all. AreRoundsBack net.now target place all.items) }
+    ensures rules { IfOk result (λ _. IsNet net.now) }
+{
+    let count = net.transitions().len();
+    let own = &net.places()[place.index as usize];
+    let first = only_at(alloc, count, own.to)?;
+    let all = rounds(alloc, net, target, place, first, count)?;
+    Ok(all)
 }
 
 // The best circuit that passes the place, where none that avoids it is above the target.
@@ -77,10 +133,8 @@ pub(crate) fn best_through(
     ensures some { IfOk result (λ best. IfSome best (λ b. IsBestThrough net.now target place b.value
         b.places.items)) }
 {
-    let count = net.transitions().len();
+    let all = rounds_back(alloc, net, target, place)?;
     let own = &net.places()[place.index as usize];
-    let first = only_at(alloc, count, own.to)?;
-    let all = rounds(alloc, net, target, place, first, count)?;
     let end = own.from.index as usize;
     let Some(back) = last_cells(&all)[end].value else {
         return Ok(None);

@@ -1,10 +1,33 @@
 //! The path that the rounds tell of a transition.
-ghost use Rattle.std.specs.Prelude.{◌≡◌, ◌<◌, length, IfOk};
+ghost use Rattle.std.specs.Prelude.{◌≡◌, ◌<◌, length, IfOk, IfSome};
+ghost use Rattle.teg_net.specs.Circuits.{from_of};
+ghost use Rattle.teg_sizing.specs.Rounds.{by_at, round_at};
 ghost use Rattle.teg_sizing.specs.Paths.{AreOfNet, trace_of};
 
 use crate::rounds::Round;
 use std::alloc::{AllocError, Global};
 use teg_net::{Net, PlaceId};
+
+// The place by which the round of this number came to the transition, if it is by one.
+fn place_by(net: &Net, rounds: &[Round], number: usize, at: usize) -> Option<PlaceId>
+    requires rounds { AreOfNet net.now rounds.now }
+    requires number { number < length rounds.now }
+    requires at { at < length net.now.transitions }
+    ensures by { result ≡ by_at (round_at rounds.now number) at }
+    ensures in_range { IfSome result (λ id. id.index < length net.now.places) }
+{
+    let _net = net;
+    rounds[number].cells()[at].by
+}
+
+// The transition that the place leaves.
+fn start_of(net: &Net, id: PlaceId) -> usize
+    requires { id.index < length net.now.places }
+    ensures start { result ≡ from_of net.now id }
+    ensures in_range { result < length net.now.transitions }
+{
+    net.places()[id.index as usize].from.index as usize
+}
 
 // The places by which the rounds came to the transition, from the first on.
 pub(crate) fn trace(
@@ -21,9 +44,9 @@ pub(crate) fn trace(
     let mut places = Vec::new(alloc);
     let mut at = end;
     for number in (0..rounds.len()).rev() {
-        if let Some(id) = rounds[number].cells()[at].by {
+        if let Some(id) = place_by(net, rounds, number, at) {
             places.push(id)?;
-            at = net.places()[id.index as usize].from.index as usize;
+            at = start_of(net, id);
         }
     }
     places.reverse();

@@ -1,5 +1,6 @@
-use Rattle.teg_critical.proofs.EachPlace.{ToldBelow}
+use Rattle.std.proofs.Common.{take}
+use Rattle.teg_critical.specs.Told.{AreToldMore}
 use Rattle.teg_critical.proofs.each_place.tell_places.Given as goal
 
-abbrev pub invariant-loop-index : goal.invariant-loop-index
-invariant-loop-index l = ToldBelow l.net l.best l.end l.index l.slacks
+abbrev pub invariant-loop-ending : goal.invariant-loop-ending
+invariant-loop-ending l = AreToldMore l.net l.best (take l.ending-index l.endings) l.initial.slacks l.slacks

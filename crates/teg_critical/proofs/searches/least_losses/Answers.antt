@@ -1,17 +1,18 @@
-use Rattle.std.proofs.Common.{ℕ, Bool, true, false, Option, None, List, [], ◌∷◌, ◌≡◌, ◌<◌, ◌≤◌, ◌+◌, ◌*◌, length, get_or, set, replicate, refl, sym, ap, subst, ◌∙◌, arith, rules}
+use Rattle.std.proofs.Common.{ℕ, Bool, true, false, Option, None, List, [], ◌∷◌, ◌≡◌, ◌<◌, ◌≤◌, ◌+◌, ◌*◌, length, get_or, set, take, replicate, refl, sym, ap, subst, ◌∙◌, arith, rules}
 use Rattle.std.specs.Prelude.{IsPermutation}
 use Rattle.std.specs.BinaryHeap.{heap_items, heap_len, IsHeap, IsUpperBound}
 use Rattle.std.specs.declared.cmp.Reverse.{Reverse}
-use Rattle.std.proofs.lemmas.List.{get_or_default, get_or_read}
+use Rattle.std.proofs.lemmas.List.{get_or_default, get_or_read, take_all}
 use Rattle.teg_net.specs.Nets.{NetLists, IsNet, IsPlaceOf}
 use Rattle.teg_net.specs.Circuits.{no_place, place_at}
 use Rattle.teg_critical.specs.declared.losses.Loss.{Loss}
+use Rattle.teg_critical.specs.declared.searches.Step.{Step}
 use Rattle.teg_critical.specs.Losses.{most_loss}
-use Rattle.teg_critical.specs.Searches.{AreStepsFrom, IsQueueing, IsNearest, IsRelaxed, IsOver, AreQueued, is_settled, unsettled, nearest_first}
-use Rattle.teg_critical.proofs.Reading.{written_back}
+use Rattle.teg_critical.specs.Searches.{AreStepsFrom, IsSearching, IsQueueing, AreSettled, IsNearest, IsRelaxed, IsOver, AreQueued, is_settled, unsettled, nearest_first}
+use Rattle.teg_net.proofs.Reading.{written_back}
 use Rattle.teg_critical.proofs.Stepping.{own_steps}
 use Rattle.teg_critical.proofs.Settling.{settles, one_settled}
-use Rattle.teg_critical.proofs.Searching.{searched}
+use Rattle.teg_critical.proofs.Searching.{searched, settled_back}
 use Rattle.teg_critical.proofs.Queueing.{search_begins, queue_begins, first_in, passed_over, is_nearest, goes_on, queue_over, less_left}
 use Rattle.teg_critical.proofs.searches.least_losses.Goals as goal
 
@@ -19,45 +20,48 @@ pub search-init : goal.search-init
 search-init c =
     let filled : c.in_ok-least.least.items ≡ replicate (length c.transitions-count.result.now) None = c.in_ok-least.ensures.items_if_clones_equal (search rules) in
     let all_open : c.in_ok-settled.settled.items ≡ replicate (length c.transitions-count.result.now) false = c.in_ok-settled.ensures.items_if_clones_equal (search rules) in
-    let start_in : c.args.start < length c.transitions-count.result.now = rw c.transitions-count.ensures.value c.requires.start in
-    let searching = search_begins c.args.net.now c.args.losses.now c.args.start c.in_ok-least.least.items c.in_ok-settled.settled.items (length c.transitions-count.result.now) filled all_open (ap length c.transitions-count.ensures.value) start_in in
-    queue_begins c.args.net.now c.args.losses.now c.args.start c.in_ok-least.least.items c.in_ok-settled.settled.items (length c.transitions-count.result.now) (heap_items c.new-queue.result) (heap_items c.push.new.self) searching filled start_in
-    c.new-queue.ensures.items c.in_ok-push.ensures.permutation (c.in_ok-push.ensures.heap_order c.new-queue.ensures.heap_order)
+    let start_in : c.args.end < length c.transitions-count.result.now = rw c.transitions-count.ensures.value c.requires.end in
+    let searching = search_begins c.args.net.now c.args.losses.now c.args.end c.in_ok-least.least.items c.in_ok-settled.settled.items (length c.transitions-count.result.now) filled all_open (ap length c.transitions-count.ensures.value) start_in in (
+      queue_begins c.args.net.now c.args.losses.now c.args.end c.in_ok-least.least.items c.in_ok-settled.settled.items (length c.transitions-count.result.now) (heap_items c.new-queue.result) (heap_items c.push.new.self) searching filled start_in
+          c.new-queue.ensures.items c.in_ok-push.ensures.permutation (c.in_ok-push.ensures.heap_order c.new-queue.ensures.heap_order),
+      omega arith,
+      λ i d m. absurd (omega arith),
+    )
 
 pub index-requires : goal.index-requires
 index-requires c =
-    let h = c.search.invariant in
-    let l = first_in c.args.net.now c.args.losses.now c.args.start c.search.least.items c.search.settled.items c.in-Some.field-0 (heap_items c.search.queue) (heap_items c.pop.new.self) h c.in-Some.ensures.permutation in
+    let h = c.search.invariant.0 in
+    let l = first_in c.args.net.now c.args.losses.now c.args.end c.search.least.items c.search.settled.items c.in-Some.field-0 (heap_items c.search.queue) (heap_items c.pop.new.self) h c.in-Some.ensures.permutation in
     let marks = h.searching.marks in
     let ok = c.search.settled.ok in
     omega (arith, ok.0)
 
 pub index_mut-requires-then-not-index : goal.index_mut-requires-then-not-index
 index_mut-requires-then-not-index c =
-    let h = c.search.invariant in
-    let l = first_in c.args.net.now c.args.losses.now c.args.start c.search.least.items c.search.settled.items c.in-Some.field-0 (heap_items c.search.queue) (heap_items c.pop.new.self) h c.in-Some.ensures.permutation in
+    let h = c.search.invariant.0 in
+    let l = first_in c.args.net.now c.args.losses.now c.args.end c.search.least.items c.search.settled.items c.in-Some.field-0 (heap_items c.search.queue) (heap_items c.pop.new.self) h c.in-Some.ensures.permutation in
     let marks = h.searching.marks in
     let ok = c.search.settled.ok in
     omega (arith, ok.0)
 
 pub offset_bounds-steps-at : goal.offset_bounds-steps-at
 offset_bounds-steps-at c =
-    let h = c.search.invariant in
-    let l = first_in c.args.net.now c.args.losses.now c.args.start c.search.least.items c.search.settled.items c.in-Some.field-0 (heap_items c.search.queue) (heap_items c.pop.new.self) h c.in-Some.ensures.permutation in
+    let h = c.search.invariant.0 in
+    let l = first_in c.args.net.now c.args.losses.now c.args.end c.search.least.items c.search.settled.items c.in-Some.field-0 (heap_items c.search.queue) (heap_items c.pop.new.self) h c.in-Some.ensures.permutation in
     let few = c.transitions-count.ensures.rules.few_transitions in
     omega arith
 
 pub bounds-steps-at : goal.bounds-steps-at
 bounds-steps-at c =
-    let h = c.search.invariant in
-    let l = first_in c.args.net.now c.args.losses.now c.args.start c.search.least.items c.search.settled.items c.in-Some.field-0 (heap_items c.search.queue) (heap_items c.pop.new.self) h c.in-Some.ensures.permutation in
+    let h = c.search.invariant.0 in
+    let l = first_in c.args.net.now c.args.losses.now c.args.end c.search.least.items c.search.settled.items c.in-Some.field-0 (heap_items c.search.queue) (heap_items c.pop.new.self) h c.in-Some.ensures.permutation in
     let count = c.requires.steps.count in
     omega arith
 
 pub relax-requires-clause-ends : goal.relax-requires-clause-ends
 relax-requires-clause-ends c =
-    let h = c.search.invariant in
-    let l = first_in c.args.net.now c.args.losses.now c.args.start c.search.least.items c.search.settled.items c.in-Some.field-0 (heap_items c.search.queue) (heap_items c.pop.new.self) h c.in-Some.ensures.permutation in
+    let h = c.search.invariant.0 in
+    let l = first_in c.args.net.now c.args.losses.now c.args.end c.search.least.items c.search.settled.items c.in-Some.field-0 (heap_items c.search.queue) (heap_items c.pop.new.self) h c.in-Some.ensures.permutation in
     let own : AreStepsFrom c.args.net.now c.args.losses.now c.in-Some.field-0.0.1 c.as_slice.result.now =
     subst (AreStepsFrom c.args.net.now c.args.losses.now c.in-Some.field-0.0.1) (sym c.as_slice.ensures) (own_steps c.args.net.now c.args.losses.now c.args.steps.now c.in-Some.field-0.0.1 c.index-steps-at.result c.requires.steps l c.index-steps-at.is) in
     let count = h.searching.count in
@@ -65,8 +69,8 @@ relax-requires-clause-ends c =
 
 pub relax-requires-clause-small : goal.relax-requires-clause-small
 relax-requires-clause-small c =
-    let h = c.search.invariant in
-    let l = first_in c.args.net.now c.args.losses.now c.args.start c.search.least.items c.search.settled.items c.in-Some.field-0 (heap_items c.search.queue) (heap_items c.pop.new.self) h c.in-Some.ensures.permutation in
+    let h = c.search.invariant.0 in
+    let l = first_in c.args.net.now c.args.losses.now c.args.end c.search.least.items c.search.settled.items c.in-Some.field-0 (heap_items c.search.queue) (heap_items c.pop.new.self) h c.in-Some.ensures.permutation in
     let own : AreStepsFrom c.args.net.now c.args.losses.now c.in-Some.field-0.0.1 c.as_slice.result.now =
     subst (AreStepsFrom c.args.net.now c.args.losses.now c.in-Some.field-0.0.1) (sym c.as_slice.ensures) (own_steps c.args.net.now c.args.losses.now c.args.steps.now c.in-Some.field-0.0.1 c.index-steps-at.result c.requires.steps l c.index-steps-at.is) in
     λ k d m. own.small k d m
@@ -92,36 +96,43 @@ empty_of (x ∷ xs) e = absurd (omega arith)
 
 pub relax-requires-clause-base : goal.relax-requires-clause-base
 relax-requires-clause-base c =
-    let h = c.search.invariant in
-    let near = near_of c.args.net.now c.args.losses.now c.args.start c.search.least.items c.search.settled.items c.in-Some.field-0 (heap_items c.search.queue) (heap_items c.pop.new.self) c.index.result.now h c.in-Some.ensures.permutation c.in-Some.ensures.below_top
+    let h = c.search.invariant.0 in
+    let near = near_of c.args.net.now c.args.losses.now c.args.end c.search.least.items c.search.settled.items c.in-Some.field-0 (heap_items c.search.queue) (heap_items c.pop.new.self) c.index.result.now h c.in-Some.ensures.permutation c.in-Some.ensures.below_top
     c.index.ensures c.if-not-index.true in
     let small = h.searching.small c.in-Some.field-0.0.1 c.in-Some.field-0.0.0 near.told in
     let few = c.transitions-count.ensures.rules.few_transitions in
     let marks = h.searching.marks in
     most_of c.in-Some.field-0.0.0 (length c.search.settled.items) (unsettled c.search.settled.items) small (omega arith)
 
-pub search-smaller-in-Continue-branch-4 : goal.search-smaller-in-Continue-branch-4
-search-smaller-in-Continue-branch-4 c =
-    let h = c.search.invariant in
+pub search-smaller-else-next-wanted : goal.search-smaller-else-next-wanted
+search-smaller-else-next-wanted c =
+    let h = c.search.invariant.0 in
     let first = c.in-Some.field-0 in
-    let l = first_in c.args.net.now c.args.losses.now c.args.start c.search.least.items c.search.settled.items first (heap_items c.search.queue) (heap_items c.pop.new.self) h c.in-Some.ensures.permutation in
+    let l = first_in c.args.net.now c.args.losses.now c.args.end c.search.least.items c.search.settled.items first (heap_items c.search.queue) (heap_items c.pop.new.self) h c.in-Some.ensures.permutation in
     let count = c.requires.steps.count in
-    let near = near_of c.args.net.now c.args.losses.now c.args.start c.search.least.items c.search.settled.items first (heap_items c.search.queue) (heap_items c.pop.new.self) c.index.result.now h c.in-Some.ensures.permutation c.in-Some.ensures.below_top
+    let near = near_of c.args.net.now c.args.losses.now c.args.end c.search.least.items c.search.settled.items first (heap_items c.search.queue) (heap_items c.pop.new.self) c.index.result.now h c.in-Some.ensures.permutation c.in-Some.ensures.below_top
     c.index.ensures c.if-not-index.true in
     let own : c.as_slice.result.now ≡ get_or c.args.steps.now first.0.1 [] = c.as_slice.ensures ∙ get_or_read c.args.steps.now first.0.1 c.index-steps-at.result (omega arith) c.index-steps-at.is [] in
     less_left c.search.settled.items (set c.search.settled.items first.0.1 true) c.args.steps.now c.as_slice.result.now first.0.1 (heap_len c.search.queue) (heap_len c.pop.new.self) (heap_len c.relax.new.queue) (omega arith) own
     (fewer_of c.search.least.items c.search.settled.items first.0.1 first.0.0 near) c.in-Some.ensures.len c.in_ok-relax.ensures.few
 
-pub search-preserved-in-Continue-branch-4 : goal.search-preserved-in-Continue-branch-4
-search-preserved-in-Continue-branch-4 c =
+-- what the search has found once the entry's steps are taken
+searching_on : (net : NetLists) (losses : List (Option Loss)) (start : ℕ) (least : List (Option ℕ)) (settled : List Bool) (first : Reverse (ℕ × ℕ)) (queue rest : List (Reverse (ℕ × ℕ))) (read : Bool) → IsNet net → IsQueueing net losses start least settled queue
+    → IsPermutation queue (first ∷ rest) → (IsHeap nearest_first queue → IsUpperBound nearest_first first rest) → read ≡ get_or settled first.0.1 read → read ≡ false
+    → (own : List Step) → AreStepsFrom net losses first.0.1 own → (new : List (Option ℕ)) → IsRelaxed own first.0.0 least new → IsSearching net losses start new (set settled first.0.1 true)
+searching_on net losses start least settled first queue rest read ok h moved top is not_yet own from new relaxed =
+    let near = near_of net losses start least settled first queue rest read h moved top is not_yet in
+    let marks = h.searching.marks in
+    settles net losses start least settled h.searching first.0.1 first.0.0 near own from new relaxed
+    (λ p m. (let rules : IsPlaceOf net (place_at net p) = ok.each_place p.index no_place m in let low = rules.from_in in omega arith))
+
+pub search-preserved-else-next-wanted : goal.search-preserved-else-next-wanted
+search-preserved-else-next-wanted c =
     let net : NetLists = c.args.net.now in
     let losses = c.args.losses.now in
-    let ok : IsNet net = c.transitions-count.ensures.rules in
-    let h = c.search.invariant in
+    let h = c.search.invariant.0 in
     let first = c.in-Some.field-0 in
-    let l = first_in net losses c.args.start c.search.least.items c.search.settled.items first (heap_items c.search.queue) (heap_items c.pop.new.self) h c.in-Some.ensures.permutation in
-    let near = near_of net losses c.args.start c.search.least.items c.search.settled.items first (heap_items c.search.queue) (heap_items c.pop.new.self) c.index.result.now h c.in-Some.ensures.permutation c.in-Some.ensures.below_top
-    c.index.ensures c.if-not-index.true in
+    let l = first_in net losses c.args.end c.search.least.items c.search.settled.items first (heap_items c.search.queue) (heap_items c.pop.new.self) h c.in-Some.ensures.permutation in
     let own : AreStepsFrom net losses first.0.1 c.as_slice.result.now =
     subst (AreStepsFrom net losses first.0.1) (sym c.as_slice.ensures) (own_steps net losses c.args.steps.now first.0.1 c.index-steps-at.result c.requires.steps l c.index-steps-at.is) in
     let relaxed : IsRelaxed c.as_slice.result.now first.0.0 c.search.least.items c.relax.new.least = rw c.deref_mut.ensures.value at c.in_ok-relax.ensures.relaxed in
@@ -130,25 +141,53 @@ search-preserved-in-Continue-branch-4 c =
     let long : length c.relax.new.least ≡ c.search.least.len = omega (arith, relaxed.count, vec.0) in
     let whole = written_back c.relax.new.least c.search.least.items c.search.least.len long in
     let marks = h.searching.marks in
+    let in' : first.0.1 < length c.search.settled.items = omega arith in
     let rest = c.in-Some.ensures.heap_order h.heap in
-    let searching = settles net losses c.args.start c.search.least.items c.search.settled.items h.searching first.0.1 first.0.0 near c.as_slice.result.now own c.relax.new.least relaxed
-    (λ p m. (let rules : IsPlaceOf net (place_at net p) = ok.each_place p.index no_place m in let low = rules.from_in in omega arith)) in
-    rw whole (goes_on net losses c.args.start c.search.least.items c.search.settled.items first (heap_items c.search.queue) (heap_items c.pop.new.self) h c.in-Some.ensures.permutation
-    c.as_slice.result.now c.relax.new.least (heap_items c.relax.new.queue) near.in_range relaxed queued rest.0 searching)
+    let searching = searching_on net losses c.args.end c.search.least.items c.search.settled.items first (heap_items c.search.queue) (heap_items c.pop.new.self) c.index.result.now c.transitions-count.ensures.rules h
+    c.in-Some.ensures.permutation c.in-Some.ensures.below_top c.index.ensures c.if-not-index.true c.as_slice.result.now own c.relax.new.least relaxed in
+    let done : AreSettled (set c.search.settled.items first.0.1 true) (take c.first_open-next.result c.args.wanted.now) = rw c.deref.ensures.value at c.first_open-next.ensures.settled in
+    rw whole (
+      goes_on net losses c.args.end c.search.least.items c.search.settled.items first (heap_items c.search.queue) (heap_items c.pop.new.self) h c.in-Some.ensures.permutation
+          c.as_slice.result.now c.relax.new.least (heap_items c.relax.new.queue) in' relaxed queued rest.0 searching,
+      c.first_open-next.ensures.bound,
+      done,
+    )
+
+pub returns-then-next-wanted : goal.returns-then-next-wanted
+returns-then-next-wanted c =
+    let net : NetLists = c.args.net.now in
+    let losses = c.args.losses.now in
+    let h = c.search.invariant.0 in
+    let first = c.in-Some.field-0 in
+    let l = first_in net losses c.args.end c.search.least.items c.search.settled.items first (heap_items c.search.queue) (heap_items c.pop.new.self) h c.in-Some.ensures.permutation in
+    let own : AreStepsFrom net losses first.0.1 c.as_slice.result.now =
+    subst (AreStepsFrom net losses first.0.1) (sym c.as_slice.ensures) (own_steps net losses c.args.steps.now first.0.1 c.index-steps-at.result c.requires.steps l c.index-steps-at.is) in
+    let relaxed : IsRelaxed c.as_slice.result.now first.0.0 c.search.least.items c.relax.new.least = rw c.deref_mut.ensures.value at c.in_ok-relax.ensures.relaxed in
+    let vec = c.search.least.ok in
+    let long : length c.relax.new.least ≡ c.search.least.len = omega (arith, relaxed.count, vec.0) in
+    let whole = written_back c.relax.new.least c.search.least.items c.search.least.len long in
+    let searching = searching_on net losses c.args.end c.search.least.items c.search.settled.items first (heap_items c.search.queue) (heap_items c.pop.new.self) c.index.result.now c.transitions-count.ensures.rules h
+    c.in-Some.ensures.permutation c.in-Some.ensures.below_top c.index.ensures c.if-not-index.true c.as_slice.result.now own c.relax.new.least relaxed in
+    let done : AreSettled (set c.search.settled.items first.0.1 true) (take c.first_open-next.result c.args.wanted.now) = rw c.deref.ensures.value at c.first_open-next.ensures.settled in
+    let all : take c.first_open-next.result c.args.wanted.now ≡ c.args.wanted.now = take_all c.first_open-next.result c.args.wanted.now (omega (arith, c.if-next-wanted.true)) in
+    rw whole (settled_back net losses c.args.end c.relax.new.least (set c.search.settled.items first.0.1 true) searching c.transitions-count.ensures.rules c.args.wanted.now c.requires.wanted (rw all at done))
 
 pub search-preserved : goal.search-preserved
 search-preserved c =
-    let h = c.search.invariant in
+    let h = c.search.invariant.0 in
     let first = c.in-Some.field-0 in
-    let l = first_in c.args.net.now c.args.losses.now c.args.start c.search.least.items c.search.settled.items first (heap_items c.search.queue) (heap_items c.pop.new.self) h c.in-Some.ensures.permutation in
+    let l = first_in c.args.net.now c.args.losses.now c.args.end c.search.least.items c.search.settled.items first (heap_items c.search.queue) (heap_items c.pop.new.self) h c.in-Some.ensures.permutation in
     let marks = h.searching.marks in
     let done : is_settled c.search.settled.items first.0.1 ≡ true = sym (c.index.ensures ∙ get_or_default c.search.settled.items first.0.1 c.index.result.now true (omega arith)) ∙ c.if-not-index.false in
-    let rest = c.in-Some.ensures.heap_order h.heap in
-    passed_over c.args.net.now c.args.losses.now c.args.start c.search.least.items c.search.settled.items first (heap_items c.search.queue) (heap_items c.pop.new.self) h c.in-Some.ensures.permutation done rest.0
+    let rest = c.in-Some.ensures.heap_order h.heap in (
+      passed_over c.args.net.now c.args.losses.now c.args.end c.search.least.items c.search.settled.items first (heap_items c.search.queue) (heap_items c.pop.new.self) h c.in-Some.ensures.permutation done rest.0,
+      c.search.invariant.1,
+      c.search.invariant.2,
+    )
 
 pub returns : goal.returns
 returns c =
-    let h = c.search.invariant in
+    let h = c.search.invariant.0 in
     let nothing : heap_items c.search.queue ≡ [] = empty_of (heap_items c.search.queue) (search rules) in
-    let over : IsOver c.search.least.items c.search.settled.items = queue_over c.args.net.now c.args.losses.now c.args.start c.search.least.items c.search.settled.items (subst (IsQueueing c.args.net.now c.args.losses.now c.args.start c.search.least.items c.search.settled.items) nothing h) in
-    searched c.args.net.now c.args.losses.now c.args.start c.search.least.items c.search.settled.items h.searching over c.transitions-count.ensures.rules
+    let over : IsOver c.search.least.items c.search.settled.items = queue_over c.args.net.now c.args.losses.now c.args.end c.search.least.items c.search.settled.items (subst (IsQueueing c.args.net.now c.args.losses.now c.args.end c.search.least.items c.search.settled.items) nothing h) in
+    searched c.args.net.now c.args.losses.now c.args.end c.search.least.items c.search.settled.items h.searching c.transitions-count.ensures.rules over c.args.wanted.now c.requires.wanted

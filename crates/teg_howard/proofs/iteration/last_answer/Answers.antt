@@ -3,7 +3,7 @@ use Rattle.teg_howard.specs.RoundStates.{GoesOn, IsLast}
 use Rattle.teg_howard.specs.Runs.{IsAnswerOf}
 use Rattle.teg_howard.proofs.Runs.{run_one, run_more, run_all, last_answers, last_keeps, last_pushed}
 use Rattle.teg_howard.proofs.Ending.{falls}
-use Rattle.teg_parts.proofs.Marks.{written_back}
+use Rattle.teg_net.proofs.Reading.{written_back}
 use Rattle.teg_howard.proofs.iteration.last_answer.Goals as goal
 
 pub rounds-init : goal.rounds-init

@@ -2,7 +2,8 @@ use Rattle.std.proofs.Common.{ℕ, ◌≡◌, ◌≢◌, ◌<◌, ◌≤◌, Non
 use Rattle.std.proofs.lemmas.Bool.{cases_lt}
 use lib.ListN.{replicate}
 use Rattle.teg_parts.specs.Components.{HasFound, found_at}
-use Rattle.teg_parts.proofs.Marks.{written_back, IfOk_then}
+use Rattle.teg_parts.proofs.Marks.{IfOk_then}
+use Rattle.teg_net.proofs.Reading.{written_back}
 use Rattle.teg_parts.proofs.Rooted.{found_none, are_components}
 use Rattle.teg_parts.proofs.components.components.Goals as goal
 

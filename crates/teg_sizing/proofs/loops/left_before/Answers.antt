@@ -6,7 +6,7 @@ use Rattle.teg_net.specs.Nets.{NetLists}
 use Rattle.teg_net.specs.Circuits.{IsPath}
 use Rattle.teg_net.proofs.PathLaws.{IsPath-in_range}
 use Rattle.teg_sizing.specs.Paths.{no_id, left_at}
-use Rattle.teg_sizing.proofs.Values.{read_place}
+use Rattle.teg_net.proofs.Reading.{read_place}
 use Rattle.teg_sizing.proofs.loops.left_before.Goals as goal
 
 in_net : (net : NetLists) (ps : List PlaceId) (own : List Place) (k : ℕ) → own ≡ net.places → IsPath net ps → k < length ps → (get_or ps k no_id).index < length own
