@@ -18,15 +18,13 @@ use Rattle.teg_net.specs.declared.walks.Step.TheVariants.{By, Next}
 use Rattle.teg_net.specs.Circuits.{place_at, no_place}
 use Rattle.teg_net.specs.Nets.{NetLists, IsNet}
 use Rattle.teg_net.specs.Walks.{Walks}
-use Rattle.teg_report.specs.Answering.{latest_in, late_in, onward_in, planned_in, steps_in}
+use Rattle.teg_report.specs.Plans.{latest_in, late_in, onward_in, planned_in, steps_in, AreLateNumbers, AreLatestKept, IsLateKept, IsLatestKept, IsLateIn, IsLateTold, IsLatestIn, IsOnwardIn, IsPlanIn, LateLists, late_line, late_lines, latest_words, onward_words, path_line, plan_lines, planned_line, planned_lines, role_word, steps_words}
 use Rattle.teg_report.specs.Answers.{Jit, Late}
-use Rattle.teg_report.specs.Kept.{AreLateNumbers, AreLatestKept, IsLateKept, IsLatestKept}
-use Rattle.teg_report.specs.Plans.{IsLateIn, IsLateTold, IsLatestIn, IsOnwardIn, IsPlanIn, LateLists, late_line, late_lines, latest_words, onward_words, path_line, plan_lines, planned_line, planned_lines, role_word, steps_words}
 use Rattle.teg_report.proofs.IsRead.{IsRead}
 use Rattle.teg_text.proofs.NamesRead.{place_back, place_is_word, transition_back, transition_is_word}
 use Rattle.teg_text.specs.Lines.{is_line, is_word}
 use Rattle.teg_text.proofs.Back.{number_back, word32_back, word64_back}
-use Rattle.teg_text.proofs.Rows.{grid_passes, numbered_back}
+use Rattle.teg_text.proofs.Rows.{positive_width, grid_passes, numbered_back}
 use Rattle.teg_text.proofs.Words.{decimal_is_word, decimal_is_numeral}
 use Rattle.teg_text.specs.Names.{name_of_transition, no_transition}
 
@@ -76,10 +74,6 @@ grid_at f a (suc width) count (suc t) k d l m =
     let next : a + 1 + t ≡ a + suc t = omega arith in
     ap (λ (i : ℕ). get_or (row ++ rest) i d) same
     ∙ (get_or-append-add row rest (t * count + k) d ∙ (grid_at f (a + 1) width count t k d (omega (arith, l)) m ∙ ap (λ (b : ℕ). f b k) next))
-
-positive_width : (i count width : ℕ) → i < count * width → 0 < width
-positive_width i count zero h = absurd (omega arith)
-positive_width i count (suc width) h = omega arith
 
 planned_back : (net : NetLists) (plan : PlanDates) → IsNet net → IsPlanIn net plan → AreLatestKept plan →
     (planned_in net plan.numbers (flat_map (planned_lines net plan) (range_with_len 0 (length net.transitions)))).dates ≡ plan.dates

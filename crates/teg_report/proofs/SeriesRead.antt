@@ -14,10 +14,8 @@ use Rattle.teg_calc.specs.declared.refusals.ParseRefused.{ParseRefused}
 use Rattle.teg_calc.specs.declared.refusals.ParseRefused.TheVariants.{Syntax, TooDeep, OutOfMemory as NoText}
 use Rattle.teg_calc.specs.Printing.{series_line}
 use Rattle.teg_net.specs.Nets.{NetLists}
-use Rattle.teg_report.specs.Answering.{series_in}
+use Rattle.teg_report.specs.Series.{series_in, IsSeriesKept, IsParseKept, IsSeriesRefusalKept, parse_line, series_refused_line}
 use Rattle.teg_report.specs.Answers.{Calc, Parse, Series}
-use Rattle.teg_report.specs.Kept.{IsSeriesKept, IsParseKept, IsSeriesRefusalKept}
-use Rattle.teg_report.specs.Series.{parse_line, series_refused_line}
 use Rattle.teg_report.proofs.IsRead.{IsRead}
 use Rattle.teg_text.specs.Lines.{is_word}
 use Rattle.teg_text.specs.Reading.{date_in, number_in, signed_in}

@@ -8,10 +8,8 @@ use Rattle.std.proofs.lemmas.List.{length-append}
 use Rattle.dioid.specs.declared.dates.Date.{Date}
 use Rattle.settled_laws.specs.Forms.{SettledForm, row_of, step_of}
 use Rattle.teg_net.specs.Nets.{NetLists, IsNet}
-use Rattle.teg_report.specs.Answering.{is_from, row_dates_in, row_step_in, times_to_in, times_from_in}
+use Rattle.teg_report.specs.SettledTexts.{is_from, row_dates_in, row_step_in, times_to_in, times_from_in, AreTimesKept, AreTimesToKept, IsSettledKept, AreTimesIn, TimesFrom, TimesTo, from_line, from_lines, output_count, row_words, settled_line, settled_lines, to_line, transfer_lines}
 use Rattle.teg_report.specs.Answers.{Dates, Transfer}
-use Rattle.teg_report.specs.Kept.{AreTimesKept, AreTimesToKept, IsSettledKept}
-use Rattle.teg_report.specs.SettledTexts.{AreTimesIn, TimesFrom, TimesTo, from_line, from_lines, output_count, row_words, settled_line, settled_lines, to_line, transfer_lines}
 use Rattle.teg_report.proofs.IsRead.{IsRead}
 use Rattle.teg_text.proofs.NamesRead.{settled_are_words, transition_back, transition_is_word}
 use Rattle.teg_text.specs.Lines.{is_line, is_word}

@@ -6,10 +6,9 @@ use Rattle.teg_critical.specs.declared.slacks.Slack.{Slack}
 use Rattle.teg_critical.specs.declared.slacks.Slack.TheVariants.{NoCircuit, Critical, Rise}
 use Rattle.teg_net.specs.Nets.{NetLists, IsNet}
 use Rattle.teg_net.specs.Ratios.{Fraction}
-use Rattle.teg_report.specs.Answering.{answer_of, slack_in}
+use Rattle.teg_report.specs.Answering.{answer_of}
+use Rattle.teg_report.specs.Slacks.{slack_in, IsRatioKept, IsSlackKept, IsTrialKept, slack_line, slack_lines, slack_words, trial_lines}
 use Rattle.teg_report.specs.Answers.{Slack as SlackAnswer, Trial}
-use Rattle.teg_report.specs.Kept.{IsRatioKept, IsSlackKept, IsTrialKept}
-use Rattle.teg_report.specs.Slacks.{slack_line, slack_lines, slack_words, trial_lines}
 use Rattle.teg_report.proofs.IsRead.{IsRead}
 use Rattle.teg_text.proofs.NamesRead.{place_is_word, ratio_back}
 use Rattle.teg_text.specs.Lines.{is_line, is_word}

@@ -1,5 +1,5 @@
--- The lines of cycle times, and what an answer on them meets that is told.
-use Rattle.std.specs.Prelude.{ℕ, Bool, false, ◌+◌, ◌<◌, ◌^◌, ◌≡◌, ◌==◌, ◌&&◌, List, [], ◌∷◌, ◌++◌, All, Option, Some, None, map, flat_map, length, slice_index_or, codes, if◌then◌else◌, ⊤}
+-- Cycle times: their lines, what an answer on them meets that is told, and how it is read back.
+use Rattle.std.specs.Prelude.{ℕ, Bool, false, ◌+◌, ◌<◌, ◌^◌, ◌≡◌, ◌==◌, ◌&&◌, List, [], ◌∷◌, ◌++◌, All, Option, Some, None, map, flat_map, length, slice_index_or, codes, if◌then◌else◌, ⊤, not, ◌||◌, drop}
 use Rattle.std.specs.Int.RustNames.{unsigned_abs}
 use Rattle.std.specs.Fmt.{decimal, signed_decimal}
 use Rattle.std.specs.List.{range_with_len}
@@ -9,8 +9,10 @@ use Rattle.teg_net.specs.declared.entries.TransitionId.{TransitionId}
 use Rattle.teg_net.specs.Circuits.{AreInRange}
 use Rattle.teg_net.specs.Nets.{NetLists}
 use Rattle.teg_net.specs.Ratios.{Fraction}
-use Rattle.teg_text.specs.Names.{circuit_line, name_of_transition}
+use Rattle.teg_text.specs.Names.{circuit_line, name_of_transition, transition_in, place_in, ratio_in}
 use Rattle.teg_text.specs.Words.{ratio_word}
+use Rattle.teg_text.specs.Reading.{line_at, word, stands_at, signed_in}
+use Rattle.teg_text.specs.Rows.{those, first_where, blocks_in}
 
 -- what is told of a part: that no circuit lies in it, or its greatest ratio, a circuit and potentials
 pub data PartLists : Type 0 where
@@ -112,3 +114,47 @@ pub record IsCycleTold (net : NetLists) (answer : CycleLists) : Type 0 where
   pub part_of_in : All (λ p. p < length answer.parts) answer.part_of
   pub parts : (n : ℕ) → n < length answer.parts → IsPartTold net (members_from 0 answer.part_of n) (part_at answer.parts n)
   pub best : HasFirst answer.parts answer.best
+
+-- a potential
+abbrev pub potential_in : NetLists → List (List ℕ) → Potential
+potential_in net line = record { transition = transition_in net (word 1 line); value = signed_in (word 2 line) }
+
+-- a part, from its block of lines
+abbrev pub part_in : NetLists → List (List (List ℕ)) → PartLists
+part_in net block =
+    if stands_at 2 (line_at 0 block) (codes "no") then NoCircuitIn
+    else BestOf (ratio_in (word 3 (line_at 0 block))) (map (place_in net) (drop 1 (line_at 1 block))) (map (potential_in net) (drop 2 block))
+
+-- the members of a part: the lines behind its first or its first two
+abbrev pub members_in : NetLists → List (List (List ℕ)) → List TransitionId
+members_in net block =
+    map (λ line. transition_in net (word 1 line)) (if stands_at 2 (line_at 0 block) (codes "no") then drop 1 block else drop 2 block)
+
+-- whether the transition of this number is among these
+abbrev pub is_member : ℕ → List TransitionId → Bool
+is_member t [] = false
+is_member t (m ∷ ms) = (m.index == t) || is_member t ms
+
+-- the first line of a part or of a round
+abbrev pub is_part_line : List (List ℕ) → Bool
+is_part_line line = stands_at 0 line (codes "part")
+
+-- the blocks of parts and rounds
+abbrev pub told_in : List (List (List ℕ)) → List (List (List (List ℕ)))
+told_in lines = (blocks_in is_part_line (drop 2 lines)).blocks
+
+-- whether the block is that of a part
+abbrev pub is_part : List (List (List ℕ)) → Bool
+is_part block = not (stands_at 2 (line_at 0 block) (codes "round"))
+
+-- the blocks of the parts
+abbrev pub parts_in : List (List (List ℕ)) → List (List (List (List ℕ)))
+parts_in lines = those is_part (told_in lines)
+
+-- cycle times
+abbrev pub cycle_in : NetLists → List (List (List ℕ)) → CycleLists
+cycle_in net lines = record {
+  part_of = map (λ t. first_where (is_member t) (map (members_in net) (parts_in lines))) (range_with_len 0 (length net.transitions));
+  parts = map (part_in net) (parts_in lines);
+  best = Some (first_where (has_ratio (ratio_in (word 2 (line_at 0 lines)))) (map (part_in net) (parts_in lines)));
+}

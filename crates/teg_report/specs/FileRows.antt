@@ -1,5 +1,5 @@
--- The lines of due files and logs that are refused, and of recorded runs.
-use Rattle.std.specs.Prelude.{ℕ, ◌≡◌, ◌==◌, ◌<◌, false, List, [], ◌∷◌, Option, IsSomeAnd, map, length, codes, ⊤}
+-- Due files and logs that are refused, and recorded runs: their lines, what they keep, and how they are read back.
+use Rattle.std.specs.Prelude.{ℕ, ◌≡◌, ◌==◌, ◌<◌, false, List, [], ◌∷◌, Option, IsSomeAnd, map, length, codes, ⊤, drop, if◌then◌else◌}
 use Rattle.std.specs.Fmt.{decimal}
 use Rattle.std.specs.List.{list_any}
 use Rattle.teg_due.specs.declared.rows.DueRefusal.{DueRefusal}
@@ -11,7 +11,10 @@ use Rattle.teg_report.specs.declared.answer.Failure.{Failure}
 use Rattle.teg_report.specs.declared.answer.Failure.TheVariants.{Illegal, BackInTime, BeforeRelease}
 use Rattle.teg_text.specs.Faults.{row_line}
 use Rattle.teg_text.specs.Lines.{phrase}
-use Rattle.teg_text.specs.Names.{name_of_place}
+use Rattle.teg_text.specs.Names.{name_of_place, place_in}
+use Rattle.teg_report.specs.Answers.{Answer, Replayed, Refused, Log}
+use Rattle.teg_text.specs.Reading.{line_at, word, stands_at, number_in, phrase_in}
+use Rattle.teg_report.specs.Widths.{IsWord32}
 
 -- why a file is no due file; nothing is told of want of memory
 abbrev pub due_line : DueRefusal → List (List ℕ)
@@ -52,3 +55,44 @@ abbrev pub IsFailureIn : Option NetLists → Failure → Type 0
 IsFailureIn net (Illegal place) = IsSomeAnd net (λ n. place.index < length n.places)
 IsFailureIn net BackInTime = ⊤
 IsFailureIn net BeforeRelease = ⊤
+
+-- what a refusal of a due file keeps; it is not want of memory
+abbrev pub IsDueKept : DueRefusal → Type 0
+IsDueKept (BadDueRow row) = IsWord32 row
+IsDueKept (UnknownDue row) = IsWord32 row
+IsDueKept (NotDue row) = IsWord32 row
+IsDueKept (RepeatedDue row) = IsWord32 row
+IsDueKept (DueOutOfRange row) = IsWord32 row
+IsDueKept NoDueRoom = ⊥
+
+-- what a refusal of a log keeps; it is not want of memory
+abbrev pub IsLogKept : LogRefusal → Type 0
+IsLogKept (BadLogRow row) = IsWord32 row
+IsLogKept (UnknownFiring row) = IsWord32 row
+IsLogKept (LogOutOfRange row) = IsWord32 row
+IsLogKept NoLogRoom = ⊥
+
+-- a refused due file
+abbrev pub due_in : List (List ℕ) → DueRefusal
+due_in line =
+    if stands_at 4 line (codes "is") then BadDueRow (number_in (word 3 line))
+    else if stands_at 4 line (codes "unknown") then UnknownDue (number_in (word 3 line))
+    else if stands_at 4 line (codes "input") then NotDue (number_in (word 3 line))
+    else if stands_at 4 line (codes "repeated") then RepeatedDue (number_in (word 3 line))
+    else DueOutOfRange (number_in (word 3 line))
+
+-- a recorded run
+abbrev pub replayed_in : List (List (List ℕ)) → Answer
+replayed_in lines = Replayed (number_in (word 1 (line_at 0 lines))) (map phrase_in (drop 1 lines))
+
+-- why a recorded firing was refused
+abbrev pub failure_in : NetLists → List (List ℕ) → Failure
+failure_in net line = if stands_at 4 line (codes "illegal") then Illegal (place_in net (word 6 line)) else if stands_at 4 line (codes "back") then BackInTime else BeforeRelease
+
+-- a refused log, or a refused row of a log
+abbrev pub log_in : NetLists → List (List (List ℕ)) → Answer
+log_in net lines =
+    if stands_at 4 (line_at 0 lines) (codes "is") then Log (BadLogRow (number_in (word 3 (line_at 0 lines))))
+    else if stands_at 4 (line_at 0 lines) (codes "unknown") then Log (UnknownFiring (number_in (word 3 (line_at 0 lines))))
+    else if stands_at 4 (line_at 0 lines) (codes "out") then Log (LogOutOfRange (number_in (word 3 (line_at 0 lines))))
+    else Refused (number_in (word 3 (line_at 0 lines))) (failure_in net (line_at 0 lines)) (map phrase_in (drop 1 lines))

@@ -1,12 +1,12 @@
--- The lines of latest dates, and of due dates that no inputs can meet.
-use Rattle.std.specs.Prelude.{ℕ, ◌+◌, ◌<◌, ◌≤◌, ◌≡◌, ◌==◌, List, [], ◌∷◌, ◌++◌, All, Option, Some, None, map, flat_map, length, slice_index_or, codes, if◌then◌else◌, ⊤}
+-- Latest dates, and due dates that no inputs can meet: their lines, what their numbers keep, and how they are read back.
+use Rattle.std.specs.Prelude.{ℕ, ◌+◌, ◌<◌, ◌≤◌, ◌≡◌, ◌==◌, List, [], ◌∷◌, ◌++◌, All, Option, Some, None, map, flat_map, length, slice_index_or, codes, if◌then◌else◌, ⊤, zero, suc, ◌*◌, ◌/◌, ◌%◌, drop, bytes_eq, ◌^◌}
 use Rattle.std.specs.Fmt.{decimal}
 use Rattle.std.specs.List.{range_with_len}
 use Rattle.teg_jit.specs.declared.answers.LatestDate.{LatestDate}
 use Rattle.teg_jit.specs.declared.answers.LatestDate.TheVariants.{Free, At}
 use Rattle.teg_jit.specs.declared.answers.Onward.{Onward}
 use Rattle.teg_jit.specs.declared.answers.Onward.TheVariants.{Due, By as ByPlace, Next as ToNext}
-use Rattle.teg_jit.specs.Plans.{PlanDates, latest_at}
+use Rattle.teg_jit.specs.Plans.{PlanDates, latest_at, KeepsSizes}
 use Rattle.teg_net.specs.declared.entries.Role.{Role}
 use Rattle.teg_net.specs.declared.entries.Role.TheVariants.{Internal, Input, Output}
 use Rattle.teg_net.specs.declared.entries.TransitionId.{TransitionId}
@@ -16,7 +16,9 @@ use Rattle.teg_net.specs.Circuits.{place_at}
 use Rattle.teg_net.specs.Limits.{greatest_number}
 use Rattle.teg_net.specs.Nets.{NetLists}
 use Rattle.teg_net.specs.Walks.{Walks, numbers_of}
-use Rattle.teg_text.specs.Names.{name_of_place, name_of_transition, no_transition}
+use Rattle.teg_text.specs.Names.{name_of_place, name_of_transition, no_transition, transition_in, place_in}
+use Rattle.teg_text.specs.Reading.{line_at, word, stands_at, number_in, is_numeral}
+use Rattle.teg_report.specs.Widths.{IsWord32, IsWord64}
 
 -- the first step of a walk by which a latest date is attained
 abbrev pub onward_words : NetLists → Onward → List (List ℕ)
@@ -139,3 +141,70 @@ pub record IsLateIn (net : NetLists) (late : LateLists) : Type 0 where
 abbrev pub IsLateTold : NetLists → Option LateLists → Type 0
 IsLateTold net None = ⊥
 IsLateTold net (Some late) = IsLateIn net late
+
+-- the number of a latest date
+abbrev pub IsLatestKept : LatestDate → Type 0
+IsLatestKept Free = ⊤
+IsLatestKept (At date onward) = IsWord64 date
+
+-- the sizes of a plan, and the numbers of its dates
+pub record AreLatestKept (plan : PlanDates) : Type 0 where
+  pub sizes : KeepsSizes plan
+  pub each : (t k : ℕ) → t < plan.width → k < plan.numbers → IsLatestKept (latest_at plan t (k + 1))
+
+-- the numbers of a firing that is later than due
+pub record AreLateNumbers (late : LateLists) : Type 0 where
+  pub number : IsWord32 late.number
+  pub due : IsWord64 late.due
+  pub least : late.least < 2 ^ 128
+  pub start : IsWord64 late.start
+  pub first : IsWord64 late.first
+
+-- such a firing is told; it is not want of memory
+abbrev pub IsLateKept : Option LateLists → Type 0
+IsLateKept None = ⊥
+IsLateKept (Some late) = AreLateNumbers late
+
+-- the first step by which a latest date is attained
+abbrev pub onward_in : NetLists → List (List ℕ) → Onward
+onward_in net line = if stands_at 4 line (codes "due") then Due else if stands_at 4 line (codes "next") then ToNext else ByPlace (place_in net (word 5 line))
+
+-- a latest date
+abbrev pub latest_in : NetLists → List (List ℕ) → LatestDate
+latest_in net line = if is_numeral (word 3 line) then At (number_in (word 3 line)) (onward_in net line) else Free
+
+-- so many numbers of a plan, from the lines of all its firings, transition by transition
+abbrev pub planned_in : NetLists → ℕ → List (List (List ℕ)) → PlanDates
+planned_in net numbers lines = record {
+  width = length net.transitions;
+  numbers = numbers;
+  dates = map (λ i. latest_in net (line_at (i % length net.transitions * numbers + i / length net.transitions) lines)) (range_with_len 0 (numbers * length net.transitions));
+}
+
+-- a plan
+abbrev pub plan_in : NetLists → List (List (List ℕ)) → PlanDates
+plan_in net lines = planned_in net (number_in (word 3 (line_at 0 lines))) (drop 1 lines)
+
+-- the steps of a walk, so many at most
+abbrev pub steps_in : NetLists → ℕ → List (List ℕ) → List Step
+steps_in net zero words = []
+steps_in net (suc n) [] = []
+steps_in net (suc n) (first ∷ words) =
+    if bytes_eq first (codes "next") then Next ∷ steps_in net n (drop 2 words) else By (place_in net (word 0 words)) ∷ steps_in net n (drop 3 words)
+
+-- the line of a walk, the last one
+abbrev pub path_in : List (List (List ℕ)) → List (List ℕ)
+path_in lines = if stands_at 0 (line_at 1 lines) (codes "from") then line_at 2 lines else line_at 1 lines
+
+-- a firing that is later than due
+abbrev pub late_in : NetLists → List (List (List ℕ)) → LateLists
+late_in net lines = record {
+  transition = transition_in net (word 1 (line_at 0 lines));
+  number = number_in (word 2 (line_at 0 lines));
+  due = number_in (word 4 (line_at 0 lines));
+  least = number_in (word 6 (line_at 0 lines));
+  start = if stands_at 0 (line_at 1 lines) (codes "from") then number_in (word 2 (line_at 1 lines)) else 0;
+  from = transition_in net (word 1 (path_in lines));
+  first = number_in (word 2 (path_in lines));
+  steps = steps_in net (length (drop 3 (path_in lines))) (drop 3 (path_in lines));
+}

@@ -1,5 +1,5 @@
--- The lines of rounds of policy iteration, part by part, and what rounds meet that are told.
-use Rattle.std.specs.Prelude.{ℕ, suc, ◌+◌, ◌<◌, ◌≡◌, List, [], ◌∷◌, All, Option, Some, None, map, flat_map, length, slice_index_or, codes, ⊤}
+-- Rounds of policy iteration, part by part: their lines, what rounds meet that are told, and how they are read back.
+use Rattle.std.specs.Prelude.{ℕ, suc, ◌+◌, ◌<◌, ◌≡◌, List, [], ◌∷◌, All, Option, Some, None, map, flat_map, length, slice_index_or, codes, ⊤, Bool, not, ◌==◌, drop, ◌^◌}
 use Rattle.std.specs.Fmt.{decimal, signed_decimal}
 use Rattle.std.specs.List.{range_with_len}
 use Rattle.teg_net.specs.declared.entries.PlaceId.{PlaceId}
@@ -7,9 +7,13 @@ use Rattle.teg_net.specs.declared.rounds.Choice.{Choice}
 use Rattle.teg_net.specs.Circuits.{AreInRange}
 use Rattle.teg_net.specs.Nets.{NetLists}
 use Rattle.teg_net.specs.Ratios.{Fraction}
-use Rattle.teg_report.specs.Cycles.{PartLists, NoCircuitIn, BestOf}
-use Rattle.teg_text.specs.Names.{circuit_line, name_of_place, name_of_transition}
+use Rattle.teg_report.specs.Cycles.{PartLists, NoCircuitIn, BestOf, told_in, is_part}
+use Rattle.teg_text.specs.Names.{circuit_line, name_of_place, name_of_transition, transition_in, place_in, ratio_in}
 use Rattle.teg_text.specs.Words.{ratio_word}
+use Rattle.teg_text.specs.Reading.{line_at, word, number_in, signed_in}
+use Rattle.teg_text.specs.Rows.{those, blocks_in}
+use Rattle.std.specs.Int.RustNames.{unsigned_abs}
+use Rattle.teg_report.specs.Widths.{IsWord64}
 
 -- a round: its ratio, its circuit, and for each member the place that enters it and its potential
 pub record RoundLists : Type 0 where
@@ -89,3 +93,47 @@ pub record AreRunsTold (net : NetLists) (parts : List PartLists) (runs : List (L
 abbrev pub AreRoundsTold : NetLists → List PartLists → Option (List (List RoundLists)) → Type 0
 AreRoundsTold net parts None = ⊤
 AreRoundsTold net parts (Some runs) = AreRunsTold net parts runs
+
+-- the potential of a choice
+abbrev pub IsChoiceKept : Choice → Type 0
+IsChoiceKept c = unsigned_abs c.value < 2 ^ 128
+
+-- the numbers of a round
+pub record IsRoundKept (r : RoundLists) : Type 0 where
+  pub time : IsWord64 r.ratio.time
+  pub tokens : IsWord64 r.ratio.tokens
+  pub choices : All IsChoiceKept r.choices
+
+-- the rounds of a part, and how many there are
+pub record IsRunKept (rounds : List RoundLists) : Type 0 where
+  pub count : IsWord64 (length rounds)
+  pub each : All IsRoundKept rounds
+
+-- a choice
+abbrev pub choice_in : NetLists → List (List ℕ) → Choice
+choice_in net line = record { transition = transition_in net (word 1 line); place = place_in net (word 2 line); value = signed_in (word 3 line) }
+
+-- a round, from its block of lines
+abbrev pub round_in : NetLists → List (List (List ℕ)) → RoundLists
+round_in net block = record {
+  ratio = ratio_in (word 5 (line_at 0 block));
+  circuit = map (place_in net) (drop 1 (line_at 1 block));
+  choices = map (choice_in net) (drop 2 block);
+}
+
+-- whether the block is that of a first round
+abbrev pub is_first_round : List (List (List ℕ)) → Bool
+is_first_round block = number_in (word 3 (line_at 0 block)) == 1
+
+-- the blocks of the rounds, in a list for each part
+abbrev pub runs_in : List (List (List ℕ)) → List (List (List (List (List ℕ))))
+runs_in lines = (blocks_in is_first_round (those (λ block. not (is_part block)) (told_in lines))).blocks
+
+-- the lists of rounds, if there are any
+abbrev pub some_runs : List (List RoundLists) → Option (List (List RoundLists))
+some_runs [] = None
+some_runs (rounds ∷ runs) = Some (rounds ∷ runs)
+
+-- the rounds of policy iteration
+abbrev pub rounds_in : NetLists → List (List (List ℕ)) → Option (List (List RoundLists))
+rounds_in net lines = some_runs (map (map (round_in net)) (runs_in lines))

@@ -1,5 +1,5 @@
--- The lines of slack, and the summary of a net that was made.
-use Rattle.std.specs.Prelude.{ℕ, List, [], ◌∷◌, ◌++◌, map, length, slice_index_or, codes}
+-- Slack, and the summary of a net that was made: their lines, what their numbers keep, and how they are read back.
+use Rattle.std.specs.Prelude.{ℕ, List, [], ◌∷◌, ◌++◌, map, length, slice_index_or, codes, ⊤, if◌then◌else◌}
 use Rattle.std.specs.Fmt.{decimal}
 use Rattle.std.specs.List.{range_with_len}
 use Rattle.dioid.specs.declared.dates.Date.{Date}
@@ -9,8 +9,11 @@ use Rattle.teg_net.specs.Nets.{NetLists}
 use Rattle.teg_net.specs.Ratios.{Fraction}
 use Rattle.teg_report.specs.Texts.{counted}
 use Rattle.teg_text.specs.Lines.{phrase}
-use Rattle.teg_text.specs.Names.{name_of_place}
-use Rattle.teg_text.specs.Words.{date_word, ratio_word}
+use Rattle.teg_text.specs.Names.{name_of_place, ratio_in}
+use Rattle.teg_text.specs.Words.{date_word, ratio_word, IsDate}
+use Rattle.teg_report.specs.Answers.{Answer, Trial}
+use Rattle.teg_text.specs.Reading.{line_at, word, stands_at, number_in, date_in}
+use Rattle.teg_report.specs.Widths.{IsWord32, IsWord64}
 
 -- the greatest ratio of a net
 abbrev pub cycle_time_line : Fraction → List (List ℕ)
@@ -36,3 +39,27 @@ abbrev pub trial_lines : ℕ → ℕ → Fraction → ℕ → Date → List (Lis
 trial_lines machines places ratio critical last =
     counted (codes "trial") machines ∷ counted (codes "places") places ∷ cycle_time_line ratio ∷ counted (codes "critical") critical
     ∷ (codes "last" ∷ date_word last ∷ []) ∷ []
+
+-- the numbers of a ratio
+abbrev pub IsRatioKept : Fraction → Type 0
+IsRatioKept ratio = IsWord64 ratio.time × IsWord64 ratio.tokens
+
+-- the number of a slack
+abbrev pub IsSlackKept : Slack → Type 0
+IsSlackKept NoCircuit = ⊤
+IsSlackKept Critical = ⊤
+IsSlackKept (Rise by) = IsWord64 by
+
+-- the numbers of a summary
+abbrev pub IsTrialKept : ℕ → ℕ → Fraction → ℕ → Date → Type 0
+IsTrialKept machines places ratio critical last = IsWord32 machines × IsWord32 places × IsRatioKept ratio × IsWord32 critical × IsDate last
+
+-- what a place is told
+abbrev pub slack_in : List (List ℕ) → Slack
+slack_in line = if stands_at 2 line (codes "no") then NoCircuit else if stands_at 2 line (codes "critical") then Critical else Rise (number_in (word 3 line))
+
+-- the summary of a net that was made
+abbrev pub trial_in : List (List (List ℕ)) → Answer
+trial_in lines =
+    Trial (number_in (word 1 (line_at 0 lines))) (number_in (word 1 (line_at 1 lines))) (ratio_in (word 2 (line_at 2 lines))) (number_in (word 1 (line_at 3 lines)))
+    (date_in (word 1 (line_at 4 lines)))

@@ -1,53 +1,34 @@
--- The lines of the short answers.
-use Rattle.std.specs.Prelude.{ℕ, List, [], ◌∷◌, ◌++◌, map, codes}
+-- The short answers: their lines, and how they are read back.
+use Rattle.std.specs.Prelude.{ℕ, List, [], ◌∷◌, ◌++◌, map, codes, bytes_eq, if◌then◌else◌}
 use Rattle.std.specs.Fmt.{decimal}
-use Rattle.dioid.specs.declared.dates.Date.{Date}
+use Rattle.dioid.specs.declared.dates.Date.{Date as DateOf}
 use Rattle.teg_net.specs.declared.entries.PlaceId.{PlaceId}
 use Rattle.teg_net.specs.Nets.{NetLists}
 use Rattle.teg_report.specs.declared.answer.Which.{Which}
 use Rattle.teg_report.specs.declared.answer.Which.TheVariants.{Net as NetFile, Due as DueFile, Log as LogFile, Timetable as TimetableFile}
+use Rattle.teg_report.specs.declared.usage.TheConstants.{COMMANDS}
 use Rattle.teg_text.specs.Lines.{phrase}
-use Rattle.teg_text.specs.Names.{name_of_place}
+use Rattle.teg_text.specs.Names.{name_of_place, transition_in}
 use Rattle.teg_text.specs.Words.{date_word, label_word}
+use Rattle.teg_report.specs.Answers.{Answer, Live, Date}
+use Rattle.teg_text.specs.Reading.{line_at, word, number_in, date_in}
 
--- the commands, each with what follows it
+-- the commands, each as it is used: its name and what follows it, from the one table of them
 abbrev pub command_forms : List (List ℕ)
-command_forms =
-    codes "check NET"
-    ∷ codes "list NET K"
-    ∷ codes "form NET"
-    ∷ codes "cycle NET [--rounds]"
-    ∷ codes "dates NET [--limit N|none]"
-    ∷ codes "date NET TRANSITION K [--limit N|none]"
-    ∷ codes "jit NET DUE"
-    ∷ codes "calc EXPR"
-    ∷ codes "replay NET LOG"
-    ∷ codes "slack NET"
-    ∷ codes "transfer NET [--limit N]"
-    ∷ codes "trial N"
-    ∷ codes "migrate NET"
-    ∷ codes "forever NET DUE"
-    ∷ codes "size NET PLACE A/B"
-    ∷ codes "timetable NET A FILE [--limit N|none]"
-    ∷ codes "bound NET"
-    ∷ []
+command_forms = map (λ command. command.0.now ++ 32 ∷ command.1.now) COMMANDS
 
--- a line of the usage but the first
-abbrev pub usage_line : List ℕ → List (List ℕ)
-usage_line form = phrase (codes "       teg " ++ form)
-
--- how these commands are used, one line each
-abbrev pub usage_of : List (List ℕ) → List (List (List ℕ))
-usage_of [] = []
-usage_of (form ∷ forms) = phrase (codes "usage: teg " ++ form) ∷ map usage_line forms
+-- how these commands are used, one line each, of which the first begins with this word
+abbrev pub usage_from : List ℕ → List (List ℕ) → List (List (List ℕ))
+usage_from begin [] = []
+usage_from begin (form ∷ forms) = phrase (begin ++ (codes " teg " ++ form)) ∷ usage_from (codes "      ") forms
 
 -- what is told where words are refused
 abbrev pub usage_lines : List (List (List ℕ))
-usage_lines = usage_of command_forms
+usage_lines = usage_from (codes "usage:") command_forms
 
--- a word and a number
+-- a first word, and a number
 abbrev pub counted : List ℕ → ℕ → List (List ℕ)
-counted word count = word ∷ decimal count ∷ []
+counted first count = first ∷ decimal count ∷ []
 
 -- that a net of so many transitions and places is live
 abbrev pub live_lines : ℕ → ℕ → List (List (List ℕ))
@@ -85,5 +66,17 @@ abbrev pub too_long_line : ℕ → List (List ℕ)
 too_long_line limit = phrase (codes "too long: no settled form within") ++ decimal limit ∷ []
 
 -- the date of a firing of a transition of this name
-abbrev pub date_line : List ℕ → ℕ → Date → List (List ℕ)
+abbrev pub date_line : List ℕ → ℕ → DateOf → List (List ℕ)
 date_line name number date = codes "date" ∷ name ∷ decimal number ∷ date_word date ∷ []
+
+-- a file that is not the net, by its first word
+abbrev pub file_in : List ℕ → Which
+file_in word = if bytes_eq word (codes "net") then NetFile else if bytes_eq word (codes "due") then DueFile else if bytes_eq word (codes "log") then LogFile else TimetableFile
+
+-- the size of a live net
+abbrev pub live_in : List (List (List ℕ)) → Answer
+live_in lines = Live (number_in (word 1 (line_at 1 lines))) (number_in (word 1 (line_at 2 lines)))
+
+-- the date of a firing
+abbrev pub dated_in : NetLists → List (List ℕ) → Answer
+dated_in net line = Date (transition_in net (word 1 line)) (number_in (word 2 line)) (date_in (word 3 line))

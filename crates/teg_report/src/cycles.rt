@@ -1,42 +1,32 @@
 //! The text of cycle times: the greatest ratio and a circuit that has it, then the lines of each
 //! part, and then the rounds that led to them, where they are given.
-ghost use Rattle.std.specs.Prelude.{◌≡◌, ◌++◌, ◌<◌, ◌^◌, [], All, IfOk, IfSome, length, map, string_bytes};
+ghost use Rattle.std.specs.Prelude.{◌≡◌, ◌++◌, ◌<◌, ◌^◌, [], All, IfOk, IfSome, length, map, string_bytes, ⊤};
 ghost use Rattle.std.specs.Option.{option_copied, option_map};
 ghost use Rattle.teg_report.specs.Cycles.{HasCircuitIn, IsCycleTold, IsPartTold, IsPotentialIn, best_lines, best_of, cycle_lines, member_line, members_from, part_lines, potential_line, ratio_line};
-ghost use Rattle.teg_report.specs.Kept.{IsRunKept};
 ghost use Rattle.teg_report.specs.Meanings.{cycle_lists, part_lists, runs_lists};
-ghost use Rattle.teg_report.specs.Rounds.{AreRoundsTold, runs_lines as runs_text, told_runs};
+ghost use Rattle.teg_report.specs.Rounds.{AreRoundsTold, IsRunKept, runs_lines as runs_text, told_runs};
 ghost use Rattle.teg_text.specs.Lines.{line_then, written};
 
 use crate::rounds::push_runs;
+use crate::told::{Told, push_each};
 use std::alloc::{AllocError, Global};
 use teg_net::{CycleAnswer, Net, OutOfMemory, PartAnswer, Potential, Ratio, Round};
 use teg_text::push_circuit;
 
-// Appends the line of a potential.
-fn push_potential(text: &mut String, net: &Net, potential: &Potential) -> Result<(), AllocError>
-    requires { IsPotentialIn net.now potential.now }
-    ensures { IfOk result (λ _. string_bytes text.new ≡
-        string_bytes text.old ++ line_then (potential_line net.now potential.now) []) }
-{
-    let name = net.transitions()[potential.transition.index as usize]
-        .name
-        .as_str();
-    let value = potential.value;
-    write!(text, "potential {name} {value}\n")
-}
+impl Told for Potential {
+    ghost line = { potential_line };
 
-// Appends the lines of potentials.
-#[tactic(auto, using(teg_text::proofs::Joining::written_map))]
-fn push_potentials(text: &mut String, net: &Net, potentials: &[Potential]) -> Result<(), AllocError>
-    requires { All (IsPotentialIn net.now) potentials.now }
-    ensures { IfOk result (λ _. string_bytes text.new ≡
-        string_bytes text.old ++ written (map (potential_line net.now) potentials.now)) }
-{
-    for potential in potentials {
-        push_potential(text, net, potential)?;
+    ghost is_there = { IsPotentialIn };
+
+    ghost is_kept = { λ _. ⊤ };
+
+    fn push(&self, text: &mut String, net: &Net) -> Result<(), AllocError> {
+        let name = net.transitions()[self.transition.index as usize]
+            .name
+            .as_str();
+        let value = self.value;
+        write!(text, "potential {name} {value}\n")
     }
-    Ok(())
 }
 
 // Appends the line of a transition of a part without a circuit.
@@ -107,7 +97,7 @@ fn push_part(
         } => {
             push_ratio(text, number, ratio)?;
             push_circuit(text, net, circuit)?;
-            push_potentials(text, net, potentials)?;
+            push_each(text, net, potentials)?;
         }
     }
     Ok(())

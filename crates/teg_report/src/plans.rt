@@ -3,9 +3,9 @@ ghost use Rattle.std.specs.Prelude.{ℕ, ◌≡◌, ◌++◌, ◌<◌, ◌≤◌
 ghost use Rattle.teg_jit.specs.Plans.{latest_at};
 ghost use Rattle.teg_net.specs.Limits.{greatest_number};
 ghost use Rattle.teg_net.specs.Walks.{IsStepOf};
-ghost use Rattle.teg_report.specs.Kept.{AreLatestKept, IsLateKept, IsLatestKept, IsWord32, IsWord64};
 ghost use Rattle.teg_report.specs.Meanings.{late_lists};
-ghost use Rattle.teg_report.specs.Plans.{IsLateTold, IsLatestIn, IsOnwardIn, IsPathIn, IsPlanIn, late_line, late_lines, latest_line, onward_words, path_line, plan_lines, planned_lines, role_word, start_lines, step_number, step_to, step_words, steps_words};
+ghost use Rattle.teg_report.specs.Plans.{AreLatestKept, IsLateKept, IsLateTold, IsLatestIn, IsLatestKept, IsOnwardIn, IsPathIn, IsPlanIn, late_line, late_lines, latest_line, onward_words, path_line, plan_lines, planned_lines, role_word, start_lines, step_number, step_to, step_words, steps_words};
+ghost use Rattle.teg_report.specs.Widths.{IsWord32, IsWord64};
 ghost use Rattle.teg_text.specs.Lines.{further_then, line_then, written};
 
 use std::alloc::{AllocError, Global};

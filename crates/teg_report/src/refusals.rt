@@ -2,9 +2,9 @@
 ghost use Rattle.std.specs.Prelude.{◌≡◌, [], ◌∷◌, IfOk, IsTrue, string_bytes};
 ghost use Rattle.teg_net.specs.Names.{is_name};
 ghost use Rattle.teg_reader.specs.Spots.{HasPlainSpot};
-ghost use Rattle.teg_report.specs.Kept.{IsRefusal, IsWord32};
-ghost use Rattle.teg_report.specs.Refusals.{ends_line, entered_line, fault_line, hold_line, input_line, read_line, ready_line};
+ghost use Rattle.teg_report.specs.Refusals.{IsRefusal, ends_line, entered_line, fault_line, hold_line, input_line, read_line, ready_line};
 ghost use Rattle.teg_report.specs.Spots.{spot_text};
+ghost use Rattle.teg_report.specs.Widths.{IsWord32};
 ghost use Rattle.teg_text.specs.Lines.{written};
 ghost use Rattle.teg_text.specs.Words.{AreBytes, label_word};
 
@@ -39,7 +39,7 @@ fn label_word(alloc: Global, label: &Label) -> Result<String, OutOfMemory>
 }
 
 // What is wrong at a table.
-#[tactic(auto, using(crate::proofs::Joining::fault_written))]
+#[tactic(auto, using(crate::proofs::RefusalsWritten::fault_written))]
 fn fault_at(alloc: Global, spot: &Spot, fault: &str) -> Result<Vec<u8>, OutOfMemory>
     ensures text { IfOk result (λ text. text.items ≡ written
         (fault_line spot.now fault.now [] ∷ [])) }
@@ -51,7 +51,7 @@ fn fault_at(alloc: Global, spot: &Spot, fault: &str) -> Result<Vec<u8>, OutOfMem
 }
 
 // What is wrong at a table, and with which key or text.
-#[tactic(auto, using(crate::proofs::Joining::fault_written))]
+#[tactic(auto, using(crate::proofs::RefusalsWritten::fault_written))]
 fn fault_with(alloc: Global, spot: &Spot, fault: &str, about: &str) -> Result<Vec<u8>, OutOfMemory>
     ensures text { IfOk result (λ text. text.items ≡ written
         (fault_line spot.now fault.now (about.now ∷ []) ∷ [])) }

@@ -8,7 +8,9 @@ ghost use Rattle.teg_report.specs.Meanings.{meant};
 ghost use Rattle.teg_report.specs.Reports.{IsAbout, text_of};
 
 use crate::answer::Answer;
-use crate::{cycles, file_rows, forms, lists, plans, refusals, series, settled, slacks, texts};
+use crate::{
+    cycles, file_rows, forms, lists, plans, refusals, series, settled, slacks, texts, usage,
+};
 use std::alloc::Global;
 use teg_net::{Net, OutOfMemory};
 
@@ -19,7 +21,7 @@ fn alone(alloc: Global, answer: &Answer<'_>) -> Result<Vec<u8>, OutOfMemory>
     ensures kept { IfOk result (λ _. IsPlain (meant answer.now) → IsKept (meant answer.now)) }
 {
     match answer {
-        Answer::Usage => texts::usage(alloc),
+        Answer::Usage => usage::usage(alloc),
         Answer::Live {
             transitions,
             places,

@@ -1,42 +1,31 @@
 //! The text of the rounds of policy iteration, behind that of cycle times: for each part with a
 //! circuit one block of lines a round.
 ghost use Rattle.std.specs.Prelude.{◌≡◌, ◌++◌, ◌<◌, ◌^◌, [], All, IfOk, map, string_bytes};
-ghost use Rattle.teg_report.specs.Kept.{IsChoiceKept, IsRoundKept, IsRunKept, IsWord64};
 ghost use Rattle.teg_report.specs.Meanings.{part_lists, round_lists, runs_lists};
-ghost use Rattle.teg_report.specs.Rounds.{AreRunsTold, IsChoiceIn, IsRoundIn, IsRunIn, choice_line, round_lines, run_lines, runs_from, runs_lines as runs_text, turn_line};
+ghost use Rattle.teg_report.specs.Rounds.{AreRunsTold, IsChoiceIn, IsChoiceKept, IsRoundIn, IsRoundKept, IsRunIn, IsRunKept, choice_line, round_lines, run_lines, runs_from, runs_lines as runs_text, turn_line};
+ghost use Rattle.teg_report.specs.Widths.{IsWord64};
 ghost use Rattle.teg_text.specs.Lines.{line_then, written};
 
+use crate::told::{Told, push_each};
 use std::alloc::AllocError;
 use teg_net::{Choice, Net, PartAnswer, Ratio, Round};
 use teg_text::push_circuit;
 
-// Appends the line of a choice.
-fn push_choice(text: &mut String, net: &Net, choice: &Choice) -> Result<(), AllocError>
-    requires { IsChoiceIn net.now choice.now }
-    ensures text { IfOk result (λ _. string_bytes text.new ≡
-        string_bytes text.old ++ line_then (choice_line net.now choice.now) []) }
-    ensures kept { IfOk result (λ _. IsChoiceKept choice.now) }
-{
-    let transition = net.transitions()[choice.transition.index as usize]
-        .name
-        .as_str();
-    let place = net.places()[choice.place.index as usize].name.as_str();
-    let value = choice.value;
-    write!(text, "choice {transition} {place} {value}\n")
-}
+impl Told for Choice {
+    ghost line = { choice_line };
 
-// Appends the lines of choices.
-#[tactic(auto, using(teg_text::proofs::Joining::written_map))]
-fn push_choices(text: &mut String, net: &Net, choices: &[Choice]) -> Result<(), AllocError>
-    requires { All (IsChoiceIn net.now) choices.now }
-    ensures text { IfOk result (λ _. string_bytes text.new ≡
-        string_bytes text.old ++ written (map (choice_line net.now) choices.now)) }
-    ensures kept { IfOk result (λ _. All IsChoiceKept choices.now) }
-{
-    for choice in choices {
-        push_choice(text, net, choice)?;
+    ghost is_there = { IsChoiceIn };
+
+    ghost is_kept = { IsChoiceKept };
+
+    fn push(&self, text: &mut String, net: &Net) -> Result<(), AllocError> {
+        let transition = net.transitions()[self.transition.index as usize]
+            .name
+            .as_str();
+        let place = net.places()[self.place.index as usize].name.as_str();
+        let value = self.value;
+        write!(text, "choice {transition} {place} {value}\n")
     }
-    Ok(())
 }
 
 // Appends the first line of a round.
@@ -75,7 +64,7 @@ fn push_round(
 {
     push_turn(text, part, turn, &round.ratio)?;
     push_circuit(text, net, &round.circuit)?;
-    push_choices(text, net, &round.choices)?;
+    push_each(text, net, &round.choices)?;
     Ok(())
 }
 

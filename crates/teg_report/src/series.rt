@@ -4,8 +4,8 @@ ghost use Rattle.std.specs.Int.RustNames.{unsigned_abs};
 ghost use Rattle.series_form.specs.declared.forms.SeriesRefused.TheVariants.{OutOfMemory as NoRoom, TooGreat, TooLong};
 ghost use Rattle.teg_calc.specs.declared.refusals.ParseRefused.TheVariants.{OutOfMemory as NoText, Syntax, TooDeep};
 ghost use Rattle.teg_calc.specs.Printing.{series_line};
-ghost use Rattle.teg_report.specs.Kept.{IsParseKept, IsSeriesKept, IsSeriesRefusalKept, IsWord32};
-ghost use Rattle.teg_report.specs.Series.{parse_line, series_refused_line};
+ghost use Rattle.teg_report.specs.Series.{IsParseKept, IsSeriesKept, IsSeriesRefusalKept, parse_line, series_refused_line};
+ghost use Rattle.teg_report.specs.Widths.{IsWord32};
 ghost use Rattle.teg_text.specs.Lines.{written};
 
 use series_form::{Series, SeriesRefused};

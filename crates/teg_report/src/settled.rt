@@ -3,14 +3,15 @@
 ghost use Rattle.std.specs.Prelude.{◌≡◌, ◌++◌, ◌∷◌, ◌<◌, ◌^◌, [], All, IfOk, length, map, string_bytes};
 ghost use Rattle.std.specs.Int.RustNames.{unsigned_abs};
 ghost use Rattle.settled_laws.specs.Forms.{row_of, step_of};
-ghost use Rattle.teg_report.specs.Kept.{IsSettledKept, AreTimesKept, AreTimesToKept, IsWord64};
 ghost use Rattle.teg_report.specs.Meanings.{times_from, times_to};
-ghost use Rattle.teg_report.specs.SettledTexts.{AreTimesIn, from_line, from_lines, output_count, row_words, settled_line, settled_lines, to_line, transfer_lines};
+ghost use Rattle.teg_report.specs.SettledTexts.{AreTimesIn, AreTimesKept, AreTimesToKept, IsSettledKept, from_line, from_lines, output_count, row_words, settled_line, settled_lines, to_line, transfer_lines};
+ghost use Rattle.teg_report.specs.Widths.{IsWord64};
 ghost use Rattle.teg_text.specs.Lines.{further_then, line_then, written};
 ghost use Rattle.teg_text.specs.Names.{name_of_transition};
 ghost use Rattle.teg_text.specs.Words.{IsDate};
 
 use crate::answer::{TransferFrom, TransferLine};
+use crate::told::{Told, push_each};
 use dioid::Date;
 use std::alloc::{AllocError, Global};
 use teg_net::{Net, OutOfMemory, Role, TransitionId};
@@ -91,6 +92,18 @@ fn push_to(text: &mut String, net: &Net, line: &TransferLine) -> Result<(), Allo
     Ok(())
 }
 
+impl Told for TransferLine {
+    ghost line = { λ net line. to_line net (times_to line) };
+
+    ghost is_there = { λ net line. line.to.index < length net.transitions };
+
+    ghost is_kept = { λ line. AreTimesToKept (times_to line) };
+
+    fn push(&self, text: &mut String, net: &Net) -> Result<(), AllocError> {
+        push_to(text, net, self)
+    }
+}
+
 // Appends the first line of an input.
 fn push_from_line(text: &mut String, net: &Net, from: &TransferFrom) -> Result<(), AllocError>
     requires { from.now.from.index < length net.now.transitions }
@@ -105,19 +118,6 @@ fn push_from_line(text: &mut String, net: &Net, from: &TransferFrom) -> Result<(
     write!(text, "from {name} settled after {after} period {period}\n")
 }
 
-// Appends the lines of outputs.
-fn push_tos(text: &mut String, net: &Net, lines: &[TransferLine]) -> Result<(), AllocError>
-    requires { All (λ l. l.to.index < length net.now.transitions) (map times_to lines.now) }
-    ensures text { IfOk result (λ _. string_bytes text.new ≡
-        string_bytes text.old ++ written (map (to_line net.now) (map times_to lines.now))) }
-    ensures kept { IfOk result (λ _. All AreTimesToKept (map times_to lines.now)) }
-{
-    for line in lines {
-        push_to(text, net, line)?;
-    }
-    Ok(())
-}
-
 // Appends the lines of an input.
 fn push_from(text: &mut String, net: &Net, from: &TransferFrom) -> Result<(), AllocError>
     requires { AreTimesIn net.now (times_from from.now) }
@@ -126,7 +126,7 @@ fn push_from(text: &mut String, net: &Net, from: &TransferFrom) -> Result<(), Al
     ensures kept { IfOk result (λ _. AreTimesKept (times_from from.now)) }
 {
     push_from_line(text, net, from)?;
-    push_tos(text, net, &from.lines)?;
+    push_each(text, net, &from.lines)?;
     Ok(())
 }
 

@@ -1,8 +1,8 @@
 //! The texts of the short answers. Each line ends with a line feed.
 ghost use Rattle.std.specs.Prelude.{◌≡◌, ◌<◌, [], ◌∷◌, IfOk, length};
 ghost use Rattle.teg_net.specs.Circuits.{AreInRange};
-ghost use Rattle.teg_report.specs.Kept.{IsWord32, IsWord64};
-ghost use Rattle.teg_report.specs.Texts.{usage_lines, live_lines, no_circuit_line, too_large_line, read_fault_line, token_free_line, no_transition_line, too_long_line, date_line};
+ghost use Rattle.teg_report.specs.Texts.{date_line, live_lines, no_circuit_line, no_transition_line, read_fault_line, token_free_line, too_large_line, too_long_line};
+ghost use Rattle.teg_report.specs.Widths.{IsWord32, IsWord64};
 ghost use Rattle.teg_text.specs.Lines.{written};
 ghost use Rattle.teg_text.specs.Names.{name_of_transition};
 ghost use Rattle.teg_text.specs.Words.{AreBytes, IsDate};
@@ -18,34 +18,6 @@ pub(crate) fn bytes_of(alloc: Global, text: &str) -> Result<Vec<u8>, OutOfMemory
     ensures { IfOk result (λ bytes. bytes.items ≡ text.now) }
 {
     Ok(Vec::from_slice(alloc, text.as_bytes())?)
-}
-
-// One line for each command.
-pub(crate) fn usage(alloc: Global) -> Result<Vec<u8>, OutOfMemory>
-    ensures { IfOk result (λ text. text.items ≡ written usage_lines) }
-{
-    bytes_of(
-        alloc,
-        concat!(
-            "usage: teg check NET\n",
-            "       teg list NET K\n",
-            "       teg form NET\n",
-            "       teg cycle NET [--rounds]\n",
-            "       teg dates NET [--limit N|none]\n",
-            "       teg date NET TRANSITION K [--limit N|none]\n",
-            "       teg jit NET DUE\n",
-            "       teg calc EXPR\n",
-            "       teg replay NET LOG\n",
-            "       teg slack NET\n",
-            "       teg transfer NET [--limit N]\n",
-            "       teg trial N\n",
-            "       teg migrate NET\n",
-            "       teg forever NET DUE\n",
-            "       teg size NET PLACE A/B\n",
-            "       teg timetable NET A FILE [--limit N|none]\n",
-            "       teg bound NET\n",
-        ),
-    )
 }
 
 // That a net of this size is live.

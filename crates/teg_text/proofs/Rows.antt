@@ -64,7 +64,7 @@ blocks_back is_head P f blocks (x ∷ xs) h =
 abbrev pub cells_row : {W : Type 0} → (ℕ → W) → (ℕ → ℕ → W) → ℕ → ℕ → List W
 cells_row head f width k = head k ∷ map (f k) (range_with_len 0 width)
 
-positive_width : (i count width : ℕ) → i < count * width → 0 < width
+pub positive_width : (i count width : ℕ) → i < count * width → 0 < width
 positive_width i count zero h = absurd (omega arith)
 positive_width i count (suc width) h = omega arith
 

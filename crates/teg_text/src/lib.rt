@@ -6,7 +6,7 @@
 //! [`push_dates`], [`push_label`], [`push_places`], [`push_circuit`] and [`push_settled`], which
 //! append just these words, that of [`row_fault`], and the laws [`lines_are_read`],
 //! [`words_are_read`] and [`names_are_read`]. It stands on `dioid` for dates and on `teg_net` for names and circuits.
-//! Its examples stand in `base_examples`.
+//! Its examples stand in `library_examples`.
 #![tactic(auto)]
 
 mod faults;

@@ -1,5 +1,5 @@
 use Rattle.std.proofs.Common.{[], ◌∷◌, ◌++◌, List, ℕ, ap, ◌∙◌, append_assoc, string_bytes, arith}
-use Rattle.teg_report.proofs.RowsWritten.{all_lines, one_line_more}
+use Rattle.teg_report.proofs.FileRowsWritten.{all_lines, one_line_more}
 use Rattle.teg_report.proofs.file_rows.push_lines.Goals as goal
 
 pub loop-line-preserved : goal.loop-line-preserved

@@ -1,4 +1,4 @@
-use Rattle.std.proofs.Common.{◌+◌, ◌-◌, ◌<◌, ◌∷◌, ◌++◌, length, drop, map, get_or, sym, ap, ◌∙◌, arith}
+use Rattle.std.proofs.Common.{◌-◌, ◌<◌, ◌∷◌, ◌++◌, length, drop, map, get_or, sym, ap, ◌∙◌, arith}
 use Rattle.std.proofs.lemmas.List.{drop_all, length-map}
 use Rattle.dioid.specs.declared.dates.Date.TheVariants.{Early}
 use Rattle.teg_text.specs.Words.{date_word}

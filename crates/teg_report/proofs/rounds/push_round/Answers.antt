@@ -14,7 +14,7 @@ returns-clause-text c =
     let turn = turn_line c.args.part c.args.turn round.ratio in
     let circuit = circuit_line net round.circuit.places.items in
     let told = map (choice_line net) c.deref.result.now in
-    c.in_ok-push_choices.ensures.text
+    c.in_ok-push_each.ensures.text
     ∙ (ap (λ (l : List ℕ). l ++ written told) (c.in_ok-push_circuit.ensures ∙ ap (λ (l : List ℕ). l ++ line_then circuit []) c.in_ok-push_turn.ensures.text)
     ∙ (two_then before turn circuit told
     ∙ ap (λ (vs : List Choice). before ++ written (turn ∷ circuit ∷ map (choice_line net) vs)) c.deref.ensures.value))

@@ -5,9 +5,8 @@ use Rattle.std.specs.Global.{Vec}
 use Rattle.std.specs.List.{flat_map}
 use Rattle.teg_net.specs.declared.rounds.Round.{Round}
 use Rattle.teg_report.specs.Cycles.{PartLists, NoCircuitIn}
-use Rattle.teg_report.specs.Kept.{IsRunKept}
+use Rattle.teg_report.specs.Rounds.{IsRunKept, RoundLists, Run, IsRunIn, circuits_in, run_lines, runs_from}
 use Rattle.teg_report.specs.Meanings.{part_lists, round_lists, runs_lists}
-use Rattle.teg_report.specs.Rounds.{RoundLists, Run, IsRunIn, circuits_in, run_lines, runs_from}
 use Rattle.teg_text.specs.Lines.{written}
 use Rattle.teg_text.proofs.Joining.{written_flat_map}
 use Rattle.teg_report.proofs.Runs.{best_at, circuits_more, next_list, no_run_more, one_run_more}

@@ -12,13 +12,12 @@ use Rattle.teg_net.specs.declared.answers.Potential.{Potential}
 use Rattle.teg_net.specs.declared.entries.TransitionId.{TransitionId}
 use Rattle.teg_net.specs.Nets.{NetLists, IsNet}
 use Rattle.teg_net.specs.Ratios.{Fraction}
-use Rattle.teg_report.specs.Answering.{potential_in, part_in, members_in, is_first_round, is_member, is_part, is_part_line, told_in, parts_in, round_in, rounds_in, some_runs, cycle_in, answer_of}
+use Rattle.teg_report.specs.Cycles.{potential_in, part_in, members_in, is_member, is_part, is_part_line, told_in, parts_in, cycle_in, CycleLists, PartLists, NoCircuitIn, BestOf, members_from, member_line, potential_line, part_lines, part_at, best_lines, cycle_lines, IsPotentialIn, IsPartTold, has_ratio, IsFirstOf, IsCycleTold}
+use Rattle.teg_report.specs.Rounds.{is_first_round, round_in, rounds_in, some_runs, IsRunKept, RoundLists, AreRoundsTold, circuits_in, runs_lines, told_runs}
+use Rattle.teg_report.specs.Answering.{answer_of}
 use Rattle.teg_report.specs.Answers.{Cycle}
-use Rattle.teg_report.specs.Cycles.{CycleLists, PartLists, NoCircuitIn, BestOf, members_from, member_line, potential_line, part_lines, part_at, best_lines, cycle_lines, IsPotentialIn, IsPartTold, has_ratio, IsFirstOf, IsCycleTold}
-use Rattle.teg_report.specs.Kept.{IsRunKept}
-use Rattle.teg_report.specs.Rounds.{RoundLists, AreRoundsTold, circuits_in, runs_lines, told_runs}
 use Rattle.teg_report.proofs.IsRead.{IsRead}
-use Rattle.teg_report.proofs.Rounded.{all_pass, those_all, those_none, those_append, round_blocks, runs_read, rounds_told, rounds_back}
+use Rattle.teg_report.proofs.RoundsRead.{all_pass, those_all, those_none, those_append, round_blocks, runs_read, rounds_told, rounds_back}
 use Rattle.teg_text.proofs.NamesRead.{circuits, ratio_back, transition_back, transition_is_word}
 use Rattle.teg_text.specs.Lines.{is_line, are_lines}
 use Rattle.teg_text.specs.Names.{ratio_in, transition_in}

@@ -9,10 +9,8 @@ use Rattle.std.proofs.lemmas.List.FromFn.{get_or-range_with_len, length-range_wi
 use Rattle.std.specs.List.{flat_map, list_all, range_with_len}
 use Rattle.teg_net.specs.declared.rounds.Choice.{Choice}
 use Rattle.teg_net.specs.Nets.{NetLists, IsNet}
-use Rattle.teg_report.specs.Answering.{choice_in, is_first_round, is_part, is_part_line, round_in, some_runs}
-use Rattle.teg_report.specs.Cycles.{PartLists, NoCircuitIn, BestOf}
-use Rattle.teg_report.specs.Kept.{IsChoiceKept, IsRoundKept, IsRunKept}
-use Rattle.teg_report.specs.Rounds.{RoundLists, Run, no_round, choice_line, round_lines, run_lines, runs_lines, circuits_in, runs_from, told_runs, IsChoiceIn, IsRoundIn, IsRunIn, AreRoundsTold}
+use Rattle.teg_report.specs.Rounds.{choice_in, is_first_round, round_in, some_runs, IsChoiceKept, IsRoundKept, IsRunKept, RoundLists, Run, no_round, choice_line, round_lines, run_lines, runs_lines, circuits_in, runs_from, told_runs, IsChoiceIn, IsRoundIn, IsRunIn, AreRoundsTold}
+use Rattle.teg_report.specs.Cycles.{is_part, is_part_line, PartLists, NoCircuitIn, BestOf}
 use Rattle.teg_text.proofs.NamesRead.{circuits, place_back, place_is_word, ratio_back, transition_back, transition_is_word}
 use Rattle.teg_text.specs.Lines.{is_line, are_lines}
 use Rattle.teg_text.specs.Reading.{number_in}

@@ -12,8 +12,8 @@ use Rattle.teg_report.specs.declared.answer.Failure.{Failure}
 use Rattle.teg_report.specs.declared.answer.Failure.TheVariants.{Illegal, BackInTime, BeforeRelease}
 use Rattle.teg_report.specs.Answering.{IsNamedBy}
 use Rattle.teg_report.specs.Answers.{Due, Log, Replayed, Refused}
-use Rattle.teg_report.specs.FileRows.{IsFailureIn, IsOneLine, due_line, log_line, refused_lines, replayed_lines}
-use Rattle.teg_report.specs.Kept.{IsDueKept, IsLogKept, IsWord32, IsWord64}
+use Rattle.teg_report.specs.FileRows.{IsFailureIn, IsOneLine, due_line, log_line, refused_lines, replayed_lines, IsDueKept, IsLogKept}
+use Rattle.teg_report.specs.Widths.{IsWord32, IsWord64}
 use Rattle.teg_report.specs.Reports.{names_of}
 use Rattle.teg_report.proofs.IsRead.{IsRead, with_net}
 use Rattle.teg_text.proofs.NamesRead.{place_back, place_is_word}
