@@ -86,13 +86,13 @@ firings_begin net rows = record {
   told = λ i row firing l. absurd (omega arith);
 }
 
--- nothing is shown of a log that is not replayed
-none_shown : (lines : List Firing → List (List ℕ)) (net : NetLists) (said : Result (List LogRow) LogRefusal) → ShowsLog said net lines lines false
-none_shown lines net (Ok rows) = ([], firings_begin net rows, nothing_shown lines)
-none_shown lines net (Err refusal) = nothing_shown lines
+-- of a log that is not replayed nothing is shown
+none_shown : (before now : List Firing → List (List ℕ)) (net : NetLists) (said : Result (List LogRow) LogRefusal) → ShowsNothing before now → ShowsLog said net before now false
+none_shown before now net (Ok rows) h = ([], firings_begin net rows, h)
+none_shown before now net (Err refusal) h = h
 
-pub replay_unshown : (net : NetLists) (bytes : List ℕ) (lines : List Firing → List (List ℕ)) → ShowsReplay net bytes lines lines false
-replay_unshown net bytes lines = none_shown lines net (log_of net bytes)
+pub replay_unshown : (net : NetLists) (bytes : List ℕ) (before now : List Firing → List (List ℕ)) → ShowsNothing before now → ShowsReplay net bytes before now false
+replay_unshown net bytes before now h = none_shown before now net (log_of net bytes) h
 
 -- so it is with a log that was read
 pub log_shown : (before now : List Firing → List (List ℕ)) (net other : NetLists) (bytes : List ℕ) (rows given : List LogRow) (is_told : Bool) →
@@ -105,7 +105,7 @@ log_shown before now net other bytes rows given is_told e is same h =
 -- of a log that was refused nothing is shown
 pub fault_shown : (lines : List Firing → List (List ℕ)) (net other : NetLists) (bytes : List ℕ) (refusal : LogRefusal) (outcome : Result Outcome NoMemory) →
     other ≡ net → (refusal ≢ NoRoom → log_of other bytes ≡ Err refusal) → Tells (TellsBadLog refusal) (outcome_of outcome) → ShowsReplay net bytes lines lines (is_ok outcome)
-fault_shown lines net other bytes refusal (Err e) same is h = none_shown lines net (log_of net bytes)
+fault_shown lines net other bytes refusal (Err e) same is h = none_shown lines lines net (log_of net bytes) (nothing_shown lines)
 fault_shown lines net other bytes refusal (Ok outcome) same is h =
     subst (λ (said : Result (List LogRow) LogRefusal). ShowsLog said net lines lines true)
     (sym (subst (λ (n : NetLists). log_of n bytes ≡ Err refusal) same (is h.1))) (nothing_shown lines)

@@ -38,7 +38,7 @@ pub use jit::tell_jit;
 pub use laws::{no_circuit_is_told, rounds_follow_times, unread_files_are_told};
 pub use live_net::LiveNet;
 pub use migrate::tell_migrate;
-pub use numbers::{Count, FiringNumber, Limit, Machines, Period, Target};
+pub use numbers::{Count, FiringNumber, Limit, Machines, Period, Target, UpTo};
 pub use outcome::{Outcome, Verdict};
 pub use replay::tell_replay;
 pub use size::tell_size;

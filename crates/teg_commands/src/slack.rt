@@ -9,7 +9,7 @@ ghost use Rattle.teg_net.specs.GreatestRatios.{HasNoCircuit, IsAnyPlace};
 use crate::live_net::LiveNet;
 use crate::outcome::{Outcome, Verdict};
 use std::alloc::Global;
-use teg_net::{CycleAnswer, OutOfMemory, PartAnswer, Ratio};
+use teg_net::{CycleAnswer, OutOfMemory, Ratio};
 use teg_report::{Answer, report};
 
 // The greatest ratio that the cycle times of a live net tell; none where it has no circuit.
@@ -18,11 +18,8 @@ pub(crate) fn best_ratio(net: &LiveNet, answer: &CycleAnswer) -> Option<Ratio>
     ensures none { IfNone result (HasNoCircuit net.now IsAnyPlace) }
     ensures some { IfSome result (IsBestRatio net.now) }
 {
-    let part = answer.best?;
-    match &answer.parts[part as usize] {
-        PartAnswer::NoCircuit => None,
-        PartAnswer::Best { ratio, .. } => Some(*ratio),
-    }
+    let _net = net;
+    teg_cycle::best_ratio(answer)
 }
 
 // The slack of each place, by the cycle times of a live net that has this greatest ratio.

@@ -141,7 +141,7 @@ fn tell_too_long(
 pub fn tell_transfer(alloc: Global, net: &LiveNet, limit: Limit) -> Result<Outcome, OutOfMemory>
     ensures { Tells (SaysTransfer limit net.now) (outcome_of result) }
 {
-    let limit = limit.get();
+    let limit = limit.get() as u32;
     match all_times(alloc, net, limit) {
         Ok(times) => {
             let inputs = times.as_slice();

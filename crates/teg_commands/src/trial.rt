@@ -130,7 +130,7 @@ fn tell_net(alloc: Global, machines: u32, net: &LiveNet) -> Result<Outcome, OutO
 pub fn tell_trial(alloc: Global, machines: Machines) -> Result<Outcome, OutOfMemory>
     ensures { Tells (SaysTrial machines) (outcome_of result) }
 {
-    let machines = machines.get();
+    let machines = machines.get() as u32;
     let net = with_ranks(alloc, make_trial(alloc, machines)?)?;
     tell_net(alloc, machines, &net)
 }

@@ -1,6 +1,5 @@
 -- Counts over several calls: a count that rose or rested in a part of them.
-use Rattle.std.proofs.Common.{ℕ, ◌-◌, ◌^◌, ◌≤◌, ◌<◌, ◌≡◌, ◌≢◌, ◌⊎◌, ⊎_elim, inl, inr, arith}
-use Rattle.std.proofs.lemmas.Bool.{cases_eq, cases_lt}
+use Rattle.std.proofs.Common.{ℕ, ◌≤◌, arith}
 use Rattle.teg_outside.specs.Causes.{Rose, Rested}
 
 -- no count both rose and rested

@@ -48,10 +48,14 @@ abbrev pub file_within : Option (List ℕ) → ℕ → Result (List ℕ) ShelfFa
 file_within None limit = Err ReadFailed
 file_within (Some bytes) limit = if nat_le (length bytes) limit then Ok bytes else Err TooLarge
 
+-- how the call of this number answers where memory is found
+abbrev pub reply_of : (files : List (List ℕ × List ℕ)) → (failing : List ℕ) → (call : ℕ) → (name : List ℕ) → (limit : ℕ) → Result (List ℕ) ShelfFault
+reply_of files failing call name limit =
+    if list_any (λ number. number == call) failing then Err ReadFailed else file_within (file_of files name) limit
+
 -- how the next read answers where memory is found
 abbrev pub next_read : FilesInMemory → List ℕ → ℕ → Result (List ℕ) ShelfFault
-next_read shelf name limit =
-    if fails_next shelf.failing shelf.calls then Err ReadFailed else file_within (file_of shelf.files name) limit
+next_read shelf name limit = reply_of shelf.files shelf.failing (one_more shelf.calls) name limit
 
 -- the shelf after one more call
 abbrev pub after_call : FilesInMemory → FilesInMemory

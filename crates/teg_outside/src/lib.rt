@@ -9,7 +9,7 @@
 //! print a number each of the firings seen, and `NoLine` never finds memory for a line.
 //!
 //! It stands on std alone.
-//! Its examples stand in `base_examples`.
+//! Its examples stand in `worked_examples`.
 #![tactic(auto)]
 
 mod file_shelf;

@@ -1,7 +1,8 @@
 //! A shelf of files in memory.
-ghost use Rattle.std.specs.Prelude.{◌≡◌, ◌≤◌, None, MatchOption, Some, [], map};
+ghost use Rattle.std.specs.Prelude.{◌≡◌, ◌≤◌, Err, IfErr, IfOk, MatchOption, MatchResult, None, Ok, Some, [], map};
 ghost use Rattle.teg_outside.specs.Shelves.{ReadAnswers, file_of, replied};
-ghost use Rattle.teg_outside.specs.Memory.{FilesInMemory, MemoryReads, shelf_told, told_file, told_read};
+ghost use Rattle.teg_outside.specs.declared.shelf.ShelfFault.TheVariants.{OutOfMemory};
+ghost use Rattle.teg_outside.specs.Memory.{FilesInMemory, MemoryReads, after_call, after_read, reply_of, shelf_told, told_file, told_read};
 
 use crate::{Shelf, ShelfFault};
 use std::alloc::Global;
@@ -72,6 +73,45 @@ fn find_file<'a>(files: &'a [(String, Vec<u8>)], name: &str) -> Option<&'a [u8]>
     None
 }
 
+// The bytes of the first file of that name, unless this call is one of those that fail, or the file is
+// longer than the limit.
+fn find_within<'a>(
+    files: &'a [(String, Vec<u8>)],
+    failing: &[u64],
+    call: u64,
+    name: &str,
+    limit: usize,
+) -> Result<&'a [u8], ShelfFault>
+    ensures { MatchResult result
+        (λ bytes. reply_of (map told_file files.now) failing.now call name.now limit ≡ Ok bytes.now)
+        (λ fault. reply_of (map told_file files.now) failing.now call name.now limit ≡ Err fault) }
+{
+    if failing.contains(&call) {
+        return Err(ShelfFault::Failed);
+    }
+    let Some(file) = find_file(files, name) else {
+        return Err(ShelfFault::Failed);
+    };
+    if file.len() > limit {
+        return Err(ShelfFault::TooLarge);
+    }
+    Ok(file)
+}
+
+impl MemoryShelf {
+    // Counts and tells one more call.
+    fn tell(&mut self, alloc: Global, name: &str, limit: usize) -> Result<(), ShelfFault>
+        ensures told { IfOk result (λ _. self.new ≡ after_read self.old name.now limit) }
+        ensures lost { IfErr result (λ fault. (fault ≡ OutOfMemory)
+            × (self.new ≡ after_call self.old)) }
+    {
+        self.calls = self.calls.saturating_add(1);
+        let asked = String::from_str(alloc, name)?;
+        self.reads.push((asked, limit))?;
+        Ok(())
+    }
+}
+
 impl Shelf for MemoryShelf {
     ghost state = { shelf_told };
 
@@ -85,21 +125,17 @@ impl Shelf for MemoryShelf {
             (replied result) }
         ensures rule { MemoryReads self.old self.new name.now limit (replied result) }
     {
-        self.calls = self.calls.saturating_add(1);
-        let asked = String::from_str(alloc, name)?;
-        self.reads.push((asked, limit))?;
-        if self.failing.contains(&self.calls) {
-            self.faults = self.faults.saturating_add(1);
-            return Err(ShelfFault::Failed);
+        self.tell(alloc, name, limit)?;
+        match find_within(&self.files, &self.failing, self.calls, name, limit) {
+            Ok(file) => Ok(file.to_vec(alloc)?),
+            Err(ShelfFault::TooLarge) => {
+                self.overlong = self.overlong.saturating_add(1);
+                Err(ShelfFault::TooLarge)
+            }
+            Err(_) => {
+                self.faults = self.faults.saturating_add(1);
+                Err(ShelfFault::Failed)
+            }
         }
-        let Some(file) = find_file(&self.files, name) else {
-            self.faults = self.faults.saturating_add(1);
-            return Err(ShelfFault::Failed);
-        };
-        if file.len() > limit {
-            self.overlong = self.overlong.saturating_add(1);
-            return Err(ShelfFault::TooLarge);
-        }
-        Ok(file.to_vec(alloc)?)
     }
 }

@@ -10,5 +10,6 @@ pub mod Refusals
 pub mod Refusing
 pub mod SecondReads
 pub mod Showing
+pub mod ShownFiles
 pub mod Verdicts
 pub mod Ways

@@ -31,7 +31,8 @@ live_bytes net goes_on replies status text (Ok found) (Refused status' text') li
     let same : found ≡ net = cc in absurd (live_not_free net found opens.1.0 live same opens.1.1)
 live_bytes net goes_on replies status text (Err refusal) opening live is opens h = absurd (let bad : ⊥ = cc in bad)
 
-live_reply : (files : List (List ℕ × List ℕ)) (old mid new : ShelfState) (name : List ℕ) (named : List (Which × List ℕ)) (net : NetLists)
+-- what is said after the reply for a told live net goes on with that net
+pub live_reply : (files : List (List ℕ × List ℕ)) (old mid new : ShelfState) (name : List ℕ) (named : List (Which × List ℕ)) (net : NetLists)
     (goes_on : NetLists → List (Result (List ℕ) ShelfFault) → Status → List ℕ → Type 0) (reply : Result (List ℕ) ShelfFault)
     (replies : List (Result (List ℕ) ShelfFault)) (status : Status) (text : List ℕ) (opening : Opening NetLists) →
     old.files ≡ Some files → Rested old.faults new.faults → Opens files name net → Reads old mid name most_bytes reply →

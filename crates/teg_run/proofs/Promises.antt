@@ -253,7 +253,7 @@ wrote_whole call (Whole said text) other memory h k =
     (text, (h.0, h.1, subst (λ (s : Status). Asked (request_of call.words) call.lines h.0 s text) (sym whole.0) h.2), whole.1, whole.2)
 
 -- what is asked never ends with a fault of the sink or for want of memory
-asked_is_said : (asked : Option Request) (call : Call) (said : Status) (text : List ℕ) →
+pub asked_is_said : (asked : Option Request) (call : Call) (said : Status) (text : List ℕ) →
     Answered (Asked asked call.lines) (asked_files asked) call.shelf_before call.shelf_after (Whole said text) → (said ≢ WriteFault) × (said ≢ NoMemory)
 asked_is_said None call said text h = let is = h.2.1.0 in (λ e. cc, λ e. cc)
 asked_is_said (Some request) call said text h =

@@ -59,7 +59,7 @@ serves_with says shows files shelf shelf' sink sink' status shown h = (h.0, answ
 -- nothing is shown of a file of which nothing is told
 files_unshown : (command : FileCommand) (net : NetLists) (bytes : List ℕ) (lines : List Firing → List (List ℕ)) → ShowsFiles command net bytes lines lines false
 files_unshown JitNet net bytes lines = nothing_shown lines
-files_unshown ReplayNet net bytes lines = replay_unshown net bytes lines
+files_unshown ReplayNet net bytes lines = replay_unshown net bytes lines lines (nothing_shown lines)
 files_unshown ForeverNet net bytes lines = nothing_shown lines
 files_unshown (TimetableNet period limit) net bytes lines = nothing_shown lines
 

@@ -2,7 +2,7 @@
 use Rattle.std.specs.Prelude.{ℕ, ◌≡◌, ◌+◌, ◌*◌, ◌≤◌, ◌<◌, ◌++◌, List, [], length, take, Result, Ok, Err}
 use Rattle.std.specs.List.{flat_map, range_with_len}
 use Rattle.dioid.specs.declared.dates.Date.{Date}
-use Rattle.teg_dates.specs.Streams.{AreFirstRowsOf, HasLeast}
+use Rattle.teg_dates.specs.Streams.{AreFirstRowsOf, HasLeast, first_rows_given}
 use Rattle.teg_net.specs.Nets.{NetLists}
 use Rattle.teg_outside.specs.declared.sink.SinkFault.{SinkFault}
 use Rattle.teg_outside.specs.declared.sink.SinkFault.TheVariants.{Failed}
@@ -31,7 +31,7 @@ pub record HasRoom (width : ℕ) (buffers : Buffers) : Type 0 where
 pub record IsListingOf (net : NetLists) (count : ℕ) (listing : Listing) : Type 0 where
   pub head : listing.head.items ≡ head_text net count
   pub stands : AreFirstRowsOf net listing.rows
-  pub begins : listing.rows.window.number ≡ 0
+  pub begins : first_rows_given listing.rows ≡ 0
   pub room : HasRoom (length net.transitions) listing.buffers
   pub exists : HasLeast net
 

@@ -1,5 +1,5 @@
 -- What the words of the command line ask for.
-use Rattle.std.specs.Prelude.{ℕ, Bool, false, List, [], ◌∷◌, Option, Some, None, codes, bytes_eq, nat_le, length, if◌then◌else◌, option_and_then, ◌==◌}
+use Rattle.std.specs.Prelude.{ℕ, Bool, List, [], ◌∷◌, Option, Some, None, codes, bytes_eq, nat_le, length, if◌then◌else◌, is_some, option_and_then, ◌==◌}
 use Rattle.std.specs.Option.{option_map}
 use Rattle.std.specs.List.{before_first, after_first}
 use Rattle.teg_dates.specs.Tables.{most_numbers}
@@ -19,20 +19,20 @@ use Rattle.teg_run.specs.Limits.{usual_limit}
 use Rattle.teg_report.specs.declared.answer.Which.{Which}
 use Rattle.teg_report.specs.declared.answer.Which.TheVariants.{Net as NetFile, Due as DueFile, Log as LogFile, Timetable as TimetableFile}
 
--- this command on the net of the one word that is given, and no option: as `check NET`
-abbrev pub only_net : NetCommand → List (List ℕ) → Option (List ℕ) → Bool → Option Request
-only_net command (net ∷ []) None false = Some (OfNet command net)
-only_net command rest limit rounds = None
+-- this command on the net of the one word that is given: as `check NET`
+abbrev pub only_net : NetCommand → List (List ℕ) → Option Request
+only_net command (net ∷ []) = Some (OfNet command net)
+only_net command rest = None
 
--- this command on the net and the second file of the two words that are given, and no option: as `jit NET DUE`
-abbrev pub net_and_file : FileCommand → List (List ℕ) → Option (List ℕ) → Bool → Option Request
-net_and_file command (net ∷ second ∷ []) None false = Some (OfFiles command net second)
-net_and_file command rest limit rounds = None
+-- this command on the net and the second file of the two words that are given: as `jit NET DUE`
+abbrev pub net_and_file : FileCommand → List (List ℕ) → Option Request
+net_and_file command (net ∷ second ∷ []) = Some (OfFiles command net second)
+net_and_file command rest = None
 
 -- `list NET K`, with K from 1 to the most numbers of a table
-abbrev pub list_asked : List (List ℕ) → Option (List ℕ) → Bool → Option Request
-list_asked (net ∷ word ∷ []) None false = option_map (λ count. OfNet (ListNet count) net) (number_of 1 most_numbers word)
-list_asked rest limit rounds = None
+abbrev pub list_asked : List (List ℕ) → Option Request
+list_asked (net ∷ word ∷ []) = option_map (λ count. OfNet (ListNet count) net) (number_of 1 most_numbers word)
+list_asked rest = None
 
 -- the limit of a settled form: a number, or the usual one
 abbrev pub number_limit : Option (List ℕ) → Option ℕ
@@ -44,22 +44,20 @@ abbrev pub limit_asked : Option (List ℕ) → Option (Option ℕ)
 limit_asked None = Some (Some usual_limit)
 limit_asked (Some word) = if bytes_eq word (codes "none") then Some None else option_map (λ limit. Some limit) (number_of 1 greatest_limit word)
 
--- `date NET TRANSITION K`, with K from 1 to 10^18, and perhaps `--limit N` or `--limit none`
-abbrev pub date_asked : List (List ℕ) → Option (List ℕ) → Bool → Option Request
-date_asked (net ∷ word ∷ count ∷ []) limit false =
-    option_and_then (λ most. option_map (λ number. OfNet (DateNet word number most) net) (number_of 1 greatest_number count)) (limit_asked limit)
-date_asked rest limit rounds = None
+-- `date NET TRANSITION K`, with K from 1 to 10^18, by this limit
+abbrev pub date_asked : List (List ℕ) → Option ℕ → Option Request
+date_asked (net ∷ word ∷ count ∷ []) most = option_map (λ number. OfNet (DateNet word number most) net) (number_of 1 greatest_number count)
+date_asked rest most = None
 
--- `timetable NET A FILE`, with A from 1 to 10^6, and perhaps `--limit N` or `--limit none`
-abbrev pub timetable_asked : List (List ℕ) → Option (List ℕ) → Bool → Option Request
-timetable_asked (net ∷ word ∷ table ∷ []) limit false =
-    option_and_then (λ most. option_map (λ period. OfFiles (TimetableNet period most) net table) (number_of 1 greatest_period word)) (limit_asked limit)
-timetable_asked rest limit rounds = None
+-- `timetable NET A FILE`, with A from 1 to 10^6, by this limit
+abbrev pub timetable_asked : List (List ℕ) → Option ℕ → Option Request
+timetable_asked (net ∷ word ∷ table ∷ []) most = option_map (λ period. OfFiles (TimetableNet period most) net table) (number_of 1 greatest_period word)
+timetable_asked rest most = None
 
 -- `trial N`, with N from 1 to 400
-abbrev pub trial_asked : List (List ℕ) → Option (List ℕ) → Bool → Option Request
-trial_asked (count ∷ []) None false = option_map (λ machines. TrialOf machines) (number_of 1 most_machines count)
-trial_asked rest limit rounds = None
+abbrev pub trial_asked : List (List ℕ) → Option Request
+trial_asked (count ∷ []) = option_map (λ machines. TrialOf machines) (number_of 1 most_machines count)
+trial_asked rest = None
 
 -- whether a byte is `/`
 abbrev pub is_slash : ℕ → Bool
@@ -72,47 +70,56 @@ target_asked word =
     (number_of 0 greatest_target_time (before_first is_slash word))
 
 -- `size NET PLACE A/B`
-abbrev pub size_asked : List (List ℕ) → Option (List ℕ) → Bool → Option Request
-size_asked (net ∷ word ∷ target ∷ []) None false = option_map (λ ratio. OfNet (SizeNet word ratio) net) (target_asked target)
-size_asked rest limit rounds = None
+abbrev pub size_asked : List (List ℕ) → Option Request
+size_asked (net ∷ word ∷ target ∷ []) = option_map (λ ratio. OfNet (SizeNet word ratio) net) (target_asked target)
+size_asked rest = None
 
 -- `calc EXPR`, with an expression of at most 4,096 bytes
-abbrev pub calc_asked : List (List ℕ) → Option (List ℕ) → Bool → Option Request
-calc_asked (text ∷ []) None false = if nat_le (length text) most_expression then Some (ValueOf text) else None
-calc_asked rest limit rounds = None
+abbrev pub calc_asked : List (List ℕ) → Option Request
+calc_asked (text ∷ []) = if nat_le (length text) most_expression then Some (ValueOf text) else None
+calc_asked rest = None
 
--- the request of a command on a net with words of its own, or with `--limit N` where it takes a limit, or of one without a file:
--- nothing for a word that is no command
-abbrev pub further_asked : Given → Option Request
-further_asked given =
-    if bytes_eq given.command (codes "list") then list_asked given.rest given.limit given.rounds
-    else (if bytes_eq given.command (codes "dates") then option_and_then (λ most. only_net (DatesNet most) given.rest None given.rounds) (limit_asked given.limit)
-    else (if bytes_eq given.command (codes "date") then date_asked given.rest given.limit given.rounds
-    else (if bytes_eq given.command (codes "transfer") then option_and_then (λ most. only_net (TransferNet most) given.rest None given.rounds) (number_limit given.limit)
-    else (if bytes_eq given.command (codes "size") then size_asked given.rest given.limit given.rounds
-    else (if bytes_eq given.command (codes "calc") then calc_asked given.rest given.limit given.rounds
-    else (if bytes_eq given.command (codes "trial") then trial_asked given.rest given.limit given.rounds
-    else None))))))
+-- the request of a command with words of its own, or without a file: nothing for a word that is no command
+abbrev pub further_asked : List ℕ → List (List ℕ) → Option Request
+further_asked command rest =
+    if bytes_eq command (codes "list") then list_asked rest
+    else (if bytes_eq command (codes "size") then size_asked rest
+    else (if bytes_eq command (codes "calc") then calc_asked rest
+    else (if bytes_eq command (codes "trial") then trial_asked rest
+    else None)))
 
--- the request of a command on a net and a second file, or of one of the others
-abbrev pub file_asked : Given → Option Request
-file_asked given =
-    if bytes_eq given.command (codes "jit") then net_and_file JitNet given.rest given.limit given.rounds
-    else (if bytes_eq given.command (codes "replay") then net_and_file ReplayNet given.rest given.limit given.rounds
-    else (if bytes_eq given.command (codes "forever") then net_and_file ForeverNet given.rest given.limit given.rounds
-    else (if bytes_eq given.command (codes "timetable") then timetable_asked given.rest given.limit given.rounds
-    else further_asked given)))
+-- the request of a command on a net and a second file, or of one of those
+abbrev pub file_asked : List ℕ → List (List ℕ) → Option Request
+file_asked command rest =
+    if bytes_eq command (codes "jit") then net_and_file JitNet rest
+    else (if bytes_eq command (codes "replay") then net_and_file ReplayNet rest
+    else (if bytes_eq command (codes "forever") then net_and_file ForeverNet rest
+    else further_asked command rest))
 
--- the request of a command with what is given to it: of one on a net and nothing else, or of one of the others
+-- the request of a command that takes no option: of one on a net and nothing else, or of one of those
+abbrev pub plain_asked : List ℕ → List (List ℕ) → Option Request
+plain_asked command rest =
+    if bytes_eq command (codes "check") then only_net CheckNet rest
+    else (if bytes_eq command (codes "form") then only_net FormNet rest
+    else (if bytes_eq command (codes "slack") then only_net SlackNet rest
+    else (if bytes_eq command (codes "migrate") then only_net MigrateNet rest
+    else (if bytes_eq command (codes "bound") then only_net BoundNet rest
+    else file_asked command rest))))
+
+-- the request of a command with `--limit N` or `--limit none`, or without; of one that takes no limit where none is given
+abbrev pub limited_asked : List ℕ → List (List ℕ) → Option (List ℕ) → Option Request
+limited_asked command rest limit =
+    if bytes_eq command (codes "dates") then option_and_then (λ most. only_net (DatesNet most) rest) (limit_asked limit)
+    else (if bytes_eq command (codes "date") then option_and_then (date_asked rest) (limit_asked limit)
+    else (if bytes_eq command (codes "timetable") then option_and_then (timetable_asked rest) (limit_asked limit)
+    else (if bytes_eq command (codes "transfer") then option_and_then (λ most. only_net (TransferNet most) rest) (number_limit limit)
+    else (if is_some limit then None else plain_asked command rest))))
+
+-- the request of a command with what is given to it; `--rounds` goes with `cycle` alone
 abbrev pub asked_for : Given → Option Request
 asked_for given =
-    if bytes_eq given.command (codes "check") then only_net CheckNet given.rest given.limit given.rounds
-    else (if bytes_eq given.command (codes "form") then only_net FormNet given.rest given.limit given.rounds
-    else (if bytes_eq given.command (codes "cycle") then only_net (CycleNet given.rounds) given.rest given.limit false
-    else (if bytes_eq given.command (codes "slack") then only_net SlackNet given.rest given.limit given.rounds
-    else (if bytes_eq given.command (codes "migrate") then only_net MigrateNet given.rest given.limit given.rounds
-    else (if bytes_eq given.command (codes "bound") then only_net BoundNet given.rest given.limit given.rounds
-    else file_asked given)))))
+    if bytes_eq given.command (codes "cycle") then (if is_some given.limit then None else only_net (CycleNet given.rounds) given.rest)
+    else (if given.rounds then None else limited_asked given.command given.rest given.limit)
 
 -- the request that the words give, if they give one
 abbrev pub request_of : List (List ℕ) → Option Request

@@ -1,6 +1,6 @@
 -- What the monitors of a call were shown, by what the reads of the call gave. Of the monitors before and now it is given what they would
 -- print by the further firings that they would see; `is_told` is false where memory ran out.
-use Rattle.std.specs.Prelude.{ℕ, Bool, List, [], ◌∷◌, Option, Some, None, Result, Ok}
+use Rattle.std.specs.Prelude.{ℕ, ◌≡◌, ◌≢◌, Bool, true, false, List, [], ◌∷◌, Option, Some, None, Result, Ok}
 use Rattle.teg_net.specs.Nets.{NetLists}
 use Rattle.teg_outside.specs.declared.monitor.Firing.{Firing}
 use Rattle.teg_outside.specs.declared.shelf.ShelfFault.{ShelfFault}
@@ -13,13 +13,16 @@ use Rattle.teg_run.specs.declared.request.FileCommand.TheVariants.{Jit as JitNet
 use Rattle.teg_run.specs.declared.request.Request.{Request}
 use Rattle.teg_run.specs.declared.request.Request.TheVariants.{OfNet, OfFiles, ValueOf, TrialOf}
 use Rattle.teg_run.specs.declared.status.Status.{Status}
+use Rattle.teg_run.specs.declared.status.Status.TheVariants.{NoMemory, WriteFault}
 use Rattle.teg_run.specs.Calls.{Call}
 use Rattle.teg_run.specs.Endings.{Ending, EndsWith, is_whole}
+use Rattle.teg_run.specs.Headline.{AcceptsFiles, ConcernsBoth}
 use Rattle.teg_run.specs.Openings.{Accepted, OpensNet}
 use Rattle.teg_run.specs.Reads.{ReadsAll}
 use Rattle.teg_run.specs.Requests.{request_of, asked_files}
 use Rattle.teg_run.specs.Runs.{Finished}
 use Rattle.teg_run.specs.Says.{Asked}
+use Rattle.teg_run.specs.Statuses.{IsOwn}
 
 -- of a live net and the bytes of a second file: the accepted firings of a log, and nothing of another file
 abbrev pub ShowsFiles : FileCommand → NetLists → List ℕ → (before now : List Firing → List (List ℕ)) → (is_told : Bool) → Type 0
@@ -72,3 +75,19 @@ ShowsFor asked call now =
 -- the call carries out what its words ask for, and shows the monitors just the firings of that
 abbrev pub ShowsJust : Call → (now : List Firing → List (List ℕ)) → Type 0
 ShowsJust call now = ShowsFor (request_of call.words) call now
+
+-- what the monitors of a call were shown, by its words, its status and the files that are told
+pub record ShowsTold (call : Call) (now : List Firing → List (List ℕ)) : Type 0 where
+  -- Over told files of which no read failed, a log with a live net: just its accepted firings.
+  pub of_log : (net : NetLists) (bytes : List ℕ) → ConcernsBoth call ReplayNet net bytes → call.status ≢ NoMemory →
+      ShowsReplay net bytes call.lines now true
+  -- The same where no memory was found: the firings of some first rows of the log.
+  pub of_lost_log : (net : NetLists) (bytes : List ℕ) → ConcernsBoth call ReplayNet net bytes → call.status ≡ NoMemory →
+      ShowsReplay net bytes call.lines now false
+  -- Over told files, a log that is too long, or whose net is refused: nothing.
+  pub of_refused : (files : List (List ℕ × List ℕ)) (name log : List ℕ) → request_of call.words ≡ Some (OfFiles ReplayNet name log) →
+      call.shelf_before.files ≡ Some files → (AcceptsFiles files (OfFiles ReplayNet name log) → ⊥) → ShowsNothing call.lines now
+  -- A call that ends with a status that no command gives, as for a read that failed: nothing.
+  pub of_fault : (IsOwn call.status → ⊥) → call.status ≢ WriteFault → call.status ≢ NoMemory → ShowsNothing call.lines now
+  -- Words that ask for no replay: nothing.
+  pub of_others : ((name log : List ℕ) → request_of call.words ≢ Some (OfFiles ReplayNet name log)) → ShowsNothing call.lines now

@@ -3,38 +3,20 @@ ghost use Rattle.std.specs.Prelude.{◌≡◌, IfOk, Some, map, string_bytes};
 ghost use Rattle.std.specs.Option.{option_copied};
 ghost use Rattle.teg_words.specs.Meanings.{told, texts};
 ghost use Rattle.teg_words.specs.Numbers.{number_of};
-ghost use Rattle.teg_dates.specs.Tables.{most_numbers};
-ghost use Rattle.teg_net.specs.Limits.{greatest_number};
-ghost use Rattle.teg_timetable.specs.Spreads.{greatest_period};
-ghost use Rattle.teg_commands.specs.Limits.{most_machines};
 ghost use Rattle.teg_run.specs.declared.request.Request.TheVariants.{OfFiles, OfNet};
-ghost use Rattle.teg_run.specs.Requests.{asked_for, calc_asked, date_asked, file_asked, further_asked, limit_asked, list_asked, net_and_file, number_limit, only_net, request_of, size_asked, target_asked, timetable_asked, trial_asked};
+ghost use Rattle.teg_run.specs.Requests.{asked_for, calc_asked, date_asked, file_asked, further_asked, limit_asked, limited_asked, list_asked, net_and_file, number_limit, only_net, plain_asked, request_of, size_asked, target_asked, timetable_asked, trial_asked};
 
 use crate::request::{FileCommand, NetCommand, Request};
 use std::alloc::Global;
-use teg_commands::{Count, Expression, FiringNumber, Limit, Machines, Period, Target};
+use teg_commands::{Expression, Limit, Target, UpTo};
 use teg_net::{Label, OutOfMemory};
 use teg_words::{GivenWords, WordsRefusal, number, read_words};
 
 // The most bytes that an expression has.
 const MOST_EXPRESSION: usize = 4096;
 
-// The most firing numbers that a list has.
-const MOST_NUMBERS: u64 = 10_000;
-
-// The most machines that a line has.
-const MOST_MACHINES: u64 = 400;
-
-// The greatest number of a firing.
-const GREATEST_NUMBER: u64 = 1_000_000_000_000_000_000;
-
-// The greatest limit of a settled form, and the one that holds where none is given.
-const GREATEST_LIMIT: u64 = 200_000;
-
-const USUAL_LIMIT: u32 = 20_000;
-
-// The greatest period of a timetable.
-const GREATEST_PERIOD: u64 = 1_000_000;
+// The limit of a settled form where none is given.
+const USUAL_LIMIT: u64 = 20_000;
 
 // The greatest time of a target ratio.
 const GREATEST_TIME: u64 = 1_000_000_000_000;
@@ -44,36 +26,12 @@ const MOST_TOKENS: u64 = 1_000_000;
 
 // ---- numbers and options
 
-// A number from 1 to the most that a list has.
-fn count(word: &str) -> Option<Count>
-    ensures { result ≡ number_of 1 most_numbers word.now }
+// A number from 1 to the most.
+fn up_to<const MOST: u64>(word: &str) -> Option<UpTo<MOST>>
+    ensures { result ≡ number_of 1 MOST word.now }
 {
-    let count = number(word, 1, MOST_NUMBERS)?;
-    Some(Count::new(count as u32))
-}
-
-// The number of a firing.
-fn firing(word: &str) -> Option<FiringNumber>
-    ensures { result ≡ number_of 1 greatest_number word.now }
-{
-    let number = number(word, 1, GREATEST_NUMBER)?;
-    Some(FiringNumber::new(number))
-}
-
-// The period of a timetable.
-fn period(word: &str) -> Option<Period>
-    ensures { result ≡ number_of 1 greatest_period word.now }
-{
-    let period = number(word, 1, GREATEST_PERIOD)?;
-    Some(Period::new(period))
-}
-
-// How many machines a line has.
-fn machines(word: &str) -> Option<Machines>
-    ensures { result ≡ number_of 1 most_machines word.now }
-{
-    let machines = number(word, 1, MOST_MACHINES)?;
-    Some(Machines::new(machines as u32))
+    let number = number(word, 1, MOST)?;
+    Some(UpTo::new(number))
 }
 
 // The time and the tokens of a target ratio, apart at the first `/`.
@@ -92,10 +50,7 @@ fn number_limit(limit: Option<&str>) -> Option<Limit>
 {
     match limit {
         None => Some(Limit::new(USUAL_LIMIT)),
-        Some(word) => {
-            let most = number(word, 1, GREATEST_LIMIT)?;
-            Some(Limit::new(most as u32))
-        }
+        Some(word) => up_to(word),
     }
 }
 
@@ -140,37 +95,30 @@ fn on_files(
     }))
 }
 
-// This command on the net of the one word that is given, and no option: as `check NET`.
+// This command on the net of the one word that is given: as `check NET`.
 fn only_net(
     alloc: Global,
     command: NetCommand,
     rest: &[&str],
-    limit: Option<&str>,
-    rounds: bool,
 ) -> Result<Option<Request>, OutOfMemory>
-    ensures { IfOk result (λ request. request ≡ only_net command (texts rest.now)
-        (option_copied limit.entry) rounds) }
+    ensures { IfOk result (λ request. request ≡ only_net command (texts rest.now)) }
 {
-    match (rest, limit, rounds) {
-        ([net], None, false) => on_net(alloc, command, net),
+    match rest {
+        [net] => on_net(alloc, command, net),
         _ => Ok(None),
     }
 }
 
-// This command on the net and the second file of the two words that are given, and no option: as
-// `jit NET DUE`.
+// This command on the net and the second file of the two words that are given: as `jit NET DUE`.
 fn net_and_file(
     alloc: Global,
     command: FileCommand,
     rest: &[&str],
-    limit: Option<&str>,
-    rounds: bool,
 ) -> Result<Option<Request>, OutOfMemory>
-    ensures { IfOk result (λ request. request ≡ net_and_file command (texts rest.now)
-        (option_copied limit.entry) rounds) }
+    ensures { IfOk result (λ request. request ≡ net_and_file command (texts rest.now)) }
 {
-    match (rest, limit, rounds) {
-        ([net, second], None, false) => on_files(alloc, command, net, second),
+    match rest {
+        [net, second] => on_files(alloc, command, net, second),
         _ => Ok(None),
     }
 }
@@ -178,17 +126,11 @@ fn net_and_file(
 // ---- requests with words of their own
 
 // `list NET K`
-fn list_asked(
-    alloc: Global,
-    rest: &[&str],
-    limit: Option<&str>,
-    rounds: bool,
-) -> Result<Option<Request>, OutOfMemory>
-    ensures { IfOk result (λ request. request ≡ list_asked (texts rest.now)
-        (option_copied limit.entry) rounds) }
+fn list_asked(alloc: Global, rest: &[&str]) -> Result<Option<Request>, OutOfMemory>
+    ensures { IfOk result (λ request. request ≡ list_asked (texts rest.now)) }
 {
-    match (rest, limit, rounds) {
-        ([net, word], None, false) => match count(word) {
+    match rest {
+        [net, word] => match up_to(word) {
             Some(count) => on_net(alloc, NetCommand::List { count }, net),
             None => Ok(None),
         },
@@ -196,51 +138,37 @@ fn list_asked(
     }
 }
 
-// `date NET TRANSITION K`, and perhaps `--limit N` or `--limit none`
+// `date NET TRANSITION K`, by this limit
 fn date_asked(
     alloc: Global,
     rest: &[&str],
-    limit: Option<&str>,
-    rounds: bool,
+    limit: Option<Limit>,
 ) -> Result<Option<Request>, OutOfMemory>
-    ensures { IfOk result (λ request. request ≡ date_asked (texts rest.now)
-        (option_copied limit.entry) rounds) }
+    ensures { IfOk result (λ request. request ≡ date_asked (texts rest.now) limit) }
 {
-    match (rest, rounds) {
-        ([net, word, count], false) => {
-            let Some(limit) = limit_asked(limit) else {
-                return Ok(None);
-            };
-            let Some(number) = firing(count) else {
-                return Ok(None);
-            };
-            let word = Label::new(alloc, word)?;
-            on_net(
-                alloc,
-                NetCommand::Date {
+    match rest {
+        [net, word, count] => match up_to(count) {
+            Some(number) => {
+                let word = Label::new(alloc, word)?;
+                let command = NetCommand::Date {
                     word,
                     number,
                     limit,
-                },
-                net,
-            )
-        }
+                };
+                on_net(alloc, command, net)
+            }
+            None => Ok(None),
+        },
         _ => Ok(None),
     }
 }
 
 // `size NET PLACE A/B`
-fn size_asked(
-    alloc: Global,
-    rest: &[&str],
-    limit: Option<&str>,
-    rounds: bool,
-) -> Result<Option<Request>, OutOfMemory>
-    ensures { IfOk result (λ request. request ≡ size_asked (texts rest.now)
-        (option_copied limit.entry) rounds) }
+fn size_asked(alloc: Global, rest: &[&str]) -> Result<Option<Request>, OutOfMemory>
+    ensures { IfOk result (λ request. request ≡ size_asked (texts rest.now)) }
 {
-    match (rest, limit, rounds) {
-        ([net, word, ratio], None, false) => match target(ratio) {
+    match rest {
+        [net, word, ratio] => match target(ratio) {
             Some(target) => {
                 let word = Label::new(alloc, word)?;
                 on_net(alloc, NetCommand::Size { word, target }, net)
@@ -251,42 +179,31 @@ fn size_asked(
     }
 }
 
-// `timetable NET A FILE`, and perhaps `--limit N` or `--limit none`
+// `timetable NET A FILE`, by this limit
 fn timetable_asked(
     alloc: Global,
     rest: &[&str],
-    limit: Option<&str>,
-    rounds: bool,
+    limit: Option<Limit>,
 ) -> Result<Option<Request>, OutOfMemory>
-    ensures { IfOk result (λ request. request ≡ timetable_asked (texts rest.now)
-        (option_copied limit.entry) rounds) }
+    ensures { IfOk result (λ request. request ≡ timetable_asked (texts rest.now) limit) }
 {
-    match (rest, rounds) {
-        ([net, word, second], false) => {
-            let Some(limit) = limit_asked(limit) else {
-                return Ok(None);
-            };
-            let Some(period) = period(word) else {
-                return Ok(None);
-            };
-            on_files(alloc, FileCommand::Timetable { period, limit }, net, second)
-        }
+    match rest {
+        [net, word, second] => match up_to(word) {
+            Some(period) => {
+                on_files(alloc, FileCommand::Timetable { period, limit }, net, second)
+            }
+            None => Ok(None),
+        },
         _ => Ok(None),
     }
 }
 
 // `calc EXPR`
-fn calc_asked(
-    alloc: Global,
-    rest: &[&str],
-    limit: Option<&str>,
-    rounds: bool,
-) -> Result<Option<Request>, OutOfMemory>
-    ensures { IfOk result (λ request. request ≡ calc_asked (texts rest.now)
-        (option_copied limit.entry) rounds) }
+fn calc_asked(alloc: Global, rest: &[&str]) -> Result<Option<Request>, OutOfMemory>
+    ensures { IfOk result (λ request. request ≡ calc_asked (texts rest.now)) }
 {
-    match (rest, limit, rounds) {
-        ([text], None, false) => {
+    match rest {
+        [text] => {
             if text.len() <= MOST_EXPRESSION {
                 let expression = Expression::new(alloc, text)?;
                 Ok(Some(Request::ValueOf { expression }))
@@ -299,12 +216,12 @@ fn calc_asked(
 }
 
 // `trial N`
-fn trial_asked(rest: &[&str], limit: Option<&str>, rounds: bool) -> Option<Request>
-    ensures { result ≡ trial_asked (texts rest.now) (option_copied limit.entry) rounds }
+fn trial_asked(rest: &[&str]) -> Option<Request>
+    ensures { result ≡ trial_asked (texts rest.now) }
 {
-    match (rest, limit, rounds) {
-        ([count], None, false) => {
-            let machines = machines(count)?;
+    match rest {
+        [count] => {
+            let machines = up_to(count)?;
             Some(Request::TrialOf { machines })
         }
         _ => None,
@@ -313,72 +230,100 @@ fn trial_asked(rest: &[&str], limit: Option<&str>, rounds: bool) -> Option<Reque
 
 // ---- the commands by their names
 
-// The request of a command on a net with a limit or words of its own, or of one without a file. A word
-// that is no command asks for nothing.
-fn further_asked(alloc: Global, given: &GivenWords<'_>) -> Result<Option<Request>, OutOfMemory>
-    ensures { IfOk result (λ request. request ≡ further_asked (told given.now)) }
+// The request of a command with words of its own, or without a file. A word that is no command asks
+// for nothing.
+fn further_asked(
+    alloc: Global,
+    command: &str,
+    rest: &[&str],
+) -> Result<Option<Request>, OutOfMemory>
+    ensures { IfOk result (λ request. request ≡ further_asked command.now (texts rest.now)) }
 {
-    let rest = given.rest.as_slice();
-    match given.command {
-        "list" => list_asked(alloc, rest, given.limit, given.rounds),
-        "dates" => match limit_asked(given.limit) {
-            Some(limit) => only_net(alloc, NetCommand::Dates { limit }, rest, None, given.rounds),
-            None => Ok(None),
-        },
-        "date" => date_asked(alloc, rest, given.limit, given.rounds),
-        "transfer" => match number_limit(given.limit) {
-            Some(limit) => only_net(
-                alloc,
-                NetCommand::Transfer { limit },
-                rest,
-                None,
-                given.rounds,
-            ),
-            None => Ok(None),
-        },
-        "size" => size_asked(alloc, rest, given.limit, given.rounds),
-        "calc" => calc_asked(alloc, rest, given.limit, given.rounds),
-        "trial" => Ok(trial_asked(rest, given.limit, given.rounds)),
+    match command {
+        "list" => list_asked(alloc, rest),
+        "size" => size_asked(alloc, rest),
+        "calc" => calc_asked(alloc, rest),
+        "trial" => Ok(trial_asked(rest)),
         _ => Ok(None),
     }
 }
 
-// The request of a command on a net and a second file, or of one of the others.
-fn file_asked(alloc: Global, given: &GivenWords<'_>) -> Result<Option<Request>, OutOfMemory>
-    ensures { IfOk result (λ request. request ≡ file_asked (told given.now)) }
+// The request of a command on a net and a second file, or of one of those.
+fn file_asked(alloc: Global, command: &str, rest: &[&str]) -> Result<Option<Request>, OutOfMemory>
+    ensures { IfOk result (λ request. request ≡ file_asked command.now (texts rest.now)) }
 {
-    let rest = given.rest.as_slice();
-    match given.command {
-        "jit" => net_and_file(alloc, FileCommand::Jit, rest, given.limit, given.rounds),
-        "replay" => net_and_file(alloc, FileCommand::Replay, rest, given.limit, given.rounds),
-        "forever" => net_and_file(alloc, FileCommand::Forever, rest, given.limit, given.rounds),
-        "timetable" => timetable_asked(alloc, rest, given.limit, given.rounds),
-        _ => further_asked(alloc, given),
+    match command {
+        "jit" => net_and_file(alloc, FileCommand::Jit, rest),
+        "replay" => net_and_file(alloc, FileCommand::Replay, rest),
+        "forever" => net_and_file(alloc, FileCommand::Forever, rest),
+        _ => further_asked(alloc, command, rest),
     }
 }
 
-// The request of a command with what is given to it.
+// The request of a command that takes no option: of one on a net and nothing else, or of one of those.
+fn plain_asked(alloc: Global, command: &str, rest: &[&str]) -> Result<Option<Request>, OutOfMemory>
+    ensures { IfOk result (λ request. request ≡ plain_asked command.now (texts rest.now)) }
+{
+    match command {
+        "check" => only_net(alloc, NetCommand::Check, rest),
+        "form" => only_net(alloc, NetCommand::Form, rest),
+        "slack" => only_net(alloc, NetCommand::Slack, rest),
+        "migrate" => only_net(alloc, NetCommand::Migrate, rest),
+        "bound" => only_net(alloc, NetCommand::Bound, rest),
+        _ => file_asked(alloc, command, rest),
+    }
+}
+
+// The request of a command with `--limit N` or `--limit none`, or without; of one that takes no limit
+// where none is given.
+fn limited_asked(
+    alloc: Global,
+    command: &str,
+    rest: &[&str],
+    limit: Option<&str>,
+) -> Result<Option<Request>, OutOfMemory>
+    ensures { IfOk result (λ request. request ≡ limited_asked command.now (texts rest.now)
+        (option_copied limit.entry)) }
+{
+    match command {
+        "dates" => match limit_asked(limit) {
+            Some(limit) => only_net(alloc, NetCommand::Dates { limit }, rest),
+            None => Ok(None),
+        },
+        "date" => match limit_asked(limit) {
+            Some(limit) => date_asked(alloc, rest, limit),
+            None => Ok(None),
+        },
+        "timetable" => match limit_asked(limit) {
+            Some(limit) => timetable_asked(alloc, rest, limit),
+            None => Ok(None),
+        },
+        "transfer" => match number_limit(limit) {
+            Some(limit) => only_net(alloc, NetCommand::Transfer { limit }, rest),
+            None => Ok(None),
+        },
+        _ => match limit {
+            None => plain_asked(alloc, command, rest),
+            Some(_) => Ok(None),
+        },
+    }
+}
+
+// The request of a command with what is given to it. `--rounds` goes with `cycle` alone.
 fn asked_for(alloc: Global, given: &GivenWords<'_>) -> Result<Option<Request>, OutOfMemory>
     ensures { IfOk result (λ request. request ≡ asked_for (told given.now)) }
 {
     let rest = given.rest.as_slice();
-    match given.command {
-        "check" => only_net(alloc, NetCommand::Check, rest, given.limit, given.rounds),
-        "form" => only_net(alloc, NetCommand::Form, rest, given.limit, given.rounds),
-        "cycle" => {
-            let rounds = given.rounds;
-            only_net(
-                alloc,
-                NetCommand::Cycle { rounds },
-                rest,
-                given.limit,
-                false,
-            )
+    let rounds = given.rounds;
+    if given.command == "cycle" {
+        match given.limit {
+            None => only_net(alloc, NetCommand::Cycle { rounds }, rest),
+            Some(_) => Ok(None),
         }
-        "slack" => only_net(alloc, NetCommand::Slack, rest, given.limit, given.rounds),
-        "migrate" => only_net(alloc, NetCommand::Migrate, rest, given.limit, given.rounds),
-        "bound" => only_net(alloc, NetCommand::Bound, rest, given.limit, given.rounds),
-        _ => file_asked(alloc, given),
+    } else if rounds {
+        Ok(None)
+    } else {
+        limited_asked(alloc, given.command, rest, given.limit)
     }
 }
 

@@ -4,7 +4,7 @@ ghost use Rattle.teg_run.specs.Endings.{EndsWith};
 ghost use Rattle.teg_run.specs.Headline.{KeepsPromises};
 ghost use Rattle.teg_run.specs.Meanings.{ended};
 ghost use Rattle.teg_run.specs.Requests.{request_of, asked_files};
-ghost use Rattle.teg_run.specs.Shown.{ServesAndShows, ShowsAsked, ShowsJust};
+ghost use Rattle.teg_run.specs.Shown.{ServesAndShows, ShowsAsked, ShowsJust, ShowsTold};
 ghost use Rattle.teg_run.specs.Says.{Said, Asked};
 ghost use Rattle.teg_commands.specs.Texts.{usage};
 
@@ -54,7 +54,8 @@ fn serve_words<S: Shelf, W: Sink>(
 ///
 /// It keeps the same promises; and the monitors were shown just the firings that a `replay` accepts, in
 /// their order, each once, by the same reads that its text tells: those of some first rows where no
-/// memory was found for the text, and none for every other command.
+/// memory was found for the text, and none for every other command. Where the files are told and no
+/// read failed, these are the firings that the told log of the told net accepts (`ShowsTold`).
 pub fn serve<S: Shelf, W: Sink>(
     alloc: Global,
     words: &[String],
@@ -72,6 +73,15 @@ pub fn serve<S: Shelf, W: Sink>(
       status = result.0;
     }) }
     ensures shown { ShowsJust (record {
+      words = map string_bytes words.now;
+      lines = λ firings. map (λ m. line_text m firings) monitors.items;
+      shelf_before = S.state shelf.old;
+      shelf_after = S.state shelf.new;
+      sink_before = W.state out.old;
+      sink_after = W.state out.new;
+      status = result.0;
+    }) (λ firings. map (λ m. line_text m firings) result.1.items) }
+    ensures told { ShowsTold (record {
       words = map string_bytes words.now;
       lines = λ firings. map (λ m. line_text m firings) monitors.items;
       shelf_before = S.state shelf.old;

@@ -3,10 +3,11 @@ ghost use Rattle.std.specs.Prelude.{ℕ, ◌≡◌, ◌+◌, ◌*◌, ◌<◌, �
 ghost use Rattle.dioid.specs.declared.dates.Date.{Date};
 ghost use Rattle.teg_model.specs.Datings.{IsLeastDating};
 ghost use Rattle.teg_dates.specs.DateCells.{date_of};
-ghost use Rattle.teg_dates.specs.Streams.{AreFirstRowsOf, IsLeastRow};
+ghost use Rattle.teg_dates.specs.Streams.{AreFirstRowsOf, IsLeastRow, first_rows_given};
 ghost use Rattle.teg_dates.specs.Tables.{most_numbers};
 ghost use Rattle.teg_commands.specs.List.{SaysList};
 ghost use Rattle.teg_commands.specs.Texts.{list_text};
+ghost use Rattle.teg_report.specs.Lists.{head_text};
 ghost use Rattle.teg_net.specs.Limits.{most_transitions};
 ghost use Rattle.teg_run.specs.Lists.{HasRoom, IsListingOf, WritesFull, lines_text};
 ghost use Rattle.teg_run.specs.Runs.{WritesOutcome};
@@ -53,15 +54,23 @@ struct Listing {
     buffers: Buffers,
 }
 
+// The head of the list, and the room.
+fn head_and_room(alloc: Global, net: &Net, count: u32) -> Result<(Vec<u8>, Buffers), OutOfMemory>
+    ensures head { IfOk result (λ parts. parts.0.items ≡ head_text net.now count) }
+    ensures room { IfOk result (λ parts. HasRoom (length net.now.transitions) parts.1) }
+{
+    let head = list_head(alloc, net, count)?;
+    let buffers = Buffers::new(alloc, net.transitions().len())?;
+    Ok((head, buffers))
+}
+
 impl Listing {
     // The listing of so many numbers of the net.
     fn new(alloc: Global, net: &LiveNet, count: u32) -> Result<Listing, OutOfMemory>
         ensures { IfOk result (IsListingOf net.now count) }
     {
+        let (head, buffers) = head_and_room(alloc, net.net(), count)?;
         let rows = net.first_rows(alloc)?;
-        let net = net.net();
-        let head = list_head(alloc, net, count)?;
-        let buffers = Buffers::new(alloc, net.transitions().len())?;
         Ok(Listing {
             head,
             rows,
@@ -88,10 +97,10 @@ fn write_full<W: Sink>(out: &mut W, block: &[u8], filled: usize) -> Result<usize
 #[inline(never)]
 fn next_row(net: &Net, rows: &mut FirstRows, row: &mut [u64])
     requires stands { AreFirstRowsOf net.now rows.old }
-    requires few { rows.old.window.number < most_numbers }
+    requires few { first_rows_given rows.old < most_numbers }
     requires full { length row.old ≡ length net.now.transitions }
-    ensures row { IsLeastRow net.now (rows.old.window.number + 1) (map date_of row.new) }
-    ensures number { rows.new.window.number ≡ rows.old.window.number + 1 }
+    ensures row { IsLeastRow net.now (first_rows_given rows.old + 1) (map date_of row.new) }
+    ensures number { first_rows_given rows.new ≡ first_rows_given rows.old + 1 }
     ensures stands { AreFirstRowsOf net.now rows.new }
 {
     rows.next_row(net, row)
@@ -109,7 +118,7 @@ fn write_rows<W: Sink>(
 ) -> Result<(), SinkFault>
     requires few { count ≤ most_numbers }
     requires stands { AreFirstRowsOf net.now rows.old }
-    requires begins { rows.old.window.number ≡ 0 }
+    requires begins { first_rows_given rows.old ≡ 0 }
     requires row { length row.old ≡ length net.now.transitions }
     requires line { length line.old ≡ (length net.now.transitions + 1) * 41 }
     requires room { length block.old ≡ PIECE + (length net.now.transitions + 1) * 41 }

@@ -48,7 +48,7 @@ pub fn write_net<W: Sink>(alloc: Global, command: NetCommand, net: &LiveNet, out
     ensures { WritesOutcome (SaysNet command net.now) (W.state out.old) (W.state out.new) result }
 {
     match command {
-        NetCommand::List { count } => write_list(alloc, net, count.get(), out),
+        NetCommand::List { count } => write_list(alloc, net, count.get() as u32, out),
         command => finish(out, closed(of_net(alloc, command, net))),
     }
 }

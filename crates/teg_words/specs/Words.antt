@@ -23,16 +23,19 @@ limit_rule = record (new_rule (codes "limit")) { long = Some (codes "limit") }
 abbrev pub rounds_rule : Rule
 rounds_rule = record (new_rule (codes "rounds")) { long = Some (codes "rounds"); action = Some SetTrue }
 
--- the simple command, without a name of the program among the words, without help and without version
-abbrev pub simple_command : App
-simple_command = record (new_app (codes "teg")) {
+-- a command without arguments, without a name of the program among the words, without help and without version
+abbrev pub bare_command : App
+bare_command = record (new_app (codes "teg")) {
   top = record (new_app (codes "teg")).top {
-    rules = command_rule ∷ rest_rule ∷ limit_rule ∷ rounds_rule ∷ [];
     no_binary_name = true;
     disable_help_flag = true;
     disable_version_flag = true;
   };
 }
+
+-- the simple command: with these arguments
+abbrev pub simple_command : App
+simple_command = record bare_command { top = record bare_command.top { rules = command_rule ∷ rest_rule ∷ limit_rule ∷ rounds_rule ∷ [] } }
 
 -- the command, the other positionals in order, the value of `--limit`, and whether `--rounds` is there
 pub record Given : Type 0 where

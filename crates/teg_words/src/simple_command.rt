@@ -1,9 +1,9 @@
 //! The simple command, and what words give by it.
-ghost use Rattle.std.specs.Prelude.{◌≡◌, ◌≢◌, Some, None, [], map, IfOk, IsErrOf, string_bytes};
-ghost use Rattle.clap.specs.Words.{app_of, fault_of, found_of, matches_of, rows_of};
+ghost use Rattle.std.specs.Prelude.{◌≡◌, ◌≢◌, Some, None, [], false, map, IfOk, IsErrOf, string_bytes};
+ghost use Rattle.clap.specs.Words.{app_of, fault_of, found_of, matches_of, rows_of, rule_of, with_rule};
 ghost use Rattle.teg_words.specs.declared.simple_command.WordsRefusal.TheVariants.{OutOfMemory};
 ghost use Rattle.teg_words.specs.Meanings.{told};
-ghost use Rattle.teg_words.specs.Words.{flag_of, given_from, given_of, simple_command};
+ghost use Rattle.teg_words.specs.Words.{bare_command, command_rule, flag_of, given_from, given_of, limit_rule, rest_rule, rounds_rule, simple_command};
 
 use clap::error::ErrorKind;
 use clap::{Arg, ArgAction, ArgMatches, Command};
@@ -39,23 +39,74 @@ impl From<AllocError> for WordsRefusal {
     }
 }
 
-fn simple_command<'a>(alloc: Global) -> Result<Command<'a>, AllocError>
-    ensures { IfOk result (λ command. app_of command ≡ simple_command) }
+// The first positional word, which must be there.
+fn command_arg<'a>(alloc: Global) -> Arg<'a>
+    ensures rule { rule_of result ≡ command_rule }
+    ensures local { result.global ≡ false }
 {
-    let command = Arg::new(alloc, "command").required(true);
-    let rest = Arg::new(alloc, "rest").num_args(0..);
-    let limit = Arg::new(alloc, "limit").long("limit");
-    let rounds = Arg::new(alloc, "rounds")
+    Arg::new(alloc, "command").required(true)
+}
+
+// The other positional words, of any number.
+fn rest_arg<'a>(alloc: Global) -> Arg<'a>
+    ensures rule { rule_of result ≡ rest_rule }
+    ensures local { result.global ≡ false }
+{
+    Arg::new(alloc, "rest").num_args(0..)
+}
+
+// The option `--limit VALUE`.
+fn limit_arg<'a>(alloc: Global) -> Arg<'a>
+    ensures rule { rule_of result ≡ limit_rule }
+    ensures local { result.global ≡ false }
+{
+    Arg::new(alloc, "limit").long("limit")
+}
+
+// The flag `--rounds`.
+fn rounds_arg<'a>(alloc: Global) -> Arg<'a>
+    ensures rule { rule_of result ≡ rounds_rule }
+    ensures local { result.global ≡ false }
+{
+    Arg::new(alloc, "rounds")
         .long("rounds")
-        .action(ArgAction::SetTrue);
+        .action(ArgAction::SetTrue)
+}
+
+// The command before it has arguments.
+fn bare_command<'a>(alloc: Global) -> Command<'a>
+    ensures { app_of result ≡ bare_command }
+{
     Command::new(alloc, "teg")
         .no_binary_name(true)
         .disable_help_flag(true)
         .disable_version_flag(true)
-        .arg(command)?
-        .arg(rest)?
-        .arg(limit)?
-        .arg(rounds)
+}
+
+// The command with one argument more, the last.
+fn with_arg<'a>(command: Command<'a>, arg: Arg<'a>) -> Result<Command<'a>, AllocError>
+    requires { arg.global ≡ false }
+    ensures { IfOk result (λ longer. app_of longer
+        ≡ with_rule (app_of command.entry) (rule_of arg.entry)) }
+{
+    command.arg(arg)
+}
+
+// The command with its positional words.
+fn positional_command<'a>(alloc: Global) -> Result<Command<'a>, AllocError>
+    ensures { IfOk result (λ command. app_of command
+        ≡ with_rule (with_rule bare_command command_rule) rest_rule) }
+{
+    let command = with_arg(bare_command(alloc), command_arg(alloc))?;
+    with_arg(command, rest_arg(alloc))
+}
+
+fn simple_command<'a>(alloc: Global) -> Result<Command<'a>, AllocError>
+    ensures { IfOk result (λ command. app_of command ≡ simple_command) }
+{
+    let command = positional_command(alloc)?;
+    let command = with_arg(command, limit_arg(alloc))?;
+    with_arg(command, rounds_arg(alloc))
 }
 
 // The reading of `clap`.

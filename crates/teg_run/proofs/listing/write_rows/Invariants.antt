@@ -1,6 +1,6 @@
 use Rattle.std.proofs.Common.{◌≡◌, ◌<◌, ℕ, length}
 use Rattle.dioid.specs.declared.dates.Date.{Date}
-use Rattle.teg_dates.specs.Streams.{AreFirstRowsOf}
+use Rattle.teg_dates.specs.Streams.{AreFirstRowsOf, first_rows_given}
 use Rattle.teg_model.specs.Datings.{IsLeastDating}
 use Rattle.teg_run.specs.Lists.{piece}
 use Rattle.teg_run.proofs.WrittenLists.{HasGathered}
@@ -9,7 +9,7 @@ use Rattle.teg_run.proofs.listing.write_rows.Given as goal
 abbrev pub invariant-loop-number : goal.invariant-loop-number
 invariant-loop-number g l = record {
   stands : AreFirstRowsOf l.net l.rows;
-  number : l.rows.window.number ≡ l.number;
+  number : first_rows_given l.rows ≡ l.number;
   row : length l.row ≡ length l.net.transitions;
   line : length l.line ≡ length l.fn.line;
   block : length l.block ≡ length l.fn.block;
