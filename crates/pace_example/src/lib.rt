@@ -3,7 +3,7 @@
 //! contract is that of [`advise`]: the number in the line is the greatest ratio of time to tokens over
 //! the circuits of the net, and the plan has the latest inputs; or each refusal has its cause. It has
 //! no proof file: the contracts of the calls that it makes tell all that it promises. Its example
-//! stands in `answer_examples`.
+//! stands in `library_examples`.
 #![tactic(auto)]
 
 mod advice;

@@ -148,6 +148,28 @@ fn needs_of_20_000(rt: HostRuntime) {
     }
 }
 
+// Two texts each that mean one series. Those of the first have long lists of few pieces.
+const PIECES: [(&str, &str); 5] = [
+    ("g2000d7.g2000d5", "g4000d12"),
+    ("left(g600d7,g1200d12)", "g600d5"),
+    (
+        "(star(g2d3)+g3000d6000).(star(g2d3)+g3000d6000)",
+        "star(g2d3)+g3000d6000.star(g2d3)+g6000d12000",
+    ),
+    (
+        "left(star(g1d1)+g3000d4500,star(g1d1)+g3000d4500)",
+        "e+g1500d0.star(g1d1)",
+    ),
+    ("star(star(g1d1)+g4500d0.never)", "star(g1d1)+g4500d0.never"),
+];
+
+#[test]
+fn lists_of_few_pieces(rt: HostRuntime) {
+    for (first, second) in &PIECES {
+        assert!(rt; are_equal(rt.alloc(), first, second), "{first}");
+    }
+}
+
 // A first piece, others, and a last one.
 fn chain(
     alloc: Global,
