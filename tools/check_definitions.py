@@ -27,10 +27,21 @@ IN_MUTUAL = re.compile(r"^  (pub )([^\W\d][\w'\-]*)( :.*)$")
 LAW = re.compile(r"^ {0,2}(?:pub )?([^\W\d][\w'\-]*) :(.*)$")
 
 
+def direct(text):
+    """A text in which each path to specs/ or proofs/ names the crate that they stand in, and not the one that passes them on."""
+    passed_on = re.compile(r"Rattle\.\w+\.(?:(specs)\.(\w+)|(proofs)\.(\w+)_proofs)\.")
+
+    def own(found):
+        crate, part = found[2] or found[4], found[1] or found[3]
+        return f"Rattle.{crate}.{part}." if (TOP / "crates" / crate).is_dir() else found[0]
+
+    return passed_on.sub(own, text)
+
+
 def imports_of(text):
     """What a file's `use` lines bring in: for each name the crate and file of specs/ that it is from, and its name there."""
     found = {}
-    for crate, file, names in re.findall(r"use Rattle\.(\w+)\.specs\.(\w+)\.\{([^}]*)\}", text):
+    for crate, file, names in re.findall(r"use Rattle\.(\w+)\.specs\.(\w+)\.\{([^}]*)\}", direct(text)):
         for name in filter(None, (it.strip() for it in names.split(","))):
             there, _, here = name.partition(" as ")
             found[here.strip() or there] = (crate, file, there)

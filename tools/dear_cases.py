@@ -110,10 +110,11 @@ def fed_own_places(tokens):
     return Net(["u"] + [f"a{k}" for k in range(len(tokens))], places, ["u"])
 
 
-def long_chain(inputs, ends):
-    """Inputs before a chain of 18 places of 1,000 tokens, and transitions behind it that take what comes."""
+def long_chain(inputs, ends, apart=0):
+    """Inputs before a chain of 18 places of 1,000 tokens, and transitions behind it that take what comes. The hold from
+    each input is greater by `apart` than that from the input before."""
     inputs, ends = [f"u{k}" for k in range(inputs)], [f"d{k}" for k in range(ends)]
-    places = [(f"{name}c", name, "c0", 0, 0) for name in inputs]
+    places = [(f"{name}c", name, "c0", apart * k, 0) for k, name in enumerate(inputs)]
     places += [(f"cc{k}", f"c{k}", f"c{k + 1}", 0, 1000) for k in range(18)]
     places += [(f"c{name}", "c18", name, 0, 0) for name in ends]
     return Net(inputs + [f"c{k}" for k in range(19)] + ends, places, inputs, ends)
@@ -408,16 +409,18 @@ def late_ring(count, limited=True):
     return f"{label}, without a limit", words + ["--limit", "none"], files, DONE, partial(late_ring_text, count)
 
 
-def chain_rows(ends):
-    """Due rows of 10,000 dates: 9,000 zeros, and then 9 more in each 1,000."""
-    dates = ",".join(map(str, [0] * 9000 + [j * 9 // 999 for j in range(1000)]))
+def chain_rows(ends, first=0):
+    """Due rows of 10,000 dates: 9,000 times the first, and then 9 more in each 1,000."""
+    dates = ",".join(map(str, [first] * 9000 + [first + j * 9 // 999 for j in range(1000)]))
     return "".join(f"d{k},1000,9,{dates}\n" for k in range(ends))
 
 
-def chain_text(inputs):
-    """What is due at the end of the chain is due 18,000 numbers on: an input has its dates from number 18,001 on."""
-    dates = row(9 * (k // 1000) + k % 1000 * 9 // 999 for k in range(9000, 10_000))
-    return "latest inputs forever\n" + "".join(f"input u{k} {dates} period 1000 step 9\n" for k in range(inputs))
+def chain_text(inputs, first=0, apart=0):
+    """What is due at the end of the chain is due 18,000 numbers on: an input has its dates from number 18,001 on, less
+    the hold from it."""
+    dates = [first + 9 * (k // 1000) + k % 1000 * 9 // 999 for k in range(9000, 10_000)]
+    return "latest inputs forever\n" + "".join(
+        f"input u{k} {row(date - apart * k for date in dates)} period 1000 step 9\n" for k in range(inputs))
 
 
 def rows_cases():
@@ -440,6 +443,8 @@ def rows_cases():
                {"net": loops, "rows": f"a0,{every},{gap},{','.join(map(str, dates))}\n"}, status, text)
     yield ("forever: an input and 10 rows of 10,000 dates behind a long chain", ["forever", "net", "rows"],
            {"net": long_chain(1, 10).text(), "rows": chain_rows(10)}, DONE, partial(chain_text, 1))
+    yield ("forever: 100 inputs with equal places and 209 rows of 10,000 dates behind a long chain", ["forever", "net", "rows"],
+           {"net": long_chain(100, 209).text(), "rows": chain_rows(209)}, DONE, partial(chain_text, 100))
     yield wide_replay(100_000)
 
 
@@ -470,6 +475,6 @@ def dear_cases():
     yield overtaken_inputs(20, 9_900)
     yield overtaken_inputs(200, 9_900)
     yield from dear_series()
-    yield ("forever: 100 inputs and 209 rows of 10,000 dates behind a long chain", ["forever", "net", "rows"],
-           {"net": long_chain(100, 209).text(), "rows": chain_rows(209)}, DONE, partial(chain_text, 100))
+    yield ("forever: 100 inputs with other holds each and 135 rows of 10,000 dates behind a long chain", ["forever", "net", "rows"],
+           {"net": long_chain(100, 135, 1).text(), "rows": chain_rows(135, 99)}, DONE, partial(chain_text, 100, 99, 1))
     yield wide_replay(1_048_576)

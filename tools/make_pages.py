@@ -15,6 +15,8 @@ these lines and ends with the line `<!-- end -->`:
   `<!-- edits CRATE/NAME CRATE/NAME .. -->` of these alone.
 - `<!-- cited proofs -->`: the modules of proofs/ that proofs of other crates cite, with what their first comment says
   (docs/ARCHITECTURE.md).
+- `<!-- between crates -->`: for each crate and each crate that it stands on, what of the second its code names and which
+  modules of definitions it cites (docs/ARCHITECTURE.md).
 - `<!-- costs -->`: what the docstrings of public calls say of their time and memory (docs/COSTS.md).
 - `<!-- to read NAME NAME .. -->`: how much each of these definitions rests on, as tools/check_definitions.py --below
   lists it, and how long it takes to read at two lines a minute (docs/TRUST.md).
@@ -26,11 +28,11 @@ status is 0 where there is nothing to tell.
 import re
 import sys
 
-from check_definitions import TOP, Specs, definitions_named, exported, public_definitions
+from check_definitions import TOP, Specs, definitions_named, direct, exported, public_definitions
 
 NOTHING = re.compile(r" (It does|They do|which does) nothing when (it|they) runs?\.")
 TIME = re.compile(r"time of (the )?order|time in proportion|time linear|takes (the )?time of")
-KINDS = r"head of (\w+)|heads of all others|definitions of (\w+)|cited proofs|costs|to read ([\w .]+)|edits((?: \w+/\w+)*)"
+KINDS = r"head of (\w+)|heads of all others|definitions of (\w+)|cited proofs|between crates|costs|to read ([\w .]+)|edits((?: \w+/\w+)*)"
 BLOCK = re.compile(rf"^<!-- ({KINDS}) -->\n.*?^<!-- end -->\n", re.M | re.S)
 
 
@@ -135,7 +137,7 @@ def cited_proofs():
     own = (it for part in ("src", "specs", "proofs") for kind in ("antt", "rt") for it in TOP.glob(f"crates/*/{part}/**/*.{kind}"))
     for path in sorted(own):
         own = path.relative_to(TOP).parts[1]
-        for crate, module in re.findall(r"use Rattle\.(\w+)\.proofs\.(\w+)\.", path.read_text()):
+        for crate, module in re.findall(r"use Rattle\.(\w+)\.proofs\.(\w+)\.", direct(path.read_text())):
             if crate != own and (TOP / f"crates/{crate}/proofs/{module}.antt").is_file():
                 cited.setdefault((crate, module), set()).add(own)
     rows = ["| Crate | Module | What it says | Cited by |", "|---|---|---|---|"]
@@ -144,6 +146,27 @@ def cited_proofs():
         words = first_comment(TOP / f"crates/{crate}/proofs/{module}.antt")
         by = ", ".join(f"`{it}`" for it in sorted(cited[crate, module]))
         rows.append(f"| `{crate}` | `{module}` | {cell(words)} | {by} |")
+    return "\n".join(rows) + "\n"
+
+
+def stands_on():
+    """The pairs of a crate and a crate that it stands on, in the order of crates.txt."""
+    order = crates()
+    lines = (line.partition(":") for line in (TOP / "crates.txt").read_text().splitlines() if not line.startswith("#"))
+    return [(name.strip(), low) for name, _, lows in lines for low in lows.split() if low in order]
+
+
+def between_crates():
+    """What each crate takes of each crate that it stands on: what its code names, and the modules of definitions that it cites."""
+    rows = ["| Crate | Stands on | Its code names | It cites |", "|---|---|---|---|"]
+    for crate, low in stands_on():
+        code = "\n".join(path.read_text() for path in sorted((TOP / f"crates/{crate}/src").glob("**/*.rt")))
+        lists = re.findall(rf"^use {low}::(?:\{{([^}}]*)\}}|(\w+);)", code, re.M)
+        items = {it.strip().partition(" ")[0] for many, one in lists for it in (many or one).split(",")} - {""}
+        specs = (path.read_text() for path in sorted((TOP / f"crates/{crate}/specs").glob("**/*.antt")))
+        cited = set(re.findall(rf"use Rattle\.{low}\.specs\.([A-Z]\w*)\.", direct("\n".join([code, *specs]))))
+        told = [", ".join(f"`{it}`" for it in sorted(names)) for names in (items, cited)]
+        rows.append(f"| `{crate}` | `{low}` | {told[0]} | {told[1]} |")
     return "\n".join(rows) + "\n"
 
 
@@ -254,6 +277,8 @@ class Pages:
             body = reading(self.specs, names)
         elif found[1] == "cited proofs":
             body = cited_proofs()
+        elif found[1] == "between crates":
+            body = between_crates()
         elif found[1] == "costs":
             body = costs()
         elif found[5] is not None:
