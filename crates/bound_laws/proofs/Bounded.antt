@@ -25,7 +25,7 @@ use Rattle.bound_laws.specs.Critical.{IsCriticalAt, IsCommon, IsStrong}
 use Rattle.std.proofs.lemmas.List.Sums.{sum_by-cons}
 use Rattle.number_laws.proofs.Numbers.{some_of}
 use Rattle.teg_loops.proofs.Taking.{closed_keeps}
-use Rattle.bound_laws.specs.Laws.{DatesGoOnPastTheBound, factorial, FactorialsAreCommon, StepsAreWhole, StillNetsStayAtZero}
+use Rattle.bound_laws.specs.PastTheBound.{DatesGoOnPastTheBound, factorial, FactorialsAreCommon, StepsAreWhole, StillNetsStayAtZero}
 use Rattle.bound_laws.proofs.Unrolled.{unrolled, own_is, own_path, path_in, same_sums, once_in, IsWait, kinds}
 use Rattle.bound_laws.proofs.WalkTimes.{AreWalkTimes, times_of, walk_times, Waiting, waiting}
 

@@ -12,7 +12,7 @@ use Rattle.teg_net.specs.Circuits.{place_at, IsPathBetween, time_of, tokens_of}
 use Rattle.teg_net.proofs.PathLaws.{IsPathBetween-append}
 use Rattle.teg_loops.specs.Loops.{EndsBelow}
 use Rattle.teg_loops.proofs.Taking.{Keeps, closed_keeps}
-use Rattle.teg_loops.specs.Rounds.{HasRound}
+use Rattle.teg_loops.specs.ClosedPieces.{HasRound}
 use Rattle.teg_loops.proofs.Again.{round_in, round_off, round_sum}
 use Rattle.teg_loops.proofs.Visits.{Meets, FirstVisit, first_visit, joined_meets, rounds, rounds_lead, rounds_sum}
 use Rattle.bound_laws.proofs.Best.{Setting, IsCriticalIn, MeetsCritical, bound, best_meets}

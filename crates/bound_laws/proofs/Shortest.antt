@@ -7,17 +7,17 @@ use Rattle.dioid.specs.declared.dates.Date.{Date}
 use Rattle.teg_net.specs.Nets.{NetLists}
 use Rattle.teg_model.specs.Datings.{IsLeastDating}
 use Rattle.bound_laws.specs.Critical.{IsStrong, IsCommon, bound_of}
-use Rattle.bound_laws.specs.Laws.{factorial}
+use Rattle.bound_laws.specs.PastTheBound.{factorial}
 use Rattle.dioid.proofs.Moves.{delayed_is_move}
-use Rattle.settled_laws.specs.Forms.{SettledForm, RepeatsAfter, IsShortest, step_of}
+use Rattle.settled_laws.specs.SettledForms.{SettledForm, RepeatsAfter, IsShortestForm, step_of_form}
 use Rattle.settled_laws.proofs.Repeating.{HasPeriod, HasCommon, gcd_period, lowered}
 use Rattle.bound_laws.specs.Periods.{FormsKeepTheBound}
 use Rattle.bound_laws.proofs.Bounded.{dates_go_on, factorials_are_common, steps_are_whole}
 
 -- a shortest form has the period that divides all others
-least_divides : (n : ℕ) (x : ℕ → ℕ → Date) (f : SettledForm) (k q : ℕ) (u : ℕ → ℤ) → IsShortest n f x → RepeatsAfter n x k q u → f.period ∣ q
+least_divides : (n : ℕ) (x : ℕ → ℕ → Date) (f : SettledForm) (k q : ℕ) (u : ℕ → ℤ) → IsShortestForm n f x → RepeatsAfter n x k q u → f.period ∣ q
 least_divides n x f k q u h r =
-    let g : HasCommon n x k q f.period = gcd_period n x k (suc (q + f.period)) q f.period (omega arith) (record { step = u; repeats = r }) (record { step = step_of f; repeats = lowered n x k f.after q f.period u (step_of f) r h.stands.repeats }) in
+    let g : HasCommon n x k q f.period = gcd_period n x k (suc (q + f.period)) q f.period (omega arith) (record { step = u; repeats = r }) (record { step = step_of_form f; repeats = lowered n x k f.after q f.period u (step_of_form f) r h.stands.repeats }) in
     let one = h.stands.repeats.at_least_one in
     let low : f.period ≤ g.gcd = h.least_period k g.gcd g.form.step g.form.repeats in
     let high : g.gcd ≤ f.period = le_of_dvd (omega arith) g.is_gcd.1 in

@@ -12,8 +12,8 @@ use Rattle.teg_net.specs.Nets.{NetLists, IsNet, IsInput}
 use Rattle.teg_net.specs.Circuits.{place_at, IsPathBetween, IsLive, time_of, tokens_of}
 use Rattle.teg_net.specs.Walks.{walk_time}
 use Rattle.teg_net.proofs.PathLaws.{IsPathBetween-append}
-use Rattle.teg_model.specs.Datings.{IsLeastDating, listed, at_input, implicit_place}
-use Rattle.teg_model.specs.Starts.{start_of}
+use Rattle.teg_model.specs.Datings.{IsLeastDating, listed_releases, at_input, implicit_place}
+use Rattle.teg_model.specs.Starts.{start_of_firing}
 use Rattle.teg_model.specs.WalkDates.{IsDateOfWalk, IsGreatestOfWalks}
 use Rattle.teg_model.proofs.OfNet.{implicit_is, input_or_not, net_ends}
 use Rattle.teg_model.proofs.GreatestWalks.{least_is_walk}
@@ -74,21 +74,21 @@ module _ (net : NetLists) (ok : IsNet net) (live : IsLive net) (no_input : (t : 
         zero_date : (xs : List ℕ) (i : ℕ) → All (λ d. d ≡ 0) xs → get_or xs i 0 ≡ 0
         zero_date xs i all = ⊎_elim (λ (l : i < length xs). all i 0 l) (λ (l : length xs ≤ i). get_or_past xs i 0 l) (cases_lt i (length xs))
 
-  starts : (a s : ℕ) → start_of net (listed net) a s ≡ At (pos 0)
+  starts : (a s : ℕ) → start_of_firing net (listed_releases net) a s ≡ At (pos 0)
   starts a s = ⊎_elim
       (λ e. absurd (no_input a e.0))
-      (λ (e : (at_input net a (listed net a s) Early ≡ Early) × (at_input net a (listed net a s) Early ≡ Early)). ap₂ later_of (ap (λ (z : ℕ). At (pos z)) (ready_zero a s)) e.0)
-      (input_or_not net a (listed net a s) Early Early)
+      (λ (e : (at_input net a (listed_releases net a s) Early ≡ Early) × (at_input net a (listed_releases net a s) Early ≡ Early)). ap₂ later_of (ap (λ (z : ℕ). At (pos z)) (ready_zero a s)) e.0)
+      (input_or_not net a (listed_releases net a s) Early Early)
 
-  walks : (t k : ℕ) → t < length net.transitions → IsGreatestOfWalks net (listed net) t (k + 1) (x t (k + 1))
+  walks : (t k : ℕ) → t < length net.transitions → IsGreatestOfWalks net (listed_releases net) t (k + 1) (x t (k + 1))
   walks t k l =
       let ends = net_ends net ok in
       let ranks = live_ranks net ends live in
-      least_is_walk net (listed net) x (suc (suc (length net.transitions))) ranks.0 ends ranks.1 least t (k + 1) l (omega arith)
+      least_is_walk net (listed_releases net) x (suc (suc (length net.transitions))) ranks.0 ends ranks.1 least t (k + 1) l (omega arith)
 
   date_is : (t k : ℕ) (l : t < length net.transitions) → x t (k + 1) ≡ At (pos (walk_time net (walks t k l).reached.steps))
   date_is t k l =
-      let w : IsDateOfWalk net (listed net) t (k + 1) (x t (k + 1)) = (walks t k l).reached in
+      let w : IsDateOfWalk net (listed_releases net) t (k + 1) (x t (k + 1)) = (walks t k l).reached in
       w.is ∙ ap (delayed (walk_time net w.steps)) (w.starts ∙ starts w.from w.number) ∙ from_zero (walk_time net w.steps)
 
   pub times_of : ℕ → ℕ → ℕ
@@ -100,7 +100,7 @@ module _ (net : NetLists) (ok : IsNet net) (live : IsLive net) (no_input : (t : 
 
   reached_by : (t k : ℕ) → (l : t < length net.transitions) → (j : ℕ) × (ps : List PlaceId) × (j < length net.transitions) × IsPathBetween (unrolled net) j ps t × (tokens_of (unrolled net) ps ≡ k) × (time_of (unrolled net) ps ≡ times_of t k)
   reached_by t k l =
-      let w : IsDateOfWalk net (listed net) t (k + 1) (x t (k + 1)) = (walks t k l).reached in
+      let w : IsDateOfWalk net (listed_releases net) t (k + 1) (x t (k + 1)) = (walks t k l).reached in
       let path : Pathed net w.from t w.number (k + 1) w.steps = pathed net ok w.steps w.from w.number t (k + 1) w.from_in w.walk in
       let wait : Waiting net w.from = waiting net w.from w.from_in in
       let before : List PlaceId = rounds (w.number - 1) (wait.id ∷ []) in
@@ -126,12 +126,12 @@ module _ (net : NetLists) (ok : IsNet net) (live : IsLive net) (no_input : (t : 
   greatest_of t k j ps l lj h e =
       let s : Stepped net j t 1 ps = stepped net ps j t 1 h in
       let number : s.number ≡ k + 1 = (let z = s.number_is in omega arith) in
-      let date : IsDateOfWalk net (listed net) t s.number (delayed (walk_time net s.steps) (start_of net (listed net) j 1)) =
-      record { from = j; number = 1; steps = s.steps; start = start_of net (listed net) j 1; starts = refl; from_in = lj; from_one = omega arith; walk = s.walks; is = refl } in
-      let below : IsAtMostDate (delayed (walk_time net s.steps) (start_of net (listed net) j 1)) (x t (k + 1)) =
-      (walks t k l).greatest (delayed (walk_time net s.steps) (start_of net (listed net) j 1)) (subst (λ (z : ℕ). IsDateOfWalk net (listed net) t z (delayed (walk_time net s.steps) (start_of net (listed net) j 1))) number date) in
-      let left : delayed (walk_time net s.steps) (start_of net (listed net) j 1) ≡ At (pos (walk_time net s.steps)) = ap (delayed (walk_time net s.steps)) (starts j 1) ∙ from_zero (walk_time net s.steps) in
-      let numbers : IsAtMostDate (At (pos (walk_time net s.steps))) (At (pos (walk_time net (walks t k l).reached.steps))) = subst (λ (z : Date). IsAtMostDate z (At (pos (walk_time net (walks t k l).reached.steps)))) left (subst (IsAtMostDate (delayed (walk_time net s.steps) (start_of net (listed net) j 1))) (date_is t k l) below) in
+      let date : IsDateOfWalk net (listed_releases net) t s.number (delayed (walk_time net s.steps) (start_of_firing net (listed_releases net) j 1)) =
+      record { from = j; number = 1; steps = s.steps; start = start_of_firing net (listed_releases net) j 1; starts = refl; from_in = lj; from_one = omega arith; walk = s.walks; is = refl } in
+      let below : IsAtMostDate (delayed (walk_time net s.steps) (start_of_firing net (listed_releases net) j 1)) (x t (k + 1)) =
+      (walks t k l).greatest (delayed (walk_time net s.steps) (start_of_firing net (listed_releases net) j 1)) (subst (λ (z : ℕ). IsDateOfWalk net (listed_releases net) t z (delayed (walk_time net s.steps) (start_of_firing net (listed_releases net) j 1))) number date) in
+      let left : delayed (walk_time net s.steps) (start_of_firing net (listed_releases net) j 1) ≡ At (pos (walk_time net s.steps)) = ap (delayed (walk_time net s.steps)) (starts j 1) ∙ from_zero (walk_time net s.steps) in
+      let numbers : IsAtMostDate (At (pos (walk_time net s.steps))) (At (pos (walk_time net (walks t k l).reached.steps))) = subst (λ (z : Date). IsAtMostDate z (At (pos (walk_time net (walks t k l).reached.steps)))) left (subst (IsAtMostDate (delayed (walk_time net s.steps) (start_of_firing net (listed_releases net) j 1))) (date_is t k l) below) in
       let most = at_most_number (walk_time net s.steps) (walk_time net (walks t k l).reached.steps) numbers in
       let one = s.time in
       let two = time_is t k l in

@@ -1,6 +1,6 @@
 //! The laws of the settling bound. Each is a function that does nothing when it runs: its contract is
 //! the law.
-ghost use Rattle.bound_laws.specs.Laws.{DatesGoOnPastTheBound, FactorialsAreCommon, StepsAreWhole, StillNetsStayAtZero};
+ghost use Rattle.bound_laws.specs.PastTheBound.{DatesGoOnPastTheBound, FactorialsAreCommon, StepsAreWhole, StillNetsStayAtZero};
 ghost use Rattle.bound_laws.specs.Periods.{FormsKeepTheBound};
 
 /// Past the bound the least dates of a strongly connected net go on by every common multiple of the

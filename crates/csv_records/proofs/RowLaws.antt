@@ -6,7 +6,7 @@ use Rattle.std.proofs.lemmas.Bool.Decides.{nat_tests}
 use Rattle.std.proofs.lemmas.List.Elements.{All-append, All-cons}
 use Rattle.std.proofs.lemmas.List.Folds.{list_any_at}
 use Rattle.std.proofs.lemmas.List.Quantifiers.{all_pairs_push}
-use Rattle.csv_records.specs.Rows.{and_then, one_more, rows_from, rows_of, with_row}
+use Rattle.csv_records.specs.RowsOfRecords.{and_then, with_record, rows_from, rows_of, with_read_row}
 
 module _ {R E : Type 0} (is_header : List (List ℕ) → Bool) (row_of : List R → ℕ → List (List ℕ) → Result R E) where
   -- it holds of each accepted row and the rows before it
@@ -18,13 +18,13 @@ module _ {R E : Type 0} (is_header : List (List ℕ) → Bool) (row_of : List R 
   OfRefused P = (rows : List R) (k : ℕ) (fields : List (List ℕ)) (why : E) → row_of rows k fields ≡ Err why → P why
 
   one_keeps : (Keeps : List R → Type 0) → OfAccepted (λ rows r. Keeps rows → Keeps (rows ++ r ∷ []))
-      → (rows : List R) (k : ℕ) (fields : List (List ℕ)) (all : List R) → one_more is_header row_of rows k fields ≡ Ok all → Keeps rows → Keeps all
+      → (rows : List R) (k : ℕ) (fields : List (List ℕ)) (all : List R) → with_record is_header row_of rows k fields ≡ Ok all → Keeps rows → Keeps all
   one_keeps Keeps more rows k fields all e h = elim (cases_Bool ((k == 1) && is_header fields)) [
     | inl header ↦ let same : rows ≡ all = cc (rw header at e) in subst Keeps same h
     | inr other ↦ added (row_of rows k fields) (λ r is. more rows k fields r is h) (rw other at e)
   ]
     where
-      added : (o : Result R E) → ((r : R) → o ≡ Ok r → Keeps (rows ++ r ∷ [])) → with_row rows o ≡ Ok all → Keeps all
+      added : (o : Result R E) → ((r : R) → o ≡ Ok r → Keeps (rows ++ r ∷ [])) → with_read_row rows o ≡ Ok all → Keeps all
       added (Ok r) new e = let same : rows ++ r ∷ [] ≡ all = cc e in subst Keeps same (new r refl)
       added (Err why) new e = cc e
 
@@ -33,7 +33,7 @@ module _ {R E : Type 0} (is_header : List (List ℕ) → Bool) (row_of : List R 
       → (records : List (List (List ℕ))) (rows : List R) (k : ℕ) (all : List R) → rows_from is_header row_of rows k records ≡ Ok all → Keeps rows → Keeps all
   all_keep Keeps more [] rows k all e h = let same : rows ≡ all = cc e in subst Keeps same h
   all_keep Keeps more (fields ∷ rest) rows k all e h =
-      after (one_more is_header row_of rows k fields) (λ now. all_keep Keeps more rest now (k + 1) all) (λ now is. one_keeps Keeps more rows k fields now is h) e
+      after (with_record is_header row_of rows k fields) (λ now. all_keep Keeps more rest now (k + 1) all) (λ now is. one_keeps Keeps more rows k fields now is h) e
     where
       after : (o : Result (List R) E) → ((now : List R) → rows_from is_header row_of now (k + 1) rest ≡ Ok all → Keeps now → Keeps all)
           → ((now : List R) → o ≡ Ok now → Keeps now) → and_then o (λ now. rows_from is_header row_of now (k + 1) rest) ≡ Ok all → Keeps all
@@ -70,13 +70,13 @@ module _ {R E : Type 0} (is_header : List (List ℕ) → Bool) (row_of : List R 
       ]
 
   one_refused : (Rule : E → Type 0) → OfRefused Rule
-      → (rows : List R) (k : ℕ) (fields : List (List ℕ)) (why : E) → one_more is_header row_of rows k fields ≡ Err why → Rule why
+      → (rows : List R) (k : ℕ) (fields : List (List ℕ)) (why : E) → with_record is_header row_of rows k fields ≡ Err why → Rule why
   one_refused Rule rule rows k fields why e = elim (cases_Bool ((k == 1) && is_header fields)) [
     | inl header ↦ cc (rw header at e)
     | inr other ↦ refused (row_of rows k fields) (rule rows k fields) (rw other at e)
   ]
     where
-      refused : (o : Result R E) → ((why : E) → o ≡ Err why → Rule why) → with_row rows o ≡ Err why → Rule why
+      refused : (o : Result R E) → ((why : E) → o ≡ Err why → Rule why) → with_read_row rows o ≡ Err why → Rule why
       refused (Ok r) rule e = cc e
       refused (Err other) rule e = let same : other ≡ why = cc e in subst Rule same (rule other refl)
 
@@ -84,7 +84,7 @@ module _ {R E : Type 0} (is_header : List (List ℕ) → Bool) (row_of : List R 
       → (records : List (List (List ℕ))) (rows : List R) (k : ℕ) (why : E) → rows_from is_header row_of rows k records ≡ Err why → Rule why
   some_refused Rule rule [] rows k why e = cc e
   some_refused Rule rule (fields ∷ rest) rows k why e =
-      after (one_more is_header row_of rows k fields) (λ now. some_refused Rule rule rest now (k + 1) why) (one_refused Rule rule rows k fields why) e
+      after (with_record is_header row_of rows k fields) (λ now. some_refused Rule rule rest now (k + 1) why) (one_refused Rule rule rows k fields why) e
     where
       after : (o : Result (List R) E) → ((now : List R) → rows_from is_header row_of now (k + 1) rest ≡ Err why → Rule why)
           → (o ≡ Err why → Rule why) → and_then o (λ now. rows_from is_header row_of now (k + 1) rest) ≡ Err why → Rule why

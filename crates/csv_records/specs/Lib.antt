@@ -1,4 +1,4 @@
 pub mod Records
-pub mod Numbers
-pub mod Rows
+pub mod NumberFields
+pub mod RowsOfRecords
 pub mod Seen

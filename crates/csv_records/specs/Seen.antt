@@ -15,18 +15,18 @@ pub record SeenNumbers : Type 0 where
   pub cells : List Bool
 
 -- the cell of a column and a number
-abbrev pub cell_of : ℕ → ℕ → ℕ
-cell_of t n = t * (greatest_seen_number + 1) + n
+abbrev pub seen_cell : ℕ → ℕ → ℕ
+seen_cell t n = t * (greatest_seen_number + 1) + n
 
 -- the number was seen in the column; none past the greatest is
 abbrev pub is_seen : SeenNumbers → ℕ → ℕ → Bool
-is_seen seen t n = nat_le n greatest_seen_number && slice_index_or seen.cells (cell_of t n) false
+is_seen seen t n = nat_le n greatest_seen_number && slice_index_or seen.cells (seen_cell t n) false
 
 -- the table tells for each of its columns what this says
-abbrev pub Tells : SeenNumbers → (ℕ → ℕ → Bool) → Type 0
-Tells seen says = (t n : ℕ) → t < seen.width → is_seen seen t n ≡ says t n
+abbrev pub TellsSeen : SeenNumbers → (ℕ → ℕ → Bool) → Type 0
+TellsSeen seen says = (t n : ℕ) → t < seen.width → is_seen seen t n ≡ says t n
 
 -- a cell of each column and number
-pub record IsTable (seen : SeenNumbers) : Type 0 where
+pub record IsSeenTable (seen : SeenNumbers) : Type 0 where
   pub narrow : seen.width ≤ most_columns
   pub long : length seen.cells ≡ seen.width * (greatest_seen_number + 1)

@@ -3,7 +3,7 @@ ghost use Rattle.std.specs.Prelude.{◌≡◌, ◌≤◌, true, min, Some, None}
 ghost use Rattle.std.specs.Char.{is_ascii_digit};
 ghost use Rattle.std.specs.List.{list_all};
 ghost use Rattle.std.specs.Str.Parse.{digits_value};
-ghost use Rattle.csv_records.specs.Numbers.{is_number, number_up_to};
+ghost use Rattle.csv_records.specs.NumberFields.{is_number, number_up_to};
 
 fn has_only_digits(field: &[u8]) -> bool
     ensures { result ≡ list_all is_ascii_digit field.now }

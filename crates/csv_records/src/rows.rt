@@ -2,7 +2,7 @@
 ghost use Rattle.std.specs.Prelude.{◌≡◌, ◌≢◌, ◌≤◌, ◌+◌, ◌∷◌, [], Ok, Err, true, false, length, IfOk, IfErr, OnOk};
 ghost use Rattle.csv.specs.Records.{fields_of};
 ghost use Rattle.csv_records.specs.Records.{most_file_bytes, records_of};
-ghost use Rattle.csv_records.specs.Rows.{one_more, rows_of};
+ghost use Rattle.csv_records.specs.RowsOfRecords.{with_record, rows_of};
 
 use crate::records::Records;
 use csv::ByteRecord;
@@ -82,10 +82,10 @@ fn add_record<F: RowFile>(
 ) -> Result<(), F::Refusal>
     requires { F.has_read file.old rows.old.items }
     ensures added { OnOk result (
-        one_more F.is_header (F.row_of file.old) rows.old.items number (fields_of «record».now)
+        with_record F.is_header (F.row_of file.old) rows.old.items number (fields_of «record».now)
         ≡ Ok rows.new.items) }
     ensures refused { IfErr result (λ e. e ≢ F.no_memory →
-        one_more F.is_header (F.row_of file.old) rows.old.items number (fields_of «record».now)
+        with_record F.is_header (F.row_of file.old) rows.old.items number (fields_of «record».now)
         ≡ Err e) }
     ensures read { OnOk result (F.has_read file.new rows.new.items) }
     ensures same { F.row_of file.new ≡ F.row_of file.old }

@@ -1,7 +1,7 @@
 //! What was seen before: a table of numbers in columns.
 ghost use Rattle.std.specs.Prelude.{ℕ, ◌≡◌, ◌≤◌, ◌<◌, ◌==◌, ◌&&◌, ◌||◌, true, false, IfOk};
 ghost use Rattle.std.specs.Str.Parse.{digits_value};
-ghost use Rattle.csv_records.specs.Numbers.{is_number};
+ghost use Rattle.csv_records.specs.NumberFields.{is_number};
 ghost use Rattle.csv_records.specs.Seen.{greatest_seen_number, is_seen, most_columns};
 
 use crate::numbers::number_up_to;
@@ -24,13 +24,13 @@ pub struct Seen {
 }
 
 impl Model for Seen {
-    ghost use Rattle.csv_records.specs.Seen.{IsTable, SeenNumbers};
+    ghost use Rattle.csv_records.specs.Seen.{IsSeenTable, SeenNumbers};
 
     ghost Value = { SeenNumbers };
 
     ghost view = { λ s. record { width = s.width; cells = s.cells.items } };
 
-    ghost invariant = { λ s. IsTable (record { width = s.width; cells = s.cells.items }) };
+    ghost invariant = { λ s. IsSeenTable (record { width = s.width; cells = s.cells.items }) };
 }
 
 impl Seen {

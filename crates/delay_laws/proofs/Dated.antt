@@ -7,23 +7,24 @@ use Rattle.std.proofs.lemmas.Int.{ints}
 use Rattle.dioid.specs.declared.dates.Date.{Date}
 use Rattle.dioid.specs.declared.dates.Date.TheVariants.{Early, At, Never}
 use Rattle.dioid.specs.Dates.{IsAtMostDate}
-use Rattle.dioid.specs.Order.{Le}
+use Rattle.dioid.specs.DateOrder.{Le}
 use Rattle.dioid.proofs.AtMost.{le_is, le_trans, le_never, le_antisym}
 use Rattle.dioid.proofs.Moves.{at_inj}
 use Rattle.teg_net.specs.declared.entries.Place.{Place}
 use Rattle.teg_net.specs.Nets.{NetLists}
-use Rattle.teg_model.specs.Systems.{Dating, System, available_in, IsFeasibleIn, IsLeastIn}
-use Rattle.teg_model.specs.Ranks.{HasEndsInRange, IsRanked}
+use Rattle.teg_model.specs.Systems.{System, available_in, IsFeasibleIn, IsLeastIn}
+use Rattle.teg_model.specs.LiveRanks.{HasEndsInRange, IsRanked}
 use Rattle.teg_model.specs.Datings.{extended_places, initial_date, system_with}
-use Rattle.teg_model.specs.Laws.{AreSameOn}
+use Rattle.teg_model.specs.LeastDatings.{AreSameOn}
 use Rattle.teg_model.proofs.OfNet.{all_extended, all_extended_in, ranks_extended}
 use Rattle.teg_model.proofs.Tokens.{available_after, available_first, available_same}
 use Rattle.teg_model.proofs.LeastOver.{least_over, least_over_is_least}
 use Rattle.teg_model.proofs.LiveRanks.{live_is_ranked}
+use Rattle.teg_model.proofs.DateFunctions.{Dating}
 use Rattle.delay_laws.specs.declared.table.Timetable.{Timetable}
-use Rattle.delay_laws.specs.Tables.{planned, AreDelaysUpTo, IsWorkableAt, IsWorkable}
+use Rattle.delay_laws.specs.PlannedTimetables.{planned, AreDelaysUpTo, IsWorkableAt, IsWorkable}
 use Rattle.delay_laws.specs.Delays.{IsRelease, IsDelayedBy, AreAbovePlan, AreDelaysLeft}
-use Rattle.delay_laws.specs.SettlingLaws.{number_of, DelaysLeftAreWithin}
+use Rattle.delay_laws.specs.SettlingLaws.{natural_of_date, DelaysLeftAreWithin}
 use Rattle.delay_laws.specs.DelayLaws.{DelayedDatingsExist, DelayedDatingsAreOne, DelaysAreWithin}
 use Rattle.delay_laws.proofs.Releases.{one_release, releases, are_releases, release_above, release_below}
 
@@ -174,7 +175,7 @@ one_above low a b e = let s : pos (low + a) ≡ pos (low + b) = at_inj _ _ e in 
 
 pub delays_are_within : DelaysAreWithin
 delays_are_within net ends period t work x w h most few = (
-  λ i k. number_of (x i k) - planned period t i k,
+  λ i k. natural_of_date (x i k) - planned period t i k,
   λ i k l o.
       let b = dated_between net period t x w most ends work few h i k l o in
       let e : (planned period t i k + b.more) - planned period t i k ≡ b.more = omega arith in

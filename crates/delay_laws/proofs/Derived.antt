@@ -8,7 +8,7 @@ use Rattle.teg_net.specs.declared.entries.PlaceId.{PlaceId}
 use Rattle.teg_net.specs.Nets.{NetLists}
 use Rattle.teg_net.specs.Circuits.{place_at, from_of, IsPathBetween, IsCircuit, tokens_of, IsLive}
 use Rattle.teg_net.specs.Parts.{to_of}
-use Rattle.teg_model.specs.Ranks.{HasEndsInRange}
+use Rattle.teg_model.specs.LiveRanks.{HasEndsInRange}
 use Rattle.delay_laws.specs.declared.table.Timetable.{Timetable}
 use Rattle.delay_laws.specs.ReleaseNets.{IsSamePlace, release_place, IsReleaseNet}
 use Rattle.delay_laws.specs.SettlingLaws.{ReleaseNetsAreLive}

@@ -7,20 +7,21 @@ use Rattle.std.proofs.lemmas.Int.{ints}
 use Rattle.std.proofs.lemmas.List.{get_or_default}
 use Rattle.dioid.specs.declared.dates.Date.TheVariants.{At}
 use Rattle.dioid.specs.Dates.{IsAtMostDate, delayed}
-use Rattle.dioid.specs.Order.{Le}
+use Rattle.dioid.specs.DateOrder.{Le}
 use Rattle.dioid.proofs.AtMost.{le_refl, le_is, le_trans, le_antisym}
 use Rattle.teg_net.specs.declared.entries.Place.{Place}
 use Rattle.teg_net.specs.declared.entries.PlaceId.{PlaceId}
 use Rattle.teg_net.specs.Nets.{NetLists, IsNet}
 use Rattle.teg_net.specs.Circuits.{no_place, place_at, IsLive}
-use Rattle.teg_model.specs.Systems.{Dating, available_in, IsFeasibleIn}
-use Rattle.teg_model.specs.Ranks.{HasEndsInRange, IsRanked}
-use Rattle.teg_model.specs.Datings.{implicit_place, initial_date, available_at, listed, IsFeasibleUnder, IsLeastDating, system_with}
-use Rattle.teg_model.specs.Laws.{IsTight}
+use Rattle.teg_model.specs.Systems.{available_in, IsFeasibleIn}
+use Rattle.teg_model.specs.LiveRanks.{HasEndsInRange, IsRanked}
+use Rattle.teg_model.specs.Datings.{implicit_place, initial_date, available_at, listed_releases, IsFeasibleUnder, IsLeastDating, system_with}
+use Rattle.teg_model.specs.LeastDatings.{IsTight}
 use Rattle.teg_model.proofs.Delays.{delayed_not}
 use Rattle.teg_model.proofs.OfNet.{net_ends, all_extended_in, extended_has, implicit_is, tight_of_least}
 use Rattle.teg_model.proofs.Tokens.{available_after, available_first, available_same, implicit_keeps}
 use Rattle.teg_model.proofs.LiveRanks.{live_is_ranked}
+use Rattle.teg_model.proofs.DateFunctions.{Dating}
 use Rattle.delay_laws.specs.declared.table.Timetable.{Timetable}
 use Rattle.delay_laws.specs.Delays.{IsRelease, IsDelayedBy, together}
 use Rattle.delay_laws.specs.ReleaseNets.{IsSamePlace, release_place, IsReleaseNet}
@@ -74,7 +75,7 @@ module _ (net : NetLists) (ends : HasEndsInRange net) (live : IsLive net) (perio
   n = length net.transitions
 
   abbrev w : Dating
-  w i k = listed derived (n + i) k
+  w i k = listed_releases derived (n + i) k
 
   release : IsRelease net period t w
   release = lists_release net period t derived ok r
@@ -102,10 +103,10 @@ module _ (net : NetLists) (ends : HasEndsInRange net) (live : IsLive net) (perio
       (cases_lt 1 k)
 
   module _ (y : Dating) (h : IsLeastDating derived y) where
-    tight : IsTight derived (listed derived) y
+    tight : IsTight derived (listed_releases derived) y
     tight =
         let ranked : IsRanked derived = live_is_ranked derived (net_ends derived ok) (stays_live net ends period t derived r live) in
-        tight_of_least derived (listed derived) y ranked.0 ranked.1 ranked.2 h
+        tight_of_least derived (listed_releases derived) y ranked.0 ranked.1 ranked.2 h
 
     -- each input fires at its releases
     input_is : (b i k : ℕ) → k ≤ b → i < n → 1 ≤ k → y (n + i) k ≡ w i k
@@ -158,7 +159,7 @@ module _ (net : NetLists) (ends : HasEndsInRange net) (live : IsLive net) (perio
           (all_places net (λ p. IsAtMostDate (available_in initial_date x p k) (x p.to.index k)) (λ j l. (own_keeps k o j l).holds))
           (λ u l. (
           let twice = r.twice in
-          let kept : Le (available_in initial_date y (implicit_place u) k) (y u k) = record { holds = implicit_keeps derived (listed derived) y h.feasible u k (omega arith) o } in
+          let kept : Le (available_in initial_date y (implicit_place u) k) (y u k) = record { holds = implicit_keeps derived (listed_releases derived) y h.feasible u k (omega arith) o } in
           le_trans (le_is (available_same initial_date x y (implicit_place u) k (λ m. x_is u (k - 1) l))) (le_trans kept (le_is (sym (x_is u k l))))).holds);
       releases = λ i k o. (⊎_elim
           (λ (l : i < n). le_trans (x_released i k l o) (le_is (sym (x_is i k l))))
@@ -215,7 +216,7 @@ module _ (net : NetLists) (ends : HasEndsInRange net) (live : IsLive net) (perio
           (le_is (sym (both_input (u - n) k) ∙ ap (λ (j : ℕ). both j k) e))))
           (cases_lt u n)
 
-      both_feasible : IsFeasibleUnder derived (listed derived) both
+      both_feasible : IsFeasibleUnder derived (listed_releases derived) both
       both_feasible = record {
         places = λ k o. all_extended_in derived (λ p. IsAtMostDate (available_at both p k) (both p.to.index k))
             (all_places derived (λ p. IsAtMostDate (available_at both p k) (both p.to.index k)) (λ j l. (place_kept k o j l).holds))
@@ -224,7 +225,7 @@ module _ (net : NetLists) (ends : HasEndsInRange net) (live : IsLive net) (perio
             (λ (l : i < n). absurd (r.no_input i l a))
             (λ (l : n ≤ i).
             let e : n + (i - n) ≡ i = omega arith in
-            le_is (ap (λ (j : ℕ). listed derived j k) (sym e) ∙ sym (both_input (i - n) k) ∙ ap (λ (j : ℕ). both j k) e))
+            le_is (ap (λ (j : ℕ). listed_releases derived j k) (sym e) ∙ sym (both_input (i - n) k) ∙ ap (λ (j : ℕ). both j k) e))
             (cases_lt i n)).holds;
       }
 

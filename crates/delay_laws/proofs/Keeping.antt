@@ -11,9 +11,9 @@ use Rattle.teg_net.specs.Circuits.{from_of, IsCircuit}
 use Rattle.teg_net.specs.Paths.{IsLowestAt}
 use Rattle.teg_net.proofs.PathLaws.{IsPathBetween-in_range, no_id}
 use Rattle.teg_net.proofs.Turning.{turned, turned_circuit, turned_lowest}
-use Rattle.teg_model.specs.Ranks.{HasEndsInRange}
+use Rattle.teg_model.specs.LiveRanks.{HasEndsInRange}
 use Rattle.teg_loops.specs.Loops.{EndsBelow}
-use Rattle.delay_laws.specs.Outcomes.{HasNoSpare, HasDelayPast, IsGreatestPast}
+use Rattle.delay_laws.specs.DelayOutcomes.{HasNoSpare, HasDelayPast, IsGreatestPast}
 use Rattle.delay_laws.specs.OutcomeLaws.{DelaysDieOut, CircuitsKeepDelays, DelaysDieOutOrAreKept, NoDelaysDieOutAndAreKept, IsPassedOn}
 use Rattle.delay_laws.proofs.Passing.{comes_on, most_past}
 use Rattle.delay_laws.proofs.PassedOn.{greatest_delays_are_passed_on}

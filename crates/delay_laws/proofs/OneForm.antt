@@ -5,22 +5,23 @@ use Rattle.std.proofs.lemmas.Bool.{cases_lt}
 use Rattle.std.proofs.lemmas.Int.{ints}
 use Rattle.dioid.specs.declared.dates.Date.TheVariants.{At}
 use Rattle.dioid.specs.Dates.{IsAtMostDate}
-use Rattle.dioid.specs.Order.{Le}
+use Rattle.dioid.specs.DateOrder.{Le}
 use Rattle.dioid.proofs.AtMost.{le_is, le_trans}
 use Rattle.teg_net.specs.declared.entries.Place.{Place}
 use Rattle.teg_net.specs.Nets.{NetLists}
 use Rattle.teg_net.specs.Circuits.{no_place}
-use Rattle.teg_model.specs.Systems.{Dating, available_in}
-use Rattle.teg_model.specs.Ranks.{HasEndsInRange}
+use Rattle.teg_model.specs.Systems.{available_in}
+use Rattle.teg_model.specs.LiveRanks.{HasEndsInRange}
 use Rattle.teg_model.specs.Datings.{implicit_place, initial_date}
 use Rattle.teg_model.proofs.OfNet.{implicit_is}
 use Rattle.teg_model.proofs.Tokens.{implicit_gives}
-use Rattle.settled_laws.specs.Forms.{NeverFalls}
-use Rattle.settled_laws.specs.Laws.{ShortestFormsAreOne}
+use Rattle.teg_model.proofs.DateFunctions.{Dating}
+use Rattle.settled_laws.specs.SettledForms.{NeverFalls}
+use Rattle.settled_laws.specs.OneSettledForm.{ShortestFormsAreOne}
 use Rattle.delay_laws.specs.declared.table.Timetable.{Timetable}
-use Rattle.delay_laws.specs.Tables.{planned}
+use Rattle.delay_laws.specs.PlannedTimetables.{planned}
 use Rattle.delay_laws.specs.Delays.{IsDelayedBy, together}
-use Rattle.delay_laws.specs.FormLaws.{FormsAreOfEach, FormsOfDelaysAreOne, DelaysLeftAreOne}
+use Rattle.delay_laws.specs.OneDelayForm.{FormsAreOfEach, FormsOfDelaysAreOne, DelaysLeftAreOne}
 use Rattle.delay_laws.proofs.Releases.{release_rises}
 use Rattle.delay_laws.proofs.Dated.{delayed_datings_are_one, one_above, left_above}
 use Rattle.delay_laws.proofs.Steps.{together_first, together_second}

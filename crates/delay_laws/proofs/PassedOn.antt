@@ -7,13 +7,14 @@ use Rattle.dioid.specs.declared.dates.Date.TheVariants.{At}
 use Rattle.dioid.proofs.Moves.{at_inj}
 use Rattle.teg_net.specs.declared.entries.Place.{Place}
 use Rattle.teg_net.specs.Circuits.{no_place}
-use Rattle.teg_model.specs.Systems.{Dating, available_in}
+use Rattle.teg_model.specs.Systems.{available_in}
 use Rattle.teg_model.specs.Datings.{implicit_place, extended_places, initial_date, system_with}
 use Rattle.teg_model.proofs.OfNet.{which_place}
 use Rattle.teg_model.proofs.Tokens.{available_after}
 use Rattle.teg_model.proofs.LiveRanks.{live_is_ranked}
+use Rattle.teg_model.proofs.DateFunctions.{Dating}
 use Rattle.delay_laws.specs.declared.table.Timetable.{Timetable}
-use Rattle.delay_laws.specs.Tables.{first_of, planned, IsWorkableAt}
+use Rattle.delay_laws.specs.PlannedTimetables.{first_planned, planned, IsWorkableAt}
 use Rattle.delay_laws.specs.Delays.{IsDelayedBy, AreAbovePlan}
 use Rattle.delay_laws.specs.OutcomeLaws.{GreatestDelaysArePassedOn}
 use Rattle.delay_laws.proofs.Releases.{each_delay_passes, releases_follow_the_plan}
@@ -33,7 +34,7 @@ asks period t x p k a b l from e =
 
 -- where the plan leaves the token just the time of the place, it does so at each number
 no_spare_at : (period : ℕ) (t : Timetable) (p : Place) (k : ℕ) → p.tokens < k → planned period t p.to.index k ≡ planned period t p.from.index (k - p.tokens) + p.hold
-    → first_of t p.from.index + p.hold ≡ first_of t p.to.index + period * p.tokens
+    → first_planned t p.from.index + p.hold ≡ first_planned t p.to.index + period * p.tokens
 no_spare_at period t p k l e =
     let is : k - 1 ≡ p.tokens + (k - p.tokens - 1) = omega arith in
     let distributes : (a b : ℕ) → period * (a + b) ≡ period * a + period * b = λ a b. grind arith in
@@ -44,7 +45,7 @@ no_spare_at period t p k l e =
 over_place : (period : ℕ) (t : Timetable) (x : Dating) (p : Place) (k a b most : ℕ) → IsWorkableAt period t p → p.tokens < k
     → x p.from.index (k - p.tokens) ≡ At (pos (planned period t p.from.index (k - p.tokens) + b))
     → At (pos (planned period t p.to.index k + a)) ≡ available_in initial_date x p k → a ≡ most → b ≤ most
-    → (b ≡ most) × (first_of t p.from.index + p.hold ≡ first_of t p.to.index + period * p.tokens)
+    → (b ≡ most) × (first_planned t p.from.index + p.hold ≡ first_planned t p.to.index + period * p.tokens)
 over_place period t x p k a b most work l from e is few =
     let sum = asks period t x p k a b l from e in
     let time = leaves_time period t p k work l in

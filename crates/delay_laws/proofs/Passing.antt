@@ -6,14 +6,15 @@ use Rattle.std.proofs.lemmas.List.Elements.{All-cons}
 use Rattle.teg_net.specs.declared.entries.Place.{Place}
 use Rattle.teg_net.specs.Nets.{NetLists}
 use Rattle.teg_net.specs.Circuits.{no_place}
-use Rattle.teg_model.specs.Systems.{Dating, System, available, IsLeastIn}
-use Rattle.teg_model.specs.Ranks.{IsRanked}
+use Rattle.teg_model.specs.Systems.{System, available, IsLeastIn}
+use Rattle.teg_model.specs.LiveRanks.{IsRanked}
 use Rattle.teg_model.specs.Datings.{initial_date, system_with}
 use Rattle.teg_model.proofs.OfNet.{ranks_extended}
 use Rattle.teg_model.proofs.Tokens.{available_same}
 use Rattle.teg_model.proofs.LeastOver.{least_over, least_over_is_least, least_is_attained, only_least_in}
+use Rattle.teg_model.proofs.DateFunctions.{Dating}
 use Rattle.delay_laws.specs.declared.table.Timetable.{Timetable}
-use Rattle.delay_laws.specs.Outcomes.{HasDelayPast, IsGreatestPast}
+use Rattle.delay_laws.specs.DelayOutcomes.{HasDelayPast, IsGreatestPast}
 use Rattle.delay_laws.specs.SettlingLaws.{AreSettledDelays}
 
 -- ---- delays that come again

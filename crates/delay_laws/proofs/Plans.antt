@@ -7,7 +7,7 @@ use Rattle.std.proofs.lemmas.List.Elements.{All-tail}
 use Rattle.std.proofs.Math.Nat.{mul-le-mul_left}
 use Rattle.delay_laws.specs.declared.table.Delay.{Delay}
 use Rattle.delay_laws.specs.declared.table.Timetable.{Timetable}
-use Rattle.delay_laws.specs.Tables.{planned, delay_in, delay_given, AreDelaysUpTo, IsPastDelays}
+use Rattle.delay_laws.specs.PlannedTimetables.{planned, delay_in, delay_given, AreDelaysUpTo, IsPastDelays}
 
 -- the tests of a row
 is_row : (d : Delay) (i s : ℕ) → (((eqb d.transition.index i && eqb d.number s) ≡ true) × (d.transition.index ≡ i) × (d.number ≡ s)) ⊎ ((eqb d.transition.index i && eqb d.number s) ≡ false)

@@ -7,9 +7,9 @@ use Rattle.teg_net.specs.declared.entries.InputList.{InputList}
 use Rattle.teg_net.specs.Nets.{NetLists, IsNet}
 use Rattle.teg_net.specs.Inputs.{moved_by, GoOnBy, IsInputDates, input_date}
 use Rattle.teg_net.proofs.InputDates.{AreInputDates-input_date}
-use Rattle.teg_model.specs.Datings.{as_date, listed}
+use Rattle.teg_model.specs.Datings.{as_date, listed_releases}
 use Rattle.delay_laws.specs.declared.table.Timetable.{Timetable}
-use Rattle.delay_laws.specs.Tables.{planned, IsPastDelays}
+use Rattle.delay_laws.specs.PlannedTimetables.{planned, IsPastDelays}
 use Rattle.delay_laws.specs.Delays.{IsReleaseAt, IsRelease}
 use Rattle.delay_laws.specs.ReleaseNets.{IsReleaseList, IsReleaseNet}
 use Rattle.delay_laws.proofs.Plans.{one_more}
@@ -63,7 +63,7 @@ list_tells period t n i l u rs h k o =
     (cases_lt long k)
 
 pub lists_release : (net : NetLists) (period : ℕ) (t : Timetable) (derived : NetLists) → IsNet derived → IsReleaseNet net period t derived
-    → IsRelease net period t (λ i k. listed derived (length net.transitions + i) k)
+    → IsRelease net period t (λ i k. listed_releases derived (length net.transitions + i) k)
 lists_release net period t derived ok r i k l o =
     let n : ℕ = length net.transitions in
     let d : InputList = record { transition = record { index = 0 }; dates = []; again = None } in

@@ -9,7 +9,7 @@ use Rattle.dioid.specs.declared.dates.Date.TheVariants.{At}
 use Rattle.teg_net.specs.Nets.{NetLists}
 use Rattle.delay_laws.specs.declared.table.Delay.{Delay}
 use Rattle.delay_laws.specs.declared.table.Timetable.{Timetable}
-use Rattle.delay_laws.specs.Tables.{planned, delay_given, AreDelaysUpTo, IsPastDelays}
+use Rattle.delay_laws.specs.PlannedTimetables.{planned, delay_given, AreDelaysUpTo, IsPastDelays}
 use Rattle.delay_laws.specs.Delays.{IsReleaseAt, IsRelease}
 use Rattle.delay_laws.specs.DelayLaws.{ReleasesFollowThePlan, EachDelayPasses}
 use Rattle.delay_laws.proofs.Plans.{given_most, planned_rises, past_fits}

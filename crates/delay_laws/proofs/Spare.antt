@@ -14,18 +14,18 @@ use Rattle.teg_net.proofs.PathLaws.{no_id}
 use Rattle.teg_loops.specs.Loops.{EndsBelow, HasLoop}
 use Rattle.teg_loops.proofs.Straight.{looped}
 use Rattle.delay_laws.specs.declared.table.Timetable.{Timetable}
-use Rattle.delay_laws.specs.Tables.{first_of}
-use Rattle.delay_laws.specs.Outcomes.{HasNoSpare}
+use Rattle.delay_laws.specs.PlannedTimetables.{first_planned}
+use Rattle.delay_laws.specs.DelayOutcomes.{HasNoSpare}
 
 -- along places without spare time the time is that of the plan
 pub no_spare_along : (net : NetLists) (period : ℕ) (t : Timetable) (ps : List PlaceId) (i j : ℕ) → IsPathBetween net i ps j → All (λ p. HasNoSpare net period t p) ps
-    → first_of t i + time_of net ps ≡ first_of t j + period * tokens_of net ps
-no_spare_along net period t [] i j h all = let e : first_of t i ≡ first_of t j = ap (first_of t) h in omega arith
+    → first_planned t i + time_of net ps ≡ first_planned t j + period * tokens_of net ps
+no_spare_along net period t [] i j h all = let e : first_planned t i ≡ first_planned t j = ap (first_planned t) h in omega arith
 no_spare_along net period t (p ∷ ps) i j h all =
     let here : HasNoSpare net period t p = all 0 no_id (omega arith) in
     let same = here.same in
     let rest = no_spare_along net period t ps (place_at net p).to.index j h.2 (All-tail (λ q. HasNoSpare net period t q) p ps all) in
-    let from : first_of t (from_of net p) ≡ first_of t i = ap (first_of t) h.1 in
+    let from : first_planned t (from_of net p) ≡ first_planned t i = ap (first_planned t) h.1 in
     let time = sum_by-cons (λ q. (place_at net q).hold) p ps in
     let tokens : tokens_of net (p ∷ ps) ≡ (place_at net p).tokens + tokens_of net ps = sum_by-cons (λ q. (place_at net q).tokens) p ps in
     let product : period * tokens_of net (p ∷ ps) ≡ period * (place_at net p).tokens + period * tokens_of net ps = rw tokens (grind arith) in

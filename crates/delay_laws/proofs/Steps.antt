@@ -10,15 +10,15 @@ use Rattle.dioid.specs.declared.dates.Date.TheVariants.{At}
 use Rattle.dioid.specs.Dates.{move}
 use Rattle.dioid.proofs.Moves.{at_inj}
 use Rattle.teg_net.specs.Nets.{NetLists}
-use Rattle.teg_model.specs.Systems.{Dating}
-use Rattle.teg_model.specs.Ranks.{HasEndsInRange}
-use Rattle.settled_laws.specs.Forms.{SettledForm, date_of, StandsFor}
+use Rattle.teg_model.specs.LiveRanks.{HasEndsInRange}
+use Rattle.teg_model.proofs.DateFunctions.{Dating}
+use Rattle.settled_laws.specs.SettledForms.{SettledForm, settled_date, StandsFor}
 use Rattle.settled_laws.proofs.Telling.{form_tells}
 use Rattle.delay_laws.specs.declared.table.Delay.{Delay}
 use Rattle.delay_laws.specs.declared.table.Timetable.{Timetable}
-use Rattle.delay_laws.specs.Tables.{planned, IsWorkable}
+use Rattle.delay_laws.specs.PlannedTimetables.{planned, IsWorkable}
 use Rattle.delay_laws.specs.Delays.{IsDelayedBy, together}
-use Rattle.delay_laws.specs.SettlingLaws.{StepsAreThePlan, number_of, delay_of, FormsTellDelays}
+use Rattle.delay_laws.specs.SettlingLaws.{StepsAreThePlan, natural_of_date, delay_by_form, FormsTellDelays}
 use Rattle.delay_laws.proofs.Releases.{release_above, release_below}
 use Rattle.delay_laws.proofs.Dated.{IsBetween, dated_between}
 use Rattle.delay_laws.proofs.Spare.{same_step}
@@ -121,14 +121,14 @@ steps_are_the_plan net ends period t work x w h after again step r i l =
 -- the delay that a form tells is that of the date
 told : (net : NetLists) (period : ℕ) (t : Timetable) (f : SettledForm) (x w : Dating) → HasEndsInRange net → IsWorkable net period t → IsDelayedBy net period t x w
     → StandsFor (length net.transitions + length net.transitions) f (together (length net.transitions) x w)
-    → (i k : ℕ) → i < length net.transitions → 1 ≤ k → (date_of f i k ≡ x i k) × (x i k ≡ At (pos (planned period t i k + delay_of f period t i k)))
+    → (i k : ℕ) → i < length net.transitions → 1 ≤ k → (settled_date f i k ≡ x i k) × (x i k ≡ At (pos (planned period t i k + delay_by_form f period t i k)))
 told net period t f x w ends work h stands i k l o =
     let n : ℕ = length net.transitions in
     let bound = some_bound t.delays.items in
     let b = dated_between net period t x w bound.0 ends work bound.1 h i k l o in
-    let same : date_of f i k ≡ x i k = form_tells (n + n) f (together n x w) stands i k (omega arith) o ∙ together_first n x w i k l in
-    let number : number_of (date_of f i k) ≡ planned period t i k + b.more = ap number_of (same ∙ b.is) in
-    let e : b.more ≡ delay_of f period t i k = omega arith in
+    let same : settled_date f i k ≡ x i k = form_tells (n + n) f (together n x w) stands i k (omega arith) o ∙ together_first n x w i k l in
+    let number : natural_of_date (settled_date f i k) ≡ planned period t i k + b.more = ap natural_of_date (same ∙ b.is) in
+    let e : b.more ≡ delay_by_form f period t i k = omega arith in
     (same, b.is ∙ ap (λ (z : ℕ). At (pos (planned period t i k + z))) e)
 
 pub forms_tell_delays : FormsTellDelays
@@ -147,7 +147,7 @@ forms_tell_delays net ends period t work f h =
             let two = (here i (k + f.period) l (omega arith)).1 in
             let moved = sym (together_first n x w i (k + f.period) l) ∙ stands.repeats.again i k (omega arith) o ∙ ap (move _) (together_first n x w i k l) in
             let made = sym two ∙ moved ∙ ap (λ (z : ℤ). move z (x i k)) (steps i (omega arith)) ∙ ap (move (pos (period * f.period))) one in
-            let numbers : pos (planned period t i (k + f.period) + delay_of f period t i (k + f.period)) ≡ pos (planned period t i k + delay_of f period t i k) +ℤ pos (period * f.period) = at_inj _ _ made in
+            let numbers : pos (planned period t i (k + f.period) + delay_by_form f period t i (k + f.period)) ≡ pos (planned period t i k + delay_by_form f period t i k) +ℤ pos (period * f.period) = at_inj _ _ made in
             let plan = planned_on period t i k f.period 1 (omega arith) in
             let e : k + 1 * f.period ≡ k + f.period = omega arith in
             let plan' : planned period t i (k + f.period) ≡ planned period t i (k + 1 * f.period) = ap (planned period t i) (sym e) in

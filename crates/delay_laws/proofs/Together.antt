@@ -6,15 +6,15 @@ use Rattle.std.proofs.lemmas.Int.{ints}
 use Rattle.dioid.specs.declared.dates.Date.{Date}
 use Rattle.dioid.specs.declared.dates.Date.TheVariants.{At}
 use Rattle.dioid.specs.Dates.{move}
-use Rattle.dioid.specs.Order.{Le}
+use Rattle.dioid.specs.DateOrder.{Le}
 use Rattle.dioid.proofs.AtMost.{le_is, le_trans}
 use Rattle.teg_net.specs.Nets.{NetLists}
-use Rattle.teg_model.specs.Systems.{Dating}
 use Rattle.teg_model.specs.Datings.{initial_date}
+use Rattle.teg_model.proofs.DateFunctions.{Dating}
 use Rattle.periodic_laws.specs.PeriodicDates.{IsPeriodic, ArePeriodic}
-use Rattle.periodic_laws.specs.Laws.{LeastInArePeriodic, PeriodicDatingsSettle}
+use Rattle.periodic_laws.specs.LinearSystem.{LeastInArePeriodic, PeriodicDatingsSettle}
 use Rattle.delay_laws.specs.declared.table.Timetable.{Timetable}
-use Rattle.delay_laws.specs.Tables.{planned}
+use Rattle.delay_laws.specs.PlannedTimetables.{planned}
 use Rattle.delay_laws.specs.Delays.{IsRelease, IsDelayedBy, together}
 use Rattle.delay_laws.specs.SettlingLaws.{DelaysSettle}
 use Rattle.delay_laws.proofs.Plans.{one_more}

@@ -4,10 +4,10 @@ use Rattle.dioid.specs.declared.dates.Date.{Date}
 use Rattle.dioid.specs.declared.dates.Date.TheVariants.{At}
 use Rattle.teg_net.specs.Nets.{NetLists}
 use Rattle.teg_net.specs.Circuits.{IsLive}
-use Rattle.teg_model.specs.Ranks.{HasEndsInRange}
-use Rattle.teg_model.specs.Laws.{AreSameOn}
+use Rattle.teg_model.specs.LiveRanks.{HasEndsInRange}
+use Rattle.teg_model.specs.LeastDatings.{AreSameOn}
 use Rattle.delay_laws.specs.declared.table.Timetable.{Timetable}
-use Rattle.delay_laws.specs.Tables.{planned, AreDelaysUpTo, IsPastDelays, IsWorkable}
+use Rattle.delay_laws.specs.PlannedTimetables.{planned, AreDelaysUpTo, IsPastDelays, IsWorkable}
 use Rattle.delay_laws.specs.Delays.{IsRelease, IsDelayedBy, AreAbovePlan}
 
 -- each timetable has releases and a delayed dating in each live net

@@ -5,9 +5,9 @@ use Rattle.dioid.specs.declared.dates.Date.TheVariants.{At}
 use Rattle.teg_net.specs.Nets.{NetLists}
 use Rattle.teg_model.specs.Systems.{IsLeastIn}
 use Rattle.teg_model.specs.Datings.{initial_date, system_with}
-use Rattle.settled_laws.specs.Forms.{SettledForm, IsShortest, SettlesPast}
+use Rattle.settled_laws.specs.SettledForms.{SettledForm, IsShortestForm, SettlesPast}
 use Rattle.delay_laws.specs.declared.table.Timetable.{Timetable}
-use Rattle.delay_laws.specs.Tables.{planned, delay_given}
+use Rattle.delay_laws.specs.PlannedTimetables.{planned, delay_given}
 
 -- the greatest planned date with its delay, over the departures of transition i up to number k
 pub record IsReleaseAt (period : ℕ) (t : Timetable) (i k date : ℕ) : Type 0 where
@@ -40,7 +40,7 @@ together n x w i k = if nat_lt i n then x i k else w (i - n) k
 abbrev pub IsFormOfDelays : NetLists → ℕ → Timetable → SettledForm → Type 0
 IsFormOfDelays net period t f =
     (x : ℕ → ℕ → Date) × (w : ℕ → ℕ → Date) × IsDelayedBy net period t x w
-    × IsShortest (length net.transitions + length net.transitions) f (together (length net.transitions) x w)
+    × IsShortestForm (length net.transitions + length net.transitions) f (together (length net.transitions) x w)
 
 -- they have no form of at most this length
 abbrev pub DelaysSettlePast : NetLists → ℕ → Timetable → ℕ → Type 0

@@ -1,8 +1,8 @@
-pub mod Tables
+pub mod PlannedTimetables
 pub mod Delays
-pub mod Outcomes
+pub mod DelayOutcomes
 pub mod ReleaseNets
 pub mod DelayLaws
 pub mod SettlingLaws
 pub mod OutcomeLaws
-pub mod FormLaws
+pub mod OneDelayForm

@@ -4,10 +4,10 @@ use Rattle.teg_net.specs.declared.entries.PlaceId.{PlaceId}
 use Rattle.teg_net.specs.Nets.{NetLists}
 use Rattle.teg_net.specs.Circuits.{from_of, IsCircuit, IsLive, BeginsLowest}
 use Rattle.teg_net.specs.Parts.{to_of}
-use Rattle.teg_model.specs.Ranks.{HasEndsInRange}
+use Rattle.teg_model.specs.LiveRanks.{HasEndsInRange}
 use Rattle.delay_laws.specs.declared.table.Timetable.{Timetable}
-use Rattle.delay_laws.specs.Tables.{IsWorkable}
-use Rattle.delay_laws.specs.Outcomes.{IsRecovered, IsKept, HasNoSpare, HasDelayPast, IsGreatestPast}
+use Rattle.delay_laws.specs.PlannedTimetables.{IsWorkable}
+use Rattle.delay_laws.specs.DelayOutcomes.{IsRecovered, KeepsDelays, HasNoSpare, HasDelayPast, IsGreatestPast}
 use Rattle.delay_laws.specs.SettlingLaws.{AreSettledDelays}
 
 -- where no delay is left in the period past `after`, none is left later: the last number up to there with a delay, 0 where there
@@ -40,15 +40,15 @@ CircuitsKeepDelays = (net : NetLists) (period : ℕ) (t : Timetable) → HasEnds
     → (delay : ℕ → ℕ → ℕ) (after again : ℕ) → AreSettledDelays net period t delay after again → (most : ℕ) → 1 ≤ most
     → (circuit : List PlaceId) → IsCircuit net circuit → BeginsLowest net circuit
     → All (λ p. HasNoSpare net period t p) circuit → All (λ p. HasDelayPast delay after again most (from_of net p)) circuit
-    → IsKept net period delay circuit
+    → KeepsDelays net period delay circuit
 
 -- so the delays die out or are kept
 abbrev pub DelaysDieOutOrAreKept : Type 0
 DelaysDieOutOrAreKept = (net : NetLists) → HasEndsInRange net → IsLive net → (period : ℕ) → 1 ≤ period → (t : Timetable) → IsWorkable net period t
     → (delay : ℕ → ℕ → ℕ) (after again : ℕ) → AreSettledDelays net period t delay after again
-    → ((last : ℕ) × IsRecovered net delay last) ⊎ ((circuit : List PlaceId) × IsKept net period delay circuit)
+    → ((last : ℕ) × IsRecovered net delay last) ⊎ ((circuit : List PlaceId) × KeepsDelays net period delay circuit)
 
 -- and not both
 abbrev pub NoDelaysDieOutAndAreKept : Type 0
 NoDelaysDieOutAndAreKept = (net : NetLists) → HasEndsInRange net → (period : ℕ) (delay : ℕ → ℕ → ℕ) (last : ℕ) (circuit : List PlaceId)
-    → IsRecovered net delay last → IsKept net period delay circuit → ⊥
+    → IsRecovered net delay last → KeepsDelays net period delay circuit → ⊥

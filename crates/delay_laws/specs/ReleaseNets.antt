@@ -5,7 +5,7 @@ use Rattle.teg_net.specs.declared.entries.Place.{Place}
 use Rattle.teg_net.specs.Nets.{NetLists, IsInput}
 use Rattle.teg_net.specs.Circuits.{place_at}
 use Rattle.delay_laws.specs.declared.table.Timetable.{Timetable}
-use Rattle.delay_laws.specs.Tables.{IsPastDelays}
+use Rattle.delay_laws.specs.PlannedTimetables.{IsPastDelays}
 use Rattle.delay_laws.specs.Delays.{IsReleaseAt}
 
 -- the same place but for its name

@@ -4,10 +4,10 @@ use Rattle.dioid.specs.declared.dates.Date.{Date}
 use Rattle.dioid.specs.declared.dates.Date.TheVariants.{Early, At, Never}
 use Rattle.teg_net.specs.Nets.{NetLists, IsNet}
 use Rattle.teg_net.specs.Circuits.{IsLive}
-use Rattle.teg_model.specs.Ranks.{HasEndsInRange}
-use Rattle.settled_laws.specs.Forms.{SettledForm, RepeatsAfter, IsSettledFormOf, NetSettlesPast, date_of}
+use Rattle.teg_model.specs.LiveRanks.{HasEndsInRange}
+use Rattle.settled_laws.specs.SettledForms.{SettledForm, RepeatsAfter, IsSettledFormOf, NetSettlesPast, settled_date}
 use Rattle.delay_laws.specs.declared.table.Timetable.{Timetable}
-use Rattle.delay_laws.specs.Tables.{planned, AreDelaysUpTo, IsWorkable}
+use Rattle.delay_laws.specs.PlannedTimetables.{planned, AreDelaysUpTo, IsWorkable}
 use Rattle.delay_laws.specs.Delays.{IsDelayedBy, AreDelaysLeft, together, IsFormOfDelays, DelaysSettlePast}
 use Rattle.delay_laws.specs.ReleaseNets.{IsReleaseNet}
 
@@ -37,15 +37,15 @@ StepsAreThePlan = (net : NetLists) → HasEndsInRange net → (period : ℕ) (t 
     → (i : ℕ) → i < length net.transitions + length net.transitions → step i ≡ pos (period * again)
 
 -- the number of a date, 0 where it has none
-abbrev pub number_of : Date → ℕ
-number_of Early = 0
-number_of (At (pos n)) = n
-number_of (At (negsuc n)) = 0
-number_of Never = 0
+abbrev pub natural_of_date : Date → ℕ
+natural_of_date Early = 0
+natural_of_date (At (pos n)) = n
+natural_of_date (At (negsuc n)) = 0
+natural_of_date Never = 0
 
 -- the delay that a form tells: the date less the plan
-abbrev pub delay_of : SettledForm → ℕ → Timetable → ℕ → ℕ → ℕ
-delay_of f period t i k = number_of (date_of f i k) - planned period t i k
+abbrev pub delay_by_form : SettledForm → ℕ → Timetable → ℕ → ℕ → ℕ
+delay_by_form f period t i k = natural_of_date (settled_date f i k) - planned period t i k
 
 -- delays left at the departures of the net, which past `after` come again in each `again` numbers
 pub record AreSettledDelays (net : NetLists) (period : ℕ) (t : Timetable) (delay : ℕ → ℕ → ℕ) (after again : ℕ) : Type 0 where
@@ -57,8 +57,8 @@ pub record AreSettledDelays (net : NetLists) (period : ℕ) (t : Timetable) (del
 abbrev pub FormsTellDelays : Type 0
 FormsTellDelays = (net : NetLists) → HasEndsInRange net → (period : ℕ) (t : Timetable) → IsWorkable net period t
     → (f : SettledForm) → IsFormOfDelays net period t f
-    → AreSettledDelays net period t (delay_of f period t) f.after f.period
-    × ((i k : ℕ) → i < length net.transitions → 1 ≤ k → date_of f i k ≡ At (pos (planned period t i k + delay_of f period t i k)))
+    → AreSettledDelays net period t (delay_by_form f period t) f.after f.period
+    × ((i k : ℕ) → i < length net.transitions → 1 ≤ k → settled_date f i k ≡ At (pos (planned period t i k + delay_by_form f period t i k)))
 
 -- no delay that is left is above the greatest that is given
 abbrev pub DelaysLeftAreWithin : Type 0

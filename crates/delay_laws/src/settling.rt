@@ -1,6 +1,6 @@
 //! The laws of the settled forms of delayed timetables. Each is a function that does nothing when it
 //! runs: its contract is the law.
-ghost use Rattle.delay_laws.specs.FormLaws.{DelaysLeftAreOne, FormsAreOfEach, FormsOfDelaysAreOne};
+ghost use Rattle.delay_laws.specs.OneDelayForm.{DelaysLeftAreOne, FormsAreOfEach, FormsOfDelaysAreOne};
 ghost use Rattle.delay_laws.specs.SettlingLaws.{DelaysSettle, FormsTellDelays, ReleaseNetsAreLive, ReleaseNetsTellDelays, StepsAreThePlan};
 
 use periodic_laws::{periodic_datings_settle, systems_settle};

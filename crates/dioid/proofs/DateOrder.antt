@@ -4,8 +4,8 @@ use Rattle.std.specs.Prelude.{◌≤ℤ◌, ◌⊎◌}
 use Rattle.std.specs.Int.{int_max, int_min}
 use Rattle.std.proofs.lemmas.Int.{ints, clamps, by_lt_z}
 use Rattle.dioid.specs.Dates.{IsAtMostDate, later_of, earlier_of, delayed, date_product}
-use Rattle.dioid.specs.Laws.{IsAtMost}
-use Rattle.dioid.specs.Order.{IsGreaterOf, IsLesserOf, IsOrderOfDates}
+use Rattle.dioid.specs.DioidAxioms.{IsAtMost}
+use Rattle.dioid.specs.DateOrder.{IsGreaterOf, IsLesserOf, IsOrderOfDates}
 use Rattle.dioid.specs.declared.dates.Date.{Date}
 use Rattle.dioid.specs.declared.dates.Date.TheVariants.{Early, At, Never}
 

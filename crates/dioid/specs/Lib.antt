@@ -1,6 +1,6 @@
-pub mod Answer
+pub mod ElementAnswers
 pub mod Dates
 pub mod Flags
-pub mod Laws
-pub mod Order
+pub mod DioidAxioms
+pub mod DateOrder
 pub mod Proved

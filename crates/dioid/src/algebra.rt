@@ -21,8 +21,8 @@ pub enum Refused {
 /// and `Refused::Range` exactly where they do not; `Refused::OutOfMemory` comes only where
 /// `TAKES_MEMORY` is true. In the order of the dioid `a` is at most `b` where `a + b = b`.
 pub trait Dioid: Sized + Drop {
-    ghost use Rattle.dioid.specs.Answer.{Answers};
-    ghost use Rattle.dioid.specs.Laws.{IsClosed, DioidLaws};
+    ghost use Rattle.dioid.specs.ElementAnswers.{Answers};
+    ghost use Rattle.dioid.specs.DioidAxioms.{IsClosed, DioidLaws};
 
     /// Whether the calls take memory.
     const TAKES_MEMORY: bool;
@@ -91,8 +91,8 @@ pub trait Dioid: Sized + Drop {
 
 /// A dioid with stars: for each `b`, `star(a) b` is the least `x` with `a x + b` at most `x`.
 pub trait Kleene: Dioid {
-    ghost use Rattle.dioid.specs.Answer.{Answers};
-    ghost use Rattle.dioid.specs.Laws.{StarLaws};
+    ghost use Rattle.dioid.specs.ElementAnswers.{Answers};
+    ghost use Rattle.dioid.specs.DioidAxioms.{StarLaws};
 
     ghost star: { Self → Self };
 
@@ -111,8 +111,8 @@ pub trait Kleene: Dioid {
 /// A dioid with residuals and meets: `left(a, b)` is the greatest `x` with `a x` at most `b`, and the
 /// meet of two elements is their greatest lower bound (section 4.4).
 pub trait Residuated: Dioid {
-    ghost use Rattle.dioid.specs.Answer.{Answers};
-    ghost use Rattle.dioid.specs.Laws.{ResidualLaws};
+    ghost use Rattle.dioid.specs.ElementAnswers.{Answers};
+    ghost use Rattle.dioid.specs.DioidAxioms.{ResidualLaws};
 
     ghost left: { Self → Self → Self };
 

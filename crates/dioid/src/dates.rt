@@ -1,5 +1,5 @@
 //! Dates, and the calls on them that take no memory.
-ghost use Rattle.dioid.specs.Order.{IsOrderOfDates};
+ghost use Rattle.dioid.specs.DateOrder.{IsOrderOfDates};
 
 /// A date in the user's unit of time: before every number, a whole number, or never.
 ///
@@ -27,7 +27,7 @@ pub struct Misfit {
 impl Date {
     ghost use Rattle.std.specs.Prelude.{◌≡◌};
     ghost use Rattle.dioid.specs.Dates.{later_of, earlier_of, date_product, DateProductFits, date_left, DateLeftFits, AnswersOrMisfit};
-    ghost use Rattle.dioid.specs.Order.{IsGreaterOf, IsLesserOf};
+    ghost use Rattle.dioid.specs.DateOrder.{IsGreaterOf, IsLesserOf};
 
     /// The later of two dates. Takes no memory.
     pub fn later(self, other: Date) -> Date

@@ -4,11 +4,11 @@ use Rattle.std.proofs.lemmas.List.{get_or_append_left, get_or-append_right, get_
 use Rattle.std.proofs.lemmas.Bool.{cases_lt}
 use Rattle.std.proofs.Math.Nat.{mul-le-mul_right}
 use Rattle.dioid.specs.declared.algebra.Dioid.{Ghosts as DioidOf}
-use Rattle.dioid_matrix.specs.Lists.{HoldsEach}
 use Rattle.dioid_matrix.specs.Products.{StepFits}
 use Rattle.dioid_matrix.specs.Sums.{dot}
 use Rattle.dioid_matrix.specs.Tables.{AreElements}
 use Rattle.dioid_matrix.specs.Turns.{WayFits}
+use Rattle.dioid_matrix.proofs.Filled.{HoldsEach}
 
 module _ {M : Type 0} (d : DioidOf M) (a b : ℕ → M) where
   pub dot_more : (k : ℕ) (before x y after : M) → before ≡ dot d k a b → x ≡ a k → y ≡ b k → after ≡ d.sum before (d.product x y) → after ≡ dot d (k + 1) a b

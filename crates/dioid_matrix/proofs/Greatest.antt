@@ -1,7 +1,7 @@
 -- The greatest x for which the product of a and x is at most b.
 use Rattle.std.proofs.Common.{◌≡◌, ℕ, zero, suc, ◌<◌, ◌≤◌, sym, arith, subst, ⊎_elim}
 use Rattle.std.proofs.Math.Nat.{eq-or-lt_of_le}
-use Rattle.dioid.specs.Laws.{IsAtMost, IsClosed, DioidLaws, ResidualLaws}
+use Rattle.dioid.specs.DioidAxioms.{IsAtMost, IsClosed, DioidLaws, ResidualLaws}
 use Rattle.dioid.specs.declared.algebra.Dioid.{Ghosts as DioidOf}
 use Rattle.dioid.specs.declared.algebra.Residuated.{Ghosts as ResiduatedOf}
 use Rattle.dioid_matrix.specs.Sums.{dot}

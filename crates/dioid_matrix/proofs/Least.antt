@@ -2,11 +2,11 @@
 use Rattle.std.proofs.Common.{◌≡◌, ℕ, zero, suc, ◌<◌, Bool, true, false, cond, eqb, refl, ap, sym, ◌∙◌, arith, subst, ⊎_elim}
 use Rattle.std.proofs.lemmas.Bool.Decides.{nat_tests}
 use Rattle.std.proofs.Math.Nat.{eq-or-lt_of_le}
-use Rattle.dioid.specs.Laws.{IsAtMost, IsClosed, DioidLaws, StarLaws}
+use Rattle.dioid.specs.DioidAxioms.{IsAtMost, IsClosed, DioidLaws, StarLaws}
 use Rattle.dioid.specs.declared.algebra.Dioid.{Ghosts as DioidOf}
 use Rattle.dioid.specs.declared.algebra.Kleene.{Ghosts as KleeneOf}
-use Rattle.dioid_matrix.specs.Sums.{total, dot}
-use Rattle.dioid_matrix.specs.Stars.{steps_of, star_of, StarsAreLeast}
+use Rattle.dioid_matrix.specs.Sums.{total_of_first, dot}
+use Rattle.dioid_matrix.specs.MatrixStars.{steps_of, star_of, StarsAreLeast}
 use Rattle.dioid_matrix.proofs.Order.{Below, same, equal, trans, least_above, left_part, right_part, both, at_product, antisym, total_is, term_below, total_below}
 
 -- a number is found equal to itself
@@ -54,7 +54,7 @@ module _ {M : Type 0} (d : DioidOf M) (s : KleeneOf M) (closed : IsClosed d.is_e
   spread_right {a} {b} {c} ea eb ec h k = trans closed laws (equal closed laws (closed.product_is _ _ (closed.sum_is _ _ ea eb) ec) (laws.right_distributes a b c ea eb ec)) (least_above closed laws h k)
 
   -- a product with a sum
-  product_total : (a : M) (f : ℕ → M) (n : ℕ) (x : M) → d.is_element a → d.is_element x → ((j : ℕ) → d.is_element (f j)) → ((j : ℕ) → j < n → Below d.is_element d.sum (d.product a (f j)) x) → Below d.is_element d.sum (d.product a (total d f n)) x
+  product_total : (a : M) (f : ℕ → M) (n : ℕ) (x : M) → d.is_element a → d.is_element x → ((j : ℕ) → d.is_element (f j)) → ((j : ℕ) → j < n → Below d.is_element d.sum (d.product a (f j)) x) → Below d.is_element d.sum (d.product a (total_of_first d f n)) x
   product_total a f zero x ea ex ef h = trans closed laws (equal closed laws (closed.product_is _ _ ea closed.zero_is) (laws.zero_absorbs_right a ea)) (record { low = closed.zero_is; high = ex; at_most = laws.zero_neutral x ex })
   product_total a f (suc n) x ea ex ef h = spread ea (total_is d closed laws f n ef) (ef n) (product_total a f n x ea ex ef (λ j k. h j (omega arith))) (h n (omega arith))
 

@@ -2,12 +2,12 @@
 use Rattle.std.proofs.Common.{◌≡◌, ℕ, zero, suc, ◌<◌, ◌≤◌, ◌+◌, refl, ap, sym, ◌∙◌, arith, subst, add-one, ◌*◌, ◌/◌, ◌%◌, List}
 use Rattle.dioid.specs.declared.algebra.Dioid.{Ghosts as DioidOf}
 use Rattle.dioid.specs.declared.algebra.Residuated.{Ghosts as ResiduatedOf}
-use Rattle.dioid_matrix.specs.Residuals.{meet_below, lefts, MeetFits, RowFits, residual_of, ResidueFits, IsResidual}
-use Rattle.dioid.specs.Laws.{IsAtMost, IsClosed, DioidLaws, ResidualLaws}
-use Rattle.dioid_matrix.specs.Lists.{HoldsEach}
+use Rattle.dioid_matrix.specs.Residuals.{meet_below, lefts, LeftMeetFits, RowFits, residual_of, ResidueFits, IsResidual}
+use Rattle.dioid.specs.DioidAxioms.{IsAtMost, IsClosed, DioidLaws, ResidualLaws}
 use Rattle.dioid_matrix.specs.Tables.{Table, table_of, entry_of, AreElements}
 use Rattle.dioid_matrix.proofs.Greatest.{residuals_are_greatest}
 use Rattle.dioid_matrix.proofs.Places.{entries_held, fits_held}
+use Rattle.dioid_matrix.proofs.Filled.{HoldsEach}
 
 meet_suc : {M : Type 0} (l : ResiduatedOf M) (f : ℕ → M) (i : ℕ) → 0 < i → meet_below l f (suc i) ≡ l.meet (meet_below l f i) (f i)
 meet_suc l f zero h = absurd (omega arith)
@@ -32,7 +32,7 @@ module _ {M : Type 0} (d : DioidOf M) (l : ResiduatedOf M) (a b : ℕ → M) whe
       let pp : p ≡ l.left (a i) (b i) = hp ∙ ap (λ z. l.left z y) hx ∙ ap (l.left (a i)) hy in
       (subst (λ (z : M). l.left_fits z (b i)) hx (subst (λ (z : M). l.left_fits x z) hy fits), λ _. subst (λ (z : M). l.meet_fits z (l.left (a i) (b i))) hb (subst (λ (z : M). l.meet_fits before z) pp fit))
 
-  pub row_misfits : (i : ℕ) (before x y : M) → 0 < i → before ≡ meet_below l (lefts d l a b) i → x ≡ a i → y ≡ b i → ¬ MeetFits l before x y → ¬ RowFits d l a b i
+  pub row_misfits : (i : ℕ) (before x y : M) → 0 < i → before ≡ meet_below l (lefts d l a b) i → x ≡ a i → y ≡ b i → ¬ LeftMeetFits l before x y → ¬ RowFits d l a b i
   row_misfits i before x y hi hb hx hy h f = let misfits = rw (hb, hx, hy) at h in misfits (f.0, f.1 hi)
 
 module _ {M : Type 0} (d : DioidOf M) (l : ResiduatedOf M) (closed : IsClosed d.is_element d.zero d.one d.sum d.product) (laws : DioidLaws d.is_element d.zero d.one d.sum d.product) (residuals : ResidualLaws d.is_element d.sum d.product l.left l.meet) (a b : Table M) where

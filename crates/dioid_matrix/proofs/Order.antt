@@ -1,9 +1,9 @@
 -- The order of a dioid, between elements.
 use Rattle.std.proofs.Common.{◌≡◌, ℕ, zero, suc, ◌<◌, ap, sym, ◌∙◌, arith, subst, ⊎_elim}
 use Rattle.std.proofs.Math.Nat.{eq-or-lt_of_le}
-use Rattle.dioid.specs.Laws.{IsClosed, DioidLaws}
+use Rattle.dioid.specs.DioidAxioms.{IsClosed, DioidLaws}
 use Rattle.dioid.specs.declared.algebra.Dioid.{Ghosts as DioidOf}
-use Rattle.dioid_matrix.specs.Sums.{total}
+use Rattle.dioid_matrix.specs.Sums.{total_of_first}
 
 -- a and b are elements, and a is at most b
 pub record Below {M : Type 0} (is_element : M → Type 0) (sum : M → M → M) (a b : M) : Type 0 where
@@ -69,17 +69,17 @@ module _ {M : Type 0} {is_element : M → Type 0} {none one : M} {sum product : 
 -- ---- sums
 
 module _ {M : Type 0} (d : DioidOf M) (closed : IsClosed d.is_element d.zero d.one d.sum d.product) (laws : DioidLaws d.is_element d.zero d.one d.sum d.product) where
-  pub total_is : (f : ℕ → M) (n : ℕ) → ((i : ℕ) → d.is_element (f i)) → d.is_element (total d f n)
+  pub total_is : (f : ℕ → M) (n : ℕ) → ((i : ℕ) → d.is_element (f i)) → d.is_element (total_of_first d f n)
   total_is f zero e = closed.zero_is
   total_is f (suc n) e = closed.sum_is _ _ (total_is f n e) (e n)
 
-  pub term_below : (f : ℕ → M) (n j : ℕ) → ((i : ℕ) → d.is_element (f i)) → j < n → Below d.is_element d.sum (f j) (total d f n)
+  pub term_below : (f : ℕ → M) (n j : ℕ) → ((i : ℕ) → d.is_element (f i)) → j < n → Below d.is_element d.sum (f j) (total_of_first d f n)
   term_below f zero j e h = absurd (omega arith)
   term_below f (suc n) j e h = ⊎_elim
-      (λ q. let P : ℕ → Type 0 = λ k. Below d.is_element d.sum (f k) (d.sum (total d f n) (f n)) in subst P (sym q) (right_part closed laws (total_is f n e) (e n)))
+      (λ q. let P : ℕ → Type 0 = λ k. Below d.is_element d.sum (f k) (d.sum (total_of_first d f n) (f n)) in subst P (sym q) (right_part closed laws (total_is f n e) (e n)))
       (λ l. trans closed laws (term_below f n j e l) (left_part closed laws (total_is f n e) (e n)))
       (eq-or-lt_of_le {n = j} {m = n} (omega arith))
 
-  pub total_below : (f : ℕ → M) (n : ℕ) (c : M) → d.is_element c → ((j : ℕ) → j < n → Below d.is_element d.sum (f j) c) → Below d.is_element d.sum (total d f n) c
+  pub total_below : (f : ℕ → M) (n : ℕ) (c : M) → d.is_element c → ((j : ℕ) → j < n → Below d.is_element d.sum (f j) c) → Below d.is_element d.sum (total_of_first d f n) c
   total_below f zero c e h = record { low = closed.zero_is; high = e; at_most = laws.zero_neutral c e }
   total_below f (suc n) c e h = least_above closed laws (total_below f n c e (λ j k. h j (omega arith))) (h n (omega arith))

@@ -3,9 +3,9 @@ use Rattle.std.proofs.Common.{◌≡◌, ℕ, ◌<◌, ◌≤◌, ◌*◌, ◌+�
 use Rattle.std.proofs.Math.Nat.{mul-le-mul_right}
 use Rattle.std.proofs.lemmas.Nat.{div-mul-add, mod-mul-add, mul-add-lt, div-add-mod'}
 use Rattle.dioid.specs.declared.algebra.Dioid.{Ghosts as DioidOf}
-use Rattle.dioid_matrix.specs.Lists.{HoldsEach}
 use Rattle.dioid_matrix.specs.Tables.{table_of, entry_of, IsFirstMisfit, StopsAt}
 use Rattle.dioid_matrix.proofs.Cells.{row_below}
+use Rattle.dioid_matrix.proofs.Filled.{HoldsEach}
 
 -- what holds at a place holds in its row and column
 pub at_place : (P : ℕ → ℕ → Type 0) (i j columns : ℕ) → j < columns → P ((i * columns + j) / columns) ((i * columns + j) % columns) → P i j

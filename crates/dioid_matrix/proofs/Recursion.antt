@@ -1,12 +1,12 @@
 -- The tables of the recursion, one after the other.
 use Rattle.std.proofs.Common.{◌≡◌, ℕ, zero, suc, ◌<◌, ◌≤◌, ◌*◌, ◌+◌, ◌⊎◌, inl, inr, cond, eqb, refl, ap, sym, ◌∙◌, arith, subst, List, length, add-one, below_more, ⊎_elim, Result, Ok, Err, Vec}
-use Rattle.dioid.specs.Laws.{IsAtMost, IsClosed, DioidLaws, StarLaws}
+use Rattle.dioid.specs.DioidAxioms.{IsAtMost, IsClosed, DioidLaws, StarLaws}
 use Rattle.dioid.specs.declared.algebra.Dioid.{Ghosts as DioidOf}
 use Rattle.dioid.specs.declared.algebra.Kleene.{Ghosts as KleeneOf}
-use Rattle.dioid_matrix.specs.Lists.{AnswersList, IsPassed, PassRefused, IsLast, LastRefused}
+use Rattle.dioid_matrix.specs.EntryLists.{AnswersList, IsAfterPass, PassRefused, IsAfterLastPass, LastRefused}
 use Rattle.dioid_matrix.specs.Products.{AnswersProduct}
-use Rattle.dioid_matrix.specs.Stars.{steps_of, star_of, IsLeastSolution}
-use Rattle.dioid_matrix.specs.Sums.{total, dot}
+use Rattle.dioid_matrix.specs.MatrixStars.{steps_of, star_of, IsLeastSolution}
+use Rattle.dioid_matrix.specs.Sums.{total_of_first, dot}
 use Rattle.dioid_matrix.specs.Tables.{Table, table_of, entry_of, AreElements, IsFirstMisfit}
 use Rattle.dioid_matrix.specs.Turns.{LoopFits, WayFits, loop_of, EntryFits, StepsFit, IsStar, StarRefused, AnswersSolve}
 use Rattle.dioid_matrix.specs.declared.refusals.MatrixRefused.{MatrixRefused}
@@ -15,9 +15,9 @@ use Rattle.dioid_matrix.proofs.Least.{stars_are_least}
 
 -- ---- equal columns
 
-total_same : {M : Type 0} (d : DioidOf M) (f g : ℕ → M) (n : ℕ) → ((j : ℕ) → j < n → f j ≡ g j) → total d f n ≡ total d g n
+total_same : {M : Type 0} (d : DioidOf M) (f g : ℕ → M) (n : ℕ) → ((j : ℕ) → j < n → f j ≡ g j) → total_of_first d f n ≡ total_of_first d g n
 total_same d f g zero h = refl
-total_same d f g (suc n) h = ap (λ z. d.sum z (f n)) (total_same d f g n (λ j l. h j (omega arith))) ∙ ap (d.sum (total d g n)) (h n (omega arith))
+total_same d f g (suc n) h = ap (λ z. d.sum z (f n)) (total_same d f g n (λ j l. h j (omega arith))) ∙ ap (d.sum (total_of_first d g n)) (h n (omega arith))
 
 least_same : {M : Type 0} (d : DioidOf M) (n : ℕ) (a : ℕ → ℕ → M) (b x y : ℕ → M) → ((i : ℕ) → i < n → x i ≡ y i) → IsLeastSolution d n a b x → IsLeastSolution d n a b y
 least_same {M} d n a b x y e h =
@@ -60,7 +60,7 @@ module _ {M : Type 0} (d : DioidOf M) (s : KleeneOf M) (size : ℕ) (xs : List M
       → P (steps_of d s (entry_of d (table_of size size xs)) k i j) (steps_of d s (entry_of d (table_of size size xs)) k i k) (steps_of d s (entry_of d (table_of size size xs)) k k k) (steps_of d s (entry_of d (table_of size size xs)) k k j)
   on_steps P k i j t h hk hi hj p = four P (h.entries i j hi hj) (h.entries i k hi hk) (h.entries k k hk hk) (h.entries k j hk hj) p
 
-  pub after_pass : (k : ℕ) (t u : List M) → k < size → IsAfter k t → IsPassed d s size (entry_of d (table_of size size t)) k (table_of size size u) → IsAfter (k + 1) u
+  pub after_pass : (k : ℕ) (t u : List M) → k < size → IsAfter k t → IsAfterPass d s size (entry_of d (table_of size size t)) k (table_of size size u) → IsAfter (k + 1) u
   after_pass k t u hk h p = record {
     entries = λ i j hi hj. rw add-one (on_steps (λ w x y z. entry_of d (table_of size size u) i j ≡ d.sum w (d.product x (d.product (s.star y) z))) k i j t h hk hi hj (p.entries i j hi hj));
     fit = λ m i j hm hi hj. below_more (λ m. (i j : ℕ) → i < size → j < size → EntryFits d s (steps_of d s (entry_of d (table_of size size xs)) m) m i j) k (λ m l i j hi hj. h.fit m i j l hi hj)
@@ -102,7 +102,7 @@ module _ {M : Type 0} (d : DioidOf M) (s : KleeneOf M) (size : ℕ) (xs : List M
   refused_last t h OutOfMemory p = p
 
   module _ (closed : IsClosed d.is_element d.zero d.one d.sum d.product) (laws : DioidLaws d.is_element d.zero d.one d.sum d.product) (stars : StarLaws d.is_element d.sum d.product s.star) where
-    star_done : 1 ≤ size → size ≤ 4096 → AreElements d xs → (t u : List M) → IsAfter size t → length u ≡ size * size → AreElements d u → IsLast d size (entry_of d (table_of size size t)) (table_of size size u) → IsStar d s (table_of size size xs) (table_of size size u)
+    star_done : 1 ≤ size → size ≤ 4096 → AreElements d xs → (t u : List M) → IsAfter size t → length u ≡ size * size → AreElements d u → IsAfterLastPass d size (entry_of d (table_of size size t)) (table_of size size u) → IsStar d s (table_of size size xs) (table_of size size u)
     star_done some few known t u h len are l =
         let a : ℕ → ℕ → M = entry_of d (table_of size size xs) in
         let r : ℕ → ℕ → M = entry_of d (table_of size size u) in
@@ -121,7 +121,7 @@ module _ {M : Type 0} (d : DioidOf M) (s : KleeneOf M) (size : ℕ) (xs : List M
         }
 
     pub answers_star : {Z : Type 0} → 1 ≤ size → size ≤ 4096 → AreElements d xs → (t : List M) → IsAfter size t → (r : Result (Vec M Z) MatrixRefused)
-        → AnswersList d size size (IsLast d size (entry_of d (table_of size size t))) (LastRefused d size (entry_of d (table_of size size t))) r
+        → AnswersList d size size (IsAfterLastPass d size (entry_of d (table_of size size t))) (LastRefused d size (entry_of d (table_of size size t))) r
         → AnswersList d size size (IsStar d s (table_of size size xs)) (StarRefused d s (table_of size size xs)) r
     answers_star some few known t h (Ok v) l = (l.0, l.1, star_done some few known t v.items h l.0 l.1 l.2)
     answers_star some few known t h (Err e) l = refused_last t h e l

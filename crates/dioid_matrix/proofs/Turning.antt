@@ -5,11 +5,12 @@ use Rattle.std.proofs.lemmas.List.{get_or_read}
 use Rattle.std.proofs.lemmas.Nat.{mul-add-lt, div-add-mod'}
 use Rattle.dioid.specs.declared.algebra.Dioid.{Ghosts as DioidOf}
 use Rattle.dioid.specs.declared.algebra.Kleene.{Ghosts as KleeneOf}
-use Rattle.dioid_matrix.specs.Lists.{HoldsEach, AreLoops}
+use Rattle.dioid_matrix.specs.EntryLists.{AreLoops}
 use Rattle.dioid_matrix.specs.Tables.{table_of, entry_of}
 use Rattle.dioid_matrix.specs.Turns.{loop_of, LoopFits, EntryFits}
 use Rattle.dioid_matrix.proofs.Cells.{row_below}
 use Rattle.dioid_matrix.proofs.Places.{at_place, earlier}
+use Rattle.dioid_matrix.proofs.Filled.{HoldsEach}
 
 three : {M : Type 0} (P : M → M → M → Type 0) {a b c w x y : M} → a ≡ w → b ≡ x → c ≡ y → P a b c → P w x y
 three {M} P {a} {b} {c} {w} {x} {y} ea eb ec h = subst (λ (v : M). P v x y) ea (subst (λ (v : M). P a v y) eb (subst (λ (v : M). P a b v) ec h))

@@ -1,7 +1,7 @@
-pub mod Lists
+pub mod EntryLists
 pub mod Products
 pub mod Residuals
-pub mod Stars
+pub mod MatrixStars
 pub mod Sums
 pub mod Tables
 pub mod Turns

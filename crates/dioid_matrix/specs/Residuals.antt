@@ -1,6 +1,6 @@
 -- The left residual of two matrices (section 4.4).
 use Rattle.std.specs.Prelude.{◌≡◌, ◌≢◌, ◌↔◌, ◌<◌, ℕ, zero, suc, Result, Ok, Err, ⊤}
-use Rattle.dioid.specs.Laws.{IsAtMost}
+use Rattle.dioid.specs.DioidAxioms.{IsAtMost}
 use Rattle.dioid.specs.declared.algebra.Dioid.{Ghosts as DioidOf}
 use Rattle.dioid.specs.declared.algebra.Residuated.{Ghosts as ResiduatedOf}
 use Rattle.dioid_matrix.specs.Sums.{dot}
@@ -15,8 +15,8 @@ meet_below l f (suc zero) = f 0
 meet_below l f (suc (suc n)) = l.meet (meet_below l f (suc n)) (f (suc n))
 
 -- the residual of b by a fits, and so does its meet with the element before it
-abbrev pub MeetFits : {M : Type 0} → ResiduatedOf M → M → M → M → Type 0
-MeetFits l before a b = l.left_fits a b × l.meet_fits before (l.left a b)
+abbrev pub LeftMeetFits : {M : Type 0} → ResiduatedOf M → M → M → M → Type 0
+LeftMeetFits l before a b = l.left_fits a b × l.meet_fits before (l.left a b)
 
 module _ {M : Type 0} (d : DioidOf M) where
   -- a x is at most b exactly where x is at most r

@@ -3,7 +3,7 @@ use Rattle.std.specs.Prelude.{◌≡◌, ◌<◌, ◌+◌, ◌⊎◌, ◌≢◌,
 use Rattle.dioid.specs.declared.algebra.Dioid.{Ghosts as DioidOf}
 use Rattle.dioid.specs.declared.algebra.Kleene.{Ghosts as KleeneOf}
 use Rattle.dioid_matrix.specs.Products.{IsProduct, ProductRefused}
-use Rattle.dioid_matrix.specs.Stars.{steps_of, star_of, IsLeastSolution}
+use Rattle.dioid_matrix.specs.MatrixStars.{steps_of, star_of, IsLeastSolution}
 use Rattle.dioid_matrix.specs.Sums.{dot}
 use Rattle.dioid_matrix.specs.Tables.{Table, entry_of, IsTable, IsFirstMisfit}
 use Rattle.dioid_matrix.specs.declared.refusals.MatrixRefused.{MatrixRefused}

@@ -8,7 +8,7 @@
 //! Its examples stand in `library_examples`.
 #![tactic(auto)]
 
-ghost use Rattle.dioid_matrix.specs.Stars.{StarsAreLeast};
+ghost use Rattle.dioid_matrix.specs.MatrixStars.{StarsAreLeast};
 
 mod grid;
 mod lists;

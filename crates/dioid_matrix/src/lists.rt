@@ -1,7 +1,7 @@
 //! Lists of entries: which are elements, and the sums and products of two.
 ghost use Rattle.std.specs.Prelude.{◌≡◌, IfOk, ◌≤◌, ◌<◌, ◌+◌, ◌*◌, ◌^◌, ℕ, length, get_or};
-ghost use Rattle.dioid.specs.Answer.{Answers};
-ghost use Rattle.dioid_matrix.specs.Lists.{AnswersCell, AnswersList};
+ghost use Rattle.dioid.specs.ElementAnswers.{Answers};
+ghost use Rattle.dioid_matrix.specs.EntryLists.{AnswersCell, AnswersList};
 ghost use Rattle.dioid_matrix.specs.Products.{StepFits, IsProduct, ProductRefused};
 ghost use Rattle.dioid_matrix.specs.Sums.{dot, IsSum, SumRefused};
 ghost use Rattle.dioid_matrix.specs.Tables.{table_of, AreElements};

@@ -1,8 +1,8 @@
 //! Kleene's recursion on the entries of a square matrix, one pivot after another. Each step makes the
 //! star of its pivot and the pivot's row of loops once, so that the whole takes n^3 sums and products.
 ghost use Rattle.std.specs.Prelude.{◌≡◌, cond, IsTrue, IfOk, ◌≤◌, ◌<◌, ◌+◌, ◌*◌, ◌^◌, length};
-ghost use Rattle.dioid.specs.Answer.{Answers};
-ghost use Rattle.dioid_matrix.specs.Lists.{AnswersList, AreLoops, IsPassed, PassRefused, IsLast, LastRefused};
+ghost use Rattle.dioid.specs.ElementAnswers.{Answers};
+ghost use Rattle.dioid_matrix.specs.EntryLists.{AnswersList, AreLoops, IsAfterPass, PassRefused, IsAfterLastPass, LastRefused};
 ghost use Rattle.dioid_matrix.specs.Tables.{entry_of, table_of, AreElements};
 ghost use Rattle.dioid_matrix.specs.Turns.{IsStar, StarRefused};
 
@@ -55,7 +55,7 @@ pub(crate) fn turned<D: Kleene>(
     requires loops { AreLoops D.Dioid D.Kleene.own size
         (entry_of D.Dioid (table_of size size entries.now)) k loops.now }
     ensures { let r = entry_of D.Dioid (table_of size size entries.now) in
-        AnswersList D.Dioid size size (IsPassed D.Dioid D.Kleene.own size r k) (PassRefused D.Dioid D.Kleene.own size r k) result }
+        AnswersList D.Dioid size size (IsAfterPass D.Dioid D.Kleene.own size r k) (PassRefused D.Dioid D.Kleene.own size r k) result }
 {
     let mut values = Vec::new(alloc);
     for place in 0..size * size {
@@ -103,7 +103,7 @@ pub(crate) fn pass<D: Kleene>(
     requires filled { length entries.now ≡ size * size }
     requires fits { size * size < 2 ^ 64 }
     ensures { let r = entry_of D.Dioid (table_of size size entries.now) in
-        AnswersList D.Dioid size size (IsPassed D.Dioid D.Kleene.own size r k) (PassRefused D.Dioid D.Kleene.own size r k) result }
+        AnswersList D.Dioid size size (IsAfterPass D.Dioid D.Kleene.own size r k) (PassRefused D.Dioid D.Kleene.own size r k) result }
 {
     let Ok(loops) = loops(alloc, entries, size, k) else {
         return Err(MatrixRefused::OutOfMemory);
@@ -140,7 +140,7 @@ pub(crate) fn finish<D: Kleene>(
     requires filled { length entries.now ≡ size * size }
     requires fits { size * size < 2 ^ 64 }
     ensures { let r = entry_of D.Dioid (table_of size size entries.now) in
-        AnswersList D.Dioid size size (IsLast D.Dioid size r) (LastRefused D.Dioid size r) result }
+        AnswersList D.Dioid size size (IsAfterLastPass D.Dioid size r) (LastRefused D.Dioid size r) result }
 {
     let Ok(one) = D::one(alloc) else {
         return Err(MatrixRefused::OutOfMemory);

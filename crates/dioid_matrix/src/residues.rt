@@ -1,8 +1,8 @@
 //! Residuals of lists of entries: meets over the rows.
 ghost use Rattle.std.specs.Prelude.{◌≡◌, IfOk, ◌≤◌, ◌<◌, ◌+◌, ◌*◌, ◌^◌, ℕ, length, get_or};
-ghost use Rattle.dioid.specs.Answer.{Answers};
-ghost use Rattle.dioid_matrix.specs.Lists.{AnswersCell, AnswersList};
-ghost use Rattle.dioid_matrix.specs.Residuals.{meet_below, lefts, MeetFits, RowFits, IsResidual, ResidualRefused};
+ghost use Rattle.dioid.specs.ElementAnswers.{Answers};
+ghost use Rattle.dioid_matrix.specs.EntryLists.{AnswersCell, AnswersList};
+ghost use Rattle.dioid_matrix.specs.Residuals.{meet_below, lefts, LeftMeetFits, RowFits, IsResidual, ResidualRefused};
 ghost use Rattle.dioid_matrix.specs.Tables.{table_of, AreElements};
 
 use crate::refusals::{Cell, MatrixRefused};
@@ -11,7 +11,8 @@ use std::alloc::Global;
 
 // The meet of an element with a residual.
 fn meet_left<D: Residuated>(alloc: Global, before: &D, left: &D, right: &D) -> Result<D, Refused>
-    ensures answer { Answers D.TAKES_MEMORY (MeetFits D.Residuated.own before.now left.now right.now)
+    ensures answer { Answers D.TAKES_MEMORY (LeftMeetFits D.Residuated.own before.now left.now
+        right.now)
         (D.meet before.now (D.left left.now right.now)) result }
     ensures element { IfOk result D.is_element }
 {

@@ -14,15 +14,15 @@ use Rattle.teg_net.specs.Circuits.{no_place, place_at}
 use Rattle.teg_net.specs.declared.walks.Step.{Step}
 use Rattle.teg_net.specs.declared.walks.Step.TheVariants.{By, Next}
 use Rattle.teg_net.specs.Walks.{Walks, step_time, walk_time}
-use Rattle.teg_model.specs.Systems.{Dating}
-use Rattle.teg_model.specs.Ranks.{HasEndsInRange}
+use Rattle.teg_model.specs.LiveRanks.{HasEndsInRange}
 use Rattle.teg_model.specs.Datings.{IsFeasibleUnder, initial_date, system_of}
 use Rattle.teg_model.proofs.OfNet.{feasible_in}
 use Rattle.teg_model.proofs.Delays.{delayed_twice, delayed_not}
 use Rattle.teg_model.proofs.WalkSteps.{Keeps, feasible_keeps_in, walk_below}
-use Rattle.due_laws.specs.Dues.{KeepsDues}
+use Rattle.teg_model.proofs.DateFunctions.{Dating}
+use Rattle.due_laws.specs.MeetingDueDates.{KeepsDues}
 use Rattle.due_laws.specs.LatestDates.{IsDateToDue, IsLatestDate, AreLatestDates}
-use Rattle.due_laws.specs.Laws.{FreeWhereNoWalkLeads}
+use Rattle.due_laws.specs.LatestInputs.{FreeWhereNoWalkLeads}
 
 -- for each firing the date at which it is due, if it is
 abbrev pub Dues : Type 0

@@ -11,16 +11,16 @@ use Rattle.teg_net.specs.declared.entries.PlaceId.{PlaceId}
 use Rattle.teg_net.specs.declared.entries.Place.{Place}
 use Rattle.teg_net.specs.Nets.{NetLists, IsInput}
 use Rattle.teg_net.specs.Circuits.{no_place, place_at}
-use Rattle.teg_model.specs.Systems.{Dating}
-use Rattle.teg_model.specs.Ranks.{HasEndsInRange}
+use Rattle.teg_model.specs.LiveRanks.{HasEndsInRange}
 use Rattle.teg_model.specs.Datings.{implicit_place, extended_places, initial_date, available_at, IsFeasibleUnder, IsLeastUnder, system_of}
 use Rattle.teg_model.proofs.LeastOver.{least_over}
 use Rattle.teg_model.proofs.LiveRanks.{live_is_ranked}
 use Rattle.teg_model.proofs.OfNet.{net_ends, all_extended_in, least_of, least_of_system}
 use Rattle.teg_model.proofs.Tokens.{available_after, available_first, implicit_after, place_keeps, implicit_keeps, not_before_zero}
-use Rattle.due_laws.specs.Dues.{KeepsDues, inputs_at_zero}
+use Rattle.teg_model.proofs.DateFunctions.{Dating}
+use Rattle.due_laws.specs.MeetingDueDates.{KeepsDues, inputs_at_zero}
 use Rattle.due_laws.specs.LatestDates.{AreLatestDates}
-use Rattle.due_laws.specs.Laws.{LatestDatesAreLatestInputs, ZeroInputsMeet}
+use Rattle.due_laws.specs.LatestInputs.{LatestDatesAreLatestInputs, ZeroInputsMeet}
 use Rattle.due_laws.proofs.LatestDates.{Dues, kept_below, latest_keeps, latest_keeps_dues}
 
 -- a fact of each place of the net, and of the implicit place of each of its transitions

@@ -1,3 +1,3 @@
-pub mod Dues
+pub mod MeetingDueDates
 pub mod LatestDates
-pub mod Laws
+pub mod LatestInputs

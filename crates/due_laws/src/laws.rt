@@ -1,5 +1,5 @@
 //! The laws of due dates. Each is a function that does nothing when it runs: its contract is the law.
-ghost use Rattle.due_laws.specs.Laws.{FreeWhereNoWalkLeads, LatestDatesAreLatestInputs, ZeroInputsMeet};
+ghost use Rattle.due_laws.specs.LatestInputs.{FreeWhereNoWalkLeads, LatestDatesAreLatestInputs, ZeroInputsMeet};
 
 /// In a live net where inputs at 0 meet the due dates, the latest dates at the inputs are the latest
 /// inputs that meet them (chapter 5).

@@ -3,16 +3,16 @@ use Rattle.std.proofs.Common.{ℕ, zero, suc, ◌+◌, ◌*◌, ◌<◌, ◌≡�
 use Rattle.std.specs.Prelude.{All, slice_get}
 use Rattle.std.proofs.lemmas.List.Elements.{All-cons}
 use Rattle.dioid.specs.declared.dates.Date.{Date}
-use Rattle.teg_net.specs.Limits.{most_tokens, greatest_hold, greatest_date}
+use Rattle.teg_net.specs.Limits.{most_place_tokens, greatest_hold, greatest_input_date}
 use Rattle.teg_net.specs.Nets.{NetLists, IsNet}
 use Rattle.teg_net.specs.Circuits.{IsLive}
 use Rattle.teg_model.specs.Datings.{IsLeastUnder}
-use Rattle.due_laws.specs.Dues.{inputs_at_zero}
+use Rattle.due_laws.specs.MeetingDueDates.{inputs_at_zero}
 use Rattle.bound_laws.proofs.Unrolled.{unrolled}
 use Rattle.forever_laws.specs.declared.rows.EndlessRow.{EndlessRow}
-use Rattle.forever_laws.specs.Rows.{IsEndlessRow}
-use Rattle.forever_laws.specs.Late.{NoneLate, IsLeastLate, IsFirstLate}
-use Rattle.forever_laws.specs.Laws.{MeetOrLate, LateExcludesMeet}
+use Rattle.forever_laws.specs.EndlessRows.{IsEndlessRow}
+use Rattle.forever_laws.specs.Late.{NoneLate, IsLeastLate, IsFirstLateRow}
+use Rattle.forever_laws.specs.EndlessDues.{EndlessMeetOrLate, EndlessLateExcludesMeet}
 use Rattle.forever_laws.proofs.GoingOn.{due_number}
 use Rattle.forever_laws.proofs.Late.{LateWithin, flat_bound, steep_bound, late_soon}
 use Rattle.forever_laws.proofs.Zeros.{least_number}
@@ -32,10 +32,10 @@ late_or_none net ok live x least r row =
     let n : ℕ = length net.transitions in
     let t : ℕ = r.transition.index in
     let z : ℕ → ℕ = least_number net ok live x least t in
-    let bound : ℕ = flat_bound (n * most_tokens) most_tokens r.every (length r.dates) + steep_bound (n * most_tokens) (n * most_tokens) (n * r.every * greatest_hold) r.every greatest_date in
+    let bound : ℕ = flat_bound (n * most_place_tokens) most_place_tokens r.every (length r.dates) + steep_bound (n * most_place_tokens) (n * most_place_tokens) (n * r.every * greatest_hold) r.every greatest_input_date in
     ⊎_elim
     (λ none. inl (λ k due date h.
-    let soon : LateWithin z (due_number r) bound = late_soon (unrolled net) n (n * most_tokens) (n * most_tokens) (n * r.every * greatest_hold) most_tokens r.every greatest_date r.gap (length r.dates) (least_number net ok live x least) (due_number r)
+    let soon : LateWithin z (due_number r) bound = late_soon (unrolled net) n (n * most_place_tokens) (n * most_place_tokens) (n * r.every * greatest_hold) most_place_tokens r.every greatest_input_date r.gap (length r.dates) (least_number net ok live x least) (due_number r)
     (setting net ok live x least r row) t k row.in_range h.from_one (late_to net ok live x least r k due date h) in
     let kept = none soon.number soon.some soon.within in
     let late = soon.late in
@@ -54,7 +54,7 @@ record HasFirst (x : ℕ → ℕ → Date) (rows : List EndlessRow) : Type 0 whe
   number : ℕ
   due : ℕ
   date : ℕ
-  first : IsFirstLate x rows row number due date
+  first : IsFirstLateRow x rows row number due date
 
 first_row : (x : ℕ → ℕ → Date) (rows : List EndlessRow) → All (λ r. NoneLate x r ⊎ HasLate x r) rows → All (NoneLate x) rows ⊎ HasFirst x rows
 first_row x [] each = inl (λ i d l. absurd (omega arith))
@@ -78,7 +78,7 @@ first_row x (r ∷ rows) each = ⊎_elim
     }))
     (each 0 r (omega arith))
 
-pub meet_or_first : MeetOrLate
+pub meet_or_first : EndlessMeetOrLate
 meet_or_first net ok live rows each x least = ⊎_elim
     (λ none. inl ((meets_where net ok live rows each x least).1 none))
     (λ (f : HasFirst x rows). inr (f.row, f.number, f.due, f.date, f.first))
@@ -90,7 +90,7 @@ row_at [] i r e = absurd (cc)
 row_at (x ∷ xs) zero r e = (omega arith, λ o. cc)
 row_at (x ∷ xs) (suc i) r e = let old = row_at xs i r e in (omega (arith, old.0), old.1)
 
-pub late_excludes : LateExcludesMeet
+pub late_excludes : EndlessLateExcludesMeet
 late_excludes net ok live rows each x least r k due date first meets =
     let at = row_at rows first.index r first.is_row in
     let none : NoneLate x r = rw (at.1 r) at ((meets_where net ok live rows each x least).0 meets first.index r at.0) in

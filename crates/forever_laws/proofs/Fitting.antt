@@ -8,26 +8,26 @@ use Rattle.dioid.specs.declared.dates.Date.{Date}
 use Rattle.dioid.specs.declared.dates.Date.TheVariants.{Early, At, Never}
 use Rattle.dioid.specs.Dates.{move}
 use Rattle.series_laws.specs.Periodic.{Rising}
-use Rattle.series_laws.specs.Forms.{Form, form_with, size_of, start_of, value_at, HasValues, IsCanonical, canonical_of}
+use Rattle.series_laws.specs.SeriesForms.{Form, form_with, size_of, repeat_start, value_at, HasValues, IsCanonical, canonical_of}
 use Rattle.series_laws.proofs.FormValues.{value_in, value_repeats}
 use Rattle.series_laws.proofs.Canonical.{canonical_is, canonical_values, canonical_short, one_canonical}
-use Rattle.series_form.specs.Bounds.{IsSmallDate, HasSmallNumbers, IsSeries}
+use Rattle.series_form.specs.NumberBounds.{IsSmallDate, HasSmallNumbers, IsSeries}
 use Rattle.teg_net.specs.Nets.{NetLists, IsNet}
 use Rattle.teg_net.specs.Circuits.{IsLive}
-use Rattle.teg_net.specs.Limits.{greatest_date}
+use Rattle.teg_net.specs.Limits.{greatest_input_date}
 use Rattle.teg_net.specs.Walks.{walk_time}
-use Rattle.teg_model.specs.Bounds.{IsWithin}
+use Rattle.teg_model.specs.DateBounds.{IsDateWithin}
 use Rattle.teg_model.specs.Datings.{IsLeastUnder, system_of}
 use Rattle.teg_model.proofs.LeastOver.{least_over}
 use Rattle.teg_model.proofs.LiveRanks.{live_is_ranked}
 use Rattle.teg_model.proofs.OfNet.{least_of, least_of_system, net_ends}
-use Rattle.due_laws.specs.Dues.{inputs_at_zero}
-use Rattle.settled_laws.specs.Forms.{settled_length, row_of, step_of}
+use Rattle.due_laws.specs.MeetingDueDates.{inputs_at_zero}
+use Rattle.settled_laws.specs.SettledForms.{settled_length, row_of, step_of_form}
 use Rattle.teg_settle.specs.Transfers.{IsGreatestWalkTime}
 use Rattle.forever_laws.specs.declared.rows.EndlessRow.{EndlessRow}
-use Rattle.forever_laws.specs.Rows.{IsEndlessRow, most_endless_dates}
-use Rattle.forever_laws.specs.Columns.{listed_dates}
-use Rattle.forever_laws.specs.Laws.{WalkSeriesFit, DueSeriesFit}
+use Rattle.forever_laws.specs.EndlessRows.{IsEndlessRow, most_endless_dates}
+use Rattle.forever_laws.specs.SeriesColumns.{listed_dates}
+use Rattle.forever_laws.specs.EndlessDues.{WalkSeriesFit, DueSeriesFit}
 use Rattle.forever_laws.proofs.GoingOn.{due_number, due_slow}
 use Rattle.forever_laws.proofs.Zeros.{least_number, date_is, walk_most}
 use Rattle.forever_laws.proofs.Soon.{product_most, date_within}
@@ -48,18 +48,18 @@ canonical_size l n x h some fits up is same =
     let short : size_of (canonical_of s p n) ≤ p + n = canonical_short s p n x up some again in
     omega arith
 
-small_of : (d : Date) → IsWithin 1000000000000000000 d → IsSmallDate d
+small_of : (d : Date) → IsDateWithin 1000000000000000000 d → IsSmallDate d
 small_of Early h = tt
 small_of (At x) h = omega (arith, ints, h.0, h.1)
 small_of Never h = tt
 
 -- what lies between two numbers that are small is small
-between : (t x : ℤ) → IsWithin 1000000000000000000 (At t) → IsWithin 1000000000000000000 (At (t +ℤ x)) → unsigned_abs x ≤ 1000000000000000000
+between : (t x : ℤ) → IsDateWithin 1000000000000000000 (At t) → IsDateWithin 1000000000000000000 (At (t +ℤ x)) → unsigned_abs x ≤ 1000000000000000000
 between t x h k = omega (arith, ints, h.0, h.1, k.0, k.1)
 
 -- a canonical form whose values are small as far as one past its list has small numbers
-small_numbers : (h : Form) → IsCanonical h → ((k : ℕ) → k ≤ size_of h → IsWithin 1000000000000000000 (value_at h k)) → HasSmallNumbers h
-small_numbers h is within = record { values = values; step = step (value_at h (start_of h)) refl } where
+small_numbers : (h : Form) → IsCanonical h → ((k : ℕ) → k ≤ size_of h → IsDateWithin 1000000000000000000 (value_at h k)) → HasSmallNumbers h
+small_numbers h is within = record { values = values; step = step (value_at h (repeat_start h)) refl } where
   values : (k : ℕ) → IsSmallDate (get_or h.values k Early)
   values k = ⊎_elim
       (λ (l : k < size_of h). subst IsSmallDate (value_in h k l) (small_of (value_at h k) (within k (omega arith))))
@@ -69,19 +69,19 @@ small_numbers h is within = record { values = values; step = step (value_at h (s
   none : h.step ≡ pos 0 → unsigned_abs h.step ≤ 1000000000000000000
   none e = rw e (omega arith)
 
-  step : (d : Date) → value_at h (start_of h) ≡ d → unsigned_abs h.step ≤ 1000000000000000000
+  step : (d : Date) → value_at h (repeat_start h) ≡ d → unsigned_abs h.step ≤ 1000000000000000000
   step Early e = none (is.form.tail (inr e)).1
   step Never e = none (is.form.tail (inl e)).1
   step (At t) e =
       let fits = is.form.period_fits in
       let some = is.form.period_positive in
-      let last : start_of h + h.period ≡ size_of h = omega arith in
-      let next : value_at h (size_of h) ≡ At (t +ℤ h.step) = ap (value_at h) (sym last) ∙ (value_repeats h some fits).at (start_of h) (omega arith) ∙ ap (move h.step) e in
-      between t h.step (subst (IsWithin 1000000000000000000) e (within (start_of h) (omega arith))) (subst (IsWithin 1000000000000000000) next (within (size_of h) (omega arith)))
+      let last : repeat_start h + h.period ≡ size_of h = omega arith in
+      let next : value_at h (size_of h) ≡ At (t +ℤ h.step) = ap (value_at h) (sym last) ∙ (value_repeats h some fits).at (repeat_start h) (omega arith) ∙ ap (move h.step) e in
+      between t h.step (subst (IsDateWithin 1000000000000000000) e (within (repeat_start h) (omega arith))) (subst (IsDateWithin 1000000000000000000) next (within (size_of h) (omega arith)))
 
 -- a canonical form of what a list of at most 20,000 values gives, with small values as far as that, is a series
 series_of : (l : List Date) (n : ℕ) (x : ℤ) (h : Form) → 0 < n → n ≤ length l → length l ≤ 20000 → Rising (value_at (form_with l n x)) → IsCanonical h → HasValues h (value_at (form_with l n x))
-    → ((k : ℕ) → k ≤ 20000 → IsWithin 1000000000000000000 (value_at h k)) → IsSeries h
+    → ((k : ℕ) → k ≤ 20000 → IsDateWithin 1000000000000000000 (value_at h k)) → IsSeries h
 series_of l n x h some fits short up is same within =
     let size = canonical_size l n x h some fits up is same in
     record { canonical = is; short = omega arith; small = small_numbers h is (λ k m. within k (omega arith)) }
@@ -95,7 +95,7 @@ due_low net r row k few =
     let gap = row.goes_on.gap_in in
     let slow = due_slow net r row k in
     let one : 1 * due_number r k ≤ r.every * due_number r k = product_most 1 (due_number r k) r.every (due_number r k) some (omega arith) in
-    let two : r.every * greatest_date ≤ 1000 * greatest_date = product_most r.every greatest_date 1000 greatest_date every (omega arith) in
+    let two : r.every * greatest_input_date ≤ 1000 * greatest_input_date = product_most r.every greatest_input_date 1000 greatest_input_date every (omega arith) in
     let three : r.gap * (k + r.every) ≤ 1000000000000 * 21001 = product_most r.gap (k + r.every) 1000000000000 21001 gap (omega arith) in
     omega arith
 
@@ -106,7 +106,7 @@ due_series_fit net r row d is =
     let few : length r.dates ≤ most_endless_dates = row.few in
     series_of (listed_dates r) r.every (pos r.gap) d list.some list.fits (omega arith) list.rising is.canonical
     (λ k. is.dates k ∙ sym (list.each k))
-    (λ k l. subst (IsWithin 1000000000000000000) (sym (is.dates k ∙ due_date_is r k)) (let low = due_low net r row (k + 1) (omega arith) in (omega (arith, ints), omega (arith, ints))))
+    (λ k l. subst (IsDateWithin 1000000000000000000) (sym (is.dates k ∙ due_date_is r k)) (let low = due_low net r row (k + 1) (omega arith) in (omega (arith, ints), omega (arith, ints))))
 
 -- ---- walk times
 
@@ -117,7 +117,7 @@ zero_dating net ok live =
     (x, least_of_system net inputs_at_zero x (least_of net inputs_at_zero ranked.0 ranked.1 ranked.2))
 
 time_low : (net : NetLists) → IsNet net → IsLive net → (input t k : ℕ) (d : Date) → input < length net.transitions → t < length net.transitions → 1 ≤ k → k ≤ 20001
-    → IsGreatestWalkTime net input t k d → IsWithin 1000000000000000000 d
+    → IsGreatestWalkTime net input t k d → IsDateWithin 1000000000000000000 d
 time_low net ok live input t k d from to one few h =
     ⊎_elim
     (λ none. rw none.0 tt)
@@ -134,8 +134,8 @@ walk_series_fit net ok live input from f transfer short t to h is =
     let list = transfers_are_series net ok input f transfer t to in
     let sizes = transfer.2.stands.sizes in
     let long : length (row_of f t) ≡ settled_length f = (let rows = sizes.rows_are in sizes.full t [] (omega arith)) in
-    series_of (row_of f t) f.period (step_of f t) h list.some list.fits (omega arith) list.rising is.canonical
+    series_of (row_of f t) f.period (step_of_form f t) h list.some list.fits (omega arith) list.rising is.canonical
     (λ k. is_one k)
     (λ k l. time_low net ok live input t (k + 1) (value_at h k) (input_in net input from) to (omega arith) (omega arith) (is.times k)) where
-      is_one : (k : ℕ) → value_at h k ≡ value_at (form_with (row_of f t) f.period (step_of f t)) k
-      is_one k = one_time net input t (k + 1) (value_at h k) (value_at (form_with (row_of f t) f.period (step_of f t)) k) (is.times k) ((transfers_are_series net ok input f transfer t to).each k)
+      is_one : (k : ℕ) → value_at h k ≡ value_at (form_with (row_of f t) f.period (step_of_form f t)) k
+      is_one k = one_time net input t (k + 1) (value_at h k) (value_at (form_with (row_of f t) f.period (step_of_form f t)) k) (is.times k) ((transfers_are_series net ok input f transfer t to).each k)

@@ -5,15 +5,15 @@ use Rattle.std.proofs.lemmas.Bool.Decides.{nat_tests}
 use Rattle.dioid.specs.Dates.{IsAtMostDate}
 use Rattle.teg_net.specs.declared.entries.Role.TheVariants.{Input}
 use Rattle.teg_net.specs.declared.entries.InputList.{InputList}
-use Rattle.teg_net.specs.Limits.{greatest_date}
+use Rattle.teg_net.specs.Limits.{greatest_input_date}
 use Rattle.teg_net.specs.Nets.{NetLists, IsInputOf, lists_of}
-use Rattle.teg_net.specs.Inputs.{rounds_past, moved_by}
+use Rattle.teg_net.specs.Inputs.{laps_past, moved_by}
 use Rattle.teg_net.proofs.InputDates.{one_round, more_rounds, date_le}
 use Rattle.teg_model.specs.Datings.{as_date}
 use Rattle.teg_settle.proofs.Listing.{dates_climb}
 use Rattle.forever_laws.specs.declared.rows.EndlessRow.{EndlessRow}
-use Rattle.forever_laws.specs.Rows.{again_of, row_due, IsEndlessRow}
-use Rattle.forever_laws.specs.Laws.{RowsGoOn}
+use Rattle.forever_laws.specs.EndlessRows.{again_of_row, row_due, IsEndlessRow}
+use Rattle.forever_laws.specs.EndlessDues.{RowsGoOn}
 
 abbrev number_in : Option ℕ → ℕ
 number_in None = 0
@@ -37,7 +37,7 @@ due_only r k d e = ap number_in (sym e)
 pub due_listed : (r : EndlessRow) (k : ℕ) → k ≤ length r.dates → due_number r k ≡ get_or r.dates (k - 1) 0
 due_listed r k l = let e : leb k (length r.dates) ≡ true = grind (arith, nat_tests) in rw e refl
 
-due_past : (r : EndlessRow) (k m : ℕ) → length r.dates < k → rounds_past (length r.dates) r.every k ≡ m → due_number r k ≡ get_or r.dates (k - m * r.every - 1) 0 + m * r.gap
+due_past : (r : EndlessRow) (k m : ℕ) → length r.dates < k → laps_past (length r.dates) r.every k ≡ m → due_number r k ≡ get_or r.dates (k - m * r.every - 1) 0 + m * r.gap
 due_past r k m l e =
     let b : leb k (length r.dates) ≡ false = grind (arith, nat_tests) in
     rw b (ap (λ n. get_or r.dates (k - n * r.every - 1) 0 + n * r.gap) e)
@@ -47,7 +47,7 @@ goes_back : (r : EndlessRow) (k : ℕ) → 1 ≤ r.every → r.every ≤ length 
 goes_back r k o e l =
     ⊎_elim
     (λ (m : length r.dates < k - r.every).
-    let n : ℕ = rounds_past (length r.dates) r.every (k - r.every) in
+    let n : ℕ = laps_past (length r.dates) r.every (k - r.every) in
     let far = due_past r k (n + 1) l (more_rounds (length r.dates) r.every k o m) in
     let near = due_past r (k - r.every) n m refl in
     let wide : (n + 1) * r.every ≡ n * r.every + r.every = grind arith in
@@ -74,10 +74,10 @@ rows_on net r ok k l =
     due_is r k ∙ (ap (λ (d : ℕ). Some d) (goes_back r k ok.goes_on.some ok.goes_on.enough l) ∙ sym (ap (moved_by r.gap) (due_is r (k - r.every))))
 
 -- listed due dates keep the limit of dates
-pub listed_low : (net : NetLists) (r : EndlessRow) → IsEndlessRow net r → (k : ℕ) → k ≤ length r.dates → due_number r k ≤ greatest_date
+pub listed_low : (net : NetLists) (r : EndlessRow) → IsEndlessRow net r → (k : ℕ) → k ≤ length r.dates → due_number r k ≤ greatest_input_date
 listed_low net r ok k l = let low = date_le r.dates (k - 1) ok.dates_in in let is = due_listed r k l in omega arith
 
-slow_on : (net : NetLists) (r : EndlessRow) → IsEndlessRow net r → (fuel k : ℕ) → k < fuel → r.every * due_number r k ≤ r.every * greatest_date + r.gap * (k + r.every)
+slow_on : (net : NetLists) (r : EndlessRow) → IsEndlessRow net r → (fuel k : ℕ) → k < fuel → r.every * due_number r k ≤ r.every * greatest_input_date + r.gap * (k + r.every)
 slow_on net r ok zero k l = absurd (omega arith)
 slow_on net r ok (suc fuel) k l =
     ⊎_elim
@@ -94,19 +94,19 @@ slow_on net r ok (suc fuel) k l =
     omega arith)
     (λ (m : k ≤ length r.dates).
     let low = listed_low net r ok k m in
-    let more : r.every * due_number r k ≤ r.every * greatest_date = mul-low r.every (due_number r k) greatest_date low in
+    let more : r.every * due_number r k ≤ r.every * greatest_input_date = mul-low r.every (due_number r k) greatest_input_date low in
     omega arith)
     (cases_lt (length r.dates) k) where
       mul-low : (a b c : ℕ) → b ≤ c → a * b ≤ a * c
       mul-low a b c l = grind arith
 
 -- due dates rise no faster than the gap in each turn
-pub due_slow : (net : NetLists) (r : EndlessRow) → IsEndlessRow net r → (k : ℕ) → r.every * due_number r k ≤ r.every * greatest_date + r.gap * (k + r.every)
+pub due_slow : (net : NetLists) (r : EndlessRow) → IsEndlessRow net r → (k : ℕ) → r.every * due_number r k ≤ r.every * greatest_input_date + r.gap * (k + r.every)
 due_slow net r ok k = slow_on net r ok (suc k) k (omega arith)
 
 -- the row as the list of an input, of a net with that input alone
 abbrev as_input : EndlessRow → InputList
-as_input r = record { transition = record { index = 0 }; dates = r.dates; again = Some (again_of r) }
+as_input r = record { transition = record { index = 0 }; dates = r.dates; again = Some (again_of_row r) }
 
 abbrev lone_input : NetLists
 lone_input = lists_of (record { name = []; role = Input } ∷ []) [] []

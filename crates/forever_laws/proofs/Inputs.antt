@@ -12,9 +12,8 @@ use Rattle.teg_net.specs.Nets.{NetLists, IsNet, IsInput}
 use Rattle.teg_net.specs.Circuits.{IsLive}
 use Rattle.teg_net.specs.Walks.{Walks, walk_time}
 use Rattle.teg_net.specs.ReadyDates.{start_date}
-use Rattle.teg_model.specs.Systems.{Dating}
 use Rattle.teg_model.specs.Datings.{IsLeastUnder, at_input, system_of}
-use Rattle.teg_model.specs.Starts.{start_of}
+use Rattle.teg_model.specs.Starts.{start_of_firing}
 use Rattle.teg_model.specs.WalkDates.{IsDateOfWalk}
 use Rattle.teg_model.proofs.LeastOver.{least_over}
 use Rattle.teg_model.proofs.LiveRanks.{live_is_ranked, live_ranks}
@@ -22,10 +21,11 @@ use Rattle.teg_model.proofs.OfNet.{net_ends, input_or_not, least_of, least_of_sy
 use Rattle.teg_model.proofs.GreatestWalks.{least_is_walk, not_before_ready}
 use Rattle.teg_model.proofs.Tokens.{not_before_zero}
 use Rattle.teg_model.proofs.WalkSteps.{walk_below}
-use Rattle.due_laws.specs.Dues.{KeepsDues, inputs_at_zero}
+use Rattle.teg_model.proofs.DateFunctions.{Dating}
+use Rattle.due_laws.specs.MeetingDueDates.{KeepsDues, inputs_at_zero}
 use Rattle.due_laws.specs.LatestDates.{IsDateToDue, IsLatestDate}
 use Rattle.due_laws.proofs.LatestDates.{Dues, kept_below, never_or_not, due_next, feasible_keeps, earlier_by, earlier_delayed}
-use Rattle.forever_laws.specs.Laws.{LatestAtInputsAreLatest, LatestDatesFromZero}
+use Rattle.forever_laws.specs.EndlessDues.{LatestAtInputsAreLatest, LatestDatesFromZero}
 
 -- an input is a transition of the net
 pub input_in : (net : NetLists) (t : ℕ) → IsInput net t → t < length net.transitions
@@ -64,7 +64,7 @@ meets_by_walks net ok live due v x y zero keeps l least t k d in' o h =
     rw e.1 (due_after net due w.from w.number t k d (v w.from w.number) w.steps (l w.from w.number e.0 w.from_one) w.walk h))
     (λ (e : (at_input net w.from (v w.from w.number) Early ≡ Early) × (at_input net w.from (v w.from w.number) Early ≡ Early)). rw e.0 tt)
     (input_or_not net w.from (v w.from w.number) Early Early) in
-    let both : IsAtMostDate (delayed time (start_of net v w.from w.number)) (At (pos d)) = later_delayed time (At (pos (start_date net w.from w.number))) (at_input net w.from (v w.from w.number) Early) (At (pos d)) first second in
+    let both : IsAtMostDate (delayed time (start_of_firing net v w.from w.number)) (At (pos d)) = later_delayed time (At (pos (start_date net w.from w.number))) (at_input net w.from (v w.from w.number) Early) (At (pos d)) first second in
     rw w.is (rw w.starts both) where
       later_delayed : (h : ℕ) (a b c : Date) → IsAtMostDate (delayed h a) c → IsAtMostDate (delayed h b) c → IsAtMostDate (delayed h (later_of a b)) c
       later_delayed h a b c l m = ⊎_elim (λ e. rw e l) (λ e. rw e m) (later_either a b)

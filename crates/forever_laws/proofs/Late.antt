@@ -12,7 +12,7 @@ use Rattle.teg_net.specs.Circuits.{place_at, IsPathBetween, IsCircuit, time_of, 
 use Rattle.teg_net.proofs.PathLaws.{IsPathBetween-append}
 use Rattle.teg_loops.specs.Loops.{EndsBelow}
 use Rattle.teg_loops.proofs.Taking.{Keeps, closed_keeps, shortened}
-use Rattle.teg_loops.specs.Rounds.{HasRound}
+use Rattle.teg_loops.specs.ClosedPieces.{HasRound}
 use Rattle.teg_loops.proofs.Again.{round_in}
 use Rattle.teg_loops.proofs.Visits.{rounds, rounds_lead, rounds_sum}
 

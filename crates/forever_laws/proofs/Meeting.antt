@@ -12,11 +12,11 @@ use Rattle.teg_net.specs.Nets.{NetLists}
 use Rattle.teg_net.specs.Circuits.{place_at}
 use Rattle.teg_net.specs.Walks.{Walks}
 use Rattle.teg_model.proofs.OfNet.{only_least}
-use Rattle.due_laws.specs.Dues.{inputs_at_zero}
+use Rattle.due_laws.specs.MeetingDueDates.{inputs_at_zero}
 use Rattle.forever_laws.specs.declared.rows.EndlessRow.{EndlessRow}
-use Rattle.forever_laws.specs.Rows.{row_due, due_by, row_for, due_on, IsEndlessRow, IsEndlessOf}
+use Rattle.forever_laws.specs.EndlessRows.{row_due, due_by, row_for, due_on, IsEndlessRow, IsEndlessOf}
 use Rattle.forever_laws.specs.Late.{NoneLate}
-use Rattle.forever_laws.specs.Laws.{ZeroMeetsWhereNoneLate, FreeAtEachNumber}
+use Rattle.forever_laws.specs.EndlessDues.{ZeroMeetsWhereNoneLate, FreeAtEachNumber}
 use Rattle.forever_laws.proofs.GoingOn.{due_number, due_is, due_only}
 use Rattle.forever_laws.proofs.Zeros.{least_number, date_is, at_most_numbers}
 use Rattle.forever_laws.proofs.Soon.{late_from}

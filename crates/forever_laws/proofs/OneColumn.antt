@@ -6,20 +6,20 @@ use Rattle.dioid.specs.declared.dates.Date.{Date}
 use Rattle.dioid.specs.Dates.{IsAtMostDate, move}
 use Rattle.dioid.proofs.DateOrder.{same_by_at_most}
 use Rattle.dioid_matrix.specs.Residuals.{meet_below, lefts}
-use Rattle.series_laws.specs.Forms.{Form, form_with, value_at, start_of, HasValues, IsCanonical, canonical_of}
+use Rattle.series_laws.specs.SeriesForms.{Form, form_with, value_at, repeat_start, HasValues, IsCanonical, canonical_of}
 use Rattle.series_laws.proofs.Canonical.{one_canonical, canonical_is, canonical_values}
 use Rattle.series_laws.proofs.FormValues.{value_repeats}
 use Rattle.series_ops.specs.declared.gains.Gain.{Gain}
 use Rattle.series_ops.specs.Gains.{gain_of, gain_zero}
 use Rattle.teg_net.specs.Nets.{NetLists, IsNet}
-use Rattle.teg_model.specs.Systems.{Dating}
-use Rattle.settled_laws.specs.Forms.{SettledForm, row_of, step_of, StandsFor}
-use Rattle.teg_settle.specs.Laws.{WalkTimesSettle}
+use Rattle.teg_model.proofs.DateFunctions.{Dating}
+use Rattle.settled_laws.specs.SettledForms.{SettledForm, row_of, step_of_form, StandsFor}
+use Rattle.teg_settle.specs.WalkTimes.{WalkTimesSettle}
 use Rattle.teg_settle.specs.Transfers.{IsGreatestWalkTime, IsTransferOf}
 use Rattle.periodic_laws.specs.Equations.{gains}
 use Rattle.forever_laws.specs.declared.rows.EndlessRow.{EndlessRow}
-use Rattle.forever_laws.specs.Rows.{IsEndlessRow}
-use Rattle.forever_laws.specs.Columns.{IsWalkSeries, due_date_at, IsDueSeries, gain_residuals, IsSeriesList, listed_dates}
+use Rattle.forever_laws.specs.EndlessRows.{IsEndlessRow}
+use Rattle.forever_laws.specs.SeriesColumns.{IsWalkSeries, due_date_at, IsDueSeries, gain_residuals, IsSeriesList, listed_dates}
 use Rattle.forever_laws.specs.ColumnLaws.{ColumnsExist, ColumnsAreOne, RowsFitAlike, TransfersHaveOneLength}
 use Rattle.forever_laws.proofs.Residuals.{GotRow, got_row}
 use Rattle.forever_laws.proofs.FirstRows.{row_at}
@@ -85,7 +85,7 @@ one_length net input limit f past h =
         dates = λ t k l o m. s.dates t k l o m ∙ same t k l o;
         repeats = record {
           at_least_one = s.repeats.at_least_one;
-          again = λ t k l m. sym (same t (k + f.period) l (omega arith)) ∙ (s.repeats.again t k l m ∙ ap (move (step_of f t)) (same t k l (omega arith)));
+          again = λ t k l m. sym (same t (k + f.period) l (omega arith)) ∙ (s.repeats.again t k l m ∙ ap (move (step_of_form f t)) (same t k l (omega arith)));
         };
         still = λ t l tail. s.still t l (⊎_elim (λ n. inl (λ k a b. same t k l (omega arith) ∙ n k a b)) (λ e. inr (λ k a b. same t k l (omega arith) ∙ e k a b)) tail);
       }
@@ -94,19 +94,19 @@ one_length net input limit f past h =
 
 -- the canonical form of the function of a list
 abbrev list_form : List Date → ℕ → ℤ → Form
-list_form values period step = canonical_of (value_at (form_with values period step)) (start_of (form_with values period step)) period
+list_form values period step = canonical_of (value_at (form_with values period step)) (repeat_start (form_with values period step)) period
 
 list_is : (values : List Date) (period : ℕ) (step : ℤ) (IsValue : ℕ → Date → Type 0) → IsSeriesList values period step IsValue
     → IsCanonical (list_form values period step) × ((k : ℕ) → IsValue k (value_at (list_form values period step) k))
 list_is values period step IsValue h =
     let f : Form = form_with values period step in
     let again = value_repeats f h.some h.fits in
-    let is : HasValues (list_form values period step) (value_at f) = canonical_values (value_at f) (start_of f) period step h.rising h.some again in
-    (canonical_is (value_at f) (start_of f) period step h.rising h.some again, λ k. subst (IsValue k) (sym (is k)) (h.each k))
+    let is : HasValues (list_form values period step) (value_at f) = canonical_values (value_at f) (repeat_start f) period step h.rising h.some again in
+    (canonical_is (value_at f) (repeat_start f) period step h.rising h.some again, λ k. subst (IsValue k) (sym (is k)) (h.each k))
 
 walk_gain : SettledForm → Option EndlessRow → Gain
 walk_gain f None = gain_zero
-walk_gain f (Some r) = gain_of (list_form (row_of f r.transition.index) f.period (step_of f r.transition.index))
+walk_gain f (Some r) = gain_of (list_form (row_of f r.transition.index) f.period (step_of_form f r.transition.index))
 
 due_gain : Option EndlessRow → Gain
 due_gain None = gain_zero
@@ -116,7 +116,7 @@ walk_series_is : (net : NetLists) → IsNet net → (input : ℕ) (f : SettledFo
 unfolding walk_gain
 walk_series_is net ok input f h r l =
     let t : ℕ = r.transition.index in
-    let is = list_is (row_of f t) f.period (step_of f t) (λ k d. IsGreatestWalkTime net input t (k + 1) d) (transfers_are_series net ok input f h t l) in
+    let is = list_is (row_of f t) f.period (step_of_form f t) (λ k d. IsGreatestWalkTime net input t (k + 1) d) (transfers_are_series net ok input f h t l) in
     record { canonical = is.0; times = is.1 }
 
 due_series_is : (net : NetLists) (r : EndlessRow) → IsEndlessRow net r → IsDueSeries r (due_gain (Some r)).series

@@ -6,15 +6,15 @@ use Rattle.std.proofs.lemmas.Int.{ints}
 use Rattle.dioid.specs.declared.dates.Date.{Date}
 use Rattle.dioid.specs.declared.dates.Date.TheVariants.{Early, At, Never}
 use Rattle.dioid.specs.Dates.{IsAtMostDate, delayed, date_product, date_left, earlier_of}
-use Rattle.dioid.specs.Order.{Le}
+use Rattle.dioid.specs.DateOrder.{Le}
 use Rattle.dioid.proofs.DateOrder.{at_most_is, at_most_trans, earlier_either, delayed_rises, delayed_is_product}
 use Rattle.dioid.proofs.AtMost.{le_refl, le_is, le_trans, le_never, product_le, earlier_le_left, earlier_le_right}
-use Rattle.series_laws.specs.Residual.{IsLeftAt, least_of}
-use Rattle.series_laws.specs.Forms.{Form, value_at, IsForm, IsCanonical}
+use Rattle.series_laws.specs.Residual.{IsLeftAt, least_of_first}
+use Rattle.series_laws.specs.SeriesForms.{Form, value_at, IsForm, IsCanonical}
 use Rattle.series_laws.specs.declared.plans.Slopes.{Slopes}
 use Rattle.series_laws.specs.declared.plans.Slopes.TheVariants.{Equal, First, Second}
 use Rattle.series_laws.specs.Needs.{tail_of, slopes_of, form_least}
-use Rattle.series_laws.specs.ProductNeeds.{offsets_of, left_by_slopes, left_by, left_at, form_left}
+use Rattle.series_laws.specs.ProductNeeds.{offsets_of, left_by_slopes, left_by, residual_at, form_left}
 use Rattle.series_laws.proofs.Items.{times_commutes}
 use Rattle.series_laws.proofs.Lefts.{left_is, form_left_is, form_left_values}
 use Rattle.series_laws.proofs.StarParts.{from_left}
@@ -23,19 +23,19 @@ use Rattle.series_ops.specs.declared.gains.Gain.{Gain}
 use Rattle.teg_net.specs.declared.walks.Step.{Step}
 use Rattle.teg_net.specs.Nets.{NetLists, IsNet}
 use Rattle.teg_net.specs.Walks.{Walks, walk_time}
-use Rattle.teg_model.specs.Systems.{Dating}
 use Rattle.teg_model.specs.Datings.{as_date}
 use Rattle.teg_model.proofs.OfNet.{net_ends}
 use Rattle.teg_model.proofs.Tokens.{not_before_zero}
 use Rattle.teg_model.proofs.WalkSteps.{walk_below}
+use Rattle.teg_model.proofs.DateFunctions.{Dating}
 use Rattle.teg_settle.specs.Transfers.{IsGreatestWalkTime}
-use Rattle.due_laws.specs.Dues.{InputsMeet, inputs_at_zero}
+use Rattle.due_laws.specs.MeetingDueDates.{InputsMeet, inputs_at_zero}
 use Rattle.due_laws.specs.LatestDates.{IsDateToDue, IsLatestDate}
 use Rattle.due_laws.proofs.LatestDates.{delayed_back, feasible_keeps, free_without_walks, walk_ends_in}
 use Rattle.forever_laws.specs.declared.rows.EndlessRow.{EndlessRow}
-use Rattle.forever_laws.specs.Rows.{row_due, due_on, IsEndlessOf}
-use Rattle.forever_laws.specs.Columns.{IsWalkSeries, IsDueSeries, AreColumns, residual_over}
-use Rattle.forever_laws.specs.Laws.{ResidualsAreLatestDates, ResidualsAreFreeOrNumbers}
+use Rattle.forever_laws.specs.EndlessRows.{row_due, due_on, IsEndlessOf}
+use Rattle.forever_laws.specs.SeriesColumns.{IsWalkSeries, IsDueSeries, AreSeriesColumns, residual_over}
+use Rattle.forever_laws.specs.EndlessDues.{ResidualsAreLatestDates, ResidualsAreFreeOrNumbers}
 use Rattle.forever_laws.proofs.GoingOn.{due_number, due_is}
 use Rattle.forever_laws.proofs.Meeting.{HasRow, has_row, due_of_row, free_at_each, walk_later, walk_back}
 use Rattle.forever_laws.proofs.Inputs.{latest_from_zero}
@@ -43,12 +43,12 @@ use Rattle.forever_laws.proofs.Series.{due_date_is}
 
 -- ---- a residual is one of the residuals of values, unless it is Never or Early
 
-least_attained : (f : ℕ → Date) (n : ℕ) → (i : ℕ) × (least_of f n ≡ f i)
+least_attained : (f : ℕ → Date) (n : ℕ) → (i : ℕ) × (least_of_first f n ≡ f i)
 least_attained f zero = (0, refl)
 least_attained f (suc n) = ⊎_elim
-    (λ (e : least_of f (suc n) ≡ least_of f n). let old = least_attained f n in (old.0, e ∙ old.1))
-    (λ (e : least_of f (suc n) ≡ f (suc n)). (suc n, e))
-    (earlier_either (least_of f n) (f (suc n)))
+    (λ (e : least_of_first f (suc n) ≡ least_of_first f n). let old = least_attained f n in (old.0, e ∙ old.1))
+    (λ (e : least_of_first f (suc n) ≡ f (suc n)). (suc n, e))
+    (earlier_either (least_of_first f n) (f (suc n)))
 
 -- the date is one of the residuals at k
 abbrev IsOneLeft : Form → Form → ℕ → Date → Type 0
@@ -64,24 +64,24 @@ by_tail f g k Early = inl refl
 by_tail f g k (At s) = inr (by_slopes f g k (slopes_of f g))
 by_tail f g k Never = inr (by_slopes f g k (slopes_of f g))
 
-left_attained : (f g : Form) (k : ℕ) → (left_at f g k ≡ Never) ⊎ ((left_at f g k ≡ Early) ⊎ IsOneLeft f g k (left_at f g k))
+left_attained : (f g : Form) (k : ℕ) → (residual_at f g k ≡ Never) ⊎ ((residual_at f g k ≡ Early) ⊎ IsOneLeft f g k (residual_at f g k))
 left_attained f g k = by_tail f g k (tail_of f)
 
 -- ---- the meet over the rows
 
 record IsMeet (n k : ℕ) (walks dues : ℕ → Gain) (g : Gain) : Type 0 where
   canonical : IsCanonical g.series
-  below : (i : ℕ) → i < n → Le (value_at g.series k) (left_at (walks i).series (dues i).series k)
+  below : (i : ℕ) → i < n → Le (value_at g.series k) (residual_at (walks i).series (dues i).series k)
   index : ℕ
   within : index < n
-  is : value_at g.series k ≡ left_at (walks index).series (dues index).series k
+  is : value_at g.series k ≡ residual_at (walks index).series (dues index).series k
 
 first_meet : (k : ℕ) (walks dues : ℕ → Gain) → IsForm (walks 0).series → IsForm (dues 0).series → IsMeet 1 k walks dues (residual_over 1 walks dues)
 first_meet k walks dues w d =
-    let is : value_at (form_left (walks 0).series (dues 0).series) k ≡ left_at (walks 0).series (dues 0).series k = form_left_values (walks 0).series (dues 0).series w d k in
+    let is : value_at (form_left (walks 0).series (dues 0).series) k ≡ residual_at (walks 0).series (dues 0).series k = form_left_values (walks 0).series (dues 0).series w d k in
     record {
       canonical = form_left_is (walks 0).series (dues 0).series w d;
-      below = λ i l. (let e : 0 ≡ i = omega arith in subst (λ (j : ℕ). Le (value_at (form_left (walks 0).series (dues 0).series) k) (left_at (walks j).series (dues j).series k)) e (le_is is));
+      below = λ i l. (let e : 0 ≡ i = omega arith in subst (λ (j : ℕ). Le (value_at (form_left (walks 0).series (dues 0).series) k) (residual_at (walks j).series (dues j).series k)) e (le_is is));
       index = 0;
       within = omega arith;
       is = is;
@@ -96,15 +96,15 @@ meets k walks dues (suc n) h =
     let g : Form = form_left (walks (suc n)).series (dues (suc n)).series in
     let isf : IsForm f = old.canonical.form in
     let isg : IsForm g = (form_left_is (walks (suc n)).series (dues (suc n)).series own.0 own.1).form in
-    let left : value_at g k ≡ left_at (walks (suc n)).series (dues (suc n)).series k = form_left_values (walks (suc n)).series (dues (suc n)).series own.0 own.1 k in
+    let left : value_at g k ≡ residual_at (walks (suc n)).series (dues (suc n)).series k = form_left_values (walks (suc n)).series (dues (suc n)).series own.0 own.1 k in
     let is : value_at (form_least f g) k ≡ earlier_of (value_at f k) (value_at g k) = form_least_values f g isf isg k in
     let low : Le (value_at (form_least f g) k) (value_at f k) = le_trans (le_is is) (earlier_le_left (value_at f k) (value_at g k)) in
-    let last : Le (value_at (form_least f g) k) (left_at (walks (suc n)).series (dues (suc n)).series k) = le_trans (le_is is) (le_trans (earlier_le_right (value_at f k) (value_at g k)) (le_is left)) in
+    let last : Le (value_at (form_least f g) k) (residual_at (walks (suc n)).series (dues (suc n)).series k) = le_trans (le_is is) (le_trans (earlier_le_right (value_at f k) (value_at g k)) (le_is left)) in
     let within = old.within in
-    let below : (i : ℕ) → i < suc (suc n) → Le (value_at (form_least f g) k) (left_at (walks i).series (dues i).series k) =
+    let below : (i : ℕ) → i < suc (suc n) → Le (value_at (form_least f g) k) (residual_at (walks i).series (dues i).series k) =
     λ i l. ⊎_elim
     (λ (less : i < suc n). le_trans low (old.below i less))
-    (λ (more : suc n ≤ i). let e : suc n ≡ i = omega arith in subst (λ (j : ℕ). Le (value_at (form_least f g) k) (left_at (walks j).series (dues j).series k)) e last)
+    (λ (more : suc n ≤ i). let e : suc n ≡ i = omega arith in subst (λ (j : ℕ). Le (value_at (form_least f g) k) (residual_at (walks j).series (dues j).series k)) e last)
     (cases_lt i (suc n)) in
     ⊎_elim
     (λ (e : earlier_of (value_at f k) (value_at g k) ≡ value_at f k).
@@ -143,7 +143,7 @@ left_from_zero : (time due : ℕ) → time ≤ due → IsAtMostDate (At (pos 0))
 left_from_zero time due l = omega (arith, ints)
 
 module _ (net : NetLists) (ok : IsNet net) (rows : List EndlessRow) (each : IsEndlessOf net rows) (zeros : InputsMeet net (due_on rows) inputs_at_zero) (t : ℕ) (in' : t < length net.transitions)
-    (walks dues : ℕ → Gain) (columns : AreColumns net t rows walks dues) (k : ℕ) where
+    (walks dues : ℕ → Gain) (columns : AreSeriesColumns net t rows walks dues) (k : ℕ) where
   -- the residual at an offset: never, or a date to a due firing, from 0 on
   one_left : (i j : ℕ) → i < length rows → (let d : Date = date_left (value_at (walks i).series j) (value_at (dues i).series (k + j)) in (d ≡ Never) ⊎ (IsAtMostDate (At (pos 0)) d × IsDateToDue net (due_on rows) t (k + 1) d))
   one_left i j l =
@@ -178,18 +178,18 @@ module _ (net : NetLists) (ok : IsNet net) (rows : List EndlessRow) (each : IsEn
       time.reached
 
   -- a residual is from 0 on
-  left_late : (i : ℕ) → i < length rows → IsAtMostDate (At (pos 0)) (left_at (walks i).series (dues i).series k)
+  left_late : (i : ℕ) → i < length rows → IsAtMostDate (At (pos 0)) (residual_at (walks i).series (dues i).series k)
   left_late i l =
       let g : GotRow rows i = got_row rows i l in
       let f : Form = (walks i).series in
       let d : Form = (dues i).series in
-      let is : IsLeftAt (value_at f) (value_at d) k (left_at f d k) = left_is f d (columns.walk_series i g.row g.got).canonical.form (columns.due_series i g.row g.got).canonical.form k in
+      let is : IsLeftAt (value_at f) (value_at d) k (residual_at f d k) = left_is f d (columns.walk_series i g.row g.got).canonical.form (columns.due_series i g.row g.got).canonical.form k in
       let zero_le : (j : ℕ) → Le (At (pos 0)) (date_left (value_at f j) (value_at d (k + j))) =
       λ j. ⊎_elim (λ e. le_trans (le_never (At (pos 0))) (le_is (sym e))) (λ two. record { holds = two.0 }) (one_left i j l) in
       (is.greatest (At (pos 0)) zero_le).holds
 
   -- each date to a due firing is at least the residual of some row
-  due_above : (d : Date) → IsDateToDue net (due_on rows) t (k + 1) d → (v : Date) → ((i : ℕ) → i < length rows → Le v (left_at (walks i).series (dues i).series k)) → IsAtMostDate v d
+  due_above : (d : Date) → IsDateToDue net (due_on rows) t (k + 1) d → (v : Date) → ((i : ℕ) → i < length rows → Le v (residual_at (walks i).series (dues i).series k)) → IsAtMostDate v d
   due_above d w v below =
       let h : HasRow rows w.to w.number w.due_date = has_row rows w.to w.number w.due_date w.is_due in
       let f : Form = (walks h.index).series in
@@ -206,7 +206,7 @@ module _ (net : NetLists) (ok : IsNet net) (rows : List EndlessRow) (each : IsEn
       let walk : Walks net t 1 w.steps h.row.transition.index (j + 1) = subst (λ (z : ℕ). Walks net t 1 w.steps z (j + 1)) (sym h.names) (subst (Walks net t 1 w.steps w.to) (sym one) back.3) in
       let time : IsAtMostDate (At (pos (walk_time net w.steps))) (value_at f j) = (walk_series.times j).greatest w.steps walk in
       let dated : value_at g (k + j) ≡ At (pos w.due_date) = due_series.dates (k + j) ∙ (ap (λ (n : ℕ). as_date (row_due h.row n)) number ∙ ap as_date h.due) in
-      let is : IsLeftAt (value_at f) (value_at g) k (left_at f g k) = left_is f g walk_series.canonical.form due_series.canonical.form k in
+      let is : IsLeftAt (value_at f) (value_at g) k (residual_at f g k) = left_is f g walk_series.canonical.form due_series.canonical.form k in
       let low : Le v (date_left (value_at f j) (At (pos w.due_date))) = le_trans (below h.index h.within) (le_trans (is.below j) (le_is (ap (date_left (value_at f j)) dated))) in
       left_below v (value_at f j) d (walk_time net w.steps) w.due_date low time w.is
 
@@ -222,10 +222,10 @@ module _ (net : NetLists) (ok : IsNet net) (rows : List EndlessRow) (each : IsEn
       let g : Form = (dues m.index).series in
       record {
         attained = λ ne. ⊎_elim
-            (λ (never : left_at f g k ≡ Never). absurd (ne (m.is ∙ never)))
+            (λ (never : residual_at f g k ≡ Never). absurd (ne (m.is ∙ never)))
             (λ other. ⊎_elim
-            (λ (early : left_at f g k ≡ Early). absurd (rw early at (left_late m.index m.within)))
-            (λ (one : IsOneLeft f g k (left_at f g k)).
+            (λ (early : residual_at f g k ≡ Early). absurd (rw early at (left_late m.index m.within)))
+            (λ (one : IsOneLeft f g k (residual_at f g k)).
             ⊎_elim
             (λ e. absurd (ne (m.is ∙ (one.1 ∙ e))))
             (λ two. subst (IsDateToDue net (due_on rows) t (k + 1)) (sym (m.is ∙ one.1)) two.1)

@@ -5,9 +5,9 @@ use Rattle.std.proofs.lemmas.List.{get_or-map, length-map}
 use Rattle.dioid.specs.declared.dates.Date.{Date}
 use Rattle.dioid.specs.declared.dates.Date.TheVariants.{Early, At}
 use Rattle.dioid.specs.Dates.{IsAtMostDate, move}
-use Rattle.dioid.specs.Order.{Le}
+use Rattle.dioid.specs.DateOrder.{Le}
 use Rattle.series_laws.specs.Periodic.{Rising, Repeats}
-use Rattle.series_laws.specs.Forms.{form_with, value_at, HasValues, table}
+use Rattle.series_laws.specs.SeriesForms.{form_with, value_at, HasValues, table}
 use Rattle.series_laws.proofs.FormValues.{form_values, table_length, table_at, same_lists}
 use Rattle.series_laws.proofs.Repeating.{rising_by_one}
 use Rattle.teg_net.specs.declared.walks.Step.{Step}
@@ -16,11 +16,11 @@ use Rattle.teg_net.specs.Nets.{NetLists}
 use Rattle.teg_net.specs.Walks.{Walks, walk_time}
 use Rattle.teg_model.specs.Datings.{as_date}
 use Rattle.teg_model.proofs.WalkSteps.{walk_append, walk_time-append}
-use Rattle.settled_laws.specs.Forms.{settled_length, row_of, step_of, StandsFor}
+use Rattle.settled_laws.specs.SettledForms.{settled_length, row_of, step_of_form, StandsFor}
 use Rattle.teg_settle.specs.Transfers.{IsGreatestWalkTime, AreWalkTimes}
 use Rattle.forever_laws.specs.declared.rows.EndlessRow.{EndlessRow}
-use Rattle.forever_laws.specs.Columns.{due_date_at, listed_dates, IsSeriesList}
-use Rattle.forever_laws.specs.Laws.{TransfersAreSeries, DuesAreSeries}
+use Rattle.forever_laws.specs.SeriesColumns.{due_date_at, listed_dates, IsSeriesList}
+use Rattle.forever_laws.specs.EndlessDues.{TransfersAreSeries, DuesAreSeries}
 use Rattle.forever_laws.proofs.GoingOn.{due_number, due_is, due_listed, due_again, due_climbs}
 
 -- a list of the first values of a function that repeats from the last period on
@@ -69,7 +69,7 @@ transfers_are_series net ok input f h t l =
     let rows = stands.sizes.rows_are in
     let long : length (row_of f t) ≡ settled_length f = stands.sizes.full t [] (omega arith) in
     let start : length (row_of f t) - f.period ≡ f.after = omega arith in
-    series_list (row_of f t) f.period (step_of f t) (λ k. x t (k + 1)) (λ k d. IsGreatestWalkTime net input t (k + 1) d)
+    series_list (row_of f t) f.period (step_of_form f t) (λ k. x t (k + 1)) (λ k d. IsGreatestWalkTime net input t (k + 1) d)
     stands.sizes.at_least_one (omega arith)
     (λ k m. (let e : k + 1 - 1 ≡ k = omega arith in ap (λ (i : ℕ). get_or (row_of f t) i Early) (sym e) ∙ stands.dates t (k + 1) l (omega arith) (omega arith)))
     (record { at = λ k m. (let e : k + f.period + 1 ≡ k + 1 + f.period = omega arith in ap (x t) e ∙ stands.repeats.again t (k + 1) l (omega arith)) })

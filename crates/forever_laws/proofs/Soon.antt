@@ -8,22 +8,22 @@ use Rattle.number_laws.proofs.Numbers.{some_of}
 use Rattle.dioid.specs.declared.dates.Date.{Date}
 use Rattle.dioid.specs.declared.dates.Date.TheVariants.{At}
 use Rattle.teg_net.specs.declared.entries.PlaceId.{PlaceId}
-use Rattle.teg_net.specs.Limits.{most_tokens, greatest_hold, greatest_date}
+use Rattle.teg_net.specs.Limits.{most_place_tokens, greatest_hold, greatest_input_date}
 use Rattle.teg_net.specs.Nets.{NetLists, IsNet}
 use Rattle.teg_net.specs.Circuits.{no_place, place_at, IsPathBetween, IsCircuit, IsLive, time_of, tokens_of}
 use Rattle.teg_model.specs.Datings.{IsLeastUnder, extended_places}
 use Rattle.teg_model.proofs.OfNet.{net_ends, all_extended_in}
 use Rattle.teg_model.proofs.LiveRanks.{live_ranks}
 use Rattle.teg_model.proofs.Within.{AreWithin, least_within}
-use Rattle.due_laws.specs.Dues.{inputs_at_zero}
+use Rattle.due_laws.specs.MeetingDueDates.{inputs_at_zero}
 use Rattle.bound_laws.proofs.Unrolled.{unrolled, same_sums, IsWait, kinds}
 use Rattle.bound_laws.proofs.WalkTimes.{number_of}
 use Rattle.teg_loops.specs.Loops.{EndsBelow}
 use Rattle.teg_loops.proofs.Taking.{sum_most}
 use Rattle.forever_laws.specs.declared.rows.EndlessRow.{EndlessRow}
-use Rattle.forever_laws.specs.Rows.{IsEndlessRow}
+use Rattle.forever_laws.specs.EndlessRows.{IsEndlessRow}
 use Rattle.forever_laws.specs.Late.{IsLateAt}
-use Rattle.forever_laws.specs.Laws.{LateNumbersHaveLeast, LateIsSoon}
+use Rattle.forever_laws.specs.EndlessDues.{LateNumbersHaveLeast, LateIsSoon}
 use Rattle.forever_laws.proofs.GoingOn.{due_number, due_is, due_only, due_again, due_slow}
 use Rattle.forever_laws.proofs.Late.{LateSetting, flat_bound, steep_bound, late_soon}
 use Rattle.forever_laws.proofs.Zeros.{least_number, date_is, path_most, reached}
@@ -36,8 +36,8 @@ ends_in net ok = record {
   to_in = λ id l. all_extended_in net (λ p. p.to.index < length net.transitions) (λ i d m. (ok.each_place i d m).to_in) (λ t m. m) id.index no_place l;
 }
 
-marks_in : (net : NetLists) → IsNet net → (id : PlaceId) → id.index < length (extended_places net) → (place_at (unrolled net) id).tokens ≤ most_tokens
-marks_in net ok id l = all_extended_in net (λ p. p.tokens ≤ most_tokens) (λ i d m. (ok.each_place i d m).tokens_in) (λ t m. omega arith) id.index no_place l
+marks_in : (net : NetLists) → IsNet net → (id : PlaceId) → id.index < length (extended_places net) → (place_at (unrolled net) id).tokens ≤ most_place_tokens
+marks_in net ok id l = all_extended_in net (λ p. p.tokens ≤ most_place_tokens) (λ i d m. (ok.each_place i d m).tokens_in) (λ t m. omega arith) id.index no_place l
 
 holds_in : (net : NetLists) → IsNet net → (id : PlaceId) → id.index < length (extended_places net) → (place_at (unrolled net) id).hold ≤ greatest_hold
 holds_in net ok id l = all_extended_in net (λ p. p.hold ≤ greatest_hold) (λ i d m. (ok.each_place i d m).hold_in) (λ t m. omega arith) id.index no_place l
@@ -52,9 +52,9 @@ live_in net live ps c = ⊎_elim
     (λ (w : IsWait net ps). let one = w.tokens in omega arith)
     (kinds net ps c)
 
-few_tokens : (net : NetLists) → IsNet net → (ps : List PlaceId) (s t m : ℕ) → IsPathBetween (unrolled net) s ps t → length ps ≤ m → tokens_of (unrolled net) ps ≤ m * most_tokens
+few_tokens : (net : NetLists) → IsNet net → (ps : List PlaceId) (s t m : ℕ) → IsPathBetween (unrolled net) s ps t → length ps ≤ m → tokens_of (unrolled net) ps ≤ m * most_place_tokens
 few_tokens net ok ps s t m h l =
-    let one = sum_most (λ p. (place_at (unrolled net) p).tokens) most_tokens (unrolled net) (marks_in net ok) ps s t h in
+    let one = sum_most (λ p. (place_at (unrolled net) p).tokens) most_place_tokens (unrolled net) (marks_in net ok) ps s t h in
     omega arith
 
 little_time : (net : NetLists) → IsNet net → (ps : List PlaceId) (s t m : ℕ) → IsPathBetween (unrolled net) s ps t → length ps ≤ m → time_of (unrolled net) ps ≤ m * greatest_hold
@@ -63,20 +63,20 @@ little_time net ok ps s t m h l =
     omega arith
 
 pub setting : (net : NetLists) (ok : IsNet net) (live : IsLive net) (x : ℕ → ℕ → Date) (least : IsLeastUnder net inputs_at_zero x) (r : EndlessRow) → IsEndlessRow net r
-    → LateSetting (unrolled net) (length net.transitions) (length net.transitions * most_tokens) (length net.transitions * most_tokens) (length net.transitions * r.every * greatest_hold)
-    most_tokens r.every greatest_date r.gap (length r.dates) (least_number net ok live x least) (due_number r)
+    → LateSetting (unrolled net) (length net.transitions) (length net.transitions * most_place_tokens) (length net.transitions * most_place_tokens) (length net.transitions * r.every * greatest_hold)
+    most_place_tokens r.every greatest_input_date r.gap (length r.dates) (least_number net ok live x least) (due_number r)
 setting net ok live x least r row =
     let n : ℕ = length net.transitions in
     record {
       ends = ends_in net ok;
       live = live_in net live;
       short_tokens = λ ps s t h l. few_tokens net ok ps s t n h (omega arith);
-      piece_tokens = λ ps s t h l. (let few = few_tokens net ok ps s t (n * r.every) h l in let turned : n * r.every * most_tokens ≡ r.every * (n * most_tokens) = grind arith in omega arith);
+      piece_tokens = λ ps s t h l. (let few = few_tokens net ok ps s t (n * r.every) h l in let turned : n * r.every * most_place_tokens ≡ r.every * (n * most_place_tokens) = grind arith in omega arith);
       piece_time = λ ps s t h l. little_time net ok ps s t (n * r.every) h l;
       long = λ ps s t h far. ⊎_elim
           (λ (less : length ps < n * r.every).
           let few = few_tokens net ok ps s t (n * r.every) h (omega arith) in
-          let turned : n * r.every * most_tokens ≡ r.every * (n * most_tokens) = grind arith in
+          let turned : n * r.every * most_place_tokens ≡ r.every * (n * most_place_tokens) = grind arith in
           absurd (omega arith))
           (λ (more : n * r.every ≤ length ps). more)
           (cases_lt (length ps) (n * r.every));
@@ -96,11 +96,11 @@ product_most a b c d l m =
     omega arith
 
 bound_low : (n every size : ℕ) → n ≤ 400 → every ≤ 1000 → size ≤ 10000
-    → flat_bound (n * most_tokens) most_tokens every size + steep_bound (n * most_tokens) (n * most_tokens) (n * every * greatest_hold) every greatest_date < 10 ^ 23
+    → flat_bound (n * most_place_tokens) most_place_tokens every size + steep_bound (n * most_place_tokens) (n * most_place_tokens) (n * every * greatest_hold) every greatest_input_date < 10 ^ 23
 bound_low n every size ln le ls =
-    let piece : every * (n * most_tokens) ≤ 1000 * 400000 = product_most every (n * most_tokens) 1000 400000 le (omega arith) in
+    let piece : every * (n * most_place_tokens) ≤ 1000 * 400000 = product_most every (n * most_place_tokens) 1000 400000 le (omega arith) in
     let span : n * every ≤ 400 * 1000 = product_most n every 400 1000 ln le in
-    let last : n * every * greatest_hold * (1 + n * most_tokens + every) ≤ 400000000000000 * 401001 = product_most (n * every * greatest_hold) (1 + n * most_tokens + every) 400000000000000 401001 (omega arith) (omega arith) in
+    let last : n * every * greatest_hold * (1 + n * most_place_tokens + every) ≤ 400000000000000 * 401001 = product_most (n * every * greatest_hold) (1 + n * most_place_tokens + every) 400000000000000 401001 (omega arith) (omega arith) in
     omega arith
 
 -- ---- the least late number
@@ -157,14 +157,14 @@ have_least net ok live x least r row k due date h =
 
 -- the date of a firing grows with its number
 pub date_within : (net : NetLists) → IsNet net → IsLive net → (x : ℕ → ℕ → Date) → IsLeastUnder net inputs_at_zero x → (t k date : ℕ) → t < length net.transitions → 1 ≤ k → x t k ≡ At (pos date)
-    → date ≤ greatest_date + greatest_hold * (k * 402 + 402)
+    → date ≤ greatest_input_date + greatest_hold * (k * 402 + 402)
 date_within net ok live x least t k date l o e =
     let ranks = live_ranks net (net_ends net ok) live in
-    let w : AreWithin net inputs_at_zero (λ j. greatest_date) =
+    let w : AreWithin net inputs_at_zero (λ j. greatest_input_date) =
     record { grows = λ j m q. omega arith; ready = omega arith; inputs = λ v j q i. (omega (arith, ints), omega (arith, ints)) } in
     let n : ℕ = length net.transitions in
     let size = ok.few_transitions in
-    let within = rw e at (least_within net inputs_at_zero x (suc (suc n)) ranks.0 (λ j. greatest_date) ok ranks.1 w least t k l o) in
+    let within = rw e at (least_within net inputs_at_zero x (suc (suc n)) ranks.0 (λ j. greatest_input_date) ok ranks.1 w least t k l o) in
     let low = ranks.1.below t in
     let wide : k * suc (suc n) ≤ k * 402 = mul-le-mul_left {m = suc (suc n)} {n = 402} k (omega arith) in
     omega (arith, ints, within.1)
@@ -178,7 +178,7 @@ late_is_soon net ok live x least r row k due date h =
     let t : ℕ = r.transition.index in
     let n : ℕ = length net.transitions in
     let late = late_to net ok live x least r k due date h.late in
-    let soon = late_soon (unrolled net) n (n * most_tokens) (n * most_tokens) (n * r.every * greatest_hold) most_tokens r.every greatest_date r.gap (length r.dates) (least_number net ok live x least) (due_number r)
+    let soon = late_soon (unrolled net) n (n * most_place_tokens) (n * most_place_tokens) (n * r.every * greatest_hold) most_place_tokens r.every greatest_input_date r.gap (length r.dates) (least_number net ok live x least) (due_number r)
     (setting net ok live x least r row) t k row.in_range h.late.from_one late in
     let within = soon.within in
     let low = bound_low n r.every (length r.dates) ok.few_transitions row.goes_on.every_in row.few in

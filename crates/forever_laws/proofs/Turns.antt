@@ -11,14 +11,14 @@ use Rattle.teg_net.specs.Nets.{NetLists, IsNet}
 use Rattle.teg_net.specs.Circuits.{IsLive}
 use Rattle.teg_model.specs.Datings.{IsLeastUnder}
 use Rattle.teg_model.proofs.Tokens.{dates_climb}
-use Rattle.settled_laws.specs.Forms.{step_of}
-use Rattle.due_laws.specs.Dues.{inputs_at_zero}
+use Rattle.settled_laws.specs.SettledForms.{step_of_form}
+use Rattle.due_laws.specs.MeetingDueDates.{inputs_at_zero}
 use Rattle.bound_laws.proofs.WalkTimes.{number_of}
 use Rattle.forever_laws.specs.declared.rows.EndlessRow.{EndlessRow}
-use Rattle.forever_laws.specs.Rows.{IsEndlessRow}
+use Rattle.forever_laws.specs.EndlessRows.{IsEndlessRow}
 use Rattle.forever_laws.specs.Late.{IsLateAt, NoneLateTo, NoneLate, IsLeastLate}
-use Rattle.forever_laws.specs.Searches.{IsTurnOf, turns_to, IsSoonest}
-use Rattle.forever_laws.specs.Laws.{TurnsTellLate, StepsAreFromZero}
+use Rattle.forever_laws.specs.LateSearches.{IsCommonPeriodOf, turns_to, IsSoonest}
+use Rattle.forever_laws.specs.EndlessDues.{TurnsTellLate, StepsAreFromZero}
 use Rattle.forever_laws.proofs.GoingOn.{due_number, due_is, due_only, due_again}
 use Rattle.forever_laws.proofs.FirstLate.{GoOn, on_by, never_late, IsFewest, IsFirstOver, first_late}
 use Rattle.forever_laws.proofs.Zeros.{least_number, date_is, at_most_numbers}
@@ -28,7 +28,7 @@ moved : (z rise : ℕ) → number_of (move (pos rise) (At (pos z))) ≡ z + rise
 moved z rise = refl
 
 module _ (net : NetLists) (ok : IsNet net) (live : IsLive net) (x : ℕ → ℕ → Date) (least : IsLeastUnder net inputs_at_zero x)
-    (r : EndlessRow) (row : IsEndlessRow net r) (past turn rise fall : ℕ) (s : IsTurnOf x r past turn rise fall) where
+    (r : EndlessRow) (row : IsEndlessRow net r) (past turn rise fall : ℕ) (s : IsCommonPeriodOf x r past turn rise fall) where
   abbrev z : ℕ → ℕ
   z k = least_number net ok live x least r.transition.index k
 
@@ -120,5 +120,5 @@ steps_from_zero net ok live x least f stands t l =
     let there = date_is net ok live x least t (k + f.period) l (omega arith) in
     let again = stands.repeats.again t k l (omega arith) in (
       z (k + f.period) - z k,
-      step_between (z k) (z (k + f.period)) (step_of f t) (rises_on net ok live x least t k f.period l (omega arith)) (sym there ∙ (again ∙ ap (move (step_of f t)) here)),
+      step_between (z k) (z (k + f.period)) (step_of_form f t) (rises_on net ok live x least t k f.period l (omega arith)) (sym there ∙ (again ∙ ap (move (step_of_form f t)) here)),
     )

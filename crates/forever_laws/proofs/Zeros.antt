@@ -10,7 +10,7 @@ use Rattle.dioid.specs.Dates.{IsAtMostDate, delayed, later_of}
 use Rattle.dioid.proofs.DateOrder.{later_is_left}
 use Rattle.teg_net.specs.declared.entries.PlaceId.{PlaceId}
 use Rattle.teg_net.specs.declared.entries.Place.{Place}
-use Rattle.teg_net.specs.Limits.{most_tokens}
+use Rattle.teg_net.specs.Limits.{most_place_tokens}
 use Rattle.teg_net.specs.Nets.{NetLists, IsNet, IsInput}
 use Rattle.teg_net.specs.Circuits.{place_at, IsPathBetween, IsLive, time_of, tokens_of}
 use Rattle.teg_net.specs.Walks.{Walks, walk_time}
@@ -18,19 +18,19 @@ use Rattle.teg_net.specs.ReadyDates.{ready_date, start_date}
 use Rattle.teg_net.proofs.StartDates.{IsStartDate-start_date}
 use Rattle.teg_net.proofs.PathLaws.{IsPathBetween-append}
 use Rattle.teg_model.specs.Datings.{IsLeastUnder, at_input}
-use Rattle.teg_model.specs.Starts.{start_of}
+use Rattle.teg_model.specs.Starts.{start_of_firing}
 use Rattle.teg_model.specs.WalkDates.{IsDateOfWalk, IsGreatestOfWalks}
 use Rattle.teg_model.proofs.OfNet.{input_or_not, net_ends}
 use Rattle.teg_model.proofs.GreatestWalks.{least_is_walk}
 use Rattle.teg_model.proofs.LiveRanks.{live_ranks}
-use Rattle.due_laws.specs.Dues.{inputs_at_zero}
+use Rattle.due_laws.specs.MeetingDueDates.{inputs_at_zero}
 use Rattle.bound_laws.proofs.Unrolled.{unrolled, Pathed, pathed, Stepped, stepped}
 use Rattle.bound_laws.proofs.WalkTimes.{number_of, Waiting, waiting}
 use Rattle.teg_loops.proofs.Visits.{rounds, rounds_lead, rounds_sum}
 use Rattle.forever_laws.proofs.Late.{ReachedFrom}
 
 -- the start of a firing
-pub zero_start : (net : NetLists) (t k : ℕ) → start_of net inputs_at_zero t k ≡ At (pos (start_date net t k))
+pub zero_start : (net : NetLists) (t k : ℕ) → start_of_firing net inputs_at_zero t k ≡ At (pos (start_date net t k))
 zero_start net t k =
     ⊎_elim
     (λ (e : IsInput net t × (at_input net t (At (pos 0)) Early ≡ At (pos 0))).
@@ -68,10 +68,10 @@ module _ (net : NetLists) (ok : IsNet net) (live : IsLive net) (x : ℕ → ℕ 
   -- a walk's start and time come no later
   pub walk_most : (t k a s : ℕ) (steps : _) → t < length net.transitions → 1 ≤ k → a < length net.transitions → 1 ≤ s → Walks net a s steps t k → start_date net a s + walk_time net steps ≤ least_number t k
   walk_most t k a s steps l o la os w =
-      let h : IsDateOfWalk net inputs_at_zero t k (delayed (walk_time net steps) (start_of net inputs_at_zero a s)) =
-      record { from = a; number = s; steps = steps; start = start_of net inputs_at_zero a s; from_in = la; from_one = os; walk = w; starts = refl; is = refl } in
-      let below = (walks t k l o).greatest (delayed (walk_time net steps) (start_of net inputs_at_zero a s)) h in
-      let left : delayed (walk_time net steps) (start_of net inputs_at_zero a s) ≡ At (pos (start_date net a s + walk_time net steps)) =
+      let h : IsDateOfWalk net inputs_at_zero t k (delayed (walk_time net steps) (start_of_firing net inputs_at_zero a s)) =
+      record { from = a; number = s; steps = steps; start = start_of_firing net inputs_at_zero a s; from_in = la; from_one = os; walk = w; starts = refl; is = refl } in
+      let below = (walks t k l o).greatest (delayed (walk_time net steps) (start_of_firing net inputs_at_zero a s)) h in
+      let left : delayed (walk_time net steps) (start_of_firing net inputs_at_zero a s) ≡ At (pos (start_date net a s + walk_time net steps)) =
       ap (delayed (walk_time net steps)) (zero_start net a s) ∙ at_later (start_date net a s) (walk_time net steps) in
       at_most_numbers (start_date net a s + walk_time net steps) (least_number t k)
       (subst (λ z. IsAtMostDate (At (pos (start_date net a s + walk_time net steps))) z) (date_is t k l o) (subst (λ z. IsAtMostDate z (x t k)) left below))
@@ -87,13 +87,13 @@ module _ (net : NetLists) (ok : IsNet net) (live : IsLive net) (x : ℕ → ℕ 
       omega arith
 
   -- a start above 0 is a ready date, so its number is no greater than the tokens of some place
-  late_start : (a s : ℕ) → 0 < start_date net a s → s ≤ most_tokens
+  late_start : (a s : ℕ) → 0 < start_date net a s → s ≤ most_place_tokens
   late_start a s some =
       ⊎_elim
       (λ (none : start_date net a s ≡ 0). absurd (omega arith))
       (λ (one : Any (λ p. (p.to.index ≡ a) × (s ≤ p.tokens) × (ready_date p s ≡ start_date net a s)) net.places).
       let (i, p, l, r, (into, few, e)) = one in
-      let most : p.tokens ≤ most_tokens = subst (λ (q : Place). q.tokens ≤ most_tokens) r (ok.each_place i p l).tokens_in in
+      let most : p.tokens ≤ most_place_tokens = subst (λ (q : Place). q.tokens ≤ most_place_tokens) r (ok.each_place i p l).tokens_in in
       omega arith)
       (IsStartDate-start_date net a s).reached
 
@@ -104,7 +104,7 @@ module _ (net : NetLists) (ok : IsNet net) (live : IsLive net) (x : ℕ → ℕ 
       let two : time_of (unrolled net) (rounds m (wait.id ∷ [])) ≡ m * 0 = rounds_sum (λ p. (place_at (unrolled net) p).hold) (wait.id ∷ []) m ∙ ap (λ (z : ℕ). m * z) wait.time in
       (rounds m (wait.id ∷ []), rounds_lead (unrolled net) a (wait.id ∷ []) m wait.path, omega arith, omega arith)
 
-  pub reached : (t k : ℕ) → t < length net.transitions → 1 ≤ k → ReachedFrom (unrolled net) (length net.transitions) most_tokens least_number t k
+  pub reached : (t k : ℕ) → t < length net.transitions → 1 ≤ k → ReachedFrom (unrolled net) (length net.transitions) most_place_tokens least_number t k
   reached t k l o =
       let w : IsDateOfWalk net inputs_at_zero t k (x t k) = (walks t k l o).reached in
       let path : Pathed net w.from t w.number k w.steps = pathed net ok w.steps w.from w.number t k w.from_in w.walk in

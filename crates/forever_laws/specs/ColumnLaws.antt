@@ -4,28 +4,28 @@ use Rattle.dioid_matrix.specs.Residuals.{RowFits}
 use Rattle.series_ops.specs.declared.gains.Gain.{Gain}
 use Rattle.teg_net.specs.Nets.{NetLists, IsNet, IsInput}
 use Rattle.teg_net.specs.Circuits.{IsLive}
-use Rattle.settled_laws.specs.Forms.{SettledForm, settled_length}
+use Rattle.settled_laws.specs.SettledForms.{SettledForm, settled_length}
 use Rattle.teg_settle.specs.Transfers.{IsTransferOf, TransferSettlesPast}
 use Rattle.periodic_laws.specs.Equations.{gains}
 use Rattle.forever_laws.specs.declared.rows.EndlessRow.{EndlessRow}
-use Rattle.forever_laws.specs.Rows.{IsEndlessOf}
-use Rattle.forever_laws.specs.Columns.{AreColumns, gain_residuals}
+use Rattle.forever_laws.specs.EndlessRows.{IsEndlessOf}
+use Rattle.forever_laws.specs.SeriesColumns.{AreSeriesColumns, gain_residuals}
 
 -- in a live net each input has columns
 abbrev pub ColumnsExist : Type 0
 ColumnsExist = (net : NetLists) → IsNet net → IsLive net → (rows : List EndlessRow) → IsEndlessOf net rows → (input : ℕ) → IsInput net input
-    → (walks : ℕ → Gain) × (dues : ℕ → Gain) × AreColumns net input rows walks dues
+    → (walks : ℕ → Gain) × (dues : ℕ → Gain) × AreSeriesColumns net input rows walks dues
 
 -- two columns are one, row by row
 abbrev pub ColumnsAreOne : Type 0
 ColumnsAreOne = (net : NetLists) (input : ℕ) (rows : List EndlessRow) (walks dues other_walks other_dues : ℕ → Gain)
-    → AreColumns net input rows walks dues → AreColumns net input rows other_walks other_dues
+    → AreSeriesColumns net input rows walks dues → AreSeriesColumns net input rows other_walks other_dues
     → (i : ℕ) → i < length rows → (walks i ≡ other_walks i) × (dues i ≡ other_dues i)
 
 -- so a row fits in both or in none
 abbrev pub RowsFitAlike : Type 0
 RowsFitAlike = (net : NetLists) (input : ℕ) (rows : List EndlessRow) (walks dues other_walks other_dues : ℕ → Gain)
-    → AreColumns net input rows walks dues → AreColumns net input rows other_walks other_dues
+    → AreSeriesColumns net input rows walks dues → AreSeriesColumns net input rows other_walks other_dues
     → (i : ℕ) → i < length rows → RowFits gains gain_residuals walks dues i → RowFits gains gain_residuals other_walks other_dues i
 
 -- walk times that have no form of at most this length have a longer shortest one

@@ -3,7 +3,7 @@ use Rattle.std.specs.Prelude.{ℕ, pos, ◌<◌, ◌≤◌, ◌≡◌, List, Som
 use Rattle.dioid.specs.declared.dates.Date.{Date}
 use Rattle.dioid.specs.declared.dates.Date.TheVariants.{At}
 use Rattle.forever_laws.specs.declared.rows.EndlessRow.{EndlessRow}
-use Rattle.forever_laws.specs.Rows.{row_due}
+use Rattle.forever_laws.specs.EndlessRows.{row_due}
 
 -- firing k of the row's transition is due at `due` and comes at `least`, which is later
 pub record IsLateAt (x : ℕ → ℕ → Date) (r : EndlessRow) (k due least : ℕ) : Type 0 where
@@ -26,7 +26,7 @@ pub record IsLeastLate (x : ℕ → ℕ → Date) (r : EndlessRow) (k due least 
   pub first : (j d z : ℕ) → IsLateAt x r j d z → k ≤ j
 
 -- r is the first of the rows that has a late number, and k its least
-pub record IsFirstLate (x : ℕ → ℕ → Date) (rows : List EndlessRow) (r : EndlessRow) (k due least : ℕ) : Type 0 where
+pub record IsFirstLateRow (x : ℕ → ℕ → Date) (rows : List EndlessRow) (r : EndlessRow) (k due least : ℕ) : Type 0 where
   pub index : ℕ
   pub is_row : slice_get rows index ≡ Some r
   pub none_before : All (NoneLate x) (take index rows)

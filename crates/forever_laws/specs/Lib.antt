@@ -1,6 +1,6 @@
-pub mod Rows
+pub mod EndlessRows
 pub mod Late
-pub mod Searches
-pub mod Columns
-pub mod Laws
+pub mod LateSearches
+pub mod SeriesColumns
+pub mod EndlessDues
 pub mod ColumnLaws

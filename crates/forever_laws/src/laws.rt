@@ -1,7 +1,7 @@
 //! The laws of endless due dates. Each is a function that does nothing when it runs: its contract is
 //! the law.
 ghost use Rattle.forever_laws.specs.ColumnLaws.{ColumnsAreOne, ColumnsExist, RowsFitAlike, TransfersHaveOneLength};
-ghost use Rattle.forever_laws.specs.Laws.{DueSeriesFit, DuesAreSeries, FreeAtEachNumber, LateExcludesMeet, LateIsSoon, LateNumbersHaveLeast, LatestAtInputsAreLatest, LatestDatesFromZero, MeetOrLate, ResidualsAreFreeOrNumbers, ResidualsAreLatestDates, RowsGoOn, StepsAreFromZero, TransfersAreSeries, TurnsTellLate, WalkSeriesFit, ZeroInputsAreNoLists, ZeroMeetsWhereNoneLate};
+ghost use Rattle.forever_laws.specs.EndlessDues.{DueSeriesFit, DuesAreSeries, FreeAtEachNumber, EndlessLateExcludesMeet, LateIsSoon, LateNumbersHaveLeast, LatestAtInputsAreLatest, LatestDatesFromZero, EndlessMeetOrLate, ResidualsAreFreeOrNumbers, ResidualsAreLatestDates, RowsGoOn, StepsAreFromZero, TransfersAreSeries, TurnsTellLate, WalkSeriesFit, ZeroInputsAreNoLists, ZeroMeetsWhereNoneLate};
 
 use teg_settle::walk_times_settle;
 
@@ -53,8 +53,8 @@ pub fn late_is_soon()
 /// In a live net inputs at 0 meet endless due dates, or some row is the first with a late number, and
 /// not both.
 pub fn meet_or_late()
-    ensures one { MeetOrLate }
-    ensures not_both { LateExcludesMeet }
+    ensures one { EndlessMeetOrLate }
+    ensures not_both { EndlessLateExcludesMeet }
 {}
 
 /// In a live net where inputs at 0 meet the due dates, the latest dates at the inputs are the latest

@@ -1,7 +1,7 @@
 //! A small net whose dates are plain to see.
 ghost use Rattle.std.specs.Prelude.{◌≡◌, ◌+◌, ◌<◌, length};
-ghost use Rattle.teg_net.specs.Limits.{greatest_number};
-ghost use Rattle.teg_form.specs.Forms.{IsFormOf};
+ghost use Rattle.teg_net.specs.Limits.{greatest_firing_number};
+ghost use Rattle.teg_form.specs.StandardForms.{IsStandardFormOf};
 ghost use Rattle.teg_dates.specs.Streams.{IsStreamOf};
 
 use dioid::Date;
@@ -21,8 +21,8 @@ const LOOP: &[u8] =
 fn next_of(stream: &mut Stream, net: &Net, form: &Form) -> (Date, Date)
     requires two { length net.now.transitions ≡ 2 }
     requires stands { IsStreamOf net.now stream.old }
-    requires form { IsFormOf net.now form.now }
-    requires few { stream.old.last.number < greatest_number }
+    requires form { IsStandardFormOf net.now form.now }
+    requires few { stream.old.last.number < greatest_firing_number }
     ensures stands { IsStreamOf net.now stream.new }
     ensures number { stream.new.last.number ≡ stream.old.last.number + 1 }
 {

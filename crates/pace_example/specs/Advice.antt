@@ -3,16 +3,16 @@ use Rattle.std.specs.Prelude.{ℕ, ◌≡◌, ◌≢◌, ◌++◌, List, Option,
 use Rattle.teg_net.specs.Nets.{NetLists}
 use Rattle.teg_net.specs.Ratios.{Fraction}
 use Rattle.teg_net.specs.GreatestRatios.{IsGreatestRatio, HasNoCircuit, IsAnyPlace}
-use Rattle.teg_reader.specs.Documents.{document, Answers}
-use Rattle.teg_check.specs.Refusals.{IsRightRefusal}
-use Rattle.teg_text.specs.Words.{ratio_word}
+use Rattle.teg_reader.specs.Documents.{document, AnswersAsMeant}
+use Rattle.teg_check.specs.CheckRefusals.{IsRightCheckRefusal}
+use Rattle.teg_text.specs.ValueWords.{ratio_word}
 use Rattle.teg_due.specs.declared.rows.DueRow.{DueRow}
 use Rattle.teg_due.specs.declared.rows.DueRefusal.TheVariants.{OutOfMemory as no_memory}
-use Rattle.teg_due.specs.Dues.{due_of}
-use Rattle.due_laws.specs.Dues.{AreLatestInputs}
+use Rattle.teg_due.specs.DueFileRows.{due_of}
+use Rattle.due_laws.specs.MeetingDueDates.{AreLatestInputs}
 use Rattle.teg_jit.specs.DueDates.{due_in}
-use Rattle.teg_jit.specs.Plans.{PlanDates, dates_of, IsPlanFor}
-use Rattle.teg_jit.specs.Refusals.{LateIsRight}
+use Rattle.teg_jit.specs.Plans.{PlanDates, dates_of_plan, IsPlanFor}
+use Rattle.teg_jit.specs.LateRefusals.{LateIsRight}
 use Rattle.pace_example.specs.declared.no_advice.NoAdvice.{NoAdvice}
 use Rattle.pace_example.specs.declared.no_advice.NoAdvice.TheVariants.{NoNet, NotLive, NoDue, Late, OutOfMemory}
 
@@ -35,12 +35,12 @@ abbrev pub IsAdvice : List ℕ → List ℕ → List ℕ → PlanDates → Type 
 IsAdvice net due line plan =
     (lists : NetLists) × (rows : List DueRow) × (ratio : Option Fraction) × Say net due lists rows
     × IsPaceOf lists ratio × (line ≡ pace_line ratio)
-    × IsPlanFor lists (due_in rows) plan × AreLatestInputs lists (due_in rows) (dates_of plan)
+    × IsPlanFor lists (due_in rows) plan × AreLatestInputs lists (due_in rows) (dates_of_plan plan)
 
 -- why there is no advice: the refusal tells its cause in the bytes, but for want of memory
 abbrev pub IsWhyNot : List ℕ → List ℕ → NoAdvice → Type 0
-IsWhyNot net due (NoNet refusal) = Answers (document net) (Err refusal)
-IsWhyNot net due (NotLive refusal) = (lists : NetLists) × (document net ≡ Ok lists) × IsRightRefusal lists refusal
+IsWhyNot net due (NoNet refusal) = AnswersAsMeant (document net) (Err refusal)
+IsWhyNot net due (NotLive refusal) = (lists : NetLists) × (document net ≡ Ok lists) × IsRightCheckRefusal lists refusal
 IsWhyNot net due (NoDue refusal) = (lists : NetLists) × (document net ≡ Ok lists) × (refusal ≢ no_memory → due_of lists due ≡ Err refusal)
 IsWhyNot net due (Late refusal) = (lists : NetLists) × (rows : List DueRow) × Say net due lists rows × LateIsRight lists rows refusal
 IsWhyNot net due OutOfMemory = ⊤

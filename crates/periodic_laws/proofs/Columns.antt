@@ -1,19 +1,20 @@
 -- The least solution of the linear system of places, and that the least dates, which are its values, repeat.
 use Rattle.std.proofs.Common.{ℕ, ◌+◌}
-use Rattle.dioid_matrix.specs.Stars.{star_of, IsLeastSolution, StarsAreLeast}
+use Rattle.dioid_matrix.specs.MatrixStars.{star_of, IsLeastSolution, StarsAreLeast}
 use Rattle.dioid_matrix.proofs.Order.{total_is}
-use Rattle.series_laws.specs.Forms.{IsCanonical}
+use Rattle.series_laws.specs.SeriesForms.{IsCanonical}
 use Rattle.series_ops.specs.declared.gains.Gain.{Gain}
 use Rattle.series_ops.specs.Gains.{gain_product}
 use Rattle.series_ops.specs.Proved.GainLaws.{gains_closed, gain_laws}
-use Rattle.teg_model.specs.Systems.{Dating, System}
-use Rattle.teg_model.specs.Ranks.{AreRanks}
-use Rattle.settled_laws.specs.Forms.{SettledForm, RepeatsAfter, IsShortest}
+use Rattle.teg_model.specs.Systems.{System}
+use Rattle.teg_model.specs.LiveRanks.{AreRanks}
+use Rattle.teg_model.proofs.DateFunctions.{Dating}
+use Rattle.settled_laws.specs.SettledForms.{SettledForm, RepeatsAfter, IsShortestForm}
 use Rattle.periodic_laws.specs.PeriodicDates.{ArePeriodic}
 use Rattle.periodic_laws.specs.Equations.{gains, gain_stars, AreCoefficients}
-use Rattle.periodic_laws.specs.Columns.{entry_of_places, right_side, column}
-use Rattle.periodic_laws.specs.Numbers.{common_start, common_period, common_step}
-use Rattle.periodic_laws.specs.Laws.{AreGainsOf}
+use Rattle.periodic_laws.specs.GainColumns.{entry_of_places, right_side, column}
+use Rattle.periodic_laws.specs.RepeatNumbers.{common_start, common_period, common_step}
+use Rattle.periodic_laws.specs.LinearSystem.{AreGainsOf}
 use Rattle.periodic_laws.proofs.Values.{Holds}
 use Rattle.periodic_laws.proofs.Entries.{entry_holds}
 use Rattle.periodic_laws.proofs.Fixed.{IsSystemOf, IsLeastOn, right_holds, values_are_dates}
@@ -58,7 +59,7 @@ module _ (stars : StarsAreLeast gains gain_stars) (count : ℕ) (s : System) (r 
       → RepeatsAfter count x (common_start count (λ t. (column count s r t).series)) (common_period count (λ t. (column count s r t).series)) (common_step count (λ t. (column count s r t).series))
   column_repeats bound rank ranks x h = values_repeat count (λ t. (column count s r t).series) column_is x (column_values x bound rank ranks h)
 
-  pub column_settles : (bound : ℕ) (rank : ℕ → ℕ) → AreRanks s.places bound rank → (x : Dating) → IsLeastOn count s x → (f : SettledForm) × IsShortest count f x
+  pub column_settles : (bound : ℕ) (rank : ℕ → ℕ) → AreRanks s.places bound rank → (x : Dating) → IsLeastOn count s x → (f : SettledForm) × IsShortestForm count f x
   column_settles bound rank ranks x h = values_settle count (λ t. (column count s r t).series) column_is x (column_values x bound rank ranks h)
 
   pub column_periodic : (bound : ℕ) (rank : ℕ → ℕ) → AreRanks s.places bound rank → (x : Dating) → IsLeastOn count s x → ArePeriodic count x

@@ -6,15 +6,15 @@ use Rattle.std.proofs.lemmas.Bool.Decides.{nat_tests}
 use Rattle.std.proofs.lemmas.List.Elements.{All-tail}
 use Rattle.dioid.specs.declared.dates.Date.{Date}
 use Rattle.dioid.specs.declared.dates.Date.TheVariants.{Early, At}
-use Rattle.dioid.specs.Order.{Le}
+use Rattle.dioid.specs.DateOrder.{Le}
 use Rattle.dioid.proofs.AtMost.{le_is, le_trans, early_le, le_later_left, le_later_right, later_le}
 use Rattle.series_laws.specs.Pointwise.{sum_at}
 use Rattle.series_ops.specs.declared.gains.Gain.{Gain}
 use Rattle.series_ops.specs.Gains.{gain_zero}
 use Rattle.teg_net.specs.declared.entries.Place.{Place}
-use Rattle.teg_model.specs.Systems.{InitialDates}
-use Rattle.periodic_laws.specs.Equations.{stair, place_at, entry_at, tokens_at, start_place_at, start_at}
-use Rattle.periodic_laws.specs.Columns.{stair_gain, place_gain, entry_of_places, tokens_gain, start_place, start_of_places, right_side}
+use Rattle.teg_model.proofs.DateFunctions.{InitialDates}
+use Rattle.periodic_laws.specs.Equations.{stair, entry_of_place, entry_at, tokens_at, start_place_at, start_at}
+use Rattle.periodic_laws.specs.GainColumns.{stair_gain, place_gain, entry_of_places, tokens_gain, start_place, start_of_places, right_side}
 use Rattle.periodic_laws.proofs.Values.{Holds, zero_holds, sum_holds, stair_holds}
 
 -- what a place adds, as a function
@@ -23,7 +23,7 @@ delay_at p k = stair p.tokens (At (pos p.hold)) k
 
 -- ---- entries
 
-place_holds : (p : Place) (i j : ℕ) → Holds (place_gain p i j) (place_at p i j)
+place_holds : (p : Place) (i j : ℕ) → Holds (place_gain p i j) (entry_of_place p i j)
 unfolding place_gain
 place_holds p i j = elim (eqb p.to.index i && eqb p.from.index j) as (λ b. Holds (cond b (stair_gain p.tokens (At (pos p.hold))) gain_zero) (λ k. cond b (delay_at p k) Early)) [
   | true ↦ stair_holds p.tokens (At (pos p.hold))
@@ -33,7 +33,7 @@ place_holds p i j = elim (eqb p.to.index i && eqb p.from.index j) as (λ b. Hold
 pub entry_holds : (ps : List Place) (i j : ℕ) → Holds (entry_of_places ps i j) (entry_at ps i j)
 unfolding entry_of_places
 entry_holds [] i j = zero_holds
-entry_holds (p ∷ ps) i j = sum_holds (place_gain p i j) (entry_of_places ps i j) (place_at p i j) (entry_at ps i j) (place_holds p i j) (entry_holds ps i j)
+entry_holds (p ∷ ps) i j = sum_holds (place_gain p i j) (entry_of_places ps i j) (entry_of_place p i j) (entry_at ps i j) (place_holds p i j) (entry_holds ps i j)
 
 both_true : (a b c d : ℕ) → a ≡ b → c ≡ d → eqb a b && eqb c d ≡ true
 both_true a b c d e f = grind (arith, nat_tests)
@@ -46,11 +46,11 @@ pub le_entry : (ps : List Place) (i j k : ℕ) → All (λ p. p.to.index ≡ i �
 le_entry [] i j k q d l = absurd (omega arith)
 le_entry (p ∷ ps) i j k zero d l = λ e f.
     let t : eqb p.to.index i && eqb p.from.index j ≡ true = both_true p.to.index i p.from.index j e f in
-    let is : place_at p i j k ≡ delay_at p k = rw t refl in
-    le_trans (le_is (sym is)) (le_later_left (place_at p i j k) (entry_at ps i j k))
-le_entry (p ∷ ps) i j k (suc q) d l = λ e f. le_trans (le_entry ps i j k q d (omega arith) e f) (le_later_right (place_at p i j k) (entry_at ps i j k))
+    let is : entry_of_place p i j k ≡ delay_at p k = rw t refl in
+    le_trans (le_is (sym is)) (le_later_left (entry_of_place p i j k) (entry_at ps i j k))
+le_entry (p ∷ ps) i j k (suc q) d l = λ e f. le_trans (le_entry ps i j k q d (omega arith) e f) (le_later_right (entry_of_place p i j k) (entry_at ps i j k))
 
-place_le : (p : Place) (i j k : ℕ) (c : Date) → (p.to.index ≡ i → p.from.index ≡ j → Le (delay_at p k) c) → Le (place_at p i j k) c
+place_le : (p : Place) (i j k : ℕ) (c : Date) → (p.to.index ≡ i → p.from.index ≡ j → Le (delay_at p k) c) → Le (entry_of_place p i j k) c
 place_le p i j k c h = cases (eqb p.to.index i && eqb p.from.index j) refl where
   cases : (b : Bool) → (eqb p.to.index i && eqb p.from.index j) ≡ b → Le (cond b (delay_at p k) Early) c
   cases true e = let both = both_hold p.to.index i p.from.index j e in h both.0 both.1

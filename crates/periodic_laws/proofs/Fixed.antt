@@ -9,11 +9,11 @@ use Rattle.dioid.specs.Dates.{IsAtMostDate, later_of, delayed, date_product, dat
 use Rattle.dioid.specs.Proved.DateLaws.{times_early}
 use Rattle.dioid.proofs.DateOrder.{delayed_rises}
 use Rattle.dioid_matrix.specs.Sums.{dot}
-use Rattle.dioid.specs.Order.{Le}
+use Rattle.dioid.specs.DateOrder.{Le}
 use Rattle.dioid.proofs.AtMost.{le_refl, le_is, le_trans, le_antisym, early_le, le_later_left, le_later_right, later_le, product_le}
 use Rattle.series_laws.specs.Periodic.{Rising}
 use Rattle.series_laws.specs.Pointwise.{sum_at}
-use Rattle.series_laws.specs.Forms.{value_at, IsCanonical}
+use Rattle.series_laws.specs.SeriesForms.{value_at, IsCanonical}
 use Rattle.series_laws.specs.Product.{product_at}
 use Rattle.series_laws.proofs.ProductsRepeat.{le_product, product_at_le}
 use Rattle.series_laws.proofs.StarParts.{to_left, from_left}
@@ -22,14 +22,15 @@ use Rattle.series_ops.specs.declared.gains.Gain.{Gain}
 use Rattle.series_ops.specs.Gains.{gain_sum, gain_product}
 use Rattle.teg_net.specs.declared.entries.Place.{Place}
 use Rattle.teg_net.specs.Circuits.{no_place}
-use Rattle.teg_model.specs.Systems.{Dating, System, available, IsFeasibleIn}
-use Rattle.teg_model.specs.Ranks.{AreRanks}
+use Rattle.teg_model.specs.Systems.{System, available, IsFeasibleIn}
+use Rattle.teg_model.specs.LiveRanks.{AreRanks}
 use Rattle.teg_model.specs.Datings.{implicit_place}
 use Rattle.teg_model.proofs.LeastOver.{falls}
 use Rattle.teg_model.proofs.Tokens.{available_after, available_first, implicit_after}
+use Rattle.teg_model.proofs.DateFunctions.{Dating}
 use Rattle.periodic_laws.specs.Equations.{gains, stair, entry_at, start_at}
 use Rattle.periodic_laws.proofs.Values.{Holds, holds_own, sum_holds, product_holds, total_at, total_holds, le_total, total_le, stair_before, stair_from}
-use Rattle.periodic_laws.specs.Columns.{entry_of_places, right_side}
+use Rattle.periodic_laws.specs.GainColumns.{entry_of_places, right_side}
 use Rattle.periodic_laws.proofs.Entries.{delay_at, entry_holds, le_entry, entry_le, right_side_holds, le_start, start_le}
 
 -- the places lead between the first `count` transitions, each of these has its implicit place, and no other is released

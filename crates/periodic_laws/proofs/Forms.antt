@@ -10,13 +10,13 @@ use Rattle.dioid.specs.declared.dates.Date.{Date}
 use Rattle.dioid.specs.declared.dates.Date.TheVariants.{Early, Never}
 use Rattle.dioid.specs.Dates.{move}
 use Rattle.series_laws.specs.Periodic.{Repeats, times}
-use Rattle.series_laws.specs.Forms.{Form, start_of, value_at, IsForm, IsCanonical, table}
+use Rattle.series_laws.specs.SeriesForms.{Form, repeat_start, value_at, IsForm, IsCanonical, table}
 use Rattle.series_laws.proofs.Repeating.{repeats_times}
 use Rattle.series_laws.proofs.FormValues.{value_repeats, table_length, table_at}
 use Rattle.series_laws.proofs.LeastForms.{never_start, early_start}
-use Rattle.settled_laws.specs.Forms.{RepeatsAfter, IsTail, SettledForm, row_date, step_of, HasSizes, StandsFor, IsShortest}
+use Rattle.settled_laws.specs.SettledForms.{RepeatsAfter, IsTail, SettledForm, row_date, step_of_form, HasSizes, StandsFor, IsShortestForm}
 use Rattle.settled_laws.proofs.Shortest.{shortest_exists}
-use Rattle.periodic_laws.specs.Numbers.{common_start, common_period, common_step}
+use Rattle.periodic_laws.specs.RepeatNumbers.{common_start, common_period, common_step}
 use Rattle.periodic_laws.proofs.Multiples.{le_greatest, product_positive, product_times}
 
 times_none : (m : ℕ) → times m (pos 0) ≡ pos 0
@@ -33,15 +33,15 @@ module _ (count : ℕ) (f : ℕ → Form) (canonical : (t : ℕ) → IsCanonical
   abbrev step : ℕ → ℤ
   step = common_step count f
 
-  repeats : (t : ℕ) → t < count → Repeats (value_at (f t)) (start_of (f t)) period (step t)
+  repeats : (t : ℕ) → t < count → Repeats (value_at (f t)) (repeat_start (f t)) period (step t)
   repeats t l =
       let is : IsForm (f t) = (canonical t).form in
-      let own : Repeats (value_at (f t)) (start_of (f t)) (f t).period (f t).step = value_repeats (f t) is.period_positive is.period_fits in
+      let own : Repeats (value_at (f t)) (repeat_start (f t)) (f t).period (f t).step = value_repeats (f t) is.period_positive is.period_fits in
       let whole : period ≡ (period / (f t).period) * (f t).period = product_times (λ j. (f j).period) count t (λ j. (canonical j).form.period_positive) l in
-      subst (λ (z : ℕ). Repeats (value_at (f t)) (start_of (f t)) z (step t)) (sym whole) (repeats_times (period / (f t).period) own)
+      subst (λ (z : ℕ). Repeats (value_at (f t)) (repeat_start (f t)) z (step t)) (sym whole) (repeats_times (period / (f t).period) own)
 
-  begun : (t : ℕ) → t < count → start_of (f t) ≤ after
-  begun t l = le_greatest (λ j. start_of (f j)) count t l
+  begun : (t : ℕ) → t < count → repeat_start (f t) ≤ after
+  begun t l = le_greatest (λ j. repeat_start (f j)) count t l
 
   -- the form with the values of f as its dates
   abbrev settled : SettledForm
@@ -52,7 +52,7 @@ module _ (count : ℕ) (f : ℕ → Form) (canonical : (t : ℕ) → IsCanonical
     steps = map step (range_with_len 0 count);
   }
 
-  settled_step : (t : ℕ) → t < count → step_of settled t ≡ step t
+  settled_step : (t : ℕ) → t < count → step_of_form settled t ≡ step t
   settled_step t l = get_or-map-range_with_len step 0 count t t (pos 0) l (omega arith)
 
   settled_date : (t k : ℕ) → t < count → 1 ≤ k → k ≤ after + period → row_date settled t k ≡ value_at (f t) (k - 1)
@@ -74,7 +74,7 @@ module _ (count : ℕ) (f : ℕ → Form) (canonical : (t : ℕ) → IsCanonical
     again t k l h =
         let here : (k - 1) + 1 ≡ k = omega arith in
         let there : ((k - 1) + period) + 1 ≡ k + period = omega arith in
-        let low : start_of (f t) ≤ after = begun t l in
+        let low : repeat_start (f t) ≤ after = begun t l in
         ap (x t) (sym there) ∙ sym (values t ((k - 1) + period) l) ∙ (repeats t l).at (k - 1) (omega arith) ∙ ap (move (step t)) (values t (k - 1) l ∙ ap (x t) here)
 
     pub values_repeat : RepeatsAfter count x (common_start count f) (common_period count f) (common_step count f)
@@ -83,9 +83,9 @@ module _ (count : ℕ) (f : ℕ → Form) (canonical : (t : ℕ) → IsCanonical
     still : (t : ℕ) → t < count → IsTail (x t) after period Never ⊎ IsTail (x t) after period Early → step t ≡ pos 0
     still t l h =
         let is : IsForm (f t) = (canonical t).form in
-        let low : start_of (f t) ≤ after = begun t l in
+        let low : repeat_start (f t) ≤ after = begun t l in
         let one : 1 ≤ period = values_repeat.at_least_one in
-        let none : (value_at (f t) (start_of (f t)) ≡ Never) ⊎ (value_at (f t) (start_of (f t)) ≡ Early) → step t ≡ pos 0 = λ w. ap (times (period / (f t).period)) (is.tail w).1 ∙ times_none (period / (f t).period) in
+        let none : (value_at (f t) (repeat_start (f t)) ≡ Never) ⊎ (value_at (f t) (repeat_start (f t)) ≡ Early) → step t ≡ pos 0 = λ w. ap (times (period / (f t).period)) (is.tail w).1 ∙ times_none (period / (f t).period) in
         ⊎_elim
         (λ (never : IsTail (x t) after period Never). none (inl (never_start (f t) is after (values t after l ∙ never (after + 1) (omega arith) (omega arith)))))
         (λ (early : IsTail (x t) after period Early). none (inr (early_start (f t) is after low (values t after l ∙ early (after + 1) (omega arith) (omega arith)))))
@@ -99,5 +99,5 @@ module _ (count : ℕ) (f : ℕ → Form) (canonical : (t : ℕ) → IsCanonical
       still = λ t l e. settled_step t l ∙ still t l e;
     }
 
-    pub values_settle : (g : SettledForm) × IsShortest count g x
+    pub values_settle : (g : SettledForm) × IsShortestForm count g x
     values_settle = let best = shortest_exists count x settled settled_stands in (best.0, best.1)

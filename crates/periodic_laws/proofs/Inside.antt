@@ -5,18 +5,18 @@ use Rattle.std.proofs.lemmas.Bool.Decides.{nat_tests}
 use Rattle.dioid.specs.declared.dates.Date.{Date}
 use Rattle.dioid.specs.declared.dates.Date.TheVariants.{Early}
 use Rattle.dioid.specs.Dates.{move}
-use Rattle.dioid.specs.Order.{Le}
+use Rattle.dioid.specs.DateOrder.{Le}
 use Rattle.dioid.proofs.AtMost.{le_is, le_trans}
 use Rattle.series_laws.specs.Periodic.{Repeats}
-use Rattle.series_laws.specs.Forms.{Form, start_of, value_at, IsCanonical, canonical_of}
+use Rattle.series_laws.specs.SeriesForms.{Form, repeat_start, value_at, IsCanonical, canonical_of}
 use Rattle.series_laws.proofs.Repeating.{rising_by_one}
 use Rattle.series_laws.proofs.FormValues.{value_repeats}
 use Rattle.series_ops.specs.declared.gains.Gain.{Gain}
 use Rattle.series_ops.specs.Gains.{gain_of}
 use Rattle.periodic_laws.specs.PeriodicDates.{IsPeriodic, ArePeriodic}
-use Rattle.periodic_laws.specs.Laws.{PeriodicDatingsSettle}
+use Rattle.periodic_laws.specs.LinearSystem.{PeriodicDatingsSettle}
 use Rattle.periodic_laws.proofs.Values.{Holds}
-use Rattle.periodic_laws.proofs.Lists.{RisesAndRepeats, periodic_holds}
+use Rattle.periodic_laws.proofs.InputColumns.{RisesAndRepeats, periodic_holds}
 use Rattle.periodic_laws.proofs.Forms.{values_settle}
 
 -- ---- dates of numbers as values at shifts
@@ -42,9 +42,9 @@ periodic_gain_holds dates h = periodic_holds (from_first dates) h.after h.period
 -- and the values of a canonical form are periodic dates
 pub values_periodic : (f : Form) (dates : ℕ → Date) → IsCanonical f → ((k : ℕ) → value_at f k ≡ dates (k + 1)) → IsPeriodic dates
 values_periodic f dates is same =
-    let own : Repeats (value_at f) (start_of f) f.period f.step = value_repeats f is.form.period_positive is.form.period_fits in
+    let own : Repeats (value_at f) (repeat_start f) f.period f.step = value_repeats f is.form.period_positive is.form.period_fits in
     record {
-      after = start_of f;
+      after = repeat_start f;
       period = f.period;
       step = f.step;
       at_least_one = is.form.period_positive;

@@ -1,7 +1,7 @@
 mod Values
 mod Entries
 mod Fixed
-mod Lists
+mod InputColumns
 mod Multiples
 mod Forms
 mod Inside

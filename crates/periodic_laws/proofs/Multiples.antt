@@ -3,7 +3,7 @@ use Rattle.std.proofs.Common.{◌≡◌, ap, arith, ℕ, zero, suc, ◌*◌, ◌
 use Rattle.std.specs.Prelude.{max}
 use Rattle.std.proofs.lemmas.Bool.{cases_lt}
 use Rattle.std.proofs.Math.Nat.{le-max_left, le-max_right, le-mul_of_pos_right, mul-div_cancel}
-use Rattle.periodic_laws.specs.Numbers.{greatest_of, product_of}
+use Rattle.periodic_laws.specs.RepeatNumbers.{greatest_of, product_of}
 
 pub le_greatest : (f : ℕ → ℕ) (n t : ℕ) → t < n → f t ≤ greatest_of f n
 le_greatest f zero t h = absurd (omega arith)

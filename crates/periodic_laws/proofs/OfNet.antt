@@ -3,20 +3,21 @@ use Rattle.std.proofs.Common.{◌≡◌, refl, ap, ℕ, ◌≤◌, ◌<◌, leng
 use Rattle.std.specs.Prelude.{All}
 use Rattle.std.proofs.lemmas.Option.{slice_get_past}
 use Rattle.dioid.specs.declared.dates.Date.TheVariants.{Early}
-use Rattle.dioid_matrix.specs.Stars.{StarsAreLeast}
+use Rattle.dioid_matrix.specs.MatrixStars.{StarsAreLeast}
 use Rattle.teg_net.specs.Nets.{NetLists, IsNet}
-use Rattle.teg_model.specs.Systems.{Dating, InitialDates, System, IsLeastIn}
-use Rattle.teg_model.specs.Ranks.{HasEndsInRange}
-use Rattle.teg_model.specs.Datings.{IsLeastDating, IsLeastUnder, initial_date, extended_places, system_of, system_with, listed, at_input, by_transition}
+use Rattle.teg_model.specs.Systems.{System, IsLeastIn}
+use Rattle.teg_model.specs.LiveRanks.{HasEndsInRange}
+use Rattle.teg_model.specs.Datings.{IsLeastDating, IsLeastUnder, initial_date, extended_places, system_of, system_with, listed_releases, at_input, by_transition}
 use Rattle.teg_model.proofs.LeastOver.{least_over, least_over_is_least}
 use Rattle.teg_model.proofs.OfNet.{net_ends, all_extended_in, implicit_is, ranks_extended, feasible_in, feasible_from, least_of_system, least_of}
 use Rattle.teg_model.proofs.LiveRanks.{live_is_ranked}
+use Rattle.teg_model.proofs.DateFunctions.{Dating, InitialDates}
 use Rattle.periodic_laws.specs.PeriodicDates.{IsPeriodic}
 use Rattle.periodic_laws.specs.Equations.{gains, gain_stars}
-use Rattle.periodic_laws.specs.Columns.{entry_of_places, right_side, column, release_gain}
-use Rattle.periodic_laws.specs.Numbers.{repeats_past, repeats_in, repeats_by}
-use Rattle.periodic_laws.specs.Laws.{LeastDatingsSolve, LiveNetsSettle, LeastDatingsRepeat, LeastInArePeriodic, SystemsSettle}
-use Rattle.periodic_laws.proofs.Lists.{release_holds}
+use Rattle.periodic_laws.specs.GainColumns.{entry_of_places, right_side, column, release_gain}
+use Rattle.periodic_laws.specs.RepeatNumbers.{repeats_past, repeats_in, repeats_by}
+use Rattle.periodic_laws.specs.LinearSystem.{LeastDatingsSolve, LiveNetsSettle, LeastDatingsRepeat, LeastInArePeriodic, SystemsSettle}
+use Rattle.periodic_laws.proofs.InputColumns.{release_holds}
 use Rattle.periodic_laws.proofs.Fixed.{IsSystemOf, IsLeastOn}
 use Rattle.periodic_laws.proofs.Columns.{coefficients, column_solves, column_values, column_repeats, column_settles, column_periodic}
 use Rattle.periodic_laws.proofs.Inside.{inside, inside_not, inside_periodic, periodic_gain, periodic_gain_holds, periodic_settle}
@@ -32,8 +33,8 @@ none_outside : (net : NetLists) (u : Dating) (t k : ℕ) → length net.transiti
 none_outside net u t k l = ap (λ o. by_transition o (u t k) Early) (slice_get_past net.transitions t l)
 
 -- the system of the net's own input lists
-own_system : (net : NetLists) → IsNet net → IsSystemOf (length net.transitions) (system_of net (listed net))
-own_system net ok = system_is net initial_date (λ t k. at_input net t (listed net t k) Early) (net_ends net ok) (none_outside net (listed net))
+own_system : (net : NetLists) → IsNet net → IsSystemOf (length net.transitions) (system_of net (listed_releases net))
+own_system net ok = system_is net initial_date (λ t k. at_input net t (listed_releases net t k) Early) (net_ends net ok) (none_outside net (listed_releases net))
 
 least_on : (net : NetLists) (u x : Dating) → IsLeastUnder net u x → IsLeastOn (length net.transitions) (system_of net u) x
 least_on net u x h = record {
@@ -45,7 +46,7 @@ pub solves : StarsAreLeast gains gain_stars → LeastDatingsSolve
 unfolding column
 solves stars net ok live =
     let n : ℕ = length net.transitions in
-    let s : System = system_of net (listed net) in
+    let s : System = system_of net (listed_releases net) in
     let ranked = live_is_ranked net (net_ends net ok) live in
     let of : IsSystemOf n s = own_system net ok in
     let released = release_holds net ok in
@@ -56,23 +57,23 @@ solves stars net ok live =
       dates = column n s (release_gain net);
       least = column_solves stars n s (release_gain net) of released;
       by_star = λ i. refl;
-      are_dates = λ x h. column_values stars n s (release_gain net) of released x ranked.0 ranked.1 (ranks_extended net ranked.0 ranked.1 ranked.2) (least_on net (listed net) x h);
+      are_dates = λ x h. column_values stars n s (release_gain net) of released x ranked.0 ranked.1 (ranks_extended net ranked.0 ranked.1 ranked.2) (least_on net (listed_releases net) x h);
     }
 
 pub repeats : StarsAreLeast gains gain_stars → LeastDatingsRepeat
 unfolding repeats_past repeats_in repeats_by
 repeats stars net ok live x h =
     let ranked = live_is_ranked net (net_ends net ok) live in
-    column_repeats stars (length net.transitions) (system_of net (listed net)) (release_gain net) (own_system net ok) (release_holds net ok)
-    ranked.0 ranked.1 (ranks_extended net ranked.0 ranked.1 ranked.2) x (least_on net (listed net) x h)
+    column_repeats stars (length net.transitions) (system_of net (listed_releases net)) (release_gain net) (own_system net ok) (release_holds net ok)
+    ranked.0 ranked.1 (ranks_extended net ranked.0 ranked.1 ranked.2) x (least_on net (listed_releases net) x h)
 
 pub live_settles : StarsAreLeast gains gain_stars → LiveNetsSettle
 live_settles stars net ok live =
     let ranked = live_is_ranked net (net_ends net ok) live in
-    let x : Dating = least_over (system_of net (listed net)) ranked.0 ranked.1 in
-    let least : IsLeastDating net x = least_of_system net (listed net) x (least_of net (listed net) ranked.0 ranked.1 ranked.2) in
-    let best = column_settles stars (length net.transitions) (system_of net (listed net)) (release_gain net) (own_system net ok) (release_holds net ok)
-    ranked.0 ranked.1 (ranks_extended net ranked.0 ranked.1 ranked.2) x (least_on net (listed net) x least) in
+    let x : Dating = least_over (system_of net (listed_releases net)) ranked.0 ranked.1 in
+    let least : IsLeastDating net x = least_of_system net (listed_releases net) x (least_of net (listed_releases net) ranked.0 ranked.1 ranked.2) in
+    let best = column_settles stars (length net.transitions) (system_of net (listed_releases net)) (release_gain net) (own_system net ok) (release_holds net ok)
+    ranked.0 ranked.1 (ranks_extended net ranked.0 ranked.1 ranked.2) x (least_on net (listed_releases net) x least) in
     (best.0, (x, least, best.1))
 
 pub systems_periodic : StarsAreLeast gains gain_stars → LeastInArePeriodic

@@ -5,14 +5,14 @@ use Rattle.std.proofs.lemmas.Bool.Decides.{nat_tests}
 use Rattle.dioid.specs.Dates.{later_of}
 use Rattle.dioid.specs.declared.dates.Date.{Date}
 use Rattle.dioid.specs.declared.dates.Date.TheVariants.{Early}
-use Rattle.dioid_matrix.specs.Sums.{total}
-use Rattle.dioid.specs.Order.{Le}
+use Rattle.dioid_matrix.specs.Sums.{total_of_first}
+use Rattle.dioid.specs.DateOrder.{Le}
 use Rattle.dioid.specs.Dates.{move}
 use Rattle.dioid.proofs.AtMost.{le_is, le_trans, early_le, le_later_left, le_later_right, later_le}
 use Rattle.dioid.proofs.Moves.{move_zero}
 use Rattle.series_laws.specs.Periodic.{Rising, Repeats}
 use Rattle.series_laws.specs.Pointwise.{sum_at}
-use Rattle.series_laws.specs.Forms.{value_at, HasValues, IsCanonical}
+use Rattle.series_laws.specs.SeriesForms.{value_at, HasValues, IsCanonical}
 use Rattle.series_laws.proofs.Canonical.{constant_is, canonical_is, canonical_values}
 use Rattle.series_laws.proofs.Sums.{form_sum_values}
 use Rattle.series_laws.specs.Product.{product_at}
@@ -21,7 +21,7 @@ use Rattle.series_ops.specs.declared.gains.Gain.{Gain}
 use Rattle.series_ops.specs.Gains.{gain_zero, gain_sum, gain_product}
 use Rattle.series_ops.specs.Proved.GainLaws.{gains_closed}
 use Rattle.periodic_laws.specs.Equations.{gains, stair}
-use Rattle.periodic_laws.specs.Columns.{stair_gain}
+use Rattle.periodic_laws.specs.GainColumns.{stair_gain}
 
 -- the gain has the values of s
 pub record Holds (g : Gain) (s : ℕ → Date) : Type 0 where
@@ -55,9 +55,9 @@ abbrev pub total_at : (ℕ → ℕ → Date) → ℕ → ℕ → Date
 total_at g zero k = Early
 total_at g (suc n) k = later_of (total_at g n k) (g n k)
 
-pub total_holds : (f : ℕ → Gain) (g : ℕ → ℕ → Date) (n : ℕ) → ((j : ℕ) → Holds (f j) (g j)) → Holds (total gains f n) (total_at g n)
+pub total_holds : (f : ℕ → Gain) (g : ℕ → ℕ → Date) (n : ℕ) → ((j : ℕ) → Holds (f j) (g j)) → Holds (total_of_first gains f n) (total_at g n)
 total_holds f g zero h = zero_holds
-total_holds f g (suc n) h = sum_holds (total gains f n) (f n) (total_at g n) (g n) (total_holds f g n h) (h n)
+total_holds f g (suc n) h = sum_holds (total_of_first gains f n) (f n) (total_at g n) (g n) (total_holds f g n h) (h n)
 
 pub le_total : (g : ℕ → ℕ → Date) (n j k : ℕ) → j < n → Le (g j k) (total_at g n k)
 le_total g zero j k h = absurd (omega arith)

@@ -7,9 +7,9 @@ use Rattle.dioid.specs.declared.algebra.Kleene.{Ghosts as KleeneOf}
 use Rattle.teg_net.specs.declared.entries.Place.{Place}
 use Rattle.dioid.specs.Dates.{later_of}
 use Rattle.teg_model.specs.Systems.{System}
-use Rattle.series_laws.specs.Forms.{value_at, monomial_at}
+use Rattle.series_laws.specs.SeriesForms.{value_at, monomial_at}
 use Rattle.series_ops.specs.declared.gains.Gain.{Gain}
-use Rattle.series_ops.specs.Gains.{IsCanonicalGain, gain_zero, gain_one, gain_sum, gain_product, gain_star, SumFits, ProductFits, StarFits}
+use Rattle.series_ops.specs.Gains.{IsCanonicalGain, gain_zero, gain_one, gain_sum, gain_product, gain_star, GainSumFits, ProductFits, StarFits}
 
 -- ---- the model of gains, in the words of their implementation
 
@@ -22,7 +22,7 @@ gains = record {
   one = gain_one;
   sum = gain_sum;
   product = gain_product;
-  sum_fits = SumFits;
+  sum_fits = GainSumFits;
   product_fits = ProductFits;
 }
 
@@ -37,13 +37,13 @@ abbrev pub stair : ℕ → Date → ℕ → Date
 stair c d k = cond (ltb k c) Early d
 
 -- what a place adds to the entry for firings of i that wait for firings of j: the monomial of its tokens and its hold
-abbrev pub place_at : Place → ℕ → ℕ → ℕ → Date
-place_at p i j k = cond (eqb p.to.index i && eqb p.from.index j) (monomial_at p.tokens (pos p.hold) k) Early
+abbrev pub entry_of_place : Place → ℕ → ℕ → ℕ → Date
+entry_of_place p i j k = cond (eqb p.to.index i && eqb p.from.index j) (monomial_at p.tokens (pos p.hold) k) Early
 
 -- the entry: the sum over the places from j to i, Early where there is none
 abbrev pub entry_at : List Place → ℕ → ℕ → ℕ → Date
 entry_at [] i j k = Early
-entry_at (p ∷ ps) i j k = later_of (place_at p i j k) (entry_at ps i j k)
+entry_at (p ∷ ps) i j k = later_of (entry_of_place p i j k) (entry_at ps i j k)
 
 -- the first m tokens of a place: the latest date of those that are taken up to shift k
 abbrev pub tokens_at : (ℕ → Date) → ℕ → ℕ → Date

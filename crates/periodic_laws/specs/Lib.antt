@@ -1,5 +1,5 @@
 pub mod PeriodicDates
 pub mod Equations
-pub mod Columns
-pub mod Numbers
-pub mod Laws
+pub mod GainColumns
+pub mod RepeatNumbers
+pub mod LinearSystem

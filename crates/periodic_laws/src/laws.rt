@@ -1,7 +1,7 @@
 //! The laws. Each is a function that does nothing when it runs: its contract is the law.
-ghost use Rattle.dioid_matrix.specs.Stars.{StarsAreLeast};
+ghost use Rattle.dioid_matrix.specs.MatrixStars.{StarsAreLeast};
 ghost use Rattle.periodic_laws.specs.Equations.{gains, gain_stars};
-ghost use Rattle.periodic_laws.specs.Laws.{LeastDatingsRepeat, LeastDatingsSolve, LeastInArePeriodic, LiveNetsSettle, PeriodicDatingsSettle, SystemsSettle};
+ghost use Rattle.periodic_laws.specs.LinearSystem.{LeastDatingsRepeat, LeastDatingsSolve, LeastInArePeriodic, LiveNetsSettle, PeriodicDatingsSettle, SystemsSettle};
 
 use dioid_matrix::star_is_least;
 use series_ops::Gain;

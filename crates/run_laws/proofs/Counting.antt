@@ -9,7 +9,7 @@ use Rattle.std.proofs.lemmas.List.Sums.{sum_by-cons, sum_by-le}
 use Rattle.teg_net.specs.declared.entries.Place.{Place}
 use Rattle.teg_net.specs.Nets.{NetLists, IsNet}
 use Rattle.run_laws.specs.declared.fired.Fired.{Fired}
-use Rattle.run_laws.specs.Runs.{dates_of, next_number, firing_date, token_date, IsThereBy, IsLegalRun}
+use Rattle.run_laws.specs.Runs.{dates_of_transition, next_number, firing_date, token_date, IsThereBy, IsLegalRun}
 use Rattle.run_laws.specs.Earliest.{tokens_in, tokens_after}
 use Rattle.run_laws.proofs.Dates.{dates_of_own, dates_of_other, length_dates, get_there}
 use Rattle.run_laws.proofs.Prefixes.{along}
@@ -26,13 +26,13 @@ once_no : (f : Fired) (t : ℕ) → eqb f.transition.index t ≡ false → once 
 unfolding once
 once_no f t e = rw e refl
 
-pub count_push : (run : List Fired) (f : Fired) (t : ℕ) → length (dates_of (run ++ f ∷ []) t) ≡ length (dates_of run t) + once f t
+pub count_push : (run : List Fired) (f : Fired) (t : ℕ) → length (dates_of_transition (run ++ f ∷ []) t) ≡ length (dates_of_transition run t) + once f t
 unfolding once
 count_push run f t =
     ⊎_elim
     (λ (e : f.transition.index ≡ t).
     let test : eqb f.transition.index t ≡ true = grind (arith, nat_tests) in
-    rw (test, dates_of_own run f t e) (length_push (dates_of run t) f.date))
+    rw (test, dates_of_own run f t e) (length_push (dates_of_transition run t) f.date))
     (λ (e : f.transition.index ≢ t).
     let test : eqb f.transition.index t ≡ false = grind (arith, nat_tests) in
     rw (test, dates_of_other run f t e) (omega arith))
@@ -43,19 +43,19 @@ there_in xs i h date None e l = absurd l
 there_in xs i h date (Some x) e l = (get_there xs i x e).0
 
 -- a token that is there was made
-pub token_made : (run : List Fired) (p : Place) (k date : ℕ) → 1 ≤ k → IsThereBy date (token_date run p k) → k ≤ p.tokens + length (dates_of run p.from.index)
+pub token_made : (run : List Fired) (p : Place) (k date : ℕ) → 1 ≤ k → IsThereBy date (token_date run p k) → k ≤ p.tokens + length (dates_of_transition run p.from.index)
 token_made run p k date o h =
     ⊎_elim
     (λ (q : ltb p.tokens k ≡ true).
     let l : p.tokens < k = grind (arith, nat_tests) in
-    let made = there_in (dates_of run p.from.index) (k - p.tokens - 1) p.hold date (firing_date run p.from.index (k - p.tokens)) refl (rw q at h) in
+    let made = there_in (dates_of_transition run p.from.index) (k - p.tokens - 1) p.hold date (firing_date run p.from.index (k - p.tokens)) refl (rw q at h) in
     omega (arith, made, l))
     (λ (q : ltb p.tokens k ≡ false). let l : k ≤ p.tokens = grind (arith, nat_tests) in omega arith)
     (cases_Bool (ltb p.tokens k))
 
 -- no place has given more tokens than it had and got
 pub IsPaid : List Fired → Place → Type 0
-IsPaid run p = length (dates_of run p.to.index) ≤ p.tokens + length (dates_of run p.from.index)
+IsPaid run p = length (dates_of_transition run p.to.index) ≤ p.tokens + length (dates_of_transition run p.from.index)
 
 pub paid : (net : NetLists) (run : List Fired) → IsLegalRun net run → All (IsPaid run) net.places
 unfolding IsPaid
@@ -72,7 +72,7 @@ paid net run legal =
     let made = token_made before p (next_number before f.transition.index) f.date (omega arith) there in
     let test : eqb f.transition.index p.to.index ≡ true = grind (arith, nat_tests) in
     let one : once f p.to.index ≡ 1 = once_yes f p.to.index test in
-    let same = ap (λ t. length (dates_of before t)) e in
+    let same = ap (λ t. length (dates_of_transition before t)) e in
     omega (arith, to, from, made, one, same))
     (λ (e : p.to.index ≢ f.transition.index).
     let test : eqb f.transition.index p.to.index ≡ false = grind (arith, nat_tests) in

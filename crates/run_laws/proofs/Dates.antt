@@ -4,10 +4,10 @@ use Rattle.std.specs.Prelude.{slice_get}
 use Rattle.std.proofs.lemmas.Bool.{cases_Bool}
 use Rattle.std.proofs.lemmas.Bool.Decides.{nat_tests}
 use Rattle.run_laws.specs.declared.fired.Fired.{Fired}
-use Rattle.run_laws.specs.Runs.{dates_of, IsThereBy}
+use Rattle.run_laws.specs.Runs.{dates_of_transition, IsThereBy}
 
 -- a firing of the transition adds its date
-pub dates_of_own : (run : List Fired) (f : Fired) (t : ℕ) → f.transition.index ≡ t → dates_of (run ++ f ∷ []) t ≡ dates_of run t ++ f.date ∷ []
+pub dates_of_own : (run : List Fired) (f : Fired) (t : ℕ) → f.transition.index ≡ t → dates_of_transition (run ++ f ∷ []) t ≡ dates_of_transition run t ++ f.date ∷ []
 dates_of_own [] f t e = let is : eqb f.transition.index t ≡ true = grind (arith, nat_tests) in rw is refl
 dates_of_own (g ∷ run) f t e =
     let more = dates_of_own run f t e in
@@ -17,7 +17,7 @@ dates_of_own (g ∷ run) f t e =
     (cases_Bool (eqb g.transition.index t))
 
 -- and one of another transition nothing
-pub dates_of_other : (run : List Fired) (f : Fired) (t : ℕ) → f.transition.index ≢ t → dates_of (run ++ f ∷ []) t ≡ dates_of run t
+pub dates_of_other : (run : List Fired) (f : Fired) (t : ℕ) → f.transition.index ≢ t → dates_of_transition (run ++ f ∷ []) t ≡ dates_of_transition run t
 dates_of_other [] f t e = let is : eqb f.transition.index t ≡ false = grind (arith, nat_tests) in rw is refl
 dates_of_other (g ∷ run) f t e =
     let more = dates_of_other run f t e in
@@ -26,7 +26,7 @@ dates_of_other (g ∷ run) f t e =
     (λ (q : eqb g.transition.index t ≡ false). rw (q, more) refl)
     (cases_Bool (eqb g.transition.index t))
 
-pub length_dates : (run : List Fired) (t : ℕ) → length (dates_of run t) ≤ length run
+pub length_dates : (run : List Fired) (t : ℕ) → length (dates_of_transition run t) ≤ length run
 length_dates [] t = omega arith
 length_dates (f ∷ run) t =
     let more = length_dates run t in

@@ -14,13 +14,13 @@ use Rattle.teg_net.specs.Nets.{NetLists, IsNet, IsInput}
 use Rattle.teg_net.specs.Inputs.{input_date}
 use Rattle.teg_net.specs.ReadyDates.{ready_date}
 use Rattle.teg_net.specs.Circuits.{no_place}
-use Rattle.teg_model.specs.Systems.{Dating}
-use Rattle.teg_model.specs.Datings.{implicit_place, available_at, initial_date, as_date, listed, IsFeasibleUnder}
+use Rattle.teg_model.specs.Datings.{implicit_place, available_at, initial_date, as_date, listed_releases, IsFeasibleUnder}
 use Rattle.teg_model.proofs.OfNet.{extended_has, implicit_is}
 use Rattle.teg_model.proofs.Tokens.{implicit_after}
+use Rattle.teg_model.proofs.DateFunctions.{Dating}
 use Rattle.run_laws.specs.declared.fired.Fired.{Fired}
-use Rattle.run_laws.specs.Runs.{dates_of, next_number, firing_date, token_date, IsThereBy, last_date, IsNotBefore}
-use Rattle.run_laws.specs.EarliestRuns.{Numbered, date_of, IsBeforeDate, ComesBeforeByNumber, ComesBefore, IsFiringUpTo, IsRunInOrder, RisesAlong, EarliestRunsAreLegal, PartsOfEarliestRunsAreLegal}
+use Rattle.run_laws.specs.Runs.{dates_of_transition, next_number, firing_date, token_date, IsThereBy, last_date, IsNotBefore}
+use Rattle.run_laws.specs.EarliestRuns.{Numbered, date_of_firing, IsBeforeDate, ComesBeforeByNumber, ComesBefore, IsFiringUpTo, IsRunInOrder, RisesAlong, EarliestRunsAreLegal, PartsOfEarliestRunsAreLegal}
 use Rattle.run_laws.proofs.Dates.{dates_of_own, dates_of_other, get_there, get_last}
 use Rattle.run_laws.proofs.Prefixes.{no_firing, legal_take}
 use Rattle.run_laws.proofs.Least.{firing_push, last_push, get_pushed, get_push_left}
@@ -47,28 +47,28 @@ by_number_once rank a b h g = grind (arith, h, g)
 comes_once : (x : Dating) (rank : ℕ → ℕ) (a b : Numbered) → ComesBefore x rank a b → ComesBefore x rank b a → ⊥
 comes_once x rank a b h g =
     ⊎_elim
-    (λ (p : IsBeforeDate (date_of x a) (date_of x b)).
+    (λ (p : IsBeforeDate (date_of_firing x a) (date_of_firing x b)).
     ⊎_elim
-    (λ (q : IsBeforeDate (date_of x b) (date_of x a)). ⊎_elim (λ l. q l) (λ l. p l) (at_most_total (date_of x a) (date_of x b)))
-    (λ (q : (date_of x b ≡ date_of x a) × ComesBeforeByNumber rank b a). p (at_most_is (date_of x b) (date_of x a) q.0))
+    (λ (q : IsBeforeDate (date_of_firing x b) (date_of_firing x a)). ⊎_elim (λ l. q l) (λ l. p l) (at_most_total (date_of_firing x a) (date_of_firing x b)))
+    (λ (q : (date_of_firing x b ≡ date_of_firing x a) × ComesBeforeByNumber rank b a). p (at_most_is (date_of_firing x b) (date_of_firing x a) q.0))
     g)
-    (λ (p : (date_of x a ≡ date_of x b) × ComesBeforeByNumber rank a b).
+    (λ (p : (date_of_firing x a ≡ date_of_firing x b) × ComesBeforeByNumber rank a b).
     ⊎_elim
-    (λ (q : IsBeforeDate (date_of x b) (date_of x a)). q (at_most_is (date_of x a) (date_of x b) p.0))
-    (λ (q : (date_of x b ≡ date_of x a) × ComesBeforeByNumber rank b a). by_number_once rank a b p.1 q.1)
+    (λ (q : IsBeforeDate (date_of_firing x b) (date_of_firing x a)). q (at_most_is (date_of_firing x a) (date_of_firing x b) p.0))
+    (λ (q : (date_of_firing x b ≡ date_of_firing x a) × ComesBeforeByNumber rank b a). by_number_once rank a b p.1 q.1)
     g)
     h
 
-comes_at_most : (x : Dating) (rank : ℕ → ℕ) (a b : Numbered) → ComesBefore x rank a b → IsAtMostDate (date_of x a) (date_of x b)
+comes_at_most : (x : Dating) (rank : ℕ → ℕ) (a b : Numbered) → ComesBefore x rank a b → IsAtMostDate (date_of_firing x a) (date_of_firing x b)
 comes_at_most x rank a b h =
     ⊎_elim
-    (λ (p : IsBeforeDate (date_of x a) (date_of x b)). ⊎_elim (λ l. l) (λ l. absurd (p l)) (at_most_total (date_of x a) (date_of x b)))
-    (λ (p : (date_of x a ≡ date_of x b) × ComesBeforeByNumber rank a b). at_most_is (date_of x a) (date_of x b) p.0)
+    (λ (p : IsBeforeDate (date_of_firing x a) (date_of_firing x b)). ⊎_elim (λ l. l) (λ l. absurd (p l)) (at_most_total (date_of_firing x a) (date_of_firing x b)))
+    (λ (p : (date_of_firing x a ≡ date_of_firing x b) × ComesBeforeByNumber rank a b). at_most_is (date_of_firing x a) (date_of_firing x b) p.0)
     h
 
 -- a firing of the run that comes before the one at i stands before it
 stands_before : (net : NetLists) (x : Dating) (rank : ℕ → ℕ) (most : ℕ) (fs : List Numbered) (run : List Fired) → IsRunInOrder net x rank most fs run → (i : ℕ) (g : Numbered) → i < length fs
-    → IsFiringUpTo net most g → date_of x g ≢ Never → ComesBefore x rank g (get_or fs i no_number) → (j : ℕ) × (j < i) × (get_or fs j no_number ≡ g)
+    → IsFiringUpTo net most g → date_of_firing x g ≢ Never → ComesBefore x rank g (get_or fs i no_number) → (j : ℕ) × (j < i) × (get_or fs j no_number ≡ g)
 stands_before net x rank most fs run o i g l up dated before =
     let at = o.all g up dated in
     let is : get_or fs at.0 no_number ≡ g = get_or_default fs at.0 no_number g at.1 ∙ at.2 in
@@ -86,20 +86,20 @@ stands_before net x rank most fs run o i g l up dated before =
 firing_push_left : (run : List Fired) (f : Fired) (t k date : ℕ) → firing_date run t k ≡ Some date → firing_date (run ++ f ∷ []) t k ≡ Some date
 firing_push_left run f t k date e =
     ⊎_elim
-    (λ (q : f.transition.index ≡ t). rw (dates_of_own run f t q) (get_push_left (dates_of run t) f.date date (k - 1) e))
+    (λ (q : f.transition.index ≡ t). rw (dates_of_own run f t q) (get_push_left (dates_of_transition run t) f.date date (k - 1) e))
     (λ (q : f.transition.index ≢ t). rw (dates_of_other run f t q) e)
     (cases_eq f.transition.index t)
 
 firing_at : (run : List Fired) (f : Fired) (t k : ℕ) → f.transition.index ≡ t → next_number run f.transition.index ≡ k → firing_date (run ++ f ∷ []) t k ≡ Some f.date
 firing_at run f t k e n =
-    let same = ap (λ u. length (dates_of run u)) e in
-    let i : k - 1 ≡ length (dates_of run t) = omega (arith, n, same) in
-    rw (i, dates_of_own run f t e) (get_pushed (dates_of run t) f.date)
+    let same = ap (λ u. length (dates_of_transition run u)) e in
+    let i : k - 1 ≡ length (dates_of_transition run t) = omega (arith, n, same) in
+    rw (i, dates_of_own run f t e) (get_pushed (dates_of_transition run t) f.date)
 
 -- the run has just the first n of the firings, at their dates
 record Placed (x : Dating) (fs : List Numbered) (run : List Fired) (n : ℕ) : Type 0 where
   sound : (t k date : ℕ) → 1 ≤ k → firing_date run t k ≡ Some date → (j : ℕ) × (j < n) × (get_or fs j no_number ≡ record { transition = t; number = k })
-  complete : (j : ℕ) → j < n → (date : ℕ) × (firing_date run (get_or fs j no_number).transition (get_or fs j no_number).number ≡ Some date) × (date_of x (get_or fs j no_number) ≡ At (pos date))
+  complete : (j : ℕ) → j < n → (date : ℕ) × (firing_date run (get_or fs j no_number).transition (get_or fs j no_number).number ≡ Some date) × (date_of_firing x (get_or fs j no_number) ≡ At (pos date))
 
 placed_begins : (x : Dating) (fs : List Numbered) → Placed x fs [] 0
 placed_begins x fs = record {
@@ -108,7 +108,7 @@ placed_begins x fs = record {
 }
 
 placed_more : (x : Dating) (fs : List Numbered) (run : List Fired) (n : ℕ) (f : Fired) → Placed x fs run n → f.transition.index ≡ (get_or fs n no_number).transition
-    → next_number run f.transition.index ≡ (get_or fs n no_number).number → date_of x (get_or fs n no_number) ≡ At (pos f.date) → Placed x fs (run ++ f ∷ []) (n + 1)
+    → next_number run f.transition.index ≡ (get_or fs n no_number).number → date_of_firing x (get_or fs n no_number) ≡ At (pos f.date) → Placed x fs (run ++ f ∷ []) (n + 1)
 placed_more x fs run n f h t k e = record {
   sound = λ u j date o q.
       ⊎_elim
@@ -132,7 +132,7 @@ placed_more x fs run n f h t k e = record {
 never_not_at : (a : Date) (d : ℕ) → IsAtMostDate a (At (pos d)) → a ≢ Never
 never_not_at a d h e = rw e at h
 
-own_climbs : (net : NetLists) (x : Dating) → IsFeasibleUnder net (listed net) x → (t k : ℕ) → t < length net.transitions → 1 < k → IsAtMostDate (x t (k - 1)) (x t k)
+own_climbs : (net : NetLists) (x : Dating) → IsFeasibleUnder net (listed_releases net) x → (t k : ℕ) → t < length net.transitions → 1 < k → IsAtMostDate (x t (k - 1)) (x t k)
 own_climbs net x f t k l o =
     let own = implicit_is net t l in
     let two : suc (suc (k - 2)) ≡ k = omega arith in
@@ -141,7 +141,7 @@ own_climbs net x f t k l o =
     let after : IsAtMostDate (x t (suc (k - 2))) (x t (suc (suc (k - 2)))) = subst (λ a. IsAtMostDate a (x t (suc (suc (k - 2))))) (implicit_after initial_date x t (k - 2)) there in
     rw (two, one) at after
 
-place_asks : (net : NetLists) (x : Dating) → IsFeasibleUnder net (listed net) x → (i : ℕ) (d : Place) (k : ℕ) → i < length net.places → 1 ≤ k
+place_asks : (net : NetLists) (x : Dating) → IsFeasibleUnder net (listed_releases net) x → (i : ℕ) (d : Place) (k : ℕ) → i < length net.places → 1 ≤ k
     → IsAtMostDate (available_at x (get_or net.places i d) k) (x (get_or net.places i d).to.index k)
 place_asks net x f i d k l o =
     let at = extended_has net (λ p. IsAtMostDate (available_at x p k) (x p.to.index k)) (λ j m. f.places k o j no_place m) i l in
@@ -149,34 +149,34 @@ place_asks net x f i d k l o =
 
 -- ---- the firing at n is the next of its transition, and legal
 
-number_is : (net : NetLists) (x : Dating) (rank : ℕ → ℕ) (most : ℕ) (fs : List Numbered) (run before : List Fired) (n : ℕ) (date : ℕ) → IsFeasibleUnder net (listed net) x
-    → IsRunInOrder net x rank most fs run → Placed x fs before n → n < length fs → date_of x (get_or fs n no_number) ≡ At (pos date)
+number_is : (net : NetLists) (x : Dating) (rank : ℕ → ℕ) (most : ℕ) (fs : List Numbered) (run before : List Fired) (n : ℕ) (date : ℕ) → IsFeasibleUnder net (listed_releases net) x
+    → IsRunInOrder net x rank most fs run → Placed x fs before n → n < length fs → date_of_firing x (get_or fs n no_number) ≡ At (pos date)
     → next_number before (get_or fs n no_number).transition ≡ (get_or fs n no_number).number
 number_is net x rank most fs run before n date f o h l e =
     let own : Numbered = get_or fs n no_number in
     let t : ℕ = own.transition in
     let k : ℕ = own.number in
     let up : IsFiringUpTo net most own = o.known n no_number l in
-    let many : ℕ = length (dates_of before t) in
+    let many : ℕ = length (dates_of_transition before t) in
     let low : k ≤ many + 1 =
     ⊎_elim
     (λ (q : 1 < k).
     let g : Numbered = record { transition = t; number = k - 1 } in
-    let climbs : IsAtMostDate (date_of x g) (date_of x own) = own_climbs net x f t k up.transition_in q in
-    let dated = never_not_at (date_of x g) date (rw e at climbs) in
+    let climbs : IsAtMostDate (date_of_firing x g) (date_of_firing x own) = own_climbs net x f t k up.transition_in q in
+    let dated = never_not_at (date_of_firing x g) date (rw e at climbs) in
     let up2 : IsFiringUpTo net most g = record { transition_in = up.transition_in; first = omega (arith, q); last = omega (arith, up.last) } in
     let less : g.number < own.number = omega (arith, q) in
-    let comes : ComesBefore x rank g own = ⊎_elim (λ (s : date_of x g ≡ date_of x own). inr (s, inl less)) (λ (s : IsBeforeDate (date_of x g) (date_of x own)). inl s) (same_or_before (date_of x g) (date_of x own) climbs) in
+    let comes : ComesBefore x rank g own = ⊎_elim (λ (s : date_of_firing x g ≡ date_of_firing x own). inr (s, inl less)) (λ (s : IsBeforeDate (date_of_firing x g) (date_of_firing x own)). inl s) (same_or_before (date_of_firing x g) (date_of_firing x own) climbs) in
     let at = stands_before net x rank most fs run o n g l up2 dated comes in
     let there = rw at.2 at (h.complete at.0 at.1).1 in
-    let in' = (get_there (dates_of before t) (k - 1 - 1) (h.complete at.0 at.1).0 there).0 in
+    let in' = (get_there (dates_of_transition before t) (k - 1 - 1) (h.complete at.0 at.1).0 there).0 in
     omega (arith, in', q))
     (λ (q : k ≤ 1). omega (arith, q))
     (cases_lt 1 k) in
     let high : many + 1 ≤ k =
     ⊎_elim
     (λ (q : k - 1 < many).
-    let at = h.sound t k (get_or (dates_of before t) (k - 1) 0) up.first (get_last (dates_of before t) (k - 1) q) in
+    let at = h.sound t k (get_or (dates_of_transition before t) (k - 1) 0) up.first (get_last (dates_of_transition before t) (k - 1) q) in
     let same : get_or fs at.0 no_number ≡ own = at.2 in
     let before2 : ComesBefore x rank own own = rw same at (o.order at.0 n no_number at.1 l) in
     absurd (comes_once x rank own own before2 before2))
@@ -189,8 +189,8 @@ after_hold h d date a e l =
     let at : IsAtMostDate (delayed h (At (pos d))) (At (pos date)) = rw e at l in
     omega (arith, ints, at)
 
-token_in_order : (net : NetLists) (x : Dating) (rank : ℕ → ℕ) (most : ℕ) (fs : List Numbered) (run before : List Fired) (n date : ℕ) → IsNet net → IsFeasibleUnder net (listed net) x → RisesAlong net rank
-    → IsRunInOrder net x rank most fs run → Placed x fs before n → n < length fs → date_of x (get_or fs n no_number) ≡ At (pos date)
+token_in_order : (net : NetLists) (x : Dating) (rank : ℕ → ℕ) (most : ℕ) (fs : List Numbered) (run before : List Fired) (n date : ℕ) → IsNet net → IsFeasibleUnder net (listed_releases net) x → RisesAlong net rank
+    → IsRunInOrder net x rank most fs run → Placed x fs before n → n < length fs → date_of_firing x (get_or fs n no_number) ≡ At (pos date)
     → (i : ℕ) (d : Place) → i < length net.places → (get_or net.places i d).to.index ≡ (get_or fs n no_number).transition → IsThereBy date (token_date before (get_or net.places i d) (get_or fs n no_number).number)
 token_in_order net x rank most fs run before n date ok f rises o h l e i d m to =
     let own : Numbered = get_or fs n no_number in
@@ -202,8 +202,8 @@ token_in_order net x rank most fs run before n date ok f rises o h l e i d m to 
     (λ (q : ltb p.tokens k ≡ true).
     let less : p.tokens < k = grind (arith, nat_tests) in
     let g : Numbered = record { transition = p.from.index; number = k - p.tokens } in
-    let held : IsAtMostDate (delayed p.hold (date_of x g)) (At (pos date)) = rw q at asked in
-    let low : IsAtMostDate (date_of x g) (At (pos date)) = at_most_trans (date_of x g) (delayed p.hold (date_of x g)) (At (pos date)) (delayed_later p.hold (date_of x g)) held in
+    let held : IsAtMostDate (delayed p.hold (date_of_firing x g)) (At (pos date)) = rw q at asked in
+    let low : IsAtMostDate (date_of_firing x g) (At (pos date)) = at_most_trans (date_of_firing x g) (delayed p.hold (date_of_firing x g)) (At (pos date)) (delayed_later p.hold (date_of_firing x g)) held in
     let up2 : IsFiringUpTo net most g = record { transition_in = (ok.each_place i d m).from_in; first = omega (arith, less); last = omega (arith, up.last) } in
     let by_number : ComesBeforeByNumber rank g own =
     ⊎_elim
@@ -215,12 +215,12 @@ token_in_order net x rank most fs run before n date ok f rises o h l e i d m to 
     inr (a, inl b))
     (cases_lt 0 p.tokens) in
     let comes : ComesBefore x rank g own =
-    ⊎_elim (λ (s : date_of x g ≡ date_of x own). inr (s, by_number)) (λ (s : IsBeforeDate (date_of x g) (date_of x own)). inl s) (same_or_before (date_of x g) (date_of x own) (rw e low)) in
-    let at = stands_before net x rank most fs run o n g l up2 (never_not_at (date_of x g) date low) comes in
+    ⊎_elim (λ (s : date_of_firing x g ≡ date_of_firing x own). inr (s, by_number)) (λ (s : IsBeforeDate (date_of_firing x g) (date_of_firing x own)). inl s) (same_or_before (date_of_firing x g) (date_of_firing x own) (rw e low)) in
+    let at = stands_before net x rank most fs run o n g l up2 (never_not_at (date_of_firing x g) date low) comes in
     let done = h.complete at.0 at.1 in
     let there : firing_date before p.from.index (k - p.tokens) ≡ Some done.0 = rw at.2 at done.1 in
-    let dated : date_of x g ≡ At (pos done.0) = rw at.2 at done.2 in
-    rw (q, there) (after_hold p.hold done.0 date (date_of x g) dated held))
+    let dated : date_of_firing x g ≡ At (pos done.0) = rw at.2 at done.2 in
+    rw (q, there) (after_hold p.hold done.0 date (date_of_firing x g) dated held))
     (λ (q : ltb p.tokens k ≡ false).
     let low : IsAtMostDate (At (pos (ready_date p k))) (At (pos date)) = rw q at asked in
     rw q (omega (arith, ints, low)))
@@ -231,7 +231,7 @@ date_there date None h = h
 date_there date (Some d) h = omega (arith, ints, h)
 
 last_in_order : (net : NetLists) (x : Dating) (rank : ℕ → ℕ) (most : ℕ) (fs : List Numbered) (run : List Fired) (n date : ℕ) → IsRunInOrder net x rank most fs run → n < length fs
-    → date_of x (get_or fs n no_number) ≡ At (pos date) → IsNotBefore (last_date (take n run)) date
+    → date_of_firing x (get_or fs n no_number) ≡ At (pos date) → IsNotBefore (last_date (take n run)) date
 last_in_order net x rank most fs run zero date o l e = tt
 last_in_order net x rank most fs run (suc n) date o l e =
     let one : suc n ≡ n + 1 = omega arith in
@@ -241,7 +241,7 @@ last_in_order net x rank most fs run (suc n) date o l e =
     let low : IsAtMostDate (At (pos (get_or run n no_firing).date)) (At (pos date)) = rw (was, e) at below in
     rw (one, take_more run n no_firing in', last_push (take n run) (get_or run n no_firing)) (omega (arith, ints, low))
 
-placed_to : (net : NetLists) (x : Dating) (rank : ℕ → ℕ) (most : ℕ) (fs : List Numbered) (run : List Fired) → IsFeasibleUnder net (listed net) x
+placed_to : (net : NetLists) (x : Dating) (rank : ℕ → ℕ) (most : ℕ) (fs : List Numbered) (run : List Fired) → IsFeasibleUnder net (listed_releases net) x
     → IsRunInOrder net x rank most fs run → (n : ℕ) → n ≤ length fs → Placed x fs (take n run) n
 placed_to net x rank most fs run f o zero l = placed_begins x fs
 placed_to net x rank most fs run f o (suc n) l =

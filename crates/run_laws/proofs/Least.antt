@@ -15,15 +15,15 @@ use Rattle.teg_net.specs.Nets.{NetLists, IsNet}
 use Rattle.teg_net.specs.Inputs.{input_date}
 use Rattle.teg_net.specs.ReadyDates.{ready_date}
 use Rattle.teg_net.specs.Circuits.{no_place, IsLive}
-use Rattle.teg_model.specs.Systems.{Dating}
-use Rattle.teg_model.specs.Datings.{implicit_place, extended_places, available_at, as_date, listed, IsFeasibleUnder, IsLeastDating}
+use Rattle.teg_model.specs.Datings.{implicit_place, extended_places, available_at, as_date, listed_releases, IsFeasibleUnder, IsLeastDating}
 use Rattle.teg_model.proofs.Delays.{delayed_not}
 use Rattle.teg_model.proofs.OfNet.{all_extended, implicit_is, net_ends, tight_of_least}
 use Rattle.teg_model.proofs.LiveRanks.{live_is_ranked}
+use Rattle.teg_model.proofs.DateFunctions.{Dating}
 use Rattle.run_laws.specs.declared.fired.Fired.{Fired}
-use Rattle.run_laws.specs.Runs.{dates_of, next_number, firing_date, token_date, IsThereBy, last_date, IsNotBefore, IsLegalAfter, IsLegalRun}
-use Rattle.run_laws.specs.Earliest.{IsOpenBy, last_of}
-use Rattle.run_laws.specs.Laws.{IsNotEarly, IsDatedBy, LegalRunsAreNotEarly, EarliestIsLeast}
+use Rattle.run_laws.specs.Runs.{dates_of_transition, next_number, firing_date, token_date, IsThereBy, last_date, IsNotBefore, IsLegalAfter, IsLegalRun}
+use Rattle.run_laws.specs.Earliest.{IsOpenBy, last_listed_date}
+use Rattle.run_laws.specs.LegalRuns.{IsNotEarly, IsDatedBy, LegalRunsAreNotEarly, EarliestIsLeast}
 use Rattle.run_laws.proofs.Dates.{dates_of_own, dates_of_other, get_there, get_last}
 use Rattle.run_laws.proofs.Earliest.{implicit_date}
 use Rattle.run_laws.proofs.Prefixes.{along, legal_begins, legal_push}
@@ -56,11 +56,11 @@ firing_push run f t k date o e =
     ⊎_elim
     (λ (q : f.transition.index ≡ t).
     ⊎_elim
-    (λ (h : slice_get (dates_of run t) (k - 1) ≡ Some date). inl h)
-    (λ (h : (k - 1 ≡ length (dates_of run t)) × (date ≡ f.date)).
-    let same = ap (λ u. length (dates_of run u)) q in
+    (λ (h : slice_get (dates_of_transition run t) (k - 1) ≡ Some date). inl h)
+    (λ (h : (k - 1 ≡ length (dates_of_transition run t)) × (date ≡ f.date)).
+    let same = ap (λ u. length (dates_of_transition run u)) q in
     inr (sym q, omega (arith, h.0, o, same), h.1))
-    (get_push (dates_of run t) f.date date (k - 1) (rw (dates_of_own run f t q) at e)))
+    (get_push (dates_of_transition run t) f.date date (k - 1) (rw (dates_of_own run f t q) at e)))
     (λ (q : f.transition.index ≢ t). inl (rw (dates_of_other run f t q) at e))
     (cases_eq f.transition.index t)
 
@@ -80,16 +80,16 @@ all_before net run legal =
     All-push (λ e. e.date ≤ z) before f (All-weaker (λ e. e.date ≤ f.date) (λ e. e.date ≤ z) (λ e m. omega (arith, m, low)) before (h f.date g.in_order)) low)
     run legal
 
-dates_before : (run : List Fired) (t z : ℕ) → All (λ g. g.date ≤ z) run → All (λ d. d ≤ z) (dates_of run t)
+dates_before : (run : List Fired) (t z : ℕ) → All (λ g. g.date ≤ z) run → All (λ d. d ≤ z) (dates_of_transition run t)
 dates_before [] t z h = All-nil (λ d. d ≤ z)
 dates_before (f ∷ run) t z h =
     let more = dates_before run t z (All-tail (λ g. g.date ≤ z) f run h) in
     ⊎_elim
-    (λ (q : eqb f.transition.index t ≡ true). rw q (All-cons (λ d. d ≤ z) f.date (dates_of run t) (h 0 f (omega arith)) more))
+    (λ (q : eqb f.transition.index t ≡ true). rw q (All-cons (λ d. d ≤ z) f.date (dates_of_transition run t) (h 0 f (omega arith)) more))
     (λ (q : eqb f.transition.index t ≡ false). rw q more)
     (cases_Bool (eqb f.transition.index t))
 
-last_before : (dates : List ℕ) (z : ℕ) → All (λ d. d ≤ z) dates → last_of dates ≤ z
+last_before : (dates : List ℕ) (z : ℕ) → All (λ d. d ≤ z) dates → last_listed_date dates ≤ z
 last_before [] z h = omega arith
 last_before (x ∷ xs) z h = h (length (x ∷ xs) - 1) 0 (omega arith)
 
@@ -129,7 +129,7 @@ pub open_least : (net : NetLists) (x : Dating) (run : List Fired) (t k date : �
     → t < length net.transitions → 1 ≤ k → IsOpenBy net run t k date → IsAtMostDate (x t k) (At (pos date))
 open_least net x run t k date ok live h early l o all =
     let ranks = live_is_ranked net (net_ends net ok) live in
-    (tight_of_least net (listed net) x ranks.0 ranks.1 ranks.2 h).tight t k (At (pos date)) l o
+    (tight_of_least net (listed_releases net) x ranks.0 ranks.1 ranks.2 h).tight t k (At (pos date)) l o
     (λ i d m e. token_least net x run (get_or (extended_places net) i d) k date (from_in net t ok l i d m e) early (all.tokens i d m e))
     (λ i. there_date date (input_date net t k) (all.released i))
 
@@ -138,7 +138,7 @@ pub legal_open : (net : NetLists) (run : List Fired) (f : Fired) → IsLegalRun 
     → IsOpenBy net run f.transition.index (next_number run f.transition.index) f.date
 legal_open net run f legal g =
     let t : ℕ = f.transition.index in
-    let low : last_of (dates_of run t) ≤ f.date = last_before (dates_of run t) f.date (dates_before run t f.date (all_before net run legal f.date g.in_order)) in
+    let low : last_listed_date (dates_of_transition run t) ≤ f.date = last_before (dates_of_transition run t) f.date (dates_before run t f.date (all_before net run legal f.date g.in_order)) in
     record {
       tokens = all_extended net (λ p. p.to.index ≡ t → IsThereBy f.date (token_date run p (next_number run t))) g.tokens
           (λ u e. rw e (rw (implicit_date run t) low));
@@ -198,8 +198,8 @@ release_there date z None h l = h
 release_there date z (Some d) h l = omega (arith, ints, l)
 
 -- the token of the implicit place is available from the firing before on
-own_available : (net : NetLists) (x : Dating) (run : List Fired) (t : ℕ) → t < length net.transitions → IsDatedBy net x run → (dates : List ℕ) → dates_of run t ≡ dates
-    → available_at x (implicit_place t) (next_number run t) ≡ At (pos (last_of (dates_of run t)))
+own_available : (net : NetLists) (x : Dating) (run : List Fired) (t : ℕ) → t < length net.transitions → IsDatedBy net x run → (dates : List ℕ) → dates_of_transition run t ≡ dates
+    → available_at x (implicit_place t) (next_number run t) ≡ At (pos (last_listed_date (dates_of_transition run t)))
 own_available net x run t l dated [] e = rw e refl
 own_available net x run t l dated (d ∷ ds) e =
     let k : ℕ = length ds + 1 in
@@ -214,7 +214,7 @@ own_available net x run t l dated (d ∷ ds) e =
 dated_or : (net : NetLists) (x : Dating) (run : List Fired) (t : ℕ) → t < length net.transitions → IsDatedBy net x run
     → IsAtMostDate (available_at x (implicit_place t) (next_number run t)) (x t (next_number run t))
     → (x t (next_number run t) ≡ Never) ⊎ ((z : ℕ) × (x t (next_number run t) ≡ At (pos z)))
-dated_or net x run t l dated low = from_zero (x t (next_number run t)) (last_of (dates_of run t)) (rw (own_available net x run t l dated (dates_of run t) refl) at low)
+dated_or net x run t l dated low = from_zero (x t (next_number run t)) (last_listed_date (dates_of_transition run t)) (rw (own_available net x run t l dated (dates_of_transition run t) refl) at low)
 
 pub earliest_least : EarliestIsLeast
 earliest_least net x run f date ok live h legal dated g e =
@@ -223,7 +223,7 @@ earliest_least net x run f date ok live h legal dated g e =
     let l = g.transition_in in
     let upper = open_least net x run t k date ok live h (dated_early net x run dated) l (omega arith) e.enough in
     let own = implicit_is net t l in
-    let f1 : IsFeasibleUnder net (listed net) x = h.feasible in
+    let f1 : IsFeasibleUnder net (listed_releases net) x = h.feasible in
     let asked = λ (i : ℕ) (d : Place) (m : i < length (extended_places net)) (q : (get_or (extended_places net) i d).to.index ≡ t). rw q at (f1.places k (omega arith) i d m) in
     let before : IsAtMostDate (available_at x (implicit_place t) k) (x t k) = rw own.2 at (f1.places k (omega arith) own.0 no_place own.1) in
     let lower : IsAtMostDate (At (pos date)) (x t k) =

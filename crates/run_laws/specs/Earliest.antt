@@ -4,7 +4,7 @@ use Rattle.teg_net.specs.declared.entries.Place.{Place}
 use Rattle.teg_net.specs.Nets.{NetLists}
 use Rattle.teg_model.specs.Datings.{extended_places}
 use Rattle.run_laws.specs.declared.fired.Fired.{Fired}
-use Rattle.run_laws.specs.Runs.{dates_of, token_date, IsThereBy, IsReleasedBy}
+use Rattle.run_laws.specs.Runs.{dates_of_transition, token_date, IsThereBy, IsReleasedBy}
 
 -- all that firing k of transition t waits for is there by the date: the tokens of the extended places, and the release of an input
 pub record IsOpenBy (net : NetLists) (run : List Fired) (t k date : ℕ) : Type 0 where
@@ -18,12 +18,12 @@ pub record IsEarliest (net : NetLists) (run : List Fired) (t k date : ℕ) : Typ
 
 -- the tokens in a place after the run
 abbrev pub tokens_in : List Fired → Place → ℕ
-tokens_in run p = p.tokens + length (dates_of run p.from.index) - length (dates_of run p.to.index)
+tokens_in run p = p.tokens + length (dates_of_transition run p.from.index) - length (dates_of_transition run p.to.index)
 
 -- the tokens in all places of the net after the run
 abbrev pub tokens_after : NetLists → List Fired → ℕ
 tokens_after net run = sum_by (tokens_in run) net.places
 
 -- the last of a list of dates, 0 of none
-abbrev pub last_of : List ℕ → ℕ
-last_of dates = slice_index_or dates (length dates - 1) 0
+abbrev pub last_listed_date : List ℕ → ℕ
+last_listed_date dates = slice_index_or dates (length dates - 1) 0

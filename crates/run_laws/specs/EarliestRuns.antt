@@ -14,8 +14,8 @@ pub record Numbered : Type 0 where
   pub number : ℕ
 
 -- the date of a firing
-abbrev pub date_of : (ℕ → ℕ → Date) → Numbered → Date
-date_of x f = x f.transition f.number
+abbrev pub date_of_firing : (ℕ → ℕ → Date) → Numbered → Date
+date_of_firing x f = x f.transition f.number
 
 -- date a comes before date b
 abbrev pub IsBeforeDate : Date → Date → Type 0
@@ -31,7 +31,7 @@ ComesBeforeByNumber rank a b = (a.number < b.number) ⊎ ((a.number ≡ b.number
 
 -- by date, then by firing number, then by rank, then by index
 abbrev pub ComesBefore : (ℕ → ℕ → Date) → (ℕ → ℕ) → Numbered → Numbered → Type 0
-ComesBefore x rank a b = IsBeforeDate (date_of x a) (date_of x b) ⊎ ((date_of x a ≡ date_of x b) × ComesBeforeByNumber rank a b)
+ComesBefore x rank a b = IsBeforeDate (date_of_firing x a) (date_of_firing x b) ⊎ ((date_of_firing x a ≡ date_of_firing x b) × ComesBeforeByNumber rank a b)
 
 -- the firing is one of the net's up to the number
 pub record IsFiringUpTo (net : NetLists) (most : ℕ) (f : Numbered) : Type 0 where
@@ -42,11 +42,11 @@ pub record IsFiringUpTo (net : NetLists) (most : ℕ) (f : Numbered) : Type 0 wh
 -- the run has every firing up to the number whose date in x is not never, at that date, in this order
 pub record IsRunInOrder (net : NetLists) (x : ℕ → ℕ → Date) (rank : ℕ → ℕ) (most : ℕ) (firings : List Numbered) (run : List Fired) : Type 0 where
   pub known : All (IsFiringUpTo net most) firings
-  pub all : (f : Numbered) → IsFiringUpTo net most f → date_of x f ≢ Never → Contains firings f
+  pub all : (f : Numbered) → IsFiringUpTo net most f → date_of_firing x f ≢ Never → Contains firings f
   pub order : AllPairs (ComesBefore x rank) firings
   pub count : length run ≡ length firings
   pub transitions : (i : ℕ) (f : Numbered) (d : Fired) → i < length firings → (slice_index_or run i d).transition.index ≡ (slice_index_or firings i f).transition
-  pub dates : (i : ℕ) (f : Numbered) (d : Fired) → i < length firings → date_of x (slice_index_or firings i f) ≡ At (pos (slice_index_or run i d).date)
+  pub dates : (i : ℕ) (f : Numbered) (d : Fired) → i < length firings → date_of_firing x (slice_index_or firings i f) ≡ At (pos (slice_index_or run i d).date)
 
 -- a rank of each transition that rises along each place without tokens
 abbrev pub RisesAlong : NetLists → (ℕ → ℕ) → Type 0

@@ -1,5 +1,5 @@
 pub mod Earliest
 pub mod EarliestRuns
-pub mod Failures
-pub mod Laws
+pub mod FiringFailures
+pub mod LegalRuns
 pub mod Runs

@@ -7,17 +7,17 @@ use Rattle.teg_net.specs.ReadyDates.{ready_date}
 use Rattle.run_laws.specs.declared.fired.Fired.{Fired}
 
 -- the dates of the firings of transition t, in order
-abbrev pub dates_of : List Fired → ℕ → List ℕ
-dates_of [] t = []
-dates_of (f ∷ run) t = if f.transition.index == t then f.date ∷ dates_of run t else dates_of run t
+abbrev pub dates_of_transition : List Fired → ℕ → List ℕ
+dates_of_transition [] t = []
+dates_of_transition (f ∷ run) t = if f.transition.index == t then f.date ∷ dates_of_transition run t else dates_of_transition run t
 
 -- the number that the next firing of transition t has
 abbrev pub next_number : List Fired → ℕ → ℕ
-next_number run t = length (dates_of run t) + 1
+next_number run t = length (dates_of_transition run t) + 1
 
 -- the date of firing k of transition t; none where it is missing
 abbrev pub firing_date : List Fired → ℕ → ℕ → Option ℕ
-firing_date run t k = slice_get (dates_of run t) (k - 1)
+firing_date run t k = slice_get (dates_of_transition run t) (k - 1)
 
 -- the date from which the token is there that the place has for firing k of its downstream transition: an
 -- initial token is there from its ready date on, another from the firing that brings it and its hold on;

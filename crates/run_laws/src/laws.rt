@@ -1,7 +1,7 @@
 //! The laws of legal runs. Each is a function that does nothing when it runs: its contract is the
 //! law.
 ghost use Rattle.run_laws.specs.EarliestRuns.{EarliestRunsAreLegal, PartsOfEarliestRunsAreLegal};
-ghost use Rattle.run_laws.specs.Laws.{EarliestIsLeast, FailuresAreNotLegal, FailuresAreOne, LegalRunsAreNotEarly};
+ghost use Rattle.run_laws.specs.LegalRuns.{EarliestIsLeast, FailuresAreNotLegal, FailuresAreOne, LegalRunsAreNotEarly};
 
 /// In a live net no firing of a legal run comes before its least date.
 pub fn legal_runs_are_not_early()

@@ -8,31 +8,32 @@ use Rattle.std.proofs.Math.ListN.{get_or-eq_default}
 use Rattle.std.proofs.lemmas.Bool.Decides.{nat_tests}
 use Rattle.dioid.specs.declared.dates.Date.{Date}
 use Rattle.dioid.specs.declared.dates.Date.TheVariants.{Early, At, Never}
-use Rattle.series_laws.specs.declared.plans.Plan.{Plan}
+use Rattle.series_laws.specs.declared.plans.NeedPlan.{NeedPlan}
 use Rattle.series_form.specs.declared.forms.SeriesRefused.{SeriesRefused}
 use Rattle.series_form.specs.declared.forms.SeriesRefused.TheVariants.{TooLong, TooGreat, OutOfMemory}
 use Rattle.dioid.specs.Dates.{move}
 use Rattle.dioid.proofs.AtMost.{le_is, le_trans, early_le}
 use Rattle.series_laws.specs.Periodic.{Rising, times}
-use Rattle.series_laws.specs.Forms.{Form, form_with, size_of, start_of, value_at, gap, table, HasValues, IsCanonical, monomial_at}
+use Rattle.series_laws.specs.SeriesForms.{Form, form_with, size_of, repeat_start, value_at, gap, table, HasValues, IsCanonical, monomial_at}
 use Rattle.series_laws.proofs.FormValues.{table_at, table_length, value_in, form_values, step_is_gap}
 use Rattle.series_laws.proofs.Canonical.{one_canonical, constant_is}
-use Rattle.series_form.specs.Bounds.{IsUpTo, IsSmallDate, IsModerateDate, IsModerate, HasSmallNumbers, IsSeries}
-use Rattle.series_form.specs.Answer.{IsFirstGreatValue, IsGreatStep, AnswersOf, IsShortest, IsBeginning, form_before, Answers}
+use Rattle.series_form.specs.NumberBounds.{IsMagnitudeUpTo, IsSmallDate, IsModerateDate, IsModerate, HasSmallNumbers, IsSeries}
+use Rattle.series_form.specs.SeriesAnswers.{IsFirstGreatValue, IsGreatStep, AnswersOf, IsShortestSeries, IsBeginning, form_before, AnswersForm}
 use Rattle.series_laws.specs.Needs.{plan, need_of}
 use Rattle.series_laws.proofs.Sums.{Serves}
-use Rattle.series_form.proofs.Numbers.{abs_sum, abs_difference, times_product, div_below}
+use Rattle.series_form.proofs.DateNumbers.{abs_sum, abs_difference, times_product, div_below}
 use Rattle.series_laws.proofs.Shifts.{monomial_below, monomial_from}
 use Rattle.dioid.proofs.Moves.{move_zero}
+use Rattle.series_form.specs.SeriesLimits.{greatest_value, greatest_moderate, greatest_listed}
 
 -- ---- bounds
 
-pub up_to_more : (m n : ℕ) (d : Date) → m ≤ n → IsUpTo m d → IsUpTo n d
+pub up_to_more : (m n : ℕ) (d : Date) → m ≤ n → IsMagnitudeUpTo m d → IsMagnitudeUpTo n d
 up_to_more m n Early w h = tt
 up_to_more m n (At t) w h = let k : unsigned_abs t ≤ m = h in omega arith
 up_to_more m n Never w h = tt
 
-up_to_move : (m n t : ℕ) (x : ℤ) (d : Date) → IsUpTo m d → t * unsigned_abs x ≤ n → IsUpTo (m + n) (move (times t x) d)
+up_to_move : (m n t : ℕ) (x : ℤ) (d : Date) → IsMagnitudeUpTo m d → t * unsigned_abs x ≤ n → IsMagnitudeUpTo (m + n) (move (times t x) d)
 up_to_move m n t x Early h w = tt
 up_to_move m n t x (At s) h w =
     let a : unsigned_abs (times t x) ≡ t * unsigned_abs x = ap unsigned_abs (times_product t x) ∙ unsigned_abs-mul (pos t) x in
@@ -40,38 +41,38 @@ up_to_move m n t x (At s) h w =
 up_to_move m n t x Never h w = tt
 
 -- how far a series comes by a shift
-pub value_up_to : (f : Form) → IsSeries f → (k m : ℕ) → k ≤ m → IsUpTo (1000000000000000000 + m * 1000000000000000000) (value_at f k)
+pub value_up_to : (f : Form) → IsSeries f → (k m : ℕ) → k ≤ m → IsMagnitudeUpTo (greatest_value + m * greatest_value) (value_at f k)
 value_up_to f h k m w = ⊎_elim
-    (λ short. subst (λ (z : Date). IsUpTo (1000000000000000000 + m * 1000000000000000000) z) (sym (value_in f k short))
-    (up_to_more 1000000000000000000 (1000000000000000000 + m * 1000000000000000000) (get_or f.values k Early) (omega arith) (h.small.values k)))
+    (λ short. subst (λ (z : Date). IsMagnitudeUpTo (greatest_value + m * greatest_value) z) (sym (value_in f k short))
+    (up_to_more greatest_value (greatest_value + m * greatest_value) (get_or f.values k Early) (omega arith) (h.small.values k)))
     (λ long.
     let e : ltb k (size_of f) ≡ false = grind (arith, nat_tests) in
     let p : 0 < f.period = h.canonical.form.period_positive in
-    let t : (k - start_of f) / f.period ≤ k - start_of f = div_below (k - start_of f) f.period p in
-    let x : unsigned_abs f.step ≤ 1000000000000000000 = h.small.step in
-    let far : (k - start_of f) / f.period * unsigned_abs f.step ≤ m * 1000000000000000000 = mul-le ((k - start_of f) / f.period) (unsigned_abs f.step) m 1000000000000000000 (omega arith) x in
-    rw e (up_to_move 1000000000000000000 (m * 1000000000000000000) ((k - start_of f) / f.period) f.step (get_or f.values (start_of f + (k - start_of f) % f.period) Early)
-    (h.small.values (start_of f + (k - start_of f) % f.period)) far))
+    let t : (k - repeat_start f) / f.period ≤ k - repeat_start f = div_below (k - repeat_start f) f.period p in
+    let x : unsigned_abs f.step ≤ greatest_value = h.small.step in
+    let far : (k - repeat_start f) / f.period * unsigned_abs f.step ≤ m * greatest_value = mul-le ((k - repeat_start f) / f.period) (unsigned_abs f.step) m greatest_value (omega arith) x in
+    rw e (up_to_move greatest_value (m * greatest_value) ((k - repeat_start f) / f.period) f.step (get_or f.values (repeat_start f + (k - repeat_start f) % f.period) Early)
+    (h.small.values (repeat_start f + (k - repeat_start f) % f.period)) far))
     (cases_lt k (size_of f))
 
 -- ---- the function of a table
 
 -- the first values of a function by a plan, the value after them, and how great they are
-pub record IsTabled (s : ℕ → Date) (r : Plan) (l : List Date) (next : Date) : Type 0 where
+pub record IsTabled (s : ℕ → Date) (r : NeedPlan) (l : List Date) (next : Date) : Type 0 where
   pub rising : Rising s
   pub serves : Serves s r
   pub values : l ≡ table s (need_of r)
   pub next_is : next ≡ s (need_of r)
-  pub bounded : (k : ℕ) → k ≤ need_of r → IsUpTo 500000000000000000000000000 (s k)
+  pub bounded : (k : ℕ) → k ≤ need_of r → IsMagnitudeUpTo greatest_listed (s k)
 
-pub gap_up_to : (m : ℕ) (a b : Date) → IsUpTo m a → IsUpTo m b → unsigned_abs (gap a b) ≤ m + m
+pub gap_up_to : (m : ℕ) (a b : Date) → IsMagnitudeUpTo m a → IsMagnitudeUpTo m b → unsigned_abs (gap a b) ≤ m + m
 gap_up_to m Early b h k = omega arith
 gap_up_to m (At s) Early h k = omega arith
 gap_up_to m (At s) (At t) h k = abs_difference t s m m k h
 gap_up_to m (At s) Never h k = omega arith
 gap_up_to m Never b h k = omega arith
 
-module _ (s : ℕ → Date) (r : Plan) (l : List Date) (next : Date) (h : IsTabled s r l next) where
+module _ (s : ℕ → Date) (r : NeedPlan) (l : List Date) (next : Date) (h : IsTabled s r l next) where
   pub tabled_length : length l ≡ need_of r
   tabled_length = ap length h.values ∙ table_length s (need_of r)
 
@@ -97,22 +98,22 @@ module _ (s : ℕ → Date) (r : Plan) (l : List Date) (next : Date) (h : IsTabl
   pub tabled_rises : Rising (value_at (form_before l r.turn next))
   tabled_rises = record { rises = λ j k w. le_trans (le_is (tabled_values j)) (le_trans (h.rising.rises j k w) (le_is (sym (tabled_values k)))) }
 
-  value : (k : ℕ) → IsUpTo 500000000000000000000000000 (get_or l k Early)
+  value : (k : ℕ) → IsMagnitudeUpTo greatest_listed (get_or l k Early)
   value k = ⊎_elim
-      (λ w. subst (λ (z : Date). IsUpTo 500000000000000000000000000 z) (sym (ap (λ (z : List Date). get_or z k Early) h.values ∙ table_at s (need_of r) k (omega (arith, tabled_length)))) (h.bounded k (omega (arith, tabled_length))))
-      (λ w. subst (λ (z : Date). IsUpTo 500000000000000000000000000 z) (sym (get_or-eq_default l Early {n = k} w)) tt)
+      (λ w. subst (λ (z : Date). IsMagnitudeUpTo greatest_listed z) (sym (ap (λ (z : List Date). get_or z k Early) h.values ∙ table_at s (need_of r) k (omega (arith, tabled_length)))) (h.bounded k (omega (arith, tabled_length))))
+      (λ w. subst (λ (z : Date). IsMagnitudeUpTo greatest_listed z) (sym (get_or-eq_default l Early {n = k} w)) tt)
       (cases_lt k (length l))
 
-  after : IsUpTo 500000000000000000000000000 next
-  after = subst (λ (z : Date). IsUpTo 500000000000000000000000000 z) (sym h.next_is) (h.bounded (need_of r) (omega arith))
+  after : IsMagnitudeUpTo greatest_listed next
+  after = subst (λ (z : Date). IsMagnitudeUpTo greatest_listed z) (sym h.next_is) (h.bounded (need_of r) (omega arith))
 
   pub tabled_next : IsModerateDate next
-  tabled_next = up_to_more 500000000000000000000000000 1000000000000000000000000000 next (omega arith) after
+  tabled_next = up_to_more greatest_listed greatest_moderate next (omega arith) after
 
   pub tabled_moderate : IsModerate (form_before l r.turn next)
   tabled_moderate = record {
-    values = λ k. up_to_more 500000000000000000000000000 1000000000000000000000000000 (get_or l k Early) (omega arith) (value k);
-    step = let u : unsigned_abs (gap (get_or l (length l - r.turn) Early) next) ≤ 500000000000000000000000000 + 500000000000000000000000000 = gap_up_to 500000000000000000000000000 (get_or l (length l - r.turn) Early) next (value (length l - r.turn)) after in omega arith;
+    values = λ k. up_to_more greatest_listed greatest_moderate (get_or l k Early) (omega arith) (value k);
+    step = let u : unsigned_abs (gap (get_or l (length l - r.turn) Early) next) ≤ greatest_listed + greatest_listed = gap_up_to greatest_listed (get_or l (length l - r.turn) Early) next (value (length l - r.turn)) after in omega arith;
   }
 
   pub tabled_begins : need_of r ≤ 20000 → IsBeginning l r.turn next
@@ -121,7 +122,7 @@ module _ (s : ℕ → Date) (r : Plan) (l : List Date) (next : Date) (h : IsTabl
       record { positive = h.serves.turns; fits = omega arith; short = omega arith; moderate = tabled_moderate; moderate_next = tabled_next; rising = tabled_rises; goes_on = tabled_values (length l) ∙ ap s tabled_length ∙ sym h.next_is }
 
   -- the answer of a call that ends by the table
-  pub tabled_answer : (is : Form → Type 0) (x : Result Form SeriesRefused) → ((f : Form) → HasValues f s → is f) → need_of r ≤ 20000 → IsShortest (value_at (form_before l r.turn next)) x → AnswersOf is (need_of r) (need_of r) x
+  pub tabled_answer : (is : Form → Type 0) (x : Result Form SeriesRefused) → ((f : Form) → HasValues f s → is f) → need_of r ≤ 20000 → IsShortestSeries (value_at (form_before l r.turn next)) x → AnswersOf is (need_of r) (need_of r) x
   tabled_answer is (Ok f) has short e = (e.0, has f (λ k. e.1 k ∙ tabled_values k), short)
   tabled_answer is (Err (TooLong n)) has short e = absurd e
   tabled_answer is (Err (TooGreat v)) has short e = (short, record { form = e.form; canonical = e.canonical; values = has e.form (λ k. e.values k ∙ tabled_values k); number = e.number })
@@ -130,7 +131,7 @@ module _ (s : ℕ → Date) (r : Plan) (l : List Date) (next : Date) (h : IsTabl
 -- ---- the model
 
 -- an answer of the function's values is one of the function's canonical form
-pub model_answer : (s : ℕ → Date) (f : Form) (is : Form → Type 0) (need carried : ℕ) (x : Result Form SeriesRefused) → IsCanonical f → HasValues f s → ((g : Form) → is g → HasValues g s) → AnswersOf is need carried x → Answers need f x
+pub model_answer : (s : ℕ → Date) (f : Form) (is : Form → Type 0) (need carried : ℕ) (x : Result Form SeriesRefused) → IsCanonical f → HasValues f s → ((g : Form) → is g → HasValues g s) → AnswersOf is need carried x → AnswersForm need f x
 model_answer s f is need carried (Ok g) cf same has h =
     let e : g ≡ f = one_canonical g f h.0.canonical cf (λ k. has g h.1 k ∙ sym (same k)) in
     (e, record { short = h.2; small = subst (λ (z : Form). HasSmallNumbers z) e h.0.small })
@@ -168,8 +169,8 @@ monomial_tabled n t l small e = record {
   values = e;
   next_is = sym (monomial_from n t (n + 1) (omega arith));
   bounded = λ k _. ⊎_elim
-      (λ low. subst (λ (z : Date). IsUpTo 500000000000000000000000000 z) (sym (monomial_below n t k low)) tt)
-      (λ high. subst (λ (z : Date). IsUpTo 500000000000000000000000000 z) (sym (monomial_from n t k high)) (let u : unsigned_abs t ≤ 500000000000000000000000000 = omega arith in u))
+      (λ low. subst (λ (z : Date). IsMagnitudeUpTo greatest_listed z) (sym (monomial_below n t k low)) tt)
+      (λ high. subst (λ (z : Date). IsMagnitudeUpTo greatest_listed z) (sym (monomial_from n t k high)) (let u : unsigned_abs t ≤ greatest_listed = omega arith in u))
       (cases_lt k n);
 }
 

@@ -5,12 +5,12 @@ use Rattle.std.proofs.lemmas.List.{get_or-take, length-take-le}
 use Rattle.std.proofs.Math.ListN.{get_or-eq_default}
 use Rattle.dioid.specs.declared.dates.Date.{Date}
 use Rattle.dioid.specs.declared.dates.Date.TheVariants.{Early}
-use Rattle.series_form.specs.Bounds.{IsSmallDate, IsSeries, HasSmallNumbers}
+use Rattle.series_form.specs.NumberBounds.{IsSmallDate, IsSeries, HasSmallNumbers}
 use Rattle.series_laws.specs.Periodic.{Rising, Repeats}
-use Rattle.series_laws.specs.Forms.{Form, form_with, value_at, size_of, table, gap, shortest, HasValues, canonical_of, least_period_of, least_start_of}
+use Rattle.series_laws.specs.SeriesForms.{Form, form_with, value_at, size_of, table, gap, shortest, HasValues, canonical_of, least_period_of, least_start_of}
 use Rattle.series_laws.proofs.Canonical.{canonical_values, canonical_is, canonical_short}
 use Rattle.series_laws.proofs.FormValues.{same_lists, table_at, table_length, value_in, value_repeats}
-use Rattle.series_form.specs.Answer.{IsFirstGreat, IsFirstGreatValue, IsGreatIn}
+use Rattle.series_form.specs.SeriesAnswers.{IsFirstGreat, IsFirstGreatValue, IsGreatIn}
 use Rattle.series_form.specs.Shapes.{shortened, IsTooGreat}
 
 abbrev pub V : List Date → ℕ → ℤ → ℕ → Date

@@ -13,18 +13,19 @@ use Rattle.dioid.specs.declared.dates.Date.TheVariants.{At}
 use Rattle.dioid.specs.Dates.{move}
 use Rattle.series_laws.specs.Periodic.{Repeats, times}
 use Rattle.series_laws.proofs.Repeating.{repeats_times}
-use Rattle.series_laws.specs.Forms.{Form, size_of, start_of, value_at, IsForm, gap}
+use Rattle.series_laws.specs.SeriesForms.{Form, size_of, repeat_start, value_at, IsForm, gap}
 use Rattle.series_laws.specs.Needs.{period_with, rise_of, fall_of, turns_of, common, greatest_int, later_start, lead_of}
 use Rattle.series_laws.proofs.Sums.{form_repeats_own, common_positive, common_second, tail_number, le_greatest_int, rise_repeats, fall_repeats}
-use Rattle.series_form.specs.Bounds.{IsSeries, IsUpTo}
-use Rattle.series_form.specs.Leads.{AreNumbers, AreLedTo, IsReach, climb_of, cover_of, gain_from_before, height_past, lead_past, number_of, place_before, width_of}
+use Rattle.series_form.specs.NumberBounds.{IsSeries, IsMagnitudeUpTo}
+use Rattle.series_form.specs.Leads.{AreNumberSeries, NoGreaterLead, IsReach, climb_of, cover_of, gain_from_before, height_past, lead_past, integer_of_date, place_before, width_of}
 use Rattle.series_form.proofs.Cycles.{comes_low, turns_least, turns_some}
 use Rattle.number_laws.proofs.Pigeons.{difference}
-use Rattle.series_form.proofs.Numbers.{abs_sum, abs_difference, moderate_fits, within_fits}
+use Rattle.series_form.specs.SeriesLimits.{greatest_value, most_covering_shifts, greatest_moderate, greatest_height}
+use Rattle.series_form.proofs.DateNumbers.{abs_sum, abs_difference, moderate_fits, within_fits}
 use Rattle.series_form.proofs.Finished.{value_up_to, up_to_more, gap_up_to}
 use Rattle.series_form.proofs.PointwiseTables.{max_up_to}
 
-module _ (f g : Form) (isf : IsForm f) (isg : IsForm g) (numbers : AreNumbers f g) where
+module _ (f g : Form) (isf : IsForm f) (isg : IsForm g) (numbers : AreNumberSeries f g) where
   -- values past where both repeat
   first_number : (i : ℕ) → (v : ℤ) × (value_at f (later_start f g + i) ≡ At v)
   first_number i = tail_number f numbers.first.0 isf numbers.first.1 (later_start f g + i) (omega arith)
@@ -32,34 +33,34 @@ module _ (f g : Form) (isf : IsForm f) (isg : IsForm g) (numbers : AreNumbers f 
   second_number : (i : ℕ) → (v : ℤ) × (value_at g (later_start f g + i) ≡ At v)
   second_number i = tail_number g numbers.second.0 isg numbers.second.1 (later_start f g + i) (omega arith)
 
-  lead_is : (i : ℕ) → lead_past f g i ≡ number_of (value_at g (later_start f g + i)) -ℤ number_of (value_at f (later_start f g + i))
+  lead_is : (i : ℕ) → lead_past f g i ≡ integer_of_date (value_at g (later_start f g + i)) -ℤ integer_of_date (value_at f (later_start f g + i))
   lead_is i =
       let vf : (v : ℤ) × (value_at f (later_start f g + i) ≡ At v) = first_number i in
       let vg : (v : ℤ) × (value_at g (later_start f g + i) ≡ At v) = second_number i in
       ap (λ (d : Date). gap d (value_at g (later_start f g + i))) vf.1 ∙ ap (gap (At vf.0)) vg.1
-      ∙ sym (ap (λ (d : Date). number_of d -ℤ number_of (value_at f (later_start f g + i))) vg.1 ∙ ap (λ (d : Date). vg.0 -ℤ number_of d) vf.1)
+      ∙ sym (ap (λ (d : Date). integer_of_date d -ℤ integer_of_date (value_at f (later_start f g + i))) vg.1 ∙ ap (λ (d : Date). vg.0 -ℤ integer_of_date d) vf.1)
 
   -- so many periods of the first on, it has gained as many steps
-  first_later : (i j : ℕ) → number_of (value_at f (later_start f g + (i + j * f.period))) ≡ number_of (value_at f (later_start f g + i)) +ℤ times j f.step
+  first_later : (i j : ℕ) → integer_of_date (value_at f (later_start f g + (i + j * f.period))) ≡ integer_of_date (value_at f (later_start f g + i)) +ℤ times j f.step
   first_later i j =
       let vf : (v : ℤ) × (value_at f (later_start f g + i) ≡ At v) = first_number i in
       let on : later_start f g + (i + j * f.period) ≡ later_start f g + i + j * f.period = omega arith in
-      let own : Repeats (value_at f) (start_of f) (j * f.period) (times j f.step) = repeats_times j (form_repeats_own f isf) in
-      ap number_of (ap (value_at f) on ∙ own.at (later_start f g + i) (omega arith) ∙ ap (move (times j f.step)) vf.1) ∙ sym (ap (λ (d : Date). number_of d +ℤ times j f.step) vf.1)
+      let own : Repeats (value_at f) (repeat_start f) (j * f.period) (times j f.step) = repeats_times j (form_repeats_own f isf) in
+      ap integer_of_date (ap (value_at f) on ∙ own.at (later_start f g + i) (omega arith) ∙ ap (move (times j f.step)) vf.1) ∙ sym (ap (λ (d : Date). integer_of_date d +ℤ times j f.step) vf.1)
 
   -- a width on, the second has gained the climb
-  second_later : (i : ℕ) → number_of (value_at g (later_start f g + (i + width_of f g))) ≡ number_of (value_at g (later_start f g + i)) +ℤ climb_of f g
+  second_later : (i : ℕ) → integer_of_date (value_at g (later_start f g + (i + width_of f g))) ≡ integer_of_date (value_at g (later_start f g + i)) +ℤ climb_of f g
   second_later i =
       let vg : (v : ℤ) × (value_at g (later_start f g + i) ≡ At v) = second_number i in
       let on : later_start f g + (i + width_of f g) ≡ later_start f g + i + width_of f g = omega arith in
-      let own : Repeats (value_at g) (start_of g) (cover_of f g * g.period) (times (cover_of f g) g.step) = repeats_times (cover_of f g) (form_repeats_own g isg) in
-      ap number_of (ap (value_at g) on ∙ own.at (later_start f g + i) (omega arith) ∙ ap (move (climb_of f g)) vg.1) ∙ sym (ap (λ (d : Date). number_of d +ℤ climb_of f g) vg.1)
+      let own : Repeats (value_at g) (repeat_start g) (cover_of f g * g.period) (times (cover_of f g) g.step) = repeats_times (cover_of f g) (form_repeats_own g isg) in
+      ap integer_of_date (ap (value_at g) on ∙ own.at (later_start f g + i) (omega arith) ∙ ap (move (climb_of f g)) vg.1) ∙ sym (ap (λ (d : Date). integer_of_date d +ℤ climb_of f g) vg.1)
 
   -- a height less what the first has at the place is a lead
-  height_lead : (place j : ℕ) → height_past f g place j -ℤ number_of (value_at f (later_start f g + place)) ≡ lead_past f g (place + j * f.period)
+  height_lead : (place j : ℕ) → height_past f g place j -ℤ integer_of_date (value_at f (later_start f g + place)) ≡ lead_past f g (place + j * f.period)
   height_lead place j =
-      let e : lead_past f g (place + j * f.period) ≡ number_of (value_at g (later_start f g + (place + j * f.period))) -ℤ number_of (value_at f (later_start f g + (place + j * f.period))) = lead_is (place + j * f.period) in
-      let h : number_of (value_at f (later_start f g + (place + j * f.period))) ≡ number_of (value_at f (later_start f g + place)) +ℤ times j f.step = first_later place j in
+      let e : lead_past f g (place + j * f.period) ≡ integer_of_date (value_at g (later_start f g + (place + j * f.period))) -ℤ integer_of_date (value_at f (later_start f g + (place + j * f.period))) = lead_is (place + j * f.period) in
+      let h : integer_of_date (value_at f (later_start f g + (place + j * f.period))) ≡ integer_of_date (value_at f (later_start f g + place)) +ℤ times j f.step = first_later place j in
       omega (arith, ints)
 
   -- a step back adds a period to each height
@@ -68,31 +69,31 @@ module _ (f g : Form) (isf : IsForm f) (isg : IsForm g) (numbers : AreNumbers f 
       (λ less.
       let t : ltb place f.period ≡ true = grind (arith, nat_tests) in
       let on : place + width_of f g - f.period + suc j * f.period ≡ place + j * f.period + width_of f g = omega arith in
-      let far : number_of (value_at g (later_start f g + (place + width_of f g - f.period + suc j * f.period))) ≡ number_of (value_at g (later_start f g + (place + j * f.period))) +ℤ climb_of f g =
-      ap (λ (z : ℕ). number_of (value_at g (later_start f g + z))) on ∙ second_later (place + j * f.period) in
+      let far : integer_of_date (value_at g (later_start f g + (place + width_of f g - f.period + suc j * f.period))) ≡ integer_of_date (value_at g (later_start f g + (place + j * f.period))) +ℤ climb_of f g =
+      ap (λ (z : ℕ). integer_of_date (value_at g (later_start f g + z))) on ∙ second_later (place + j * f.period) in
       rw t (omega (arith, ints)))
       (λ more.
       let t : ltb place f.period ≡ false = grind (arith, nat_tests) in
       let on : place - f.period + suc j * f.period ≡ place + j * f.period = omega arith in
-      let far : number_of (value_at g (later_start f g + (place - f.period + suc j * f.period))) ≡ number_of (value_at g (later_start f g + (place + j * f.period))) =
-      ap (λ (z : ℕ). number_of (value_at g (later_start f g + z))) on in
+      let far : integer_of_date (value_at g (later_start f g + (place - f.period + suc j * f.period))) ≡ integer_of_date (value_at g (later_start f g + (place + j * f.period))) =
+      ap (λ (z : ℕ). integer_of_date (value_at g (later_start f g + z))) on in
       rw t (omega (arith, ints)))
       (cases_lt place f.period)
 
-  height_here : (place : ℕ) → height_past f g place 0 ≡ number_of (value_at g (later_start f g + place))
+  height_here : (place : ℕ) → height_past f g place 0 ≡ integer_of_date (value_at g (later_start f g + place))
   height_here place =
       let on : place + 0 * f.period ≡ place = omega arith in
-      let e : number_of (value_at g (later_start f g + (place + 0 * f.period))) ≡ number_of (value_at g (later_start f g + place)) = ap (λ (z : ℕ). number_of (value_at g (later_start f g + z))) on in
+      let e : integer_of_date (value_at g (later_start f g + (place + 0 * f.period))) ≡ integer_of_date (value_at g (later_start f g + place)) = ap (λ (z : ℕ). integer_of_date (value_at g (later_start f g + z))) on in
       omega (arith, ints)
 
   -- the reach of the place before
   pub reach_before : (m place : ℕ) (height : ℤ) → f.period ≤ width_of f g → IsReach f g m place height → place_before f g place < width_of f g
-      → IsReach f g (m + 1) (place_before f g place) (int_max (number_of (value_at g (later_start f g + place_before f g place))) (height +ℤ gain_from_before f g place))
+      → IsReach f g (m + 1) (place_before f g place) (int_max (integer_of_date (value_at g (later_start f g + place_before f g place))) (height +ℤ gain_from_before f g place))
   reach_before m place height covers is low = record {
     within = low;
-    reached = let here : height_past f g (place_before f g place) 0 ≡ number_of (value_at g (later_start f g + place_before f g place)) = height_here (place_before f g place) in
+    reached = let here : height_past f g (place_before f g place) 0 ≡ integer_of_date (value_at g (later_start f g + place_before f g place)) = height_here (place_before f g place) in
         let there : height_past f g (place_before f g place) (suc is.reached.0) ≡ height_past f g place is.reached.0 +ℤ gain_from_before f g place = height_before place is.reached.0 covers in
-        one_of (number_of (value_at g (later_start f g + place_before f g place))) (height +ℤ gain_from_before f g place) (height_past f g (place_before f g place)) (suc is.reached.0) (sym here)
+        one_of (integer_of_date (value_at g (later_start f g + place_before f g place))) (height +ℤ gain_from_before f g place) (height_past f g (place_before f g place)) (suc is.reached.0) (sym here)
         (ap (λ (z : ℤ). z +ℤ gain_from_before f g place) is.reached.1 ∙ sym there);
     greatest = λ j. each j;
   } where
@@ -101,8 +102,8 @@ module _ (f g : Form) (isf : IsForm f) (isg : IsForm g) (numbers : AreNumbers f 
       either : (x y : ℤ) → (int_max x y ≡ x) ⊎ (int_max x y ≡ y)
       either x y = grind (arith, ints, clamps)
 
-    each : (j : ℕ) → j ≤ m + 1 → height_past f g (place_before f g place) j ≤ℤ int_max (number_of (value_at g (later_start f g + place_before f g place))) (height +ℤ gain_from_before f g place)
-    each zero l = let here : height_past f g (place_before f g place) 0 ≡ number_of (value_at g (later_start f g + place_before f g place)) = height_here (place_before f g place) in
+    each : (j : ℕ) → j ≤ m + 1 → height_past f g (place_before f g place) j ≤ℤ int_max (integer_of_date (value_at g (later_start f g + place_before f g place))) (height +ℤ gain_from_before f g place)
+    each zero l = let here : height_past f g (place_before f g place) 0 ≡ integer_of_date (value_at g (later_start f g + place_before f g place)) = height_here (place_before f g place) in
         rw here (omega (arith, ints, clamps))
     each (suc j) l =
         let there : height_past f g (place_before f g place) (suc j) ≡ height_past f g place j +ℤ gain_from_before f g place = height_before place j covers in
@@ -110,11 +111,11 @@ module _ (f g : Form) (isf : IsForm f) (isg : IsForm g) (numbers : AreNumbers f 
         rw there (omega (arith, ints, clamps))
 
   -- where the walk begins
-  pub reach_first : (place : ℕ) → place < width_of f g → IsReach f g 0 place (number_of (value_at g (later_start f g + place)))
+  pub reach_first : (place : ℕ) → place < width_of f g → IsReach f g 0 place (integer_of_date (value_at g (later_start f g + place)))
   reach_first place low = record {
     within = low;
     reached = (0, sym (height_here place));
-    greatest = λ j l. let z : j ≡ 0 = omega arith in let e : height_past f g place j ≡ number_of (value_at g (later_start f g + place)) = ap (height_past f g place) z ∙ height_here place in rw e (omega (arith, ints));
+    greatest = λ j l. let z : j ≡ 0 = omega arith in let e : height_past f g place j ≡ integer_of_date (value_at g (later_start f g + place)) = ap (height_past f g place) z ∙ height_here place in rw e (omega (arith, ints));
   }
 
   -- ---- leads on the common period
@@ -155,26 +156,26 @@ module _ (f g : Form) (isf : IsForm f) (isg : IsForm g) (numbers : AreNumbers f 
       omega (arith, ints)
 
   -- a reach tells a lead, no greater than the greatest
-  pub reach_below : pos 0 <ℤ (rise_of f g -ℤ fall_of f g) → (m place : ℕ) (height : ℤ) → IsReach f g m place height → (height -ℤ number_of (value_at f (later_start f g + place))) ≤ℤ lead_of f g
+  pub reach_below : pos 0 <ℤ (rise_of f g -ℤ fall_of f g) → (m place : ℕ) (height : ℤ) → IsReach f g m place height → (height -ℤ integer_of_date (value_at f (later_start f g + place))) ≤ℤ lead_of f g
   reach_below gain m place height is =
       let j : ℕ = is.reached.0 in
       let e : height ≡ height_past f g place is.reached.0 = is.reached.1 in
-      let h : height_past f g place is.reached.0 -ℤ number_of (value_at f (later_start f g + place)) ≡ lead_past f g (place + is.reached.0 * f.period) = height_lead place is.reached.0 in
+      let h : height_past f g place is.reached.0 -ℤ integer_of_date (value_at f (later_start f g + place)) ≡ lead_past f g (place + is.reached.0 * f.period) = height_lead place is.reached.0 in
       let low : lead_past f g (place + is.reached.0 * f.period) ≤ℤ lead_of f g = lead_below gain (place + is.reached.0 * f.period) in
       omega (arith, ints)
 
   -- and no lead from its place within its periods is greater
-  pub reach_leads : (m place : ℕ) (height : ℤ) → IsReach f g m place height → (j : ℕ) → j ≤ m → lead_past f g (place + j * f.period) ≤ℤ (height -ℤ number_of (value_at f (later_start f g + place)))
+  pub reach_leads : (m place : ℕ) (height : ℤ) → IsReach f g m place height → (j : ℕ) → j ≤ m → lead_past f g (place + j * f.period) ≤ℤ (height -ℤ integer_of_date (value_at f (later_start f g + place)))
   reach_leads m place height is j l =
-      let h : height_past f g place j -ℤ number_of (value_at f (later_start f g + place)) ≡ lead_past f g (place + j * f.period) = height_lead place j in
+      let h : height_past f g place j -ℤ integer_of_date (value_at f (later_start f g + place)) ≡ lead_past f g (place + j * f.period) = height_lead place j in
       let low : height_past f g place j ≤ℤ height = is.greatest j l in
       omega (arith, ints)
 
 -- a lead on the list is moderate
-pub gap_moderate : (f g : Form) (k : ℕ) → IsSeries f → IsSeries g → k ≤ 400020000 → unsigned_abs (gap (value_at f k) (value_at g k)) ≤ 1000000000000000000000000000
+pub gap_moderate : (f g : Form) (k : ℕ) → IsSeries f → IsSeries g → k ≤ most_covering_shifts → unsigned_abs (gap (value_at f k) (value_at g k)) ≤ greatest_moderate
 gap_moderate f g k sf sg w =
-    let a : IsUpTo 400020001000000000000000000 (value_at f k) = up_to_more (1000000000000000000 + 400020000 * 1000000000000000000) 400020001000000000000000000 (value_at f k) (omega arith) (value_up_to f sf k 400020000 w) in
-    let b : IsUpTo 400020001000000000000000000 (value_at g k) = up_to_more (1000000000000000000 + 400020000 * 1000000000000000000) 400020001000000000000000000 (value_at g k) (omega arith) (value_up_to g sg k 400020000 w) in
+    let a : IsMagnitudeUpTo 400020001000000000000000000 (value_at f k) = up_to_more (greatest_value + most_covering_shifts * greatest_value) 400020001000000000000000000 (value_at f k) (omega arith) (value_up_to f sf k most_covering_shifts w) in
+    let b : IsMagnitudeUpTo 400020001000000000000000000 (value_at g k) = up_to_more (greatest_value + most_covering_shifts * greatest_value) 400020001000000000000000000 (value_at g k) (omega arith) (value_up_to g sg k most_covering_shifts w) in
     let e : unsigned_abs (gap (value_at f k) (value_at g k)) ≤ 400020001000000000000000000 + 400020001000000000000000000 = gap_up_to 400020001000000000000000000 (value_at f k) (value_at g k) a b in
     omega arith
 
@@ -183,7 +184,7 @@ greatest_up_to : (F : ℕ → ℤ) (n b : ℕ) → ((i : ℕ) → i ≤ n → un
 greatest_up_to F zero b h = h 0 (omega arith)
 greatest_up_to F (suc n) b h = max_up_to (greatest_int F n) (F (suc n)) b (greatest_up_to F n b (λ i l. h i (omega arith))) (h (suc n) (omega arith))
 
-pub lead_moderate : (f g : Form) → IsSeries f → IsSeries g → unsigned_abs (lead_of f g) ≤ 1000000000000000000000000000
+pub lead_moderate : (f g : Form) → IsSeries f → IsSeries g → unsigned_abs (lead_of f g) ≤ greatest_moderate
 lead_moderate f g sf sg =
     let some : 0 < g.period = sg.canonical.form.period_positive in
     let low_f : f.period ≤ size_of f = sf.canonical.form.period_fits in
@@ -193,7 +194,7 @@ lead_moderate f g sf sg =
     let few : turns_of f.period g.period ≤ g.period = turns_least f.period g.period g.period f.period some some (omega arith) in
     let long : turns_of f.period g.period * f.period ≤ 20000 * 20000 = mul-le (turns_of f.period g.period) f.period 20000 20000 (omega arith) (omega arith) in
     let early : later_start f g ≤ 20000 = omega arith in
-    greatest_up_to (lead_past f g) (period_with f g - 1) 1000000000000000000000000000 (λ i l. gap_moderate f g (later_start f g + i) sf sg (omega arith))
+    greatest_up_to (lead_past f g) (period_with f g - 1) greatest_moderate (λ i l. gap_moderate f g (later_start f g + i) sf sg (omega arith))
 
 greatest_below : (F : ℕ → ℤ) (n : ℕ) (b : ℤ) → ((i : ℕ) → i ≤ n → F i ≤ℤ b) → greatest_int F n ≤ℤ b
 greatest_below F zero b h = h 0 (omega arith)
@@ -204,7 +205,7 @@ greatest_below F (suc n) b h =
 
 -- where every cycle is walked twice, no lead is greater
 pub all_led : (f g : Form) (best : ℤ) → IsForm f → IsForm g → f.period ≤ width_of f g
-    → ((start : ℕ) → start < width_of f g / turns_of f.period (width_of f g) → AreLedTo f g start (2 * turns_of f.period (width_of f g)) best)
+    → ((start : ℕ) → start < width_of f g / turns_of f.period (width_of f g) → NoGreaterLead f g start (2 * turns_of f.period (width_of f g)) best)
     → lead_of f g ≤ℤ best
 all_led f g best isf isg covers led = greatest_below (lead_past f g) (period_with f g - 1) best each where
   each : (i : ℕ) → i ≤ period_with f g - 1 → lead_past f g i ≤ℤ best
@@ -278,26 +279,26 @@ cycle_kept f g m place start covers e = ⊎_elim
 pub record IsLedOn (f g : Form) (start m : ℕ) (known best : ℤ) : Type 0 where
   pub kept : known ≤ℤ best
   pub no_more : best ≤ℤ lead_of f g
-  pub led : AreLedTo f g start m best
+  pub led : NoGreaterLead f g start m best
 
-pub led_on : (f g : Form) (start m place : ℕ) (height known best : ℤ) → IsForm f → IsForm g → AreNumbers f g → pos 0 <ℤ (rise_of f g -ℤ fall_of f g)
-    → known ≤ℤ lead_of f g → AreLedTo f g start m known → IsReach f g (m + 1) place height → (place + (m + 1) * f.period) % width_of f g ≡ start
-    → best ≡ cond (ltb place f.period) (int_max known (height -ℤ number_of (value_at f (later_start f g + place)))) known
+pub led_on : (f g : Form) (start m place : ℕ) (height known best : ℤ) → IsForm f → IsForm g → AreNumberSeries f g → pos 0 <ℤ (rise_of f g -ℤ fall_of f g)
+    → known ≤ℤ lead_of f g → NoGreaterLead f g start m known → IsReach f g (m + 1) place height → (place + (m + 1) * f.period) % width_of f g ≡ start
+    → best ≡ cond (ltb place f.period) (int_max known (height -ℤ integer_of_date (value_at f (later_start f g + place)))) known
     → IsLedOn f g start (m + 1) known best
 led_on f g start m place height known best isf isg numbers gain low led is at e = ⊎_elim
     (λ (less : place < f.period).
     let t : ltb place f.period ≡ true = grind (arith, nat_tests) in
-    let x : ℤ = height -ℤ number_of (value_at f (later_start f g + place)) in
-    let b : best ≡ int_max known (height -ℤ number_of (value_at f (later_start f g + place))) = e ∙ ap (λ z. cond z (int_max known (height -ℤ number_of (value_at f (later_start f g + place)))) known) t in
-    let top : (height -ℤ number_of (value_at f (later_start f g + place))) ≤ℤ lead_of f g = reach_below f g isf isg numbers gain (m + 1) place height is in
+    let x : ℤ = height -ℤ integer_of_date (value_at f (later_start f g + place)) in
+    let b : best ≡ int_max known (height -ℤ integer_of_date (value_at f (later_start f g + place))) = e ∙ ap (λ z. cond z (int_max known (height -ℤ integer_of_date (value_at f (later_start f g + place)))) known) t in
+    let top : (height -ℤ integer_of_date (value_at f (later_start f g + place))) ≤ℤ lead_of f g = reach_below f g isf isg numbers gain (m + 1) place height is in
     further (omega (arith, ints, clamps)) (omega (arith, ints, clamps))
     (λ p j w l same. let q : p ≡ place = same_place p place ((m + 1) * f.period) (width_of f g) (omega (arith, covers_it f g isf isg)) is.within (same ∙ sym at) in
-    let r : lead_past f g (place + j * f.period) ≤ℤ (height -ℤ number_of (value_at f (later_start f g + place))) = reach_leads f g isf isg numbers (m + 1) place height is j l in
+    let r : lead_past f g (place + j * f.period) ≤ℤ (height -ℤ integer_of_date (value_at f (later_start f g + place))) = reach_leads f g isf isg numbers (m + 1) place height is j l in
     let s : lead_past f g (place + j * f.period) ≤ℤ best = omega (arith, ints, clamps) in
     subst (λ (z : ℕ). lead_past f g (z + j * f.period) ≤ℤ best) (sym q) s))
     (λ (more : f.period ≤ place).
     let t : ltb place f.period ≡ false = grind (arith, nat_tests) in
-    let b : best ≡ known = e ∙ ap (λ z. cond z (int_max known (height -ℤ number_of (value_at f (later_start f g + place)))) known) t in
+    let b : best ≡ known = e ∙ ap (λ z. cond z (int_max known (height -ℤ integer_of_date (value_at f (later_start f g + place)))) known) t in
     further (omega (arith, ints)) (omega (arith, ints))
     (λ p j w l same. absurd (let q : p ≡ place = same_place p place ((m + 1) * f.period) (width_of f g) (omega (arith, covers_it f g isf isg)) is.within (same ∙ sym at) in omega arith)))
     (cases_lt place f.period) where
@@ -314,25 +315,25 @@ led_on f g start m place height known best isf isg numbers gain low led is at e 
       }
 
 -- a greater number tells no fewer
-pub led_more : (f g : Form) (start steps : ℕ) (known best : ℤ) → known ≤ℤ best → AreLedTo f g start steps known → AreLedTo f g start steps best
+pub led_more : (f g : Form) (start steps : ℕ) (known best : ℤ) → known ≤ℤ best → NoGreaterLead f g start steps known → NoGreaterLead f g start steps best
 led_more f g start steps known best up led = λ k p j some within w same l. let old : lead_past f g (p + j * f.period) ≤ℤ known = led k p j some within w same l in omega (arith, ints)
 
 -- ---- as the code computes it
 
-pub sum_code : (h k : ℤ) → unsigned_abs h ≤ 1000000000000000000000000000000000000 → unsigned_abs k ≤ 1000000000000000000000000000
+pub sum_code : (h k : ℤ) → unsigned_abs h ≤ greatest_height → unsigned_abs k ≤ greatest_moderate
     → to_z w128 (of_z w128 (to_z w128 (of_z w128 h) +ℤ to_z w128 (of_z w128 k))) ≡ h +ℤ k
 sum_code h k bh bk =
     let a : to_z w128 (of_z w128 h) ≡ h = to_z-of_z w128 h (within_fits h (omega arith)) in
     let b : to_z w128 (of_z w128 k) ≡ k = to_z-of_z w128 k (moderate_fits k bk) in
-    let low : unsigned_abs (h +ℤ k) ≤ 1000000000000000000000000000000000000 + 1000000000000000000000000000 = abs_sum h k 1000000000000000000000000000000000000 1000000000000000000000000000 bh bk in
+    let low : unsigned_abs (h +ℤ k) ≤ greatest_height + greatest_moderate = abs_sum h k greatest_height greatest_moderate bh bk in
     ap (λ (z : ℤ). to_z w128 (of_z w128 (z +ℤ to_z w128 (of_z w128 k)))) a ∙ ap (λ (z : ℤ). to_z w128 (of_z w128 (h +ℤ z))) b ∙ to_z-of_z w128 (h +ℤ k) (within_fits (h +ℤ k) (omega arith))
 
-pub less_code : (h k : ℤ) → unsigned_abs h ≤ 1000000000000000000000000000000000000 → unsigned_abs k ≤ 1000000000000000000000000000
+pub less_code : (h k : ℤ) → unsigned_abs h ≤ greatest_height → unsigned_abs k ≤ greatest_moderate
     → to_z w128 (of_z w128 (to_z w128 (of_z w128 h) -ℤ to_z w128 (of_z w128 k))) ≡ h -ℤ k
 less_code h k bh bk =
     let a : to_z w128 (of_z w128 h) ≡ h = to_z-of_z w128 h (within_fits h (omega arith)) in
     let b : to_z w128 (of_z w128 k) ≡ k = to_z-of_z w128 k (moderate_fits k bk) in
-    let low : unsigned_abs (h -ℤ k) ≤ 1000000000000000000000000000000000000 + 1000000000000000000000000000 = abs_difference h k 1000000000000000000000000000000000000 1000000000000000000000000000 bh bk in
+    let low : unsigned_abs (h -ℤ k) ≤ greatest_height + greatest_moderate = abs_difference h k greatest_height greatest_moderate bh bk in
     ap (λ (z : ℤ). to_z w128 (of_z w128 (z -ℤ to_z w128 (of_z w128 k)))) a ∙ ap (λ (z : ℤ). to_z w128 (of_z w128 (h -ℤ z))) b ∙ to_z-of_z w128 (h -ℤ k) (within_fits (h -ℤ k) (omega arith))
 
 pub max_step : (r x y u v : ℤ) → r ≡ int_max x y → x ≡ u → y ≡ v → r ≡ int_max u v

@@ -4,7 +4,7 @@ pub mod FirstPart
 pub mod Great
 pub mod Heights
 pub mod Listed
-pub mod Numbers
+pub mod DateNumbers
 pub mod PointwiseTables
 pub mod Same
 pub mod Steps

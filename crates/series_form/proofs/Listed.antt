@@ -5,11 +5,11 @@ use Rattle.std.proofs.lemmas.Int.{ints}
 use Rattle.dioid.specs.declared.dates.Date.{Date}
 use Rattle.dioid.specs.declared.dates.Date.TheVariants.{Early, At, Never}
 use Rattle.dioid.specs.Dates.{move}
-use Rattle.dioid.specs.Order.{Le}
+use Rattle.dioid.specs.DateOrder.{Le}
 use Rattle.std.proofs.lemmas.Bool.{cases_lt}
 use Rattle.dioid.proofs.AtMost.{le_is, le_trans, move_le}
 use Rattle.dioid.proofs.Moves.{move_move, move_between}
-use Rattle.series_laws.specs.Forms.{form_with, gap, date_eqb}
+use Rattle.series_laws.specs.SeriesForms.{form_with, gap, date_eqb}
 use Rattle.series_laws.specs.Periodic.{Rising}
 use Rattle.series_laws.proofs.FormValues.{value_in, value_repeats, eqb_sound, eqb_complete}
 use Rattle.series_laws.proofs.Repeating.{rising_by_one}

@@ -1,7 +1,7 @@
 -- Canonical forms are equal exactly where their functions are.
 use Rattle.std.proofs.Common.{◌≡◌, ◌↔◌, ℕ, Bool, IsTrue, ap}
-use Rattle.series_laws.specs.Forms.{Form, value_at}
-use Rattle.series_form.specs.Bounds.{IsSeries}
+use Rattle.series_laws.specs.SeriesForms.{Form, value_at}
+use Rattle.series_form.specs.NumberBounds.{IsSeries}
 use Rattle.series_laws.proofs.Canonical.{one_canonical}
 
 pub equals_is : (f g : Form) (r : Bool) → IsSeries f → IsSeries g → IsTrue r ↔ (f ≡ g) → IsTrue r ↔ ((k : ℕ) → value_at f k ≡ value_at g k)

@@ -2,7 +2,7 @@
 use Rattle.std.proofs.Common.{◌≡◌, refl, ap, sym, ◌∙◌, subst, ℤ, ℕ, arith, ◌-◌, ◌+◌, ◌%◌, ◌<◌, ◌≤◌, ⊎_elim, Bool, true, false}
 use Rattle.std.proofs.lemmas.Bool.{cases_lt}
 use Rattle.dioid.specs.declared.dates.Date.{Date}
-use Rattle.series_laws.specs.Forms.{Form, HasValues, canonical_of, moves, repeats_test, least_period_of, least_start_of, first_of, gap}
+use Rattle.series_laws.specs.SeriesForms.{Form, HasValues, canonical_of, moves, repeats_test, least_period_of, least_start_of, first_holding, gap}
 use Rattle.series_laws.specs.Periodic.{Repeats, Rising}
 use Rattle.dioid.specs.Dates.{move}
 use Rattle.series_laws.proofs.Canonical.{canonical_is, canonical_values}
@@ -31,13 +31,13 @@ start_found f n x p q low all none =
     (λ more. omega arith)
     (cases_lt (least_start_of f p n x) q)
 
-pub turn_step : (f : ℕ → Date) (p n i w : ℕ) (x : ℤ) (r : Bool) → w ≡ first_of (turns f p n) i (n - i) → i < n → x ≡ gap (f p) (f (p + i)) → r ≡ repeats_test f i x p n → r ≡ false
-    → w ≡ first_of (turns f p n) (i + 1) (n - (i + 1))
+pub turn_step : (f : ℕ → Date) (p n i w : ℕ) (x : ℤ) (r : Bool) → w ≡ first_holding (turns f p n) i (n - i) → i < n → x ≡ gap (f p) (f (p + i)) → r ≡ repeats_test f i x p n → r ≡ false
+    → w ≡ first_holding (turns f p n) (i + 1) (n - (i + 1))
 turn_step f p n i w x r e h g a b =
     let k : n - i - 1 ≡ n - (i + 1) = omega arith in
-    e ∙ first_next (turns f p n) i (n - i) (omega arith) (ap (λ (z : ℤ). repeats_test f i z p n) (sym g) ∙ sym a ∙ b) ∙ ap (first_of (turns f p n) (i + 1)) k
+    e ∙ first_next (turns f p n) i (n - i) (omega arith) (ap (λ (z : ℤ). repeats_test f i z p n) (sym g) ∙ sym a ∙ b) ∙ ap (first_holding (turns f p n) (i + 1)) k
 
-pub turn_found : (f : ℕ → Date) (p n i w : ℕ) (x : ℤ) (r : Bool) → w ≡ first_of (turns f p n) i (n - i) → x ≡ gap (f p) (f (p + i)) → r ≡ repeats_test f i x p n → r ≡ true → i ≡ w
+pub turn_found : (f : ℕ → Date) (p n i w : ℕ) (x : ℤ) (r : Bool) → w ≡ first_holding (turns f p n) i (n - i) → x ≡ gap (f p) (f (p + i)) → r ≡ repeats_test f i x p n → r ≡ true → i ≡ w
 turn_found f p n i w x r e g a b = sym (e ∙ first_found (turns f p n) i (n - i) (ap (λ (z : ℤ). repeats_test f i z p n) (sym g) ∙ sym a ∙ b))
 
 -- the least period divides every other
@@ -48,9 +48,9 @@ least_divides f p n x up o a =
     period_divides g (canonical_is f p n x up o a) p n x o (record { at = λ k w. same (k + n) ∙ a.at k w ∙ ap (move x) (sym (same k)) })
 
 -- so a number of shifts that does not divide one is not the least
-pub turn_passed : (f : ℕ → Date) (p n i : ℕ) → least_period_of f p n ≡ first_of (turns f p n) i (n - i) → i < n → n % least_period_of f p n ≡ 0 → (n % i ≡ 0 → ⊥)
-    → least_period_of f p n ≡ first_of (turns f p n) (i + 1) (n - (i + 1))
+pub turn_passed : (f : ℕ → Date) (p n i : ℕ) → least_period_of f p n ≡ first_holding (turns f p n) i (n - i) → i < n → n % least_period_of f p n ≡ 0 → (n % i ≡ 0 → ⊥)
+    → least_period_of f p n ≡ first_holding (turns f p n) (i + 1) (n - (i + 1))
 turn_passed f p n i e h d other = by_test (turns f p n i) refl where
-  by_test : (b : Bool) → turns f p n i ≡ b → least_period_of f p n ≡ first_of (turns f p n) (i + 1) (n - (i + 1))
+  by_test : (b : Bool) → turns f p n i ≡ b → least_period_of f p n ≡ first_holding (turns f p n) (i + 1) (n - (i + 1))
   by_test true q = absurd (other (subst (λ (z : ℕ). n % z ≡ 0) (e ∙ first_found (turns f p n) i (n - i) q) d))
-  by_test false q = let k : n - i - 1 ≡ n - (i + 1) = omega arith in e ∙ first_next (turns f p n) i (n - i) (omega arith) q ∙ ap (first_of (turns f p n) (i + 1)) k
+  by_test false q = let k : n - i - 1 ≡ n - (i + 1) = omega arith in e ∙ first_next (turns f p n) i (n - i) (omega arith) q ∙ ap (first_holding (turns f p n) (i + 1)) k

@@ -3,19 +3,19 @@ use Rattle.std.specs.Prelude.{◌≡◌, ◌≤◌, ◌<◌, ◌+◌, ◌-◌, �
 use Rattle.dioid.specs.declared.dates.Date.{Date}
 use Rattle.dioid.specs.declared.dates.Date.TheVariants.{Early, At, Never}
 use Rattle.series_laws.specs.Periodic.{times}
-use Rattle.series_laws.specs.Forms.{Form, value_at, gap}
+use Rattle.series_laws.specs.SeriesForms.{Form, value_at, gap}
 use Rattle.series_laws.specs.Needs.{later_start, tail_of}
 
 -- both series are numbers from where both repeat
-pub record AreNumbers (f g : Form) : Type 0 where
+pub record AreNumberSeries (f g : Form) : Type 0 where
   pub first : (s : ℤ) × (tail_of f ≡ At s)
   pub second : (t : ℤ) × (tail_of g ≡ At t)
 
 -- the number of a date, 0 where it is none
-abbrev pub number_of : Date → ℤ
-number_of Early = pos 0
-number_of (At t) = t
-number_of Never = pos 0
+abbrev pub integer_of_date : Date → ℤ
+integer_of_date Early = pos 0
+integer_of_date (At t) = t
+integer_of_date Never = pos 0
 
 -- the lead of g over f, so many shifts past where both repeat
 abbrev pub lead_past : Form → Form → ℕ → ℤ
@@ -43,7 +43,7 @@ gain_from_before f g place = cond (ltb place f.period) (climb_of f g) (pos 0) -�
 
 -- what g has so many periods of f past a place, less what f gains in them
 abbrev pub height_past : Form → Form → ℕ → ℕ → ℤ
-height_past f g place j = number_of (value_at g (later_start f g + (place + j * f.period))) -ℤ times j f.step
+height_past f g place j = integer_of_date (value_at g (later_start f g + (place + j * f.period))) -ℤ times j f.step
 
 -- the greatest such height of at least m periods
 pub record IsReach (f g : Form) (m place : ℕ) (height : ℤ) : Type 0 where
@@ -52,6 +52,6 @@ pub record IsReach (f g : Form) (m place : ℕ) (height : ℤ) : Type 0 where
   pub greatest : (j : ℕ) → j ≤ m → height_past f g place j ≤ℤ height
 
 -- no lead from a place that the walk back from `start` meets within m steps is greater
-abbrev pub AreLedTo : Form → Form → ℕ → ℕ → ℤ → Type 0
-AreLedTo f g start steps best = (m place j : ℕ) → 0 < m → m ≤ steps → place < f.period → (place + m * f.period) % width_of f g ≡ start → j ≤ m
+abbrev pub NoGreaterLead : Form → Form → ℕ → ℕ → ℤ → Type 0
+NoGreaterLead f g start steps best = (m place j : ℕ) → 0 < m → m ≤ steps → place < f.period → (place + m * f.period) % width_of f g ≡ start → j ≤ m
     → lead_past f g (place + j * f.period) ≤ℤ best

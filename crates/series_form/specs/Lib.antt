@@ -1,4 +1,5 @@
-pub mod Answer
-pub mod Bounds
+pub mod SeriesLimits
+pub mod SeriesAnswers
+pub mod NumberBounds
 pub mod Leads
 pub mod Shapes

@@ -3,9 +3,9 @@ use Rattle.std.specs.Prelude.{◌≡◌, ◌≤◌, ◌-◌, ◌⊎◌, ℕ, ℤ
 use Rattle.std.specs.Int.{w128}
 use Rattle.dioid.specs.declared.dates.Date.{Date}
 use Rattle.series_form.specs.declared.shorten.Shape.{Shape}
-use Rattle.series_laws.specs.Forms.{Form, form_with, value_at, HasValues, IsCanonical, canonical_of}
-use Rattle.series_form.specs.Bounds.{HasSmallNumbers}
-use Rattle.series_form.specs.Answer.{IsFirstGreatValue, IsGreatStep, form_before}
+use Rattle.series_laws.specs.SeriesForms.{Form, form_with, value_at, HasValues, IsCanonical, canonical_of}
+use Rattle.series_form.specs.NumberBounds.{HasSmallNumbers}
+use Rattle.series_form.specs.SeriesAnswers.{IsFirstGreatValue, IsGreatStep, form_before}
 
 -- the canonical form of the function of a list, a period and a step
 abbrev pub shortened : List Date → ℕ → ℤ → Form

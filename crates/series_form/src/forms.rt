@@ -1,6 +1,7 @@
 //! Series, and the calls that make and read them.
 ghost use Rattle.std.specs.Prelude.{◌≡◌, ◌≤◌, ◌<◌, ◌+◌, ℕ, [], ◌∷◌, IfOk};
-ghost use Rattle.series_laws.specs.Forms.{table, monomial_at};
+ghost use Rattle.series_laws.specs.SeriesForms.{table, monomial_at};
+ghost use Rattle.series_form.specs.SeriesLimits.{greatest_value};
 
 use crate::shorten::{finish, shortest};
 use crate::values::{same_parts, value_of};
@@ -32,8 +33,8 @@ pub enum SeriesRefused {
 }
 
 impl Model for Series {
-    ghost use Rattle.series_laws.specs.Forms.{Form};
-    ghost use Rattle.series_form.specs.Bounds.{IsSeries};
+    ghost use Rattle.series_laws.specs.SeriesForms.{Form};
+    ghost use Rattle.series_form.specs.NumberBounds.{IsSeries};
 
     ghost Value = { Form };
 
@@ -45,10 +46,10 @@ impl Model for Series {
 impl Series {
     ghost use Rattle.std.specs.Prelude.{◌≡◌, ◌≤◌, ◌<◌, ◌+◌, ◌↔◌, ℕ, IsTrue, IfOk, length};
     ghost use Rattle.std.specs.Int.RustNames.{unsigned_abs};
-    ghost use Rattle.series_laws.specs.Forms.{value_at, form_with, HasValues, monomial_at};
+    ghost use Rattle.series_laws.specs.SeriesForms.{value_at, form_with, HasValues, monomial_at};
     ghost use Rattle.series_laws.specs.Periodic.{Rising};
-    ghost use Rattle.series_form.specs.Bounds.{IsSmallDate, IsSeries};
-    ghost use Rattle.series_form.specs.Answer.{AnswersOf, IsConstant};
+    ghost use Rattle.series_form.specs.NumberBounds.{IsSmallDate, IsSeries};
+    ghost use Rattle.series_form.specs.SeriesAnswers.{AnswersOf, IsConstant};
 
     /// The series that is Early below `shift` and `date` from there on; the shift and the magnitude of
     /// the date are below 10^19. Its need is `shift + 1`: TooLong above 20,000, and where not, TooGreat
@@ -141,7 +142,7 @@ impl Series {
 
     /// The value at a shift of at most 10^18. It takes no memory.
     pub fn at(&self, shift: u64) -> Date
-        requires { shift ≤ 1000000000000000000 }
+        requires { shift ≤ greatest_value }
         ensures value { result ≡ value_at self.now shift }
         ensures series { IsSeries self.now }
     {

@@ -7,10 +7,11 @@
 ghost use Rattle.std.specs.Prelude.{◌≡◌, ◌≤◌, ◌<◌, ◌+◌, ◌-◌, ◌*◌, ◌/◌, ◌%◌, ◌-ℤ◌, ◌≤ℤ◌, ◌<ℤ◌, pos, cond, ltb};
 ghost use Rattle.std.specs.Int.{int_max};
 ghost use Rattle.std.specs.Int.RustNames.{unsigned_abs};
-ghost use Rattle.series_laws.specs.Forms.{value_at};
+ghost use Rattle.series_laws.specs.SeriesForms.{value_at};
 ghost use Rattle.series_laws.specs.Needs.{later_start, lead_of, rise_of, fall_of};
-ghost use Rattle.series_form.specs.Bounds.{IsSeries};
-ghost use Rattle.series_form.specs.Leads.{AreLedTo, AreNumbers, IsReach, climb_of, cover_of, gain_from_before, lead_past, number_of, place_before, width_of};
+ghost use Rattle.series_form.specs.NumberBounds.{IsSeries};
+ghost use Rattle.series_form.specs.Leads.{NoGreaterLead, AreNumberSeries, IsReach, climb_of, cover_of, gain_from_before, lead_past, integer_of_date, place_before, width_of};
+ghost use Rattle.series_form.specs.SeriesLimits.{greatest_gain, greatest_moderate};
 
 use crate::forms::Series;
 use crate::plans::turns_between;
@@ -36,8 +37,8 @@ fn greater(first: i128, second: i128) -> i128
 // The number of a series at a shift, 0 where it has none.
 fn number_at(series: &Series, shift: usize) -> i128
     requires { shift ≤ 100000 }
-    ensures value { result ≡ number_of (value_at series.now shift) }
-    ensures bound { unsigned_abs result ≤ 1000000000000000000000000000 }
+    ensures value { result ≡ integer_of_date (value_at series.now shift) }
+    ensures bound { unsigned_abs result ≤ greatest_moderate }
     ensures series { IsSeries series.now }
 {
     match series.at(shift as u64) {
@@ -70,7 +71,7 @@ fn width(first: &Series, second: &Series) -> usize
 // What the second series gains in them.
 fn climb(first: &Series, second: &Series) -> i128
     ensures value { result ≡ climb_of first.now second.now }
-    ensures bound { unsigned_abs result ≤ 400000000000000000000000000 }
+    ensures bound { unsigned_abs result ≤ greatest_gain }
 {
     cover(first, second) as i128 * second.step()
 }
@@ -93,7 +94,7 @@ fn before(first: &Series, second: &Series, place: usize) -> usize
 // What the second series gains on the first from there to the place.
 fn gain(first: &Series, second: &Series, place: usize) -> i128
     ensures value { result ≡ gain_from_before first.now second.now place }
-    ensures bound { unsigned_abs result ≤ 1000000000000000000000000000 }
+    ensures bound { unsigned_abs result ≤ greatest_moderate }
 {
     if place < first.period() {
         return climb(first, second) - first.step();
@@ -103,13 +104,13 @@ fn gain(first: &Series, second: &Series, place: usize) -> i128
 
 // One place back.
 fn step_back(first: &Series, second: &Series, reach: Reach, periods: usize) -> Reach
-    requires numbers { AreNumbers first.now second.now }
+    requires numbers { AreNumberSeries first.now second.now }
     requires periods { periods ≤ 100000 }
     requires reach { IsReach first.now second.now periods reach.place reach.height }
-    requires bound { unsigned_abs reach.height ≤ (periods + 1) * 1000000000000000000000000000 }
+    requires bound { unsigned_abs reach.height ≤ (periods + 1) * greatest_moderate }
     ensures place { result.place ≡ place_before first.now second.now reach.place }
     ensures reach { IsReach first.now second.now (periods + 1) result.place result.height }
-    ensures bound { unsigned_abs result.height ≤ (periods + 2) * 1000000000000000000000000000 }
+    ensures bound { unsigned_abs result.height ≤ (periods + 2) * greatest_moderate }
 {
     let place = before(first, second, reach.place);
     let here = number_at(second, common_start(first, second) + place);
@@ -125,7 +126,7 @@ fn better(first: &Series, second: &Series, reach: Reach, best: i128) -> i128
     requires place { reach.place ≤ 40000 }
     requires bound { unsigned_abs reach.height ≤ 100000000000000000000000000000000 }
     ensures { result ≡ cond (ltb reach.place first.now.period)
-        (int_max best (reach.height -ℤ number_of
+        (int_max best (reach.height -ℤ integer_of_date
         (value_at first.now (later_start first.now second.now + reach.place)))) best }
 {
     if reach.place < first.period() {
@@ -137,14 +138,14 @@ fn better(first: &Series, second: &Series, reach: Reach, best: i128) -> i128
 
 // The greatest of a known lead and those of a cycle, twice round it.
 fn best_on_cycle(first: &Series, second: &Series, start: usize, turns: usize, known: i128) -> i128
-    requires numbers { AreNumbers first.now second.now }
+    requires numbers { AreNumberSeries first.now second.now }
     requires gain { pos 0 <ℤ (rise_of first.now second.now -ℤ fall_of first.now second.now) }
     requires start { start < width_of first.now second.now }
     requires turns { turns ≤ 40000 }
     requires known { known ≤ℤ lead_of first.now second.now }
     ensures no_more { result ≤ℤ lead_of first.now second.now }
     ensures kept { known ≤ℤ result }
-    ensures led { AreLedTo first.now second.now start (2 * turns) result }
+    ensures led { NoGreaterLead first.now second.now start (2 * turns) result }
 {
     let mut best = known;
     let mut reach = Reach {
@@ -169,10 +170,10 @@ fn first_lead(first: &Series, second: &Series) -> i128
 // The greatest lead of the second series over the first, of the greater slope, on the common period.
 // The work is of the order of the two periods.
 pub(crate) fn greatest_lead(first: &Series, second: &Series) -> i128
-    requires numbers { AreNumbers first.now second.now }
+    requires numbers { AreNumberSeries first.now second.now }
     requires gain { pos 0 <ℤ (rise_of first.now second.now -ℤ fall_of first.now second.now) }
     ensures value { result ≡ lead_of first.now second.now }
-    ensures bound { unsigned_abs result ≤ 1000000000000000000000000000 }
+    ensures bound { unsigned_abs result ≤ greatest_moderate }
 {
     let width = width(first, second);
     let turns = turns_between(first.period(), width);

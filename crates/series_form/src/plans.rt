@@ -2,9 +2,10 @@
 ghost use Rattle.std.specs.Prelude.{◌≡◌, ◌≤◌, ◌<◌, ◌+◌, ◌-◌, ◌*◌, ◌/◌, pos, ◌<ℤ◌, ◌-ℤ◌};
 ghost use Rattle.std.specs.Int.RustNames.{unsigned_abs};
 ghost use Rattle.series_laws.specs.Periodic.{times};
-ghost use Rattle.series_laws.specs.Forms.{start_of};
-ghost use Rattle.series_form.specs.Bounds.{IsSeries};
+ghost use Rattle.series_laws.specs.SeriesForms.{repeat_start};
+ghost use Rattle.series_form.specs.NumberBounds.{IsSeries};
 ghost use Rattle.series_laws.specs.Needs.{turns_of, common, ceiling, period_with, rise_of, fall_of, tail_of, slopes_of, by_sign};
+ghost use Rattle.series_form.specs.SeriesLimits.{most_common_shifts, greatest_gain, greatest_reach, greatest_gain_gap};
 
 use crate::forms::Series;
 use dioid::Date;
@@ -35,7 +36,7 @@ fn common_multiple(first: usize, second: usize) -> usize
     requires first_bound { first ≤ 20000 }
     requires second_bound { second ≤ 20000 }
     ensures value { result ≡ common first second }
-    ensures bound { result ≤ 400000000 }
+    ensures bound { result ≤ most_common_shifts }
 {
     turns_between(first, second) * first
 }
@@ -43,7 +44,7 @@ fn common_multiple(first: usize, second: usize) -> usize
 /// The least common multiple of the two periods.
 pub fn common_period(first: &Series, second: &Series) -> usize
     ensures value { result ≡ period_with first.now second.now }
-    ensures bound { result ≤ 400000000 }
+    ensures bound { result ≤ most_common_shifts }
     ensures positive { 0 < result }
     ensures left { IsSeries first.now }
     ensures right { IsSeries second.now }
@@ -53,7 +54,7 @@ pub fn common_period(first: &Series, second: &Series) -> usize
 
 /// The shift from which the list repeats.
 pub fn start(series: &Series) -> usize
-    ensures value { result ≡ start_of series.now }
+    ensures value { result ≡ repeat_start series.now }
     ensures bound { result < 20000 }
     ensures series { IsSeries series.now }
 {
@@ -70,9 +71,9 @@ pub fn tail(series: &Series) -> Date
 
 /// What a series gains over a number of its periods, given in shifts.
 pub fn gain_over(series: &Series, shifts: usize) -> i128
-    requires { shifts ≤ 400000000 }
+    requires { shifts ≤ most_common_shifts }
     ensures value { result ≡ times (shifts / series.now.period) series.now.step }
-    ensures bound { unsigned_abs result ≤ 400000000000000000000000000 }
+    ensures bound { unsigned_abs result ≤ greatest_gain }
     ensures series { IsSeries series.now }
 {
     (shifts / series.period()) as i128 * series.step()
@@ -95,7 +96,7 @@ fn sign_of(difference: i128) -> Slopes
 /// What the first series gains on the second over the common period.
 pub fn lead_gain(first: &Series, second: &Series) -> i128
     ensures value { result ≡ rise_of first.now second.now -ℤ fall_of first.now second.now }
-    ensures bound { unsigned_abs result ≤ 800000000000000000000000000 }
+    ensures bound { unsigned_abs result ≤ greatest_gain_gap }
     ensures left { IsSeries first.now }
     ensures right { IsSeries second.now }
 {
@@ -122,8 +123,8 @@ pub fn compare_slopes(first: &Series, second: &Series) -> Slopes
 /// The least number of gains that cover a lead, 0 for a lead below 0.
 pub fn gains_for(lead: i128, gain: i128) -> u128
     requires gain { pos 0 <ℤ gain }
-    requires lead_bound { unsigned_abs lead ≤ 10000000000000000000000000000000000000 }
-    requires gain_bound { unsigned_abs gain ≤ 10000000000000000000000000000000000000 }
+    requires lead_bound { unsigned_abs lead ≤ greatest_reach }
+    requires gain_bound { unsigned_abs gain ≤ greatest_reach }
     ensures value { result ≡ ceiling lead gain }
     ensures bound { result ≤ unsigned_abs lead + unsigned_abs gain }
 {

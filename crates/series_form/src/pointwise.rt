@@ -1,19 +1,20 @@
 //! The sum and the minimum of two series, shift by shift.
 ghost use Rattle.std.specs.Prelude.{◌≡◌, ◌≤◌, ◌<◌, ◌*◌, ◌-ℤ◌, ◌<ℤ◌, IfOk, pos};
 ghost use Rattle.series_laws.specs.declared.plans.Slopes.TheVariants.{First};
-ghost use Rattle.series_laws.specs.Forms.{value_at, table, HasValues};
-ghost use Rattle.series_form.specs.Bounds.{IsSeries};
-ghost use Rattle.series_form.specs.Answer.{AnswersOf, Answers};
-ghost use Rattle.series_form.specs.Leads.{AreNumbers};
+ghost use Rattle.series_laws.specs.SeriesForms.{value_at, table, HasValues};
+ghost use Rattle.series_form.specs.NumberBounds.{IsSeries};
+ghost use Rattle.series_form.specs.SeriesAnswers.{AnswersOf, AnswersForm};
+ghost use Rattle.series_form.specs.Leads.{AreNumberSeries};
 ghost use Rattle.series_laws.specs.Pointwise.{sum_at, least_at};
 ghost use Rattle.series_laws.specs.Needs.{need_of, later_start, crossing, slopes_of, periods_behind, period_with, rise_of, fall_of, sum_plan, least_plan, form_sum, form_least};
+ghost use Rattle.series_form.specs.SeriesLimits.{greatest_reach, greatest_height};
 
 use crate::forms::{Series, SeriesRefused};
 use crate::leads::greatest_lead;
 use crate::plans::{common_period, compare_slopes, gains_for, lead_gain, start, tail};
 use crate::shorten::shortest;
 use dioid::Date;
-use series_laws::{Plan, Slopes};
+use series_laws::{NeedPlan, Slopes};
 use std::alloc::{AllocError, Global};
 
 /// The greater of the two shifts from which the series repeat.
@@ -33,7 +34,7 @@ pub fn common_start(first: &Series, second: &Series) -> usize
 fn crossing_of(first: &Series, second: &Series) -> u128
     requires { slopes_of first.now second.now ≡ First }
     ensures value { result ≡ crossing first.now second.now }
-    ensures bound { result ≤ 10000000000000000000000000000000000000 }
+    ensures bound { result ≤ greatest_reach }
 {
     let from = common_start(first, second);
     match (tail(first), tail(second)) {
@@ -44,11 +45,11 @@ fn crossing_of(first: &Series, second: &Series) -> u128
 
 // The shifts in which the first series makes up the greatest lead of the second.
 fn shifts_behind(first: &Series, second: &Series) -> u128
-    requires numbers { AreNumbers first.now second.now }
+    requires numbers { AreNumberSeries first.now second.now }
     requires gain { pos 0 <ℤ (rise_of first.now second.now -ℤ fall_of first.now second.now) }
     ensures value { result ≡ periods_behind first.now second.now * period_with first.now
         second.now }
-    ensures bound { result ≤ 1000000000000000000000000000000000000 }
+    ensures bound { result ≤ greatest_height }
 {
     let shifts = common_period(first, second);
     let lead = greatest_lead(first, second);
@@ -58,22 +59,22 @@ fn shifts_behind(first: &Series, second: &Series) -> u128
 
 /// From where the sum repeats: with equal slopes past both starts by the common period, else past
 /// the crossing by the period of the greater slope.
-pub fn plan_of_sum(first: &Series, second: &Series) -> Plan
+pub fn plan_of_sum(first: &Series, second: &Series) -> NeedPlan
     ensures value { result ≡ sum_plan first.now second.now }
-    ensures bound { result.from ≤ 10000000000000000000000000000000000000 }
+    ensures bound { result.from ≤ greatest_reach }
     ensures left { IsSeries first.now }
     ensures right { IsSeries second.now }
 {
     match compare_slopes(first, second) {
-        Slopes::Equal => Plan {
+        Slopes::Equal => NeedPlan {
             from: common_start(first, second) as u128,
             turn: common_period(first, second),
         },
-        Slopes::First => Plan {
+        Slopes::First => NeedPlan {
             from: crossing_of(first, second),
             turn: first.period(),
         },
-        Slopes::Second => Plan {
+        Slopes::Second => NeedPlan {
             from: crossing_of(second, first),
             turn: second.period(),
         },
@@ -81,22 +82,22 @@ pub fn plan_of_sum(first: &Series, second: &Series) -> Plan
 }
 
 // From where the minimum repeats: as the sum, but by the period of the lesser slope.
-fn plan_of_least(first: &Series, second: &Series) -> Plan
+fn plan_of_least(first: &Series, second: &Series) -> NeedPlan
     ensures value { result ≡ least_plan first.now second.now }
-    ensures bound { result.from ≤ 10000000000000000000000000000000000000 }
+    ensures bound { result.from ≤ greatest_reach }
     ensures left { IsSeries first.now }
     ensures right { IsSeries second.now }
 {
     match compare_slopes(first, second) {
-        Slopes::Equal => Plan {
+        Slopes::Equal => NeedPlan {
             from: common_start(first, second) as u128,
             turn: common_period(first, second),
         },
-        Slopes::First => Plan {
+        Slopes::First => NeedPlan {
             from: crossing_of(first, second),
             turn: second.period(),
         },
-        Slopes::Second => Plan {
+        Slopes::Second => NeedPlan {
             from: crossing_of(second, first),
             turn: first.period(),
         },
@@ -164,7 +165,7 @@ pub fn sum(alloc: Global, first: &Series, second: &Series) -> Result<Series, Ser
     ensures answer { AnswersOf (λ r. HasValues r (sum_at (value_at first.now)
         (value_at second.now))) (need_of (sum_plan first.now second.now))
         (need_of (sum_plan first.now second.now)) result }
-    ensures model { Answers (need_of (sum_plan first.now second.now))
+    ensures model { AnswersForm (need_of (sum_plan first.now second.now))
         (form_sum first.now second.now) result }
     ensures left { IsSeries first.now }
     ensures right { IsSeries second.now }
@@ -187,7 +188,7 @@ pub fn least(alloc: Global, first: &Series, second: &Series) -> Result<Series, S
     ensures answer { AnswersOf (λ r. HasValues r (least_at (value_at first.now)
         (value_at second.now))) (need_of (least_plan first.now second.now))
         (need_of (least_plan first.now second.now)) result }
-    ensures model { Answers (need_of (least_plan first.now second.now))
+    ensures model { AnswersForm (need_of (least_plan first.now second.now))
         (form_least first.now second.now) result }
     ensures left { IsSeries first.now }
     ensures right { IsSeries second.now }

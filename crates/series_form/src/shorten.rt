@@ -2,11 +2,12 @@
 ghost use Rattle.std.specs.Prelude.{◌≡◌, ◌≤◌, ◌<◌, ◌+◌, ◌-◌, ◌-ℤ◌, length, FitsSigned, MatchBool, MatchResult};
 ghost use Rattle.std.specs.Int.{w128};
 ghost use Rattle.std.specs.Int.RustNames.{unsigned_abs};
-ghost use Rattle.series_laws.specs.Forms.{value_at, form_with, gap, moves, repeats_test, least_period_of, least_start_of};
-ghost use Rattle.series_form.specs.Bounds.{IsModerate, IsModerateDate};
+ghost use Rattle.series_laws.specs.SeriesForms.{value_at, form_with, gap, moves, repeats_test, least_period_of, least_start_of};
+ghost use Rattle.series_form.specs.NumberBounds.{IsModerate, IsModerateDate};
 ghost use Rattle.series_laws.specs.Periodic.{Rising};
-ghost use Rattle.series_form.specs.Answer.{IsNumberCheck, IsBeginning, IsShortest, form_before};
+ghost use Rattle.series_form.specs.SeriesAnswers.{IsNumberCheck, IsBeginning, IsShortestSeries, form_before};
 ghost use Rattle.series_form.specs.Shapes.{IsPart, IsCanonicalPart, IsShape, IsTooGreat};
+ghost use Rattle.series_form.specs.SeriesLimits.{greatest_value};
 
 use crate::forms::{Series, SeriesRefused};
 use crate::values::{gap_of, is_moved};
@@ -154,8 +155,8 @@ fn first_great(values: &[Date], size: usize) -> Option<i128>
 
 // Whether a number is too great.
 fn is_great(number: i128) -> bool
-    ensures { MatchBool result (1000000000000000000 < unsigned_abs number)
-        (unsigned_abs number ≤ 1000000000000000000) }
+    ensures { MatchBool result (greatest_value < unsigned_abs number)
+        (unsigned_abs number ≤ greatest_value) }
 {
     number > 1_000_000_000_000_000_000 || number < -1_000_000_000_000_000_000
 }
@@ -223,7 +224,7 @@ pub(crate) fn finish(
     requires fits { turn ≤ length values.items }
     requires short { length values.items ≤ 20000 }
     requires rising { Rising (value_at (form_with values.items turn step)) }
-    ensures { IsShortest (value_at (form_with values.items turn step)) result }
+    ensures { IsShortestSeries (value_at (form_with values.items turn step)) result }
 {
     match shorten(values.as_slice(), turn, step) {
         Ok(shape) => {
@@ -244,7 +245,7 @@ pub(crate) fn finish(
 /// of the crates above.
 pub fn shortest(values: Vec<Date>, turn: usize, next: Date) -> Result<Series, SeriesRefused>
     requires { IsBeginning values.items turn next }
-    ensures { IsShortest (value_at (form_before values.items turn next)) result }
+    ensures { IsShortestSeries (value_at (form_before values.items turn next)) result }
 {
     let step = step_before(values.as_slice(), turn, next);
     finish(values, turn, step)

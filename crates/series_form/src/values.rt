@@ -3,10 +3,11 @@ ghost use Rattle.std.specs.Prelude.{◌≡◌, ◌≤◌, ◌<◌, ◌↔◌, �
 ghost use Rattle.std.specs.Int.{w128};
 ghost use Rattle.std.specs.Int.RustNames.{unsigned_abs};
 ghost use Rattle.dioid.specs.declared.dates.Date.{Date};
-ghost use Rattle.series_laws.specs.Forms.{value_at, form_with, date_eqb, gap};
-ghost use Rattle.series_form.specs.Bounds.{IsModerate, IsModerateDate, IsWithin};
+ghost use Rattle.series_laws.specs.SeriesForms.{value_at, form_with, date_eqb, gap};
+ghost use Rattle.series_form.specs.NumberBounds.{IsModerate, IsModerateDate, IsWithinReach};
 ghost use Rattle.dioid.specs.Dates.{move};
 ghost use Rattle.series_laws.specs.Periodic.{times};
+ghost use Rattle.series_form.specs.SeriesLimits.{greatest_value, greatest_moderate, greatest_reach};
 
 use dioid::Date;
 
@@ -51,10 +52,10 @@ pub(crate) fn value_of(values: &[Date], period: usize, step: i128, shift: u64) -
     requires positive { 0 < period }
     requires fits { period ≤ length values.now }
     requires moderate { IsModerate (form_with values.now period step) }
-    requires within { shift ≤ 1000000000000000000 }
-    requires reach { shift * unsigned_abs step ≤ 10000000000000000000000000000000000000 }
+    requires within { shift ≤ greatest_value }
+    requires reach { shift * unsigned_abs step ≤ greatest_reach }
     ensures value { result ≡ value_at (form_with values.now period step) shift }
-    ensures within { IsWithin result }
+    ensures within { IsWithinReach result }
 {
     let shift = shift as usize;
     if shift < values.len() {
@@ -68,11 +69,11 @@ pub(crate) fn value_of(values: &[Date], period: usize, step: i128, shift: u64) -
 // The date moved by a number of steps.
 fn later_by(date: Date, turns: usize, step: i128) -> Date
     requires date { IsModerateDate date }
-    requires turns { turns ≤ 1000000000000000000 }
-    requires step { unsigned_abs step ≤ 1000000000000000000000000000 }
-    requires reach { turns * unsigned_abs step ≤ 10000000000000000000000000000000000000 }
+    requires turns { turns ≤ greatest_value }
+    requires step { unsigned_abs step ≤ greatest_moderate }
+    requires reach { turns * unsigned_abs step ≤ greatest_reach }
     ensures value { result ≡ move (times turns step) date }
-    ensures within { IsWithin result }
+    ensures within { IsWithinReach result }
 {
     match date {
         Date::At(time) => Date::At(time + turns as i128 * step),

@@ -5,14 +5,14 @@ use Rattle.std.proofs.lemmas.Int.{ints, by_lt_z}
 use Rattle.std.proofs.lemmas.Bool.{not-true}
 use Rattle.dioid.specs.declared.dates.Date.{Date}
 use Rattle.dioid.specs.declared.dates.Date.TheVariants.{Early, At, Never}
-use Rattle.dioid.specs.Order.{Le}
+use Rattle.dioid.specs.DateOrder.{Le}
 use Rattle.dioid.proofs.AtMost.{le_is, le_trans, never_le}
 use Rattle.series_laws.specs.Periodic.{times}
-use Rattle.series_laws.specs.Forms.{Form, size_of, start_of, value_at, IsForm}
+use Rattle.series_laws.specs.SeriesForms.{Form, size_of, repeat_start, value_at, IsForm}
 use Rattle.series_laws.specs.Needs.{tail_of}
 use Rattle.series_laws.proofs.Sums.{tail_number}
 use Rattle.series_laws.specs.declared.plans.Anchor.{Anchor}
-use Rattle.series_laws.specs.Stars.{scaled}
+use Rattle.series_laws.specs.SeriesStars.{scaled}
 use Rattle.series_laws.specs.ProductNeeds.{beats, anchor_step, anchor_upto, anchor_of}
 use Rattle.series_laws.proofs.StarForms.{AnchorIs, anchor_is, ratio_trans, is_lt, not_lt}
 use Rattle.series_laws.specs.Closure.{IsAnchorOf}
@@ -85,6 +85,6 @@ pub anchor_law : (f : Form) (t : ℤ) → IsForm f → tail_of f ≡ At t → Is
 anchor_law f t is e = anchored f is some where
   some : (c : ℕ) → value_at f c ≡ Never → ⊥
   some c h =
-      let v : (x : ℤ) × (value_at f (c + start_of f) ≡ At x) = tail_number f t is e (c + start_of f) (omega arith) in
-      let last : value_at f (c + start_of f) ≡ Never = never_le (le_trans (le_is (sym h)) (is.rising.rises c (c + start_of f) (omega arith))) in
+      let v : (x : ℤ) × (value_at f (c + repeat_start f) ≡ At x) = tail_number f t is e (c + repeat_start f) (omega arith) in
+      let last : value_at f (c + repeat_start f) ≡ Never = never_le (le_trans (le_is (sym h)) (is.rising.rises c (c + repeat_start f) (omega arith))) in
       let q : At v.0 ≡ Never = sym v.1 ∙ last in cc

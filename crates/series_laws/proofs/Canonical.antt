@@ -9,14 +9,14 @@ use Rattle.dioid.proofs.AtMost.{le_is, le_trans, never_le}
 use Rattle.dioid.proofs.Moves.{at_inj, move_zero, move_swap}
 use Rattle.series_laws.specs.Periodic.{Rising, Repeats}
 use Rattle.series_laws.proofs.Repeating.{repeats_is, by_steps}
-use Rattle.series_laws.specs.Forms.{Form, size_of, start_of, value_at, IsForm, HasValues, IsCanonical, gap, repeats_test, least_period_of, least_start_of, canonical_of}
+use Rattle.series_laws.specs.SeriesForms.{Form, size_of, repeat_start, value_at, IsForm, HasValues, IsCanonical, gap, repeats_test, least_period_of, least_start_of, canonical_of}
 use Rattle.series_laws.proofs.FormValues.{value_in, value_repeats, pulled_back, early_all, step_is_gap, table_length, same_lists, form_values, test_sound, test_complete, first_ge, first_le, first_holds}
 
 -- ---- the canonical form
 
 -- a form of f repeats as f does
-form_repeats : (f : ℕ → Date) (g : Form) → IsForm g → HasValues g f → Repeats f (start_of g) g.period g.step
-form_repeats f g is same = let a : Repeats (value_at g) (start_of g) g.period g.step = value_repeats g is.period_positive is.period_fits in
+form_repeats : (f : ℕ → Date) (g : Form) → IsForm g → HasValues g f → Repeats f (repeat_start g) g.period g.step
+form_repeats f g is same = let a : Repeats (value_at g) (repeat_start g) g.period g.step = value_repeats g is.period_positive is.period_fits in
     record { at = λ k w. sym (same (k + g.period)) ∙ a.at k w ∙ ap (move g.step) (same k) }
 
 module _ (f : ℕ → Date) (p n : ℕ) (x : ℤ) (up : Rising f) (pos_n : 0 < n) (repeats : Repeats f p n x) where
@@ -98,7 +98,7 @@ module _ (f : ℕ → Date) (p n : ℕ) (x : ℤ) (up : Rising f) (pos_n : 0 < n
     long : size_of (canonical_of f p n) ≡ start + least
     long = table_length f (start + least)
 
-    begins : start_of (canonical_of f p n) ≡ start
+    begins : repeat_start (canonical_of f p n) ≡ start
     begins = omega (arith, long)
 
     low : start ≤ p
@@ -111,8 +111,8 @@ module _ (f : ℕ → Date) (p n : ℕ) (x : ℤ) (up : Rising f) (pos_n : 0 < n
         let pos_least : 0 < least = least_positive in
         (omega arith, ap (λ z. gap z (f (p + least))) (all p low) ∙ ap (gap d) (all (p + least) (omega (arith, low))) ∙ none)
 
-    here : value_at (canonical_of f p n) (start_of (canonical_of f p n)) ≡ f start
-    here = canonical_values (start_of (canonical_of f p n)) ∙ ap f begins
+    here : value_at (canonical_of f p n) (repeat_start (canonical_of f p n)) ≡ f start
+    here = canonical_values (repeat_start (canonical_of f p n)) ∙ ap f begins
 
     form : IsForm (canonical_of f p n)
     form = record {
@@ -126,11 +126,11 @@ module _ (f : ℕ → Date) (p n : ℕ) (x : ℤ) (up : Rising f) (pos_n : 0 < n
     }
 
     period : (g : Form) → IsForm g → HasValues g (value_at (canonical_of f p n)) → least ≤ g.period
-    period g is same = least_is (start_of g) g.period g.step is.period_positive (form_repeats f g is (λ k. same k ∙ canonical_values k))
+    period g is same = least_is (repeat_start g) g.period g.step is.period_positive (form_repeats f g is (λ k. same k ∙ canonical_values k))
 
     size : (g : Form) → IsForm g → HasValues g (value_at (canonical_of f p n)) → g.period ≡ least → size_of (canonical_of f p n) ≤ size_of g
     size g is same e =
-        let begin : start ≤ start_of g = start_is (start_of g) g.step (repeats_is e refl (form_repeats f g is (λ k. same k ∙ canonical_values k))) in
+        let begin : start ≤ repeat_start g = start_is (repeat_start g) g.step (repeats_is e refl (form_repeats f g is (λ k. same k ∙ canonical_values k))) in
         let fits : g.period ≤ size_of g = is.period_fits in
         omega (arith, long)
 
@@ -148,18 +148,18 @@ one_canonical f g cf cg same =
     let s1 : size_of f ≤ size_of g = cf.least_size g cg.form (λ k. sym (same k)) (sym pe) in
     let s2 : size_of g ≤ size_of f = cg.least_size f cf.form same pe in
     let se : size_of f ≡ size_of g = omega arith in
-    let start : start_of f ≡ start_of g = omega arith in
+    let start : repeat_start f ≡ repeat_start g = omega arith in
     let values : f.values ≡ g.values = same_lists f.values g.values se (λ k w. sym (value_in f k w) ∙ same k ∙ value_in g k (omega arith)) in
-    form_ext f g values pe (steps pe start (value_at f (start_of f)) refl) where
-      steps : f.period ≡ g.period → start_of f ≡ start_of g → (d : Date) → value_at f (start_of f) ≡ d → f.step ≡ g.step
+    form_ext f g values pe (steps pe start (value_at f (repeat_start f)) refl) where
+      steps : f.period ≡ g.period → repeat_start f ≡ repeat_start g → (d : Date) → value_at f (repeat_start f) ≡ d → f.step ≡ g.step
       steps pe start d e =
-          let af : Repeats (value_at f) (start_of f) f.period f.step = value_repeats f cf.form.period_positive cf.form.period_fits in
-          let ag : Repeats (value_at g) (start_of g) g.period g.step = value_repeats g cg.form.period_positive cg.form.period_fits in
-          let eg : value_at g (start_of g) ≡ d = ap (value_at g) (sym start) ∙ sym (same (start_of f)) ∙ e in
+          let af : Repeats (value_at f) (repeat_start f) f.period f.step = value_repeats f cf.form.period_positive cf.form.period_fits in
+          let ag : Repeats (value_at g) (repeat_start g) g.period g.step = value_repeats g cg.form.period_positive cg.form.period_fits in
+          let eg : value_at g (repeat_start g) ≡ d = ap (value_at g) (sym start) ∙ sym (same (repeat_start f)) ∙ e in
           let next : move f.step d ≡ move g.step d =
-          ap (move f.step) (sym e) ∙ sym (af.at (start_of f) (omega arith)) ∙ same (start_of f + f.period) ∙ ap (value_at g) (let u : start_of f + f.period ≡ start_of g + g.period = omega arith in u) ∙ ag.at (start_of g) (omega arith) ∙ ap (move g.step) eg in
+          ap (move f.step) (sym e) ∙ sym (af.at (repeat_start f) (omega arith)) ∙ same (repeat_start f + f.period) ∙ ap (value_at g) (let u : repeat_start f + f.period ≡ repeat_start g + g.period = omega arith in u) ∙ ag.at (repeat_start g) (omega arith) ∙ ap (move g.step) eg in
           by_value d e eg next where
-            by_value : (d : Date) → value_at f (start_of f) ≡ d → value_at g (start_of g) ≡ d → move f.step d ≡ move g.step d → f.step ≡ g.step
+            by_value : (d : Date) → value_at f (repeat_start f) ≡ d → value_at g (repeat_start g) ≡ d → move f.step d ≡ move g.step d → f.step ≡ g.step
             by_value Early e eg next = (cf.form.tail (inr e)).1 ∙ sym (cg.form.tail (inr eg)).1
             by_value (At v) e eg next = let h : v +ℤ f.step ≡ v +ℤ g.step = at_inj _ _ next in omega (arith, ints)
             by_value Never e eg next = (cf.form.tail (inl e)).1 ∙ sym (cg.form.tail (inl eg)).1

@@ -1,12 +1,12 @@
 -- The laws of a dioid, of its stars and of its residuals, of canonical forms.
 use Rattle.std.proofs.Common.{◌≡◌, refl, ap, arith, ℕ, pos, ◌+◌, sym, ◌∙◌}
 use Rattle.std.proofs.lemmas.Int.{ints}
-use Rattle.dioid.specs.Laws.{IsAtMost, IsClosed, DioidLaws, StarLaws, ResidualLaws}
+use Rattle.dioid.specs.DioidAxioms.{IsAtMost, IsClosed, DioidLaws, StarLaws, ResidualLaws}
 use Rattle.dioid.specs.Dates.{later_of, earlier_of, date_left}
 use Rattle.dioid.specs.Proved.DateLaws.{later_assoc, later_commutes, later_idempotent}
 use Rattle.dioid.specs.declared.dates.Date.{Date}
 use Rattle.dioid.specs.declared.dates.Date.TheVariants.{Early, At}
-use Rattle.dioid.specs.Order.{Le}
+use Rattle.dioid.specs.DateOrder.{Le}
 use Rattle.dioid.proofs.AtMost.{le_is, le_trans, le_later_left, le_earlier, earlier_le_left, earlier_le_right}
 use Rattle.series_laws.specs.Pointwise.{sum_at}
 use Rattle.series_laws.proofs.SumsRepeat.{later_is_left}
@@ -14,7 +14,7 @@ use Rattle.series_laws.specs.Product.{product_at}
 use Rattle.series_laws.proofs.ProductsRepeat.{le_product, product_at_le}
 use Rattle.series_laws.proofs.StarParts.{to_left, from_left}
 use Rattle.series_laws.specs.StarOf.{star_at}
-use Rattle.series_laws.specs.Forms.{Form, value_at, IsForm, HasValues, IsCanonical, early_form, zero_form}
+use Rattle.series_laws.specs.SeriesForms.{Form, value_at, IsForm, HasValues, IsCanonical, early_form, zero_form}
 use Rattle.series_laws.proofs.Canonical.{constant_is, one_canonical}
 use Rattle.series_laws.specs.Needs.{form_sum, form_least}
 use Rattle.series_laws.specs.ProductNeeds.{form_product, form_left, form_star}

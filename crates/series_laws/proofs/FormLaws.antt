@@ -6,11 +6,11 @@ use Rattle.number_laws.proofs.Numbers.{zero_test}
 use Rattle.series_laws.proofs.Repeating.{repeats_from}
 use Rattle.series_laws.proofs.FormValues.{value_in, value_repeats, first_le}
 use Rattle.series_laws.proofs.Canonical.{canonical_values, canonical_is, canonical_short, one_canonical}
-use Rattle.series_laws.specs.Forms.{canonical_of}
+use Rattle.series_laws.specs.SeriesForms.{canonical_of}
 use Rattle.series_laws.proofs.LeastForms.{period_divides, start_least}
 use Rattle.series_laws.specs.Needs.{turns_of, common}
 use Rattle.series_laws.proofs.Sums.{common_positive, common_second}
-use Rattle.series_laws.specs.FormLaws.{IsLeastCommon, AreFormLaws}
+use Rattle.series_laws.specs.FormFacts.{IsLeastCommon, AreFormLaws}
 
 least_common : (a b : ℕ) → 0 < a → 0 < b → IsLeastCommon a b (common a b)
 least_common a b pos_a pos_b = record {

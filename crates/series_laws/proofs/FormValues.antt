@@ -12,14 +12,14 @@ use Rattle.dioid.proofs.AtMost.{le_is, le_trans, le_early, never_le}
 use Rattle.dioid.proofs.Moves.{move_zero, move_move, move_injective, moved_to_never, move_swap}
 use Rattle.series_laws.specs.Periodic.{Rising, Repeats, times}
 use Rattle.series_laws.proofs.Repeating.{repeats_times, repeats_is, by_steps}
-use Rattle.series_laws.specs.Forms.{Form, size_of, start_of, value_at, HasValues, date_eqb, gap, table, repeats_test, first_of}
+use Rattle.series_laws.specs.SeriesForms.{Form, size_of, repeat_start, value_at, HasValues, date_eqb, gap, table, repeats_test, first_holding}
 
 -- ---- the function of a form
 
 pub value_in : (f : Form) (k : ℕ) → k < size_of f → value_at f k ≡ get_or f.values k Early
 value_in f k h = let e : ltb k (size_of f) ≡ true = grind (arith, nat_tests) in rw e refl
 
-pub value_past : (f : Form) (k : ℕ) → size_of f ≤ k → value_at f k ≡ move (times ((k - start_of f) / f.period) f.step) (get_or f.values (start_of f + (k - start_of f) % f.period) Early)
+pub value_past : (f : Form) (k : ℕ) → size_of f ≤ k → value_at f k ≡ move (times ((k - repeat_start f) / f.period) f.step) (get_or f.values (repeat_start f + (k - repeat_start f) % f.period) Early)
 value_past f k h = let e : ltb k (size_of f) ≡ false = grind (arith, nat_tests) in rw e refl
 
 pub no_turns : (m n r : ℕ) → m * n + r < n → m ≡ 0
@@ -27,29 +27,29 @@ no_turns zero n r h = refl
 no_turns (suc m) n r h = absurd (omega arith)
 
 -- r past the start and m periods
-pub value_placed : (f : Form) → 0 < f.period → f.period ≤ size_of f → (m r k : ℕ) → r < f.period → k ≡ start_of f + (m * f.period + r)
-    → value_at f k ≡ move (times m f.step) (get_or f.values (start_of f + r) Early)
+pub value_placed : (f : Form) → 0 < f.period → f.period ≤ size_of f → (m r k : ℕ) → r < f.period → k ≡ repeat_start f + (m * f.period + r)
+    → value_at f k ≡ move (times m f.step) (get_or f.values (repeat_start f + r) Early)
 value_placed f pos_n fits m r k low e =
-    let d : k - start_of f ≡ m * f.period + r = omega arith in
-    let q : (k - start_of f) / f.period ≡ m = ap (λ (z : ℕ). z / f.period) d ∙ div-mul-add m f.period r low in
-    let t : (k - start_of f) % f.period ≡ r = ap (λ (z : ℕ). z % f.period) d ∙ mod-mul-add m f.period r low in
+    let d : k - repeat_start f ≡ m * f.period + r = omega arith in
+    let q : (k - repeat_start f) / f.period ≡ m = ap (λ (z : ℕ). z / f.period) d ∙ div-mul-add m f.period r low in
+    let t : (k - repeat_start f) % f.period ≡ r = ap (λ (z : ℕ). z % f.period) d ∙ mod-mul-add m f.period r low in
     ⊎_elim
     (λ short.
     let none : m ≡ 0 = no_turns m f.period r (omega arith) in
-    let here : k ≡ start_of f + r = omega (arith, ap (λ (z : ℕ). z * f.period) none) in
-    value_in f k short ∙ ap (λ (z : ℕ). get_or f.values z Early) here ∙ sym (move_zero (get_or f.values (start_of f + r) Early)) ∙ ap (λ (z : ℕ). move (times z f.step) (get_or f.values (start_of f + r) Early)) (sym none))
-    (λ long. value_past f k long ∙ ap (λ (z : ℕ). move (times z f.step) (get_or f.values (start_of f + (k - start_of f) % f.period) Early)) q ∙ ap (λ (z : ℕ). move (times m f.step) (get_or f.values (start_of f + z) Early)) t)
+    let here : k ≡ repeat_start f + r = omega (arith, ap (λ (z : ℕ). z * f.period) none) in
+    value_in f k short ∙ ap (λ (z : ℕ). get_or f.values z Early) here ∙ sym (move_zero (get_or f.values (repeat_start f + r) Early)) ∙ ap (λ (z : ℕ). move (times z f.step) (get_or f.values (repeat_start f + r) Early)) (sym none))
+    (λ long. value_past f k long ∙ ap (λ (z : ℕ). move (times z f.step) (get_or f.values (repeat_start f + (k - repeat_start f) % f.period) Early)) q ∙ ap (λ (z : ℕ). move (times m f.step) (get_or f.values (repeat_start f + z) Early)) t)
     (cases_lt k (size_of f))
 
-pub value_repeats : (f : Form) → 0 < f.period → f.period ≤ size_of f → Repeats (value_at f) (start_of f) f.period f.step
+pub value_repeats : (f : Form) → 0 < f.period → f.period ≤ size_of f → Repeats (value_at f) (repeat_start f) f.period f.step
 value_repeats f pos_n fits = record {
   at = λ k w.
-      let m : ℕ = (k - start_of f) / f.period in
-      let r : ℕ = (k - start_of f) % f.period in
-      let low : r < f.period = mod_below (k - start_of f) f.period pos_n in
-      let d : m * f.period + r ≡ k - start_of f = div-add-mod' (k - start_of f) f.period in
+      let m : ℕ = (k - repeat_start f) / f.period in
+      let r : ℕ = (k - repeat_start f) % f.period in
+      let low : r < f.period = mod_below (k - repeat_start f) f.period pos_n in
+      let d : m * f.period + r ≡ k - repeat_start f = div-add-mod' (k - repeat_start f) f.period in
       value_placed f pos_n fits (suc m) r (k + f.period) low (omega arith)
-      ∙ sym (move_move (times m f.step) f.step (get_or f.values (start_of f + r) Early))
+      ∙ sym (move_move (times m f.step) f.step (get_or f.values (repeat_start f + r) Early))
       ∙ ap (move f.step) (sym (value_placed f pos_n fits m r k low (omega arith)));
 }
 
@@ -131,8 +131,8 @@ pub form_values : (f : ℕ → Date) (p n : ℕ) (x : ℤ) → 0 < n → Repeats
 form_values f p n x pos_n a =
     let g : Form = record { values = table f (p + n); period = n; step = x } in
     let long : length (table f (p + n)) ≡ p + n = table_length f (p + n) in
-    let start : start_of g ≡ p = omega arith in
-    let again : Repeats (value_at g) (start_of g) n x = value_repeats g pos_n (omega arith) in
+    let start : repeat_start g ≡ p = omega arith in
+    let again : Repeats (value_at g) (repeat_start g) n x = value_repeats g pos_n (omega arith) in
     let low : (k : ℕ) → k < p + n → value_at g k ≡ f k = λ k w. value_in g k (omega arith) ∙ table_at f (p + n) k w in
     λ k. ⊎_elim
     (λ w. low k w)
@@ -168,34 +168,34 @@ test_fails f n x p m i w h = by_bool (repeats_test f n x p m) refl where
   by_bool true e = absurd (let c : date_eqb (f (p + i + n)) (move x (f (p + i))) ≡ true = eqb_complete (f (p + i + n)) (move x (f (p + i))) (test_sound f n x p m e (p + i) (omega arith) (omega arith)) in let d : true ≡ false = sym c ∙ h in cc)
   by_bool false e = e
 
-pub first_ge : (t : ℕ → Bool) (a m : ℕ) → a ≤ first_of t a m
+pub first_ge : (t : ℕ → Bool) (a m : ℕ) → a ≤ first_holding t a m
 first_ge t a zero = omega arith
 first_ge t a (suc m) = by_test (t a) refl (first_ge t (suc a) m) where
-  by_test : (b : Bool) → t a ≡ b → suc a ≤ first_of t (suc a) m → a ≤ cond (t a) a (first_of t (suc a) m)
+  by_test : (b : Bool) → t a ≡ b → suc a ≤ first_holding t (suc a) m → a ≤ cond (t a) a (first_holding t (suc a) m)
   by_test true e h = rw e (omega arith)
   by_test false e h = rw e (omega arith)
 
-pub first_le : (t : ℕ → Bool) (a m j : ℕ) → a ≤ j → t j ≡ true → first_of t a m ≤ j
+pub first_le : (t : ℕ → Bool) (a m j : ℕ) → a ≤ j → t j ≡ true → first_holding t a m ≤ j
 first_le t a zero j h e = h
 first_le t a (suc m) j h e = by_test (t a) refl (λ w. first_le t (suc a) m j w e) where
-  by_test : (b : Bool) → t a ≡ b → (suc a ≤ j → first_of t (suc a) m ≤ j) → cond (t a) a (first_of t (suc a) m) ≤ j
+  by_test : (b : Bool) → t a ≡ b → (suc a ≤ j → first_holding t (suc a) m ≤ j) → cond (t a) a (first_holding t (suc a) m) ≤ j
   by_test true g next = rw g h
   by_test false g next = ⊎_elim
       (λ same. absurd (let c : t j ≡ false = ap t (sym same) ∙ g in cc))
       (λ l. rw g (next (omega arith)))
       (eq-or-lt_of_le {n = a} {m = j} h)
 
-pub first_holds : (t : ℕ → Bool) (a m : ℕ) → t (a + m) ≡ true → t (first_of t a m) ≡ true
+pub first_holds : (t : ℕ → Bool) (a m : ℕ) → t (a + m) ≡ true → t (first_holding t a m) ≡ true
 first_holds t a zero h = (let e : a + 0 ≡ a = omega arith in ap t (sym e)) ∙ h
 first_holds t a (suc m) h = by_test (t a) refl (first_holds t (suc a) m ((let e : suc a + m ≡ a + suc m = omega arith in ap t e) ∙ h)) where
-  by_test : (b : Bool) → t a ≡ b → t (first_of t (suc a) m) ≡ true → t (cond (t a) a (first_of t (suc a) m)) ≡ true
+  by_test : (b : Bool) → t a ≡ b → t (first_holding t (suc a) m) ≡ true → t (cond (t a) a (first_holding t (suc a) m)) ≡ true
   by_test true g next = rw g g
   by_test false g next = rw g next
 
-pub first_next : (t : ℕ → Bool) (a m : ℕ) → 0 < m → t a ≡ false → first_of t a m ≡ first_of t (a + 1) (m - 1)
+pub first_next : (t : ℕ → Bool) (a m : ℕ) → 0 < m → t a ≡ false → first_holding t a m ≡ first_holding t (a + 1) (m - 1)
 first_next t a zero h e = absurd (omega arith)
 first_next t a (suc m) h e = let n : a + 1 ≡ suc a = omega arith in let k : suc m - 1 ≡ m = omega arith in rw (e, n, k) refl
 
-pub first_found : (t : ℕ → Bool) (a m : ℕ) → t a ≡ true → first_of t a m ≡ a
+pub first_found : (t : ℕ → Bool) (a m : ℕ) → t a ≡ true → first_holding t a m ≡ a
 first_found t a zero e = refl
 first_found t a (suc m) e = rw e refl

@@ -6,13 +6,13 @@ use Rattle.dioid.specs.Dates.{later_of, date_product, date_left}
 use Rattle.dioid.specs.Proved.DateLaws.{times_assoc, times_later, one_times, times_one}
 use Rattle.dioid.specs.declared.dates.Date.{Date}
 use Rattle.dioid.specs.declared.dates.Date.TheVariants.{Early, At, Never}
-use Rattle.dioid.specs.Order.{Le}
+use Rattle.dioid.specs.DateOrder.{Le}
 use Rattle.dioid.proofs.AtMost.{le_refl, le_is, le_trans, le_antisym, early_le, le_never, product_le, later_le, le_later_left, le_later_right}
 use Rattle.series_laws.specs.Periodic.{Rising}
 use Rattle.series_laws.specs.Pointwise.{sum_at}
 use Rattle.series_laws.specs.Product.{product_at}
 use Rattle.series_laws.proofs.ProductsRepeat.{le_product, product_at_le}
-use Rattle.series_laws.specs.Stars.{total, date_of}
+use Rattle.series_laws.specs.SeriesStars.{total_of_parts, sum_of_values}
 use Rattle.series_laws.proofs.StarParts.{to_left, from_left, parts_star_is, part_more}
 use Rattle.series_laws.specs.StarOf.{parts_star, star_by, star_at}
 use Rattle.series_laws.proofs.Items.{times_commutes}
@@ -85,17 +85,17 @@ module _ (s b x : ℕ → Date) (up : Rising x) (solves : (k : ℕ) → Le (late
   at_s : (i j k : ℕ) → i + j ≡ k → Le (date_product (s i) (x j)) (x k)
   at_s i j k e = le_trans (le_product s x i j k e) (le_trans (le_later_left (product_at s x k) (b k)) (solves k))
 
-  list_solves : (l : List ℕ) (j k : ℕ) → total l + j ≡ k → Le (date_product (date_of s l) (b j)) (x k)
+  list_solves : (l : List ℕ) (j k : ℕ) → total_of_parts l + j ≡ k → Le (date_product (sum_of_values s l) (b j)) (x k)
   list_solves [] j k e = le_trans (le_is (one_times (b j))) (le_trans (at_b j) (up.rises j k (omega arith)))
   list_solves (c ∷ l) j k e =
-      le_trans (le_is (times_assoc (s c) (date_of s l) (b j))) (le_trans (product_le (le_refl (s c)) (list_solves l j (total l + j) refl)) (at_s c (total l + j) k (omega arith)))
+      le_trans (le_is (times_assoc (s c) (sum_of_values s l) (b j))) (le_trans (product_le (le_refl (s c)) (list_solves l j (total_of_parts l + j) refl)) (at_s c (total_of_parts l + j) k (omega arith)))
 
   parts_least : (i j k : ℕ) → i + j ≡ k → Le (date_product (parts_star s i) (b j)) (x k)
   parts_least i j k e =
       let y : Date = date_left (b j) (x k) in
       le_trans (le_is (times_commutes (parts_star s i) (b j))) (from_left (b j) ((parts_star_is s i).least y
       (to_left (b j) (le_trans (le_is (times_one (b j))) (le_trans (at_b j) (up.rises j k (omega arith)))))
-      (λ l a g. to_left (b j) (le_trans (le_is (times_commutes (b j) (date_of s l))) (list_solves l j k (omega arith))))))
+      (λ l a g. to_left (b j) (le_trans (le_is (times_commutes (b j) (sum_of_values s l))) (list_solves l j k (omega arith))))))
 
   -- where the first value is above 0
   never_least : (s 0 ≡ Never) ⊎ ((n : ℕ) × (s 0 ≡ At (pos (suc n)))) → (j k : ℕ) → j ≤ k → Le (date_product Never (b j)) (x k)

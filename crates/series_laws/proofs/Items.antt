@@ -9,13 +9,13 @@ use Rattle.dioid.specs.Dates.{date_product, move}
 use Rattle.dioid.specs.Proved.DateLaws.{times_assoc, one_times, times_one}
 use Rattle.dioid.specs.declared.dates.Date.{Date}
 use Rattle.dioid.specs.declared.dates.Date.TheVariants.{Early, At, Never}
-use Rattle.dioid.specs.Order.{Le}
+use Rattle.dioid.specs.DateOrder.{Le}
 use Rattle.dioid.proofs.AtMost.{le_is, le_trans}
 use Rattle.dioid.proofs.Moves.{product_is_move, product_move_left, product_move_right, move_zero, move_move}
 use Rattle.series_laws.specs.Periodic.{Repeats, times}
 use Rattle.series_laws.proofs.Repeating.{repeats_times}
 use Rattle.number_laws.proofs.Pigeons.{pigeons, difference}
-use Rattle.series_laws.specs.Stars.{total, date_of, ArePositive, IsStarAt}
+use Rattle.series_laws.specs.SeriesStars.{total_of_parts, sum_of_values, ArePositive, IsStarAt}
 
 pub times_commutes : (a b : Date) → date_product a b ≡ date_product b a
 times_commutes Early Early = refl
@@ -149,20 +149,20 @@ module _ (s : ℕ → Date) (n : ℕ) (x : ℤ) where
   module _ (star : ℕ → Date) (p : ℕ) (is : (k : ℕ) → IsStarAt s k (star k)) (repeats : Repeats s p n x) where
     -- The items beside a core, of which the parts in l are done with. Steps go to the core, which stands in the tail if there are any.
     pub realised : (m : ℕ) (items : List Item) (core : ℕ) (l : List ℕ) (k : ℕ) → Fit m items → 0 < core → ArePositive l → StepFree items ⊎ (p ≤ core)
-        → core + (total l + lengths items) ≡ k → Le (date_product (s core) (date_product (date_of s l) (worths items))) (star k)
+        → core + (total_of_parts l + lengths items) ≡ k → Le (date_product (s core) (date_product (sum_of_values s l) (worths items))) (star k)
     realised m [] core l k fit pos_core pos_l tail e =
-        le_trans (le_is (ap (date_product (s core)) (times_one (date_of s l)))) ((is k).below (core ∷ l) (pos_core, pos_l) (omega arith))
+        le_trans (le_is (ap (date_product (s core)) (times_one (sum_of_values s l)))) ((is k).below (core ∷ l) (pos_core, pos_l) (omega arith))
     realised m (part c ∷ items) core l k fit pos_core pos_l tail e =
-        le_trans (le_is (ap (date_product (s core)) (turned (date_of s l) (s c) (worths items))))
+        le_trans (le_is (ap (date_product (s core)) (turned (sum_of_values s l) (s c) (worths items))))
         (realised m items core (c ∷ l) k fit.2 pos_core (fit.0, pos_l) tail (omega arith))
     realised m (step ∷ items) core l k fit pos_core pos_l tail e = ⊎_elim
         (λ none. absurd none)
         (λ far. le_trans
-        (le_is (ap (λ z. date_product (s core) (date_product (date_of s l) z)) (product_is_move x (worths items))
-        ∙ ap (date_product (s core)) (product_move_right x (date_of s l) (worths items))
-        ∙ product_move_right x (s core) (date_product (date_of s l) (worths items))
-        ∙ sym (product_move_left x (s core) (date_product (date_of s l) (worths items)))
-        ∙ ap (λ z. date_product z (date_product (date_of s l) (worths items))) (sym (repeats.at core far))))
+        (le_is (ap (λ z. date_product (s core) (date_product (sum_of_values s l) z)) (product_is_move x (worths items))
+        ∙ ap (date_product (s core)) (product_move_right x (sum_of_values s l) (worths items))
+        ∙ product_move_right x (s core) (date_product (sum_of_values s l) (worths items))
+        ∙ sym (product_move_left x (s core) (date_product (sum_of_values s l) (worths items)))
+        ∙ ap (λ z. date_product z (date_product (sum_of_values s l) (worths items))) (sym (repeats.at core far))))
         (realised m items (core + n) l k fit.2 (omega arith) pos_l (inr (omega arith)) (omega arith)))
         tail
 
@@ -191,11 +191,11 @@ module _ (s : ℕ → Date) (n : ℕ) (x : ℤ) where
     pub low : core ≤ p + n
     pub fit : Fit (p + n) items
     pub tail : StepFree items ⊎ (p ≤ core)
-    pub long : core + lengths items ≡ total l
-    pub worth : date_product (s core) (worths items) ≡ date_of s l
+    pub long : core + lengths items ≡ total_of_parts l
+    pub worth : date_product (s core) (worths items) ≡ sum_of_values s l
 
   -- a long part: its core, and then the steps
-  unrolled : (p c : ℕ) (l : List ℕ) (items : List Item) → Repeats s p n x → 0 < n → p + n < c → Fit (p + n) items → lengths items ≡ total l → worths items ≡ date_of s l → Cores p (c ∷ l)
+  unrolled : (p c : ℕ) (l : List ℕ) (items : List Item) → Repeats s p n x → 0 < n → p + n < c → Fit (p + n) items → lengths items ≡ total_of_parts l → worths items ≡ sum_of_values s l → Cores p (c ∷ l)
   unrolled p c l items repeats pos_n far fit long worth =
       let w : ℕ = c - suc p in
       let m : ℕ = w / n in
@@ -232,7 +232,7 @@ module _ (s : ℕ → Date) (n : ℕ) (x : ℤ) where
         low = old.low;
         fit = (pos_c, near, old.fit);
         tail = ⊎_elim (λ free. inl free) (λ far. inr far) old.tail;
-        long = let e : old.core + lengths old.items ≡ b + total l = old.long in omega arith;
+        long = let e : old.core + lengths old.items ≡ b + total_of_parts l = old.long in omega arith;
         worth = exchanged (s old.core) (s c) (worths old.items) ∙ ap (date_product (s c)) old.worth;
       })
       (cases_lt (p + n) c)

@@ -5,17 +5,17 @@ use Rattle.std.proofs.lemmas.Int.{ints}
 use Rattle.dioid.specs.Dates.{date_left, move}
 use Rattle.dioid.specs.declared.dates.Date.{Date}
 use Rattle.dioid.specs.declared.dates.Date.TheVariants.{Early, At, Never}
-use Rattle.dioid.specs.Order.{Le}
+use Rattle.dioid.specs.DateOrder.{Le}
 use Rattle.dioid.proofs.AtMost.{le_refl, le_is, le_trans, early_le, le_never}
 use Rattle.series_laws.specs.Periodic.{Rising, Repeats, times}
 use Rattle.series_laws.proofs.Repeating.{repeats_later, repeats_times, repeats_is}
-use Rattle.series_laws.specs.Residual.{IsLeftAt, least_of}
+use Rattle.series_laws.specs.Residual.{IsLeftAt, least_of_first}
 use Rattle.series_laws.proofs.ResidualsRepeat.{left_repeats, left_decided}
-use Rattle.series_laws.specs.Forms.{Form, size_of, start_of, value_at, IsForm, HasValues, IsCanonical}
+use Rattle.series_laws.specs.SeriesForms.{Form, size_of, repeat_start, value_at, IsForm, HasValues, IsCanonical}
 use Rattle.series_laws.specs.declared.plans.Slopes.{Slopes}
 use Rattle.series_laws.specs.declared.plans.Slopes.TheVariants.{Equal, First, Second}
 use Rattle.series_laws.specs.Needs.{plan, period_with, rise_of, fall_of, tail_of, by_sign, slopes_by, slopes_of, later_start}
-use Rattle.series_laws.specs.ProductNeeds.{offsets_of, left_over, left_by_slopes, left_by, left_at, long_left, short_left, left_plan_by_slopes, left_plan_by, left_plan, form_left}
+use Rattle.series_laws.specs.ProductNeeds.{offsets_of, left_over, left_by_slopes, left_by, residual_at, long_left, short_left, left_plan_by_slopes, left_plan_by, left_plan, form_left}
 use Rattle.series_laws.proofs.Sums.{Serves, served_is, served_values, form_repeats_own, common_positive, rise_repeats, fall_repeats, tail_never, tail_early, tail_number, sign_first, equal_repeats}
 
 pub left_mono : {b c : Date} (a : Date) → Le b c → Le (date_left a b) (date_left a c)
@@ -83,17 +83,17 @@ unbounded s t p l k x y u v a b h es et = record { below = λ j. early_le (date_
   by_value Never g = let low : Le Never (At ((v -ℤ u) +ℤ (times 0 y -ℤ times 0 x))) = le_trans (g (p + 0 * l)) (le_is (at_turn 0)) in absurd low.holds
 
 -- where g repeats by at least the step of f, the first offsets decide
-decided : (f g : Form) (y : ℤ) → IsForm f → IsForm g → Repeats (value_at g) (start_of g) (period_with f g) y → rise_of f g ≤ℤ y → (k : ℕ) → IsLeftAt (value_at f) (value_at g) k (left_over f g k)
+decided : (f g : Form) (y : ℤ) → IsForm f → IsForm g → Repeats (value_at g) (repeat_start g) (period_with f g) y → rise_of f g ≤ℤ y → (k : ℕ) → IsLeftAt (value_at f) (value_at g) k (left_over f g k)
 decided f g y isf isg b h k =
     let l : ℕ = period_with f g in
     let pos_l : 0 < l = common_positive f.period g.period isf.period_positive in
     let one : l ≡ suc (l - 1) = omega arith in
     let last : later_start f g + (l - 1) ≡ offsets_of f g - 1 = omega arith in
-    let r : IsLeftAt (value_at f) (value_at g) k (least_of (λ i. date_left (value_at f i) (value_at g (k + i))) (later_start f g + (l - 1))) =
+    let r : IsLeftAt (value_at f) (value_at g) k (least_of_first (λ i. date_left (value_at f i) (value_at g (k + i))) (later_start f g + (l - 1))) =
     left_decided (value_at f) (value_at g) (later_start f g) (l - 1) k (rise_of f g) y
     (repeats_is one refl (repeats_later (later_start f g) (omega arith) (rise_repeats f g isf)))
     (repeats_is one refl (repeats_later (later_start f g) (omega arith) b)) h in
-    subst (λ (z : ℕ). IsLeftAt (value_at f) (value_at g) k (least_of (λ i. date_left (value_at f i) (value_at g (k + i))) z)) last r
+    subst (λ (z : ℕ). IsLeftAt (value_at f) (value_at g) k (least_of_first (λ i. date_left (value_at f i) (value_at g (k + i))) z)) last r
 
 sign_not_first : (z : ℤ) → by_sign z ≡ Second → (z +ℤ pos 1) ≤ℤ pos 0
 sign_not_first (pos zero) h = absurd cc
@@ -119,7 +119,7 @@ left_is_by_slopes f g isf isg some k First h = cases (tail_of f) (tail_of g) ref
   cases Early Early ea eb h = absurd cc
   cases Early (At t) ea eb h = absurd cc
   cases Early Never ea eb h = absurd cc
-  cases (At s) Early ea eb h = early_below (value_at f) (value_at g) k (start_of f) (ap (λ z. date_left z (value_at g (k + start_of f))) ea ∙ ap (date_left (At s)) (tail_early g isg eb (k + start_of f)))
+  cases (At s) Early ea eb h = early_below (value_at f) (value_at g) k (repeat_start f) (ap (λ z. date_left z (value_at g (k + repeat_start f))) ea ∙ ap (date_left (At s)) (tail_early g isg eb (k + repeat_start f)))
   cases (At s) (At t) ea eb h =
       let p : ℕ = later_start f g in
       let sign : (n : ℕ) × (rise_of f g -ℤ fall_of f g ≡ pos (suc n)) = sign_first (rise_of f g -ℤ fall_of f g) h in
@@ -128,7 +128,7 @@ left_is_by_slopes f g isf isg some k First h = cases (tail_of f) (tail_of g) ref
       let zs : rise_of f g -ℤ fall_of f g ≡ pos (suc sign.0) = sign.1 in
       unbounded (value_at f) (value_at g) p (period_with f g) k (rise_of f g) (fall_of f g) vs.0 vt.0 (repeats_later p (omega arith) (rise_repeats f g isf)) (repeats_later p (omega arith) (fall_repeats f g isg)) (omega (arith, ints)) vs.1 vt.1
   cases (At s) Never ea eb h = absurd cc
-  cases Never Early ea eb h = early_below (value_at f) (value_at g) k (start_of f) (ap (λ z. date_left z (value_at g (k + start_of f))) ea ∙ ap (date_left Never) (tail_early g isg eb (k + start_of f)))
+  cases Never Early ea eb h = early_below (value_at f) (value_at g) k (repeat_start f) (ap (λ z. date_left z (value_at g (k + repeat_start f))) ea ∙ ap (date_left Never) (tail_early g isg eb (k + repeat_start f)))
   cases Never (At t) ea eb h =
       let p : ℕ = later_start f g in
       let vt : (x : ℤ) × (value_at g (k + p) ≡ At x) = tail_number g t isg eb (k + p) (omega arith) in
@@ -136,40 +136,40 @@ left_is_by_slopes f g isf isg some k First h = cases (tail_of f) (tail_of g) ref
   cases Never Never ea eb h = absurd cc
 
 -- the residual is that of the definition at every shift
-pub left_is : (f g : Form) → IsForm f → IsForm g → (k : ℕ) → IsLeftAt (value_at f) (value_at g) k (left_at f g k)
+pub left_is : (f g : Form) → IsForm f → IsForm g → (k : ℕ) → IsLeftAt (value_at f) (value_at g) k (residual_at f g k)
 left_is f g isf isg k = cases (tail_of f) refl where
   cases : (a : Date) → tail_of f ≡ a → IsLeftAt (value_at f) (value_at g) k (left_by a f g k)
   cases Early e = never_below (value_at f) (value_at g) k (tail_early f isf e)
   cases (At s) e = left_is_by_slopes f g isf isg (λ h. absurd (let c : At s ≡ Early = sym e ∙ h in cc)) k (slopes_of f g) refl
   cases Never e = left_is_by_slopes f g isf isg (λ h. absurd (let c : Never ≡ Early = sym e ∙ h in cc)) k (slopes_of f g) refl
 
-pub left_rises : (f g : Form) → IsForm f → IsForm g → Rising (left_at f g)
+pub left_rises : (f g : Form) → IsForm f → IsForm g → Rising (residual_at f g)
 left_rises f g isf isg = record {
   rises = λ j k w.
-      (left_is f g isf isg k).greatest (left_at f g j) (λ i. le_trans ((left_is f g isf isg j).below i) (left_mono (value_at f i) (isg.rising.rises (j + i) (k + i) (omega arith))));
+      (left_is f g isf isg k).greatest (residual_at f g j) (λ i. le_trans ((left_is f g isf isg j).below i) (left_mono (value_at f i) (isg.rising.rises (j + i) (k + i) (omega arith))));
 }
 
-left_serves_from : (f g : Form) → IsForm f → IsForm g → (q : ℕ) → start_of g ≤ q → Serves (left_at f g) (plan q g.period)
+left_serves_from : (f g : Form) → IsForm f → IsForm g → (q : ℕ) → repeat_start g ≤ q → Serves (residual_at f g) (plan q g.period)
 left_serves_from f g isf isg q h = record {
   turns = isg.period_positive;
   step = g.step;
-  repeats = repeats_later q h (left_repeats (value_at f) (value_at g) (left_at f g) (start_of g) g.period g.step (left_is f g isf isg) (form_repeats_own g isg));
+  repeats = repeats_later q h (left_repeats (value_at f) (value_at g) (residual_at f g) (repeat_start g) g.period g.step (left_is f g isf isg) (form_repeats_own g isg));
 }
 
-pub left_serves : (f g : Form) → IsForm f → IsForm g → Serves (left_at f g) (left_plan f g)
+pub left_serves : (f g : Form) → IsForm f → IsForm g → Serves (residual_at f g) (left_plan f g)
 left_serves f g isf isg = cases (tail_of f) (tail_of g) where
-  long : Serves (left_at f g) (long_left f g)
+  long : Serves (residual_at f g) (long_left f g)
   long = let fits : g.period ≤ size_of g = isg.period_fits in left_serves_from f g isf isg (max (size_of g) (offsets_of f g) - g.period) (omega arith)
 
-  short : Serves (left_at f g) (short_left f g)
-  short = left_serves_from f g isf isg (start_of g) (omega arith)
+  short : Serves (residual_at f g) (short_left f g)
+  short = left_serves_from f g isf isg (repeat_start g) (omega arith)
 
-  by_slopes : (o : Slopes) → Serves (left_at f g) (left_plan_by_slopes o f g)
+  by_slopes : (o : Slopes) → Serves (residual_at f g) (left_plan_by_slopes o f g)
   by_slopes Equal = long
   by_slopes First = short
   by_slopes Second = long
 
-  cases : (a b : Date) → Serves (left_at f g) (left_plan_by a b f g)
+  cases : (a b : Date) → Serves (residual_at f g) (left_plan_by a b f g)
   cases Early b = short
   cases (At s) Early = short
   cases (At s) (At t) = by_slopes (slopes_of f g)
@@ -179,7 +179,7 @@ left_serves f g isf isg = cases (tail_of f) (tail_of g) where
   cases Never Never = long
 
 pub form_left_is : (f g : Form) → IsForm f → IsForm g → IsCanonical (form_left f g)
-form_left_is f g isf isg = served_is (left_at f g) (left_plan f g) (left_rises f g isf isg) (left_serves f g isf isg)
+form_left_is f g isf isg = served_is (residual_at f g) (left_plan f g) (left_rises f g isf isg) (left_serves f g isf isg)
 
-pub form_left_values : (f g : Form) → IsForm f → IsForm g → HasValues (form_left f g) (left_at f g)
-form_left_values f g isf isg = served_values (left_at f g) (left_plan f g) (left_rises f g isf isg) (left_serves f g isf isg)
+pub form_left_values : (f g : Form) → IsForm f → IsForm g → HasValues (form_left f g) (residual_at f g)
+form_left_values f g isf isg = served_values (residual_at f g) (left_plan f g) (left_rises f g isf isg) (left_serves f g isf isg)

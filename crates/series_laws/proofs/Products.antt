@@ -6,14 +6,14 @@ use Rattle.std.proofs.lemmas.Nat.{mod_below, div-add-mod'}
 use Rattle.dioid.specs.Dates.{date_product, move}
 use Rattle.dioid.specs.declared.dates.Date.{Date}
 use Rattle.dioid.specs.declared.dates.Date.TheVariants.{Early, At, Never}
-use Rattle.dioid.specs.Order.{Le}
+use Rattle.dioid.specs.DateOrder.{Le}
 use Rattle.dioid.proofs.AtMost.{le_refl, le_is, le_trans, le_antisym, early_le, product_le, never_le}
 use Rattle.series_laws.specs.Periodic.{Rising, Repeats, times}
 use Rattle.series_laws.proofs.Repeating.{repeats_times, repeats_is, times_add}
 use Rattle.series_laws.specs.Product.{product_at}
 use Rattle.series_laws.proofs.ProductsRepeat.{le_product, product_at_le, product_repeats_equal, product_repeats_unequal}
 use Rattle.series_laws.proofs.Items.{times_commutes}
-use Rattle.series_laws.specs.Forms.{Form, size_of, start_of, value_at, IsForm, HasValues, IsCanonical}
+use Rattle.series_laws.specs.SeriesForms.{Form, size_of, repeat_start, value_at, IsForm, HasValues, IsCanonical}
 use Rattle.series_laws.specs.declared.plans.Slopes.{Slopes}
 use Rattle.series_laws.specs.declared.plans.Slopes.TheVariants.{Equal, First, Second}
 use Rattle.series_laws.specs.Needs.{plan, period_with, rise_of, fall_of, tail_of, slopes_by, slopes_of, ceiling}
@@ -74,9 +74,9 @@ first_serves f g isf isg h = cases (tail_of f) (tail_of g) refl refl h where
       let whole : (v + u) * l ≡ v * l + u * l = omega arith in
       let fits : f.period ≤ size_of f = isf.period_fits in
       let high : size_of f ≤ v * l = lifted (size_of f) l pos_l in
-      let from : start_of f + f.period + start_of g + (v * l + u * l) ≡ size_of f + start_of g + (v * l + u * l) = omega arith in
-      let again : Repeats (product_at (value_at f) (value_at g)) (start_of f + f.period + start_of g + (v * l + u * l)) f.period f.step =
-      product_repeats_unequal (value_at f) (value_at g) (start_of f) f.period (start_of g) (v * l) (u * l) f.step (times u x) (times (v + u) y) isf.rising (form_repeats_own f isf)
+      let from : repeat_start f + f.period + repeat_start g + (v * l + u * l) ≡ size_of f + repeat_start g + (v * l + u * l) = omega arith in
+      let again : Repeats (product_at (value_at f) (value_at g)) (repeat_start f + f.period + repeat_start g + (v * l + u * l)) f.period f.step =
+      product_repeats_unequal (value_at f) (value_at g) (repeat_start f) f.period (repeat_start g) (v * l) (u * l) f.step (times u x) (times (v + u) y) isf.rising (form_repeats_own f isf)
       (repeats_times u (rise_repeats f g isf)) (repeats_is whole refl (repeats_times (v + u) (fall_repeats f g isg))) (omega arith) (omega (arith, ints)) in
       record { turns = isf.period_positive; step = f.step; repeats = subst (λ (z : ℕ). Repeats (product_at (value_at f) (value_at g)) z f.period f.step) from again } where
         sums : (m : ℕ) (a b c : ℤ) → c ≡ a +ℤ b → times m c ≡ times m a +ℤ times m b
@@ -86,9 +86,9 @@ first_serves f g isf isg h = cases (tail_of f) (tail_of g) refl refl h where
   cases Never Early ea eb h = early_serves (product_at (value_at f) (value_at g)) (λ k. product_commutes (value_at f) (value_at g) k ∙ early_product (value_at g) (value_at f) (tail_early g isg eb) k)
   cases Never (At t) ea eb h =
       let fits : f.period ≤ size_of f = isf.period_fits in
-      let never : (k : ℕ) → start_of f + start_of g ≤ k → product_at (value_at f) (value_at g) k ≡ Never = λ k w.
-      let v : (x : ℤ) × (value_at g (k - start_of f) ≡ At x) = tail_number g t isg eb (k - start_of f) (omega arith) in
-      never_le (le_trans (le_is (sym (ap (λ z. date_product z (value_at g (k - start_of f))) ea ∙ ap (date_product Never) v.1))) (le_product (value_at f) (value_at g) (start_of f) (k - start_of f) k (omega arith))) in
+      let never : (k : ℕ) → repeat_start f + repeat_start g ≤ k → product_at (value_at f) (value_at g) k ≡ Never = λ k w.
+      let v : (x : ℤ) × (value_at g (k - repeat_start f) ≡ At x) = tail_number g t isg eb (k - repeat_start f) (omega arith) in
+      never_le (le_trans (le_is (sym (ap (λ z. date_product z (value_at g (k - repeat_start f))) ea ∙ ap (date_product Never) v.1))) (le_product (value_at f) (value_at g) (repeat_start f) (k - repeat_start f) k (omega arith))) in
       record { turns = omega arith; step = pos 0; repeats = record { at = λ k w. never (k + 1) (omega arith) ∙ ap (move (pos 0)) (sym (never k (omega arith))) } }
   cases Never Never ea eb h = absurd cc
 
@@ -98,7 +98,7 @@ product_serves f g isf isg = cases (tail_of f) (tail_of g) refl refl where
   by_slopes Equal h = record {
     turns = common_positive f.period g.period isf.period_positive;
     step = rise_of f g;
-    repeats = product_repeats_equal (value_at f) (value_at g) (start_of f) (start_of g) (period_with f g) (rise_of f g) (rise_repeats f g isf) (equal_repeats f g isf isg h);
+    repeats = product_repeats_equal (value_at f) (value_at g) (repeat_start f) (repeat_start g) (period_with f g) (rise_of f g) (rise_repeats f g isf) (equal_repeats f g isf isg h);
   }
   by_slopes First h = first_serves f g isf isg h
   by_slopes Second h = serves_same (product_at (value_at g) (value_at f)) (product_at (value_at f) (value_at g)) (product_first g f) (product_commutes (value_at f) (value_at g))

@@ -5,21 +5,21 @@ use Rattle.std.proofs.Math.Nat.{eq-or-lt_of_le}
 use Rattle.std.proofs.lemmas.Bool.{cases_lt}
 use Rattle.dioid.specs.Dates.{later_of, date_product, move}
 use Rattle.dioid.specs.declared.dates.Date.{Date}
-use Rattle.dioid.specs.Order.{Le}
+use Rattle.dioid.specs.DateOrder.{Le}
 use Rattle.dioid.proofs.AtMost.{le_refl, le_is, le_trans, le_antisym, le_later_left, le_later_right, later_le, move_le, move_further, le_move_over, le_move_back, product_le}
 use Rattle.dioid.proofs.Moves.{product_move_left, product_move_right}
 use Rattle.series_laws.specs.Periodic.{Rising, Repeats}
 use Rattle.series_laws.proofs.Repeating.{repeats_from}
-use Rattle.series_laws.specs.Product.{greatest, product_at}
+use Rattle.series_laws.specs.Product.{greatest_of_first, product_at}
 
-pub le_greatest : (f : ℕ → Date) (n j : ℕ) → j ≤ n → Le (f j) (greatest f n)
+pub le_greatest : (f : ℕ → Date) (n j : ℕ) → j ≤ n → Le (f j) (greatest_of_first f n)
 le_greatest f zero j h = le_is (ap f (omega arith))
 le_greatest f (suc n) j h = ⊎_elim
-    (λ q. let P : ℕ → Type 0 = λ k. Le (f k) (later_of (greatest f n) (f (suc n))) in subst P (sym q) (le_later_right (greatest f n) (f (suc n))))
-    (λ l. le_trans (le_greatest f n j (omega arith)) (le_later_left (greatest f n) (f (suc n))))
+    (λ q. let P : ℕ → Type 0 = λ k. Le (f k) (later_of (greatest_of_first f n) (f (suc n))) in subst P (sym q) (le_later_right (greatest_of_first f n) (f (suc n))))
+    (λ l. le_trans (le_greatest f n j (omega arith)) (le_later_left (greatest_of_first f n) (f (suc n))))
     (eq-or-lt_of_le {n = j} {m = suc n} h)
 
-pub greatest_le : (f : ℕ → Date) (n : ℕ) (c : Date) → ((j : ℕ) → j ≤ n → Le (f j) c) → Le (greatest f n) c
+pub greatest_le : (f : ℕ → Date) (n : ℕ) (c : Date) → ((j : ℕ) → j ≤ n → Le (f j) c) → Le (greatest_of_first f n) c
 greatest_le f zero c h = h 0 (omega arith)
 greatest_le f (suc n) c h = later_le (greatest_le f n c (λ j w. h j (omega arith))) (h (suc n) (omega arith))
 

@@ -4,7 +4,7 @@ use Rattle.std.proofs.lemmas.Int.{ints}
 use Rattle.std.proofs.lemmas.Bool.{cases_lt}
 use Rattle.dioid.specs.declared.dates.Date.{Date}
 use Rattle.dioid.specs.Dates.{move}
-use Rattle.dioid.specs.Order.{Le}
+use Rattle.dioid.specs.DateOrder.{Le}
 use Rattle.dioid.proofs.AtMost.{le_is, le_trans}
 use Rattle.dioid.proofs.Moves.{move_zero, move_move}
 use Rattle.series_laws.specs.Periodic.{Rising, Repeats, times}

@@ -6,12 +6,12 @@ use Rattle.std.proofs.lemmas.Int.{ints}
 use Rattle.std.proofs.lemmas.Bool.{cases_lt}
 use Rattle.dioid.specs.Dates.{earlier_of, date_left, move}
 use Rattle.dioid.specs.declared.dates.Date.{Date}
-use Rattle.dioid.specs.Order.{Le}
+use Rattle.dioid.specs.DateOrder.{Le}
 use Rattle.dioid.proofs.AtMost.{le_is, le_trans, le_antisym, earlier_le_left, earlier_le_right, le_earlier, move_le, move_le_back, move_further}
 use Rattle.dioid.proofs.Moves.{move_zero, move_back, left_move, left_of_move}
 use Rattle.series_laws.specs.Periodic.{Repeats}
 use Rattle.series_laws.proofs.Repeating.{by_steps}
-use Rattle.series_laws.specs.Residual.{IsGreatestBelow, IsLeftAt, least_of}
+use Rattle.series_laws.specs.Residual.{IsGreatestBelow, IsLeftAt, least_of_first}
 
 pub one_greatest : (f : ℕ → Date) (x y : Date) → IsGreatestBelow f x → IsGreatestBelow f y → x ≡ y
 one_greatest f x y a b = le_antisym (b.greatest x a.below) (a.greatest y b.below)
@@ -31,29 +31,29 @@ left_repeats s t left q n x is b = record {
       (is k));
 }
 
-pub least_of_le : (f : ℕ → Date) (n j : ℕ) → j ≤ n → Le (least_of f n) (f j)
+pub least_of_le : (f : ℕ → Date) (n j : ℕ) → j ≤ n → Le (least_of_first f n) (f j)
 least_of_le f zero j h = le_is (ap f (omega arith))
 least_of_le f (suc n) j h = ⊎_elim
-    (λ q. let P : ℕ → Type 0 = λ k. Le (earlier_of (least_of f n) (f (suc n))) (f k) in subst P (sym q) (earlier_le_right (least_of f n) (f (suc n))))
-    (λ l. le_trans (earlier_le_left (least_of f n) (f (suc n))) (least_of_le f n j (omega arith)))
+    (λ q. let P : ℕ → Type 0 = λ k. Le (earlier_of (least_of_first f n) (f (suc n))) (f k) in subst P (sym q) (earlier_le_right (least_of_first f n) (f (suc n))))
+    (λ l. le_trans (earlier_le_left (least_of_first f n) (f (suc n))) (least_of_le f n j (omega arith)))
     (eq-or-lt_of_le {n = j} {m = suc n} h)
 
-pub le_least_of : (f : ℕ → Date) (n : ℕ) (c : Date) → ((j : ℕ) → j ≤ n → Le c (f j)) → Le c (least_of f n)
+pub le_least_of : (f : ℕ → Date) (n : ℕ) (c : Date) → ((j : ℕ) → j ≤ n → Le c (f j)) → Le c (least_of_first f n)
 le_least_of f zero c h = h 0 (omega arith)
 le_least_of f (suc n) c h = le_earlier (le_least_of f n c (λ j w. h j (omega arith))) (h (suc n) (omega arith))
 
 -- where f never falls over l shifts from p on, the values below p + l decide
-pub first_decide : (f : ℕ → Date) (p l : ℕ) → ((i : ℕ) → p ≤ i → Le (f i) (f (i + suc l))) → IsGreatestBelow f (least_of f (p + l))
+pub first_decide : (f : ℕ → Date) (p l : ℕ) → ((i : ℕ) → p ≤ i → Le (f i) (f (i + suc l))) → IsGreatestBelow f (least_of_first f (p + l))
 first_decide f p l h = record {
   below = λ i. ⊎_elim
       (λ low. least_of_le f (p + l) i (omega arith))
-      (λ high. by_steps (λ j. Le (least_of f (p + l)) (f j)) p (suc l) (omega arith) (λ j u v. least_of_le f (p + l) j (omega arith)) (λ j u v. le_trans v (h j u)) i high)
+      (λ high. by_steps (λ j. Le (least_of_first f (p + l)) (f j)) p (suc l) (omega arith) (λ j u v. least_of_le f (p + l) j (omega arith)) (λ j u v. le_trans v (h j u)) i high)
       (cases_lt i p);
   greatest = λ y g. le_least_of f (p + l) y (λ j _. g j);
 }
 
 -- the first slope at most the second
-pub left_decided : (s t : ℕ → Date) (p l k : ℕ) (x y : ℤ) → Repeats s p (suc l) x → Repeats t p (suc l) y → x ≤ℤ y → IsLeftAt s t k (least_of (λ i. date_left (s i) (t (k + i))) (p + l))
+pub left_decided : (s t : ℕ → Date) (p l k : ℕ) (x y : ℤ) → Repeats s p (suc l) x → Repeats t p (suc l) y → x ≤ℤ y → IsLeftAt s t k (least_of_first (λ i. date_left (s i) (t (k + i))) (p + l))
 left_decided s t p l k x y a b h = first_decide (λ i. date_left (s i) (t (k + i))) p l (λ i w.
     let d : Date = date_left (s i) (t (k + i)) in
     le_trans (le_is (sym (move_zero d)))

@@ -3,12 +3,12 @@ use Rattle.std.proofs.Common.{◌≡◌, refl, ap, arith, ℕ, ℤ, ◌-◌, ◌
 use Rattle.std.proofs.lemmas.Bool.{cases_lt}
 use Rattle.std.proofs.lemmas.Bool.Decides.{nat_tests}
 use Rattle.dioid.specs.Dates.{date_product, move}
-use Rattle.dioid.specs.Order.{Le}
+use Rattle.dioid.specs.DateOrder.{Le}
 use Rattle.dioid.specs.declared.dates.Date.{Date}
 use Rattle.dioid.specs.declared.dates.Date.TheVariants.{Early, At}
 use Rattle.dioid.proofs.AtMost.{le_is, le_trans, le_antisym, early_le, move_le}
 use Rattle.dioid.proofs.Moves.{product_is_move}
-use Rattle.series_laws.specs.Forms.{monomial_at}
+use Rattle.series_laws.specs.SeriesForms.{monomial_at}
 use Rattle.series_laws.specs.Periodic.{Rising}
 use Rattle.series_laws.specs.Product.{product_at, shifted}
 use Rattle.series_laws.proofs.ProductsRepeat.{le_product, product_at_le}

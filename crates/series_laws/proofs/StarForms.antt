@@ -6,21 +6,21 @@ use Rattle.std.proofs.Math.Nat.{eq-or-lt_of_le, mul-le-mul_left}
 use Rattle.dioid.specs.Dates.{later_of, move}
 use Rattle.dioid.specs.declared.dates.Date.{Date}
 use Rattle.dioid.specs.declared.dates.Date.TheVariants.{Early, At, Never}
-use Rattle.dioid.specs.Order.{Le}
+use Rattle.dioid.specs.DateOrder.{Le}
 use Rattle.dioid.proofs.AtMost.{le_refl, le_is, le_trans, early_le, move_le, later_le, le_later_right, never_le}
 use Rattle.series_laws.specs.Periodic.{Rising, Repeats, times}
 use Rattle.series_laws.proofs.Repeating.{repeats_later, times_add}
-use Rattle.series_laws.specs.Stars.{IsStarAt, scaled}
+use Rattle.series_laws.specs.SeriesStars.{IsStarAt, scaled}
 use Rattle.series_laws.proofs.StarsRepeat.{star_never, scaled_zero, scaled_le, scaled_move, times_up, times_back, times_swap}
 use Rattle.series_laws.specs.StarOf.{parts_star, star_by, star_at, from_one, with_one}
 use Rattle.series_laws.proofs.StarParts.{star_rises, with_one_is}
 use Rattle.series_laws.proofs.Anchors.{star_repeats_anchored, star_repeats_tail}
-use Rattle.series_laws.specs.Forms.{Form, size_of, start_of, value_at, IsForm, HasValues, IsCanonical, gap}
+use Rattle.series_laws.specs.SeriesForms.{Form, size_of, repeat_start, value_at, IsForm, HasValues, IsCanonical, gap}
 use Rattle.series_laws.proofs.FormValues.{form_values}
-use Rattle.series_laws.specs.declared.plans.Plan.{Plan}
+use Rattle.series_laws.specs.declared.plans.NeedPlan.{NeedPlan}
 use Rattle.series_laws.specs.Needs.{plan, need_of, tail_of, greatest_int, sum_plan, form_sum}
 use Rattle.series_laws.specs.declared.plans.Anchor.{Anchor}
-use Rattle.series_laws.specs.ProductNeeds.{beats, anchor_step, anchor_upto, anchor_of, natural_of, loss_of, worst_loss, anchored_plan, own_plan_by, own_plan, one_shift, at_least, star_plan, star_plan_by, form_star}
+use Rattle.series_laws.specs.ProductNeeds.{beats, anchor_step, anchor_upto, anchor_of, natural_of, loss_of_part, worst_loss, anchored_plan, own_plan_by, own_plan, one_shift, at_least, star_plan, star_plan_by, form_star}
 use Rattle.series_laws.proofs.Sums.{Serves, served_is, served_values, form_repeats_own, tail_never, tail_early, tail_number, le_greatest_int, form_sum_is, form_sum_values}
 
 -- u / b is at most a / c, and so on: ratios
@@ -169,79 +169,79 @@ module _ (g : Form) (is : IsForm g) (star : ℕ → Date) (stars : (k : ℕ) →
     fits : g.period ≤ size_of g
     fits = is.period_fits
 
-    whole : start_of g + g.period ≡ size_of g
+    whole : repeat_start g + g.period ≡ size_of g
     whole = omega (arith, fits)
 
-    number : (c : ℕ) → start_of g ≤ c → (v : ℤ) × (value_at g c ≡ At v)
+    number : (c : ℕ) → repeat_start g ≤ c → (v : ℤ) × (value_at g c ≡ At v)
     number c w = tail_number g t is e c w
 
     some : (c : ℕ) → value_at g c ≡ Never → ⊥
-    some c h = let v : (x : ℤ) × (value_at g (c + start_of g) ≡ At x) = number (c + start_of g) (omega arith) in
-        let last : value_at g (c + start_of g) ≡ Never = never_le (le_trans (le_is (sym h)) (is.rising.rises c (c + start_of g) (omega arith))) in
+    some c h = let v : (x : ℤ) × (value_at g (c + repeat_start g) ≡ At x) = number (c + repeat_start g) (omega arith) in
+        let last : value_at g (c + repeat_start g) ≡ Never = never_le (le_trans (le_is (sym h)) (is.rising.rises c (c + repeat_start g) (omega arith))) in
         absurd (let q : At v.0 ≡ Never = sym v.1 ∙ last in cc)
 
     known : AnchorIs g (size_of g - 1) (anchor_of g)
     known = anchor_is g is (size_of g - 1) some
 
-    own : Repeats (value_at g) (start_of g) g.period g.step
+    own : Repeats (value_at g) (repeat_start g) g.period g.step
     own = form_repeats_own g is
 
     -- the anchor also covers the shift after the list
-    cheap_start : Le (scaled (anchor_of g).shift (value_at g (start_of g))) (At (times (start_of g) (anchor_of g).value))
+    cheap_start : Le (scaled (anchor_of g).shift (value_at g (repeat_start g))) (At (times (repeat_start g) (anchor_of g).value))
     cheap_start = ⊎_elim
         (λ zeros. let P : ℕ → Type 0 = λ z. Le (scaled (anchor_of g).shift (value_at g z)) (At (times z (anchor_of g).value)) in
         subst P (sym zeros) (le_trans (scaled_le (anchor_of g).shift low) (le_is (scaled_zero (anchor_of g).shift))))
-        (λ more. known.cheap (start_of g) more (let w : g.period ≤ size_of g = fits in let u : 0 < g.period = is.period_positive in omega arith))
-        (zero_or (start_of g)) where
+        (λ more. known.cheap (repeat_start g) more (let w : g.period ≤ size_of g = fits in let u : 0 < g.period = is.period_positive in omega arith))
+        (zero_or (repeat_start g)) where
           zero_or : (m : ℕ) → (m ≡ 0) ⊎ (0 < m)
           zero_or zero = inl refl
           zero_or (suc m) = inr (omega arith)
 
-    cheap_last : Le (scaled (anchor_of g).shift (value_at g (start_of g + g.period))) (At (times (start_of g + g.period) (anchor_of g).value))
+    cheap_last : Le (scaled (anchor_of g).shift (value_at g (repeat_start g + g.period))) (At (times (repeat_start g + g.period) (anchor_of g).value))
     cheap_last =
         let b : ℕ = (anchor_of g).shift in
         let a : ℤ = (anchor_of g).value in
         let slow : times b g.step ≤ℤ times g.period a = known.slow in
-        let gain : Le (move (times b g.step) (At (times (start_of g) a))) (At (times (start_of g + g.period) a)) =
-        let sum : times (start_of g + g.period) a ≡ times (start_of g) a +ℤ times g.period a = times_add (start_of g) g.period a in record { holds = omega (arith, ints) } in
-        le_trans (le_is (ap (scaled b) (own.at (start_of g) (omega arith)) ∙ scaled_move b g.step (value_at g (start_of g)))) (le_trans (move_le (times b g.step) cheap_start) gain)
+        let gain : Le (move (times b g.step) (At (times (repeat_start g) a))) (At (times (repeat_start g + g.period) a)) =
+        let sum : times (repeat_start g + g.period) a ≡ times (repeat_start g) a +ℤ times g.period a = times_add (repeat_start g) g.period a in record { holds = omega (arith, ints) } in
+        le_trans (le_is (ap (scaled b) (own.at (repeat_start g) (omega arith)) ∙ scaled_move b g.step (value_at g (repeat_start g)))) (le_trans (move_le (times b g.step) cheap_start) gain)
 
-    cheap : (c : ℕ) → 0 < c → c ≤ start_of g + g.period → Le (scaled (anchor_of g).shift (value_at g c)) (At (times c (anchor_of g).value))
+    cheap : (c : ℕ) → 0 < c → c ≤ repeat_start g + g.period → Le (scaled (anchor_of g).shift (value_at g c)) (At (times c (anchor_of g).value))
     cheap c u w = ⊎_elim
         (λ q. let P : ℕ → Type 0 = λ z. Le (scaled (anchor_of g).shift (value_at g z)) (At (times z (anchor_of g).value)) in subst P (sym q) cheap_last)
-        (λ l. known.cheap c u (let x : start_of g + g.period ≡ size_of g = whole in omega arith))
-        (eq-or-lt_of_le {n = c} {m = start_of g + g.period} w)
+        (λ l. known.cheap c u (let x : repeat_start g + g.period ≡ size_of g = whole in omega arith))
+        (eq-or-lt_of_le {n = c} {m = repeat_start g + g.period} w)
 
-    losses : (c : ℕ) → start_of g ≤ c → c < start_of g + g.period → Le (At (times c g.step -ℤ pos (worst_loss g))) (scaled g.period (value_at g c))
+    losses : (c : ℕ) → repeat_start g ≤ c → c < repeat_start g + g.period → Le (At (times c g.step -ℤ pos (worst_loss g))) (scaled g.period (value_at g c))
     losses c u w =
-        let i : ℕ = c - start_of g in
-        let here : start_of g + i ≡ c = omega arith in
+        let i : ℕ = c - repeat_start g in
+        let here : repeat_start g + i ≡ c = omega arith in
         let v : (x : ℤ) × (value_at g c ≡ At x) = number c u in
-        let most : loss_of g (start_of g + i) ≤ℤ greatest_int (λ i. loss_of g (start_of g + i)) (g.period - 1) = le_greatest_int (λ i. loss_of g (start_of g + i)) (g.period - 1) i (omega arith) in
-        let up : greatest_int (λ i. loss_of g (start_of g + i)) (g.period - 1) ≤ℤ pos (worst_loss g) = le_natural (greatest_int (λ i. loss_of g (start_of g + i)) (g.period - 1)) in
-        let same : loss_of g (start_of g + i) ≡ times c g.step -ℤ times g.period v.0 = ap (loss_of g) here ∙ ap (λ d. gap (scaled g.period d) (At (times c g.step))) v.1 in
+        let most : loss_of_part g (repeat_start g + i) ≤ℤ greatest_int (λ i. loss_of_part g (repeat_start g + i)) (g.period - 1) = le_greatest_int (λ i. loss_of_part g (repeat_start g + i)) (g.period - 1) i (omega arith) in
+        let up : greatest_int (λ i. loss_of_part g (repeat_start g + i)) (g.period - 1) ≤ℤ pos (worst_loss g) = le_natural (greatest_int (λ i. loss_of_part g (repeat_start g + i)) (g.period - 1)) in
+        let same : loss_of_part g (repeat_start g + i) ≡ times c g.step -ℤ times g.period v.0 = ap (loss_of_part g) here ∙ ap (λ d. gap (scaled g.period d) (At (times c g.step))) v.1 in
         let mine : Le (At (times c g.step -ℤ pos (worst_loss g))) (At (times g.period v.0)) = record { holds = omega (arith, ints) } in
         le_trans mine (le_is (ap (scaled g.period) (sym v.1)))
 
     by_found : (b : Bool) → (anchor_of g).found ≡ b → Serves star (anchored_plan (anchor_of g) g)
     by_found true h =
-        let again : Repeats star ((anchor_of g).shift * (start_of g + g.period) + 1) (anchor_of g).shift (anchor_of g).value =
-        star_repeats_anchored (value_at g) g.period g.step (anchor_of g).shift (anchor_of g).value known.positive (known.when_found h).0 star (start_of g) stars own is.period_positive
-        (let near : (anchor_of g).shift ≤ size_of g - 1 = (known.when_found h).1 in let x : start_of g + g.period ≡ size_of g = whole in omega arith) cheap known.slow high in
-        let P : Plan → Type 0 = λ r. Serves star r in
+        let again : Repeats star ((anchor_of g).shift * (repeat_start g + g.period) + 1) (anchor_of g).shift (anchor_of g).value =
+        star_repeats_anchored (value_at g) g.period g.step (anchor_of g).shift (anchor_of g).value known.positive (known.when_found h).0 star (repeat_start g) stars own is.period_positive
+        (let near : (anchor_of g).shift ≤ size_of g - 1 = (known.when_found h).1 in let x : repeat_start g + g.period ≡ size_of g = whole in omega arith) cheap known.slow high in
+        let P : NeedPlan → Type 0 = λ r. Serves star r in
         subst P (ap (λ (z : Bool). cond z (plan ((anchor_of g).shift * size_of g + 1) (anchor_of g).shift) (plan (size_of g * max (g.period + 1) (worst_loss g) + 1) g.period)) (sym h))
         (record { turns = known.positive; step = (anchor_of g).value; repeats = subst (λ (z : ℕ). Repeats star ((anchor_of g).shift * z + 1) (anchor_of g).shift (anchor_of g).value) whole again })
     by_found false h =
-        let lossy : (c : ℕ) → 0 < c → c < start_of g + g.period → Le (scaled g.period (value_at g c)) (At (times c g.step -ℤ pos 1)) =
-        λ c u w. (known.when_not h).2 c u (let x : start_of g + g.period ≡ size_of g = whole in omega arith) in
+        let lossy : (c : ℕ) → 0 < c → c < repeat_start g + g.period → Le (scaled g.period (value_at g c)) (At (times c g.step -ℤ pos 1)) =
+        λ c u w. (known.when_not h).2 c u (let x : repeat_start g + g.period ≡ size_of g = whole in omega arith) in
         let q : ℕ = size_of g * max (g.period + 1) (worst_loss g) + 1 in
-        let x : start_of g + g.period ≡ size_of g = whole in
+        let x : repeat_start g + g.period ≡ size_of g = whole in
         let many : size_of g * worst_loss g ≤ size_of g * max (g.period + 1) (worst_loss g) = mul-le-mul_left (size_of g) (omega arith) in
         let two : size_of g * 1 ≤ size_of g * max (g.period + 1) (worst_loss g) = mul-le-mul_left (size_of g) (omega arith) in
-        let turned : (start_of g + g.period) * worst_loss g ≡ size_of g * worst_loss g = ap (λ (z : ℕ). z * worst_loss g) whole in
+        let turned : (repeat_start g + g.period) * worst_loss g ≡ size_of g * worst_loss g = ap (λ (z : ℕ). z * worst_loss g) whole in
         let again : Repeats star q g.period g.step =
-        star_repeats_tail (value_at g) (start_of g) g.period (worst_loss g) g.step own is.period_positive low lossy losses star q stars high (omega arith) (omega arith) in
-        let P : Plan → Type 0 = λ r. Serves star r in
+        star_repeats_tail (value_at g) (repeat_start g) g.period (worst_loss g) g.step own is.period_positive low lossy losses star q stars high (omega arith) (omega arith) in
+        let P : NeedPlan → Type 0 = λ r. Serves star r in
         subst P (ap (λ (z : Bool). cond z (plan ((anchor_of g).shift * size_of g + 1) (anchor_of g).shift) (plan (size_of g * max (g.period + 1) (worst_loss g) + 1) g.period)) (sym h))
         (record { turns = is.period_positive; step = g.step; repeats = again })
 
@@ -253,10 +253,10 @@ module _ (g : Form) (is : IsForm g) (star : ℕ → Date) (stars : (k : ℕ) →
     cases Never e =
         let fits : g.period ≤ size_of g = is.period_fits in
         let pos_n : 0 < g.period = is.period_positive in
-        let never : (k : ℕ) → size_of g ≤ k → star k ≡ Never = λ k w. star_never (value_at g) star (start_of g) stars (tail_never g is e) k (omega arith) (omega arith) in
+        let never : (k : ℕ) → size_of g ≤ k → star k ≡ Never = λ k w. star_never (value_at g) star (repeat_start g) stars (tail_never g is e) k (omega arith) (omega arith) in
         record { turns = omega arith; step = pos 0; repeats = record { at = λ k w. never (k + 1) (omega arith) ∙ ap (move (pos 0)) (sym (never k w)) } }
 
-at_least_serves : (s : ℕ → Date) (need : ℕ) (r : Plan) → Serves s r → Serves s (at_least need r)
+at_least_serves : (s : ℕ → Date) (need : ℕ) (r : NeedPlan) → Serves s r → Serves s (at_least need r)
 at_least_serves s need r h = record { turns = h.turns; step = h.step; repeats = repeats_later (max r.from (need - r.turn)) (omega arith) h.repeats }
 
 pub parts_serves : (f : Form) → IsForm f → Le (value_at f 0) (At (pos 0)) → Serves (parts_star (value_at f)) (star_plan f)

@@ -6,11 +6,11 @@ use Rattle.dioid.specs.Dates.{date_product, move}
 use Rattle.dioid.specs.Proved.DateLaws.{one_times}
 use Rattle.dioid.specs.declared.dates.Date.{Date}
 use Rattle.dioid.specs.declared.dates.Date.TheVariants.{Early, At, Never}
-use Rattle.dioid.specs.Order.{Le}
+use Rattle.dioid.specs.DateOrder.{Le}
 use Rattle.dioid.proofs.AtMost.{le_refl, le_is, le_trans, le_antisym, le_never, product_le, le_move_back, le_move_over}
 use Rattle.series_laws.specs.Periodic.{Repeats, times}
 use Rattle.series_laws.proofs.Repeating.{times_add}
-use Rattle.series_laws.specs.Stars.{total, date_of, ArePositive, IsStarAt, scaled}
+use Rattle.series_laws.specs.SeriesStars.{total_of_parts, sum_of_values, ArePositive, IsStarAt, scaled}
 
 pub one_star : (s : ℕ → Date) (k : ℕ) (x y : Date) → IsStarAt s k x → IsStarAt s k y → x ≡ y
 one_star s k x y a b = le_antisym (a.least y b.zero_below b.below) (b.least x a.zero_below a.below)
@@ -23,18 +23,18 @@ ones_positive : (k : ℕ) → ArePositive (ones k)
 ones_positive zero = tt
 ones_positive (suc k) = (omega arith, ones_positive k)
 
-ones_total : (k : ℕ) → total (ones k) ≡ k
+ones_total : (k : ℕ) → total_of_parts (ones k) ≡ k
 ones_total zero = refl
-ones_total (suc k) = let e : total (ones k) ≡ k = ones_total k in omega arith
+ones_total (suc k) = let e : total_of_parts (ones k) ≡ k = ones_total k in omega arith
 
-ones_date : (s : ℕ → Date) (k : ℕ) → Le (At (pos 0)) (s 1) → Le (At (pos 0)) (date_of s (ones k))
+ones_date : (s : ℕ → Date) (k : ℕ) → Le (At (pos 0)) (s 1) → Le (At (pos 0)) (sum_of_values s (ones k))
 ones_date s zero h = le_refl (At (pos 0))
 ones_date s (suc k) h = le_trans (le_is (sym (one_times (At (pos 0))))) (product_le h (ones_date s k h))
 
 -- With a value of at least 0 at shift 1, lists decide alone.
 pub star_repeats : (s star : ℕ → Date) (q n : ℕ) (x : ℤ) → Le (At (pos 0)) (s 1) → ((k : ℕ) → IsStarAt s k (star k))
-    → ((k : ℕ) → q ≤ k → (l : List ℕ) → ArePositive l → total l ≡ k + n → Le (date_of s l) (move x (star k)))
-    → ((k : ℕ) → q ≤ k → (l : List ℕ) → ArePositive l → total l ≡ k → Le (move x (date_of s l)) (star (k + n)))
+    → ((k : ℕ) → q ≤ k → (l : List ℕ) → ArePositive l → total_of_parts l ≡ k + n → Le (sum_of_values s l) (move x (star k)))
+    → ((k : ℕ) → q ≤ k → (l : List ℕ) → ArePositive l → total_of_parts l ≡ k → Le (move x (sum_of_values s l)) (star (k + n)))
     → Repeats star q n x
 star_repeats s star q n x h is down up = record {
   at = λ k w. le_antisym

@@ -9,34 +9,34 @@ use Rattle.number_laws.proofs.Numbers.{zero_test}
 use Rattle.dioid.specs.declared.dates.Date.{Date}
 use Rattle.dioid.specs.declared.dates.Date.TheVariants.{Early, At, Never}
 use Rattle.dioid.specs.Dates.{move}
-use Rattle.dioid.specs.Order.{Le}
+use Rattle.dioid.specs.DateOrder.{Le}
 use Rattle.dioid.proofs.AtMost.{later_commutes, earlier_commutes, le_is, le_trans, early_le, le_never, later_le, le_later_left, le_later_right, le_earlier, earlier_le_left, earlier_le_right, never_le}
 use Rattle.series_laws.specs.Periodic.{Rising, Repeats, times}
 use Rattle.series_laws.proofs.Repeating.{repeats_later, repeats_times, repeats_is}
 use Rattle.series_laws.specs.Pointwise.{sum_at, least_at}
 use Rattle.series_laws.proofs.SumsRepeat.{sum_repeats_equal, least_repeats_equal, crossed, sum_repeats_left, least_repeats_right}
-use Rattle.series_laws.specs.Forms.{Form, start_of, value_at, IsForm, HasValues, IsCanonical, gap}
+use Rattle.series_laws.specs.SeriesForms.{Form, repeat_start, value_at, IsForm, HasValues, IsCanonical, gap}
 use Rattle.series_laws.proofs.FormValues.{value_repeats, early_all, first_ge, first_le, first_holds}
 use Rattle.dioid.proofs.Moves.{moved_to_never}
 use Rattle.series_laws.proofs.Canonical.{canonical_values, canonical_is}
 use Rattle.series_laws.specs.Needs.{plan, form_by, turns_of, common, period_with, rise_of, fall_of, tail_of, by_sign, slopes_by, slopes_of, greatest_int, ceiling, later_start, lead_of, periods_behind, crossing, crossing_by, sum_plan, sum_plan_by, least_plan, least_plan_by, form_sum, form_least}
-use Rattle.series_laws.specs.declared.plans.Plan.{Plan}
+use Rattle.series_laws.specs.declared.plans.NeedPlan.{NeedPlan}
 use Rattle.series_laws.specs.declared.plans.Slopes.{Slopes}
 use Rattle.series_laws.specs.declared.plans.Slopes.TheVariants.{Equal, First, Second}
 
 -- a plan serves a function
-pub record Serves (s : ℕ → Date) (r : Plan) : Type 0 where
+pub record Serves (s : ℕ → Date) (r : NeedPlan) : Type 0 where
   pub turns : 0 < r.turn
   pub step : ℤ
   pub repeats : Repeats s r.from r.turn step
 
-pub served_is : (s : ℕ → Date) (r : Plan) → Rising s → Serves s r → IsCanonical (form_by s r)
+pub served_is : (s : ℕ → Date) (r : NeedPlan) → Rising s → Serves s r → IsCanonical (form_by s r)
 served_is s r up h = canonical_is s r.from r.turn h.step up h.turns h.repeats
 
-pub served_values : (s : ℕ → Date) (r : Plan) → Rising s → Serves s r → HasValues (form_by s r) s
+pub served_values : (s : ℕ → Date) (r : NeedPlan) → Rising s → Serves s r → HasValues (form_by s r) s
 served_values s r up h = canonical_values s r.from r.turn h.step up h.turns h.repeats
 
-pub form_repeats_own : (f : Form) → IsForm f → Repeats (value_at f) (start_of f) f.period f.step
+pub form_repeats_own : (f : Form) → IsForm f → Repeats (value_at f) (repeat_start f) f.period f.step
 form_repeats_own f is = value_repeats f is.period_positive is.period_fits
 
 -- ---- common periods
@@ -66,30 +66,30 @@ common_second a b pos_b =
     let d : common a b / b * b + common a b % b ≡ common a b = div-add-mod' (common a b) b in
     omega arith
 
-pub rise_repeats : (f g : Form) → IsForm f → Repeats (value_at f) (start_of f) (period_with f g) (rise_of f g)
+pub rise_repeats : (f g : Form) → IsForm f → Repeats (value_at f) (repeat_start f) (period_with f g) (rise_of f g)
 rise_repeats f g is = repeats_is (common_first f.period g.period is.period_positive) refl (repeats_times (period_with f g / f.period) (form_repeats_own f is))
 
-pub fall_repeats : (f g : Form) → IsForm g → Repeats (value_at g) (start_of g) (period_with f g) (fall_of f g)
+pub fall_repeats : (f g : Form) → IsForm g → Repeats (value_at g) (repeat_start g) (period_with f g) (fall_of f g)
 fall_repeats f g is = repeats_is (common_second f.period g.period is.period_positive) refl (repeats_times (period_with f g / g.period) (form_repeats_own g is))
 
 -- ---- tails
 
-pub tail_never : (f : Form) → IsForm f → tail_of f ≡ Never → (k : ℕ) → start_of f ≤ k → value_at f k ≡ Never
-tail_never f is e k w = never_le (le_trans (le_is (sym e)) (is.rising.rises (start_of f) k w))
+pub tail_never : (f : Form) → IsForm f → tail_of f ≡ Never → (k : ℕ) → repeat_start f ≤ k → value_at f k ≡ Never
+tail_never f is e k w = never_le (le_trans (le_is (sym e)) (is.rising.rises (repeat_start f) k w))
 
 pub tail_early : (f : Form) → IsForm f → tail_of f ≡ Early → (k : ℕ) → value_at f k ≡ Early
-tail_early f is e = early_all (value_at f) (start_of f) f.period (start_of f) f.step is.rising is.period_positive (form_repeats_own f is) (omega arith) e
+tail_early f is e = early_all (value_at f) (repeat_start f) f.period (repeat_start f) f.step is.rising is.period_positive (form_repeats_own f is) (omega arith) e
 
-pub tail_number : (f : Form) (a : ℤ) → IsForm f → tail_of f ≡ At a → (k : ℕ) → start_of f ≤ k → (v : ℤ) × (value_at f k ≡ At v)
+pub tail_number : (f : Form) (a : ℤ) → IsForm f → tail_of f ≡ At a → (k : ℕ) → repeat_start f ≤ k → (v : ℤ) × (value_at f k ≡ At v)
 tail_number f a is e k w = by_value (value_at f k) refl where
   by_value : (d : Date) → value_at f k ≡ d → (v : ℤ) × (value_at f k ≡ At v)
-  by_value Early h = absurd ((let l : Le (At a) Early = le_trans (le_is (sym e)) (le_trans (is.rising.rises (start_of f) k w) (le_is h)) in l.holds))
+  by_value Early h = absurd ((let l : Le (At a) Early = le_trans (le_is (sym e)) (le_trans (is.rising.rises (repeat_start f) k w) (le_is h)) in l.holds))
   by_value (At v) h = (v, h)
   by_value Never h =
-      let long : Repeats (value_at f) (start_of f) (k * f.period) (times k f.step) = repeats_times k (form_repeats_own f is) in
-      let far : k ≤ start_of f + k * f.period = omega (arith, le-mul_of_pos_right k is.period_positive) in
-      let last : value_at f (start_of f + k * f.period) ≡ Never = never_le (le_trans (le_is (sym h)) (is.rising.rises k (start_of f + k * f.period) far)) in
-      absurd (let c : At a ≡ Never = sym e ∙ moved_to_never (times k f.step) (tail_of f) (sym (long.at (start_of f) (omega arith)) ∙ last) in cc)
+      let long : Repeats (value_at f) (repeat_start f) (k * f.period) (times k f.step) = repeats_times k (form_repeats_own f is) in
+      let far : k ≤ repeat_start f + k * f.period = omega (arith, le-mul_of_pos_right k is.period_positive) in
+      let last : value_at f (repeat_start f + k * f.period) ≡ Never = never_le (le_trans (le_is (sym h)) (is.rising.rises k (repeat_start f + k * f.period) far)) in
+      absurd (let c : At a ≡ Never = sym e ∙ moved_to_never (times k f.step) (tail_of f) (sym (long.at (repeat_start f) (omega arith)) ∙ last) in cc)
 
 -- ---- where the greater slope has the greater values
 
@@ -177,9 +177,9 @@ crossing_late f g = cases (tail_of f) (tail_of g) where
   cases Never b = omega arith
 
 -- with equal slopes g repeats by the step of f
-pub equal_repeats : (f g : Form) → IsForm f → IsForm g → slopes_of f g ≡ Equal → Repeats (value_at g) (start_of g) (period_with f g) (rise_of f g)
+pub equal_repeats : (f g : Form) → IsForm f → IsForm g → slopes_of f g ≡ Equal → Repeats (value_at g) (repeat_start g) (period_with f g) (rise_of f g)
 equal_repeats f g isf isg h = cases (tail_of f) (tail_of g) refl refl h where
-  cases : (a b : Date) → tail_of f ≡ a → tail_of g ≡ b → slopes_by a b (rise_of f g -ℤ fall_of f g) ≡ Equal → Repeats (value_at g) (start_of g) (period_with f g) (rise_of f g)
+  cases : (a b : Date) → tail_of f ≡ a → tail_of g ≡ b → slopes_by a b (rise_of f g -ℤ fall_of f g) ≡ Equal → Repeats (value_at g) (repeat_start g) (period_with f g) (rise_of f g)
   cases Early Early ea eb h = record { at = λ k w. tail_early g isg eb (k + period_with f g) ∙ ap (move (rise_of f g)) (sym (tail_early g isg eb k)) }
   cases Early (At t) ea eb h = absurd cc
   cases Early Never ea eb h = absurd cc
@@ -235,7 +235,7 @@ second_first f g isf isg h = cases (tail_of f) (tail_of g) h where
   cases Never (At t) h = absurd cc
   cases Never Never h = absurd cc
 
-pub serves_same : (s t : ℕ → Date) (r : Plan) → ((k : ℕ) → t k ≡ s k) → Serves s r → Serves t r
+pub serves_same : (s t : ℕ → Date) (r : NeedPlan) → ((k : ℕ) → t k ≡ s k) → Serves s r → Serves t r
 serves_same s t r e h = record { turns = h.turns; step = h.step; repeats = record { at = λ k w. e (k + r.turn) ∙ h.repeats.at k w ∙ ap (move h.step) (sym (e k)) } }
 
 sum_first : (f g : Form) → IsForm f → IsForm g → slopes_of f g ≡ First → Serves (sum_at (value_at f) (value_at g)) (plan (crossing f g) f.period)

@@ -4,7 +4,7 @@ use Rattle.std.specs.Prelude.{◌≤ℤ◌}
 use Rattle.std.proofs.lemmas.Int.{ints}
 use Rattle.dioid.specs.Dates.{later_of, earlier_of, move}
 use Rattle.dioid.specs.declared.dates.Date.{Date}
-use Rattle.dioid.specs.Order.{Le}
+use Rattle.dioid.specs.DateOrder.{Le}
 use Rattle.dioid.proofs.AtMost.{le_refl, le_is, le_trans, le_antisym, le_later_left, later_le, earlier_le_right, le_earlier, move_le, move_further}
 use Rattle.dioid.proofs.Moves.{move_zero, move_move, later_move, earlier_move}
 use Rattle.series_laws.specs.Periodic.{Repeats, times}

@@ -3,8 +3,8 @@ use Rattle.std.specs.Prelude.{◌≡◌, ◌≤◌, ◌<◌, ◌≤ℤ◌, ◌<�
 use Rattle.dioid.specs.declared.dates.Date.{Date}
 use Rattle.dioid.specs.declared.dates.Date.TheVariants.{At}
 use Rattle.series_laws.specs.Periodic.{Rising, times}
-use Rattle.series_laws.specs.Forms.{Form, size_of, value_at, IsForm, IsCanonical, monomial_at}
-use Rattle.series_laws.specs.FormLaws.{IsFormOf}
+use Rattle.series_laws.specs.SeriesForms.{Form, size_of, value_at, IsForm, IsCanonical, monomial_at}
+use Rattle.series_laws.specs.FormFacts.{IsFormOfFunction}
 use Rattle.series_laws.specs.Pointwise.{sum_at, least_at}
 use Rattle.series_laws.specs.Product.{product_at, shifted}
 use Rattle.series_laws.specs.Residual.{IsLeftAt}
@@ -31,10 +31,10 @@ pub record IsAnchorOf (f : Form) (a : Anchor) : Type 0 where
 -- each operation of two forms, of any length and any numbers, has a canonical form of its need with the values of the
 -- definition, a function has one canonical form, the product with a monomial is a shift and a delay, and the anchor in the
 -- need of a star is the part of the greatest ratio
-pub record AreClosed : Type 0 where
-  pub sum : (f g : Form) → IsForm f → IsForm g → IsFormOf (sum_at (value_at f) (value_at g)) (need_of (sum_plan f g)) (form_sum f g)
-  pub least : (f g : Form) → IsForm f → IsForm g → IsFormOf (least_at (value_at f) (value_at g)) (need_of (least_plan f g)) (form_least f g)
-  pub product : (f g : Form) → IsForm f → IsForm g → IsFormOf (product_at (value_at f) (value_at g)) (need_of (product_plan f g)) (form_product f g)
+pub record OperationsHaveForms : Type 0 where
+  pub sum : (f g : Form) → IsForm f → IsForm g → IsFormOfFunction (sum_at (value_at f) (value_at g)) (need_of (sum_plan f g)) (form_sum f g)
+  pub least : (f g : Form) → IsForm f → IsForm g → IsFormOfFunction (least_at (value_at f) (value_at g)) (need_of (least_plan f g)) (form_least f g)
+  pub product : (f g : Form) → IsForm f → IsForm g → IsFormOfFunction (product_at (value_at f) (value_at g)) (need_of (product_plan f g)) (form_product f g)
   pub by_monomial : (s : ℕ → Date) (n : ℕ) (t : ℤ) → Rising s → (k : ℕ) → (product_at (monomial_at n t) s k ≡ shifted n t s k) × (product_at s (monomial_at n t) k ≡ shifted n t s k)
   pub star : (f : Form) → IsForm f → IsCanonical (form_star f) × ((k : ℕ) → IsStarOf (value_at f) k (value_at (form_star f) k)) × (size_of (form_star f) ≤ star_need f)
   pub unique : (f g : Form) → IsCanonical f → IsCanonical g → ((k : ℕ) → value_at f k ≡ value_at g k) → f ≡ g

@@ -1,6 +1,6 @@
 pub mod Closure
-pub mod FormLaws
-pub mod Forms
+pub mod FormFacts
+pub mod SeriesForms
 pub mod Needs
 pub mod Periodic
 pub mod Pointwise
@@ -8,4 +8,4 @@ pub mod Product
 pub mod ProductNeeds
 pub mod Residual
 pub mod StarOf
-pub mod Stars
+pub mod SeriesStars

@@ -3,28 +3,28 @@ use Rattle.std.specs.Prelude.{◌+◌, ◌-◌, ◌*◌, ◌/◌, ◌%◌, ℕ, 
 use Rattle.std.specs.Int.{int_max}
 use Rattle.dioid.specs.declared.dates.Date.{Date}
 use Rattle.dioid.specs.declared.dates.Date.TheVariants.{Early, At, Never}
-use Rattle.series_laws.specs.declared.plans.Plan.{Plan}
+use Rattle.series_laws.specs.declared.plans.NeedPlan.{NeedPlan}
 use Rattle.series_laws.specs.declared.plans.Slopes.{Slopes}
 use Rattle.series_laws.specs.declared.plans.Slopes.TheVariants.{Equal, First, Second}
 use Rattle.series_laws.specs.Periodic.{times}
-use Rattle.series_laws.specs.Forms.{Form, start_of, value_at, gap, first_of, canonical_of}
+use Rattle.series_laws.specs.SeriesForms.{Form, repeat_start, value_at, gap, first_holding, canonical_of}
 use Rattle.series_laws.specs.Pointwise.{sum_at, least_at}
 
 -- a plan that repeats from p on by n shifts
-abbrev pub plan : ℕ → ℕ → Plan
+abbrev pub plan : ℕ → ℕ → NeedPlan
 plan p n = record { from = p; turn = n }
 
 -- the need: the shift from which the result repeats, and the period
-abbrev pub need_of : Plan → ℕ
+abbrev pub need_of : NeedPlan → ℕ
 need_of r = r.from + r.turn
 
 -- the canonical form of a function by a plan
-abbrev pub form_by : (ℕ → Date) → Plan → Form
+abbrev pub form_by : (ℕ → Date) → NeedPlan → Form
 form_by s r = canonical_of s r.from r.turn
 
 -- the least m from 1 on for which b divides m a
 abbrev pub turns_of : ℕ → ℕ → ℕ
-turns_of a b = first_of (λ m. eqb (m * a % b) 0) 1 (b - 1)
+turns_of a b = first_holding (λ m. eqb (m * a % b) 0) 1 (b - 1)
 
 -- the least common multiple
 abbrev pub common : ℕ → ℕ → ℕ
@@ -44,7 +44,7 @@ fall_of f g = times (period_with f g / g.period) g.step
 
 -- the value at the shift from which the list repeats
 abbrev pub tail_of : Form → Date
-tail_of f = value_at f (start_of f)
+tail_of f = value_at f (repeat_start f)
 
 -- the greater slope by the sign of the difference of two gains
 abbrev pub by_sign : ℤ → Slopes
@@ -81,7 +81,7 @@ ceiling (negsuc d) g = 0
 
 -- P, the greater of the two shifts from which the lists repeat
 abbrev pub later_start : Form → Form → ℕ
-later_start f g = max (start_of f) (start_of g)
+later_start f g = max (repeat_start f) (repeat_start g)
 
 -- the greatest lead of g over f on one period
 abbrev pub lead_of : Form → Form → ℤ
@@ -104,23 +104,23 @@ abbrev pub crossing : Form → Form → ℕ
 crossing f g = crossing_by (tail_of f) (tail_of g) f g
 
 -- the plan of a sum by the slopes: with equal slopes by the common period, else by the period of the greater slope
-abbrev pub sum_plan_by : Slopes → Form → Form → Plan
+abbrev pub sum_plan_by : Slopes → Form → Form → NeedPlan
 sum_plan_by Equal f g = plan (later_start f g) (period_with f g)
 sum_plan_by First f g = plan (crossing f g) f.period
 sum_plan_by Second f g = plan (crossing g f) g.period
 
 -- the plan of a sum
-abbrev pub sum_plan : Form → Form → Plan
+abbrev pub sum_plan : Form → Form → NeedPlan
 sum_plan f g = sum_plan_by (slopes_of f g) f g
 
 -- the plan of a minimum by the slopes: with equal slopes by the common period, else by the period of the lesser slope
-abbrev pub least_plan_by : Slopes → Form → Form → Plan
+abbrev pub least_plan_by : Slopes → Form → Form → NeedPlan
 least_plan_by Equal f g = plan (later_start f g) (period_with f g)
 least_plan_by First f g = plan (crossing f g) g.period
 least_plan_by Second f g = plan (crossing g f) f.period
 
 -- the plan of a minimum
-abbrev pub least_plan : Form → Form → Plan
+abbrev pub least_plan : Form → Form → NeedPlan
 least_plan f g = least_plan_by (slopes_of f g) f g
 
 -- the canonical form of the sum

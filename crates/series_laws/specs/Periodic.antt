@@ -2,7 +2,7 @@
 use Rattle.std.proofs.Common.{◌≡◌, ℕ, ℤ, pos, zero, suc, ◌+◌, ◌≤◌, ◌+ℤ◌}
 use Rattle.dioid.specs.declared.dates.Date.{Date}
 use Rattle.dioid.specs.Dates.{move}
-use Rattle.dioid.specs.Order.{Le}
+use Rattle.dioid.specs.DateOrder.{Le}
 
 -- f never falls
 pub record Rising (f : ℕ → Date) : Type 0 where

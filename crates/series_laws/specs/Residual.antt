@@ -2,7 +2,7 @@
 use Rattle.std.proofs.Common.{ℕ, zero, suc, ◌+◌}
 use Rattle.dioid.specs.Dates.{earlier_of, date_left}
 use Rattle.dioid.specs.declared.dates.Date.{Date}
-use Rattle.dioid.specs.Order.{Le}
+use Rattle.dioid.specs.DateOrder.{Le}
 
 -- x is the greatest date that is at most f i for each i
 pub record IsGreatestBelow (f : ℕ → Date) (x : Date) : Type 0 where
@@ -14,6 +14,6 @@ abbrev pub IsLeftAt : (ℕ → Date) → (ℕ → Date) → ℕ → Date → Typ
 IsLeftAt s t k x = IsGreatestBelow (λ i. date_left (s i) (t (k + i))) x
 
 -- the least of f 0, .., f n
-abbrev pub least_of : (ℕ → Date) → ℕ → Date
-least_of f zero = f 0
-least_of f (suc n) = earlier_of (least_of f n) (f (suc n))
+abbrev pub least_of_first : (ℕ → Date) → ℕ → Date
+least_of_first f zero = f 0
+least_of_first f (suc n) = earlier_of (least_of_first f n) (f (suc n))

@@ -1,6 +1,6 @@
 //! The laws. Each is a function that does nothing when it runs: its contract is the law.
-ghost use Rattle.series_laws.specs.FormLaws.{AreFormLaws};
-ghost use Rattle.series_laws.specs.Closure.{AreClosed};
+ghost use Rattle.series_laws.specs.FormFacts.{AreFormLaws};
+ghost use Rattle.series_laws.specs.Closure.{OperationsHaveForms};
 
 /// What a form's function is; that each function that never falls and repeats has a canonical form,
 /// and one only; that the period of a canonical form divides each number of shifts by which its
@@ -15,5 +15,5 @@ pub fn forms_are_lawful()
 /// where its tail is a number, is the value of the greatest ratio to its shift, the least shift
 /// among equals, or there is none where the step has a greater one.
 pub fn series_are_closed()
-    ensures { AreClosed }
+    ensures { OperationsHaveForms }
 {}

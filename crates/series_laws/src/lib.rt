@@ -13,4 +13,4 @@ mod laws;
 mod plans;
 
 pub use laws::{forms_are_lawful, series_are_closed};
-pub use plans::{Anchor, Plan, Slopes};
+pub use plans::{Anchor, NeedPlan, Slopes};

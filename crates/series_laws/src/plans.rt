@@ -2,7 +2,7 @@
 
 /// From where the result of an operation repeats, and by how many shifts. The sum is the need.
 #[derive(Clone, Copy, Debug, PartialEq, Eq)]
-pub struct Plan {
+pub struct NeedPlan {
     pub from: u128,
     pub turn: usize,
 }

@@ -7,24 +7,24 @@ use Rattle.dioid.specs.Dates.{later_of, date_product}
 use Rattle.dioid.specs.Proved.DateLaws.{times_early}
 use Rattle.dioid.specs.declared.dates.Date.{Date}
 use Rattle.dioid.specs.declared.dates.Date.TheVariants.{Early}
-use Rattle.series_ops.specs.Listed.{listed}
-use Rattle.series_ops.specs.Pieces.{window, AreSums, IsBegun}
+use Rattle.series_ops.specs.ListFunctions.{value_listed}
+use Rattle.series_ops.specs.Pieces.{window, ArePieceSums, IsPieceBegun}
 use Rattle.series_ops.specs.Splits.{greatest_from, split_of, places_to}
 use Rattle.series_ops.proofs.FirstValues.{listed_is}
 use Rattle.series_ops.proofs.LeftSplits.{greatest_early}
 use Rattle.series_ops.proofs.SplitLaws.{greatest_same, greatest_joined}
 
-pub begun_none : (l m : List Date) (p n : ℕ) (r : List Date) → n ≡ 0 → r ≡ [] → IsBegun n r l m p
-begun_none l m p n r en er = subst (λ (z : ℕ). IsBegun z r l m p) (sym en) (subst (λ (z : List Date). IsBegun 0 z l m p) (sym er) (record { fits = omega arith; sums = refl }))
+pub begun_none : (l m : List Date) (p n : ℕ) (r : List Date) → n ≡ 0 → r ≡ [] → IsPieceBegun n r l m p
+begun_none l m p n r en er = subst (λ (z : ℕ). IsPieceBegun z r l m p) (sym en) (subst (λ (z : List Date). IsPieceBegun 0 z l m p) (sym er) (record { fits = omega arith; sums = refl }))
 
-pub begun_whole : (n : ℕ) (r l m : List Date) (p : ℕ) → AreSums r l m 0 p → n ≡ length m → IsBegun n r l m p
-begun_whole n r l m p h e = subst (λ (z : ℕ). IsBegun z r l m p) (sym e)
-    (record { fits = omega arith; sums = subst (λ (z : List Date). AreSums r l z 0 p) (sym (take-length m)) h })
+pub begun_whole : (n : ℕ) (r l m : List Date) (p : ℕ) → ArePieceSums r l m 0 p → n ≡ length m → IsPieceBegun n r l m p
+begun_whole n r l m p h e = subst (λ (z : ℕ). IsPieceBegun z r l m p) (sym e)
+    (record { fits = omega arith; sums = subst (λ (z : List Date). ArePieceSums r l z 0 p) (sym (take-length m)) h })
 
-pub begun_pushed : (n : ℕ) (r l m k : List Date) (p : ℕ) (d : Date) → IsBegun n r l m p → k ≡ m ++ d ∷ [] → IsBegun n r l k p
-begun_pushed n r l m k p d h e = subst (λ (z : List Date). IsBegun n r l z p) (sym e) (record {
+pub begun_pushed : (n : ℕ) (r l m k : List Date) (p : ℕ) (d : Date) → IsPieceBegun n r l m p → k ≡ m ++ d ∷ [] → IsPieceBegun n r l k p
+begun_pushed n r l m k p d h e = subst (λ (z : List Date). IsPieceBegun n r l z p) (sym e) (record {
   fits = let a : n ≤ length m = h.fits in let b : length (m ++ d ∷ []) ≡ length m + 1 = length-append m (d ∷ []) in omega arith;
-  sums = subst (λ (z : List Date). AreSums r l z 0 p) (sym (take-append-le n m (d ∷ []) h.fits)) h.sums;
+  sums = subst (λ (z : List Date). ArePieceSums r l z 0 p) (sym (take-append-le n m (d ∷ []) h.fits)) h.sums;
 })
 
 -- the sums with the first n values, and the near ones
@@ -44,12 +44,12 @@ window_near s t u n p k low high =
     ∙ sym (greatest_joined (split_of s t k) 0 a b)
     ∙ ap (greatest_from (split_of s t k) 0) (sym whole)
 
-pub begun_window : (n : ℕ) (r q l m : List Date) (p k : ℕ) → IsBegun n r l m p → q ≡ r → k < length q
-    → later_of (greatest_from (split_of (listed l) (listed m) k) 0 (places_to n p k)) (listed q k) ≡ window (listed l) (listed m) 0 p k
+pub begun_window : (n : ℕ) (r q l m : List Date) (p k : ℕ) → IsPieceBegun n r l m p → q ≡ r → k < length q
+    → later_of (greatest_from (split_of (value_listed l) (value_listed m) k) 0 (places_to n p k)) (value_listed q k) ≡ window (value_listed l) (value_listed m) 0 p k
 begun_window n r q l m p k h e w =
     let own : k < length r = subst (λ (z : List Date). k < length z) e w in
-    let here : listed q k ≡ window (listed l) (listed (take n m)) 0 p k = ap (λ (z : List Date). listed z k) e ∙ listed_is (window (listed l) (listed (take n m)) 0 p) (length r) r h.sums k own in
-    ap (later_of (greatest_from (split_of (listed l) (listed m) k) 0 (places_to n p k))) here
-    ∙ window_near (listed l) (listed m) (listed (take n m)) n p k
+    let here : value_listed q k ≡ window (value_listed l) (value_listed (take n m)) 0 p k = ap (λ (z : List Date). value_listed z k) e ∙ listed_is (window (value_listed l) (value_listed (take n m)) 0 p) (length r) r h.sums k own in
+    ap (later_of (greatest_from (split_of (value_listed l) (value_listed m) k) 0 (places_to n p k))) here
+    ∙ window_near (value_listed l) (value_listed m) (value_listed (take n m)) n p k
     (λ i u. get_or-take n m i Early u)
     (λ i u. let size : length (take n m) ≡ n = length-take-le n m h.fits in get_or-eq_default (take n m) Early {n = i} (omega arith))

@@ -11,23 +11,24 @@ use Rattle.std.proofs.Math.ListN.{get_or-eq_default}
 use Rattle.dioid.specs.Dates.{earlier_of, date_left, move}
 use Rattle.dioid.specs.declared.dates.Date.{Date}
 use Rattle.dioid.specs.declared.dates.Date.TheVariants.{Early, At, Never}
-use Rattle.dioid.specs.Order.{Le}
+use Rattle.dioid.specs.DateOrder.{Le}
 use Rattle.dioid.proofs.AtMost.{le_is, le_trans, le_antisym, le_earlier, earlier_le_left, earlier_le_right}
 use Rattle.series_laws.specs.Periodic.{Repeats}
 use Rattle.series_laws.proofs.Repeating.{by_steps, repeats_from}
-use Rattle.series_laws.specs.Forms.{Form, size_of, start_of, value_at, table, IsForm}
+use Rattle.series_laws.specs.SeriesForms.{Form, size_of, repeat_start, value_at, table, IsForm}
 use Rattle.series_laws.proofs.FormValues.{value_in, table_length}
-use Rattle.series_form.specs.Bounds.{IsUpTo, IsSeries}
+use Rattle.series_form.specs.NumberBounds.{IsMagnitudeUpTo, IsSeries}
 use Rattle.series_laws.specs.Needs.{period_with}
 use Rattle.series_laws.proofs.Sums.{common_positive, form_repeats_own}
-use Rattle.series_form.proofs.Numbers.{abs_difference, small_fits}
+use Rattle.series_form.proofs.DateNumbers.{abs_difference, small_fits}
 use Rattle.series_form.proofs.Finished.{up_to_more}
 use Rattle.series_form.proofs.PointwiseTables.{earlier_up_to}
-use Rattle.series_ops.specs.Listed.{AreUpTo, part_listed, left_listed, star_left_listed, AreStarLeft, IsStarLeft}
-use Rattle.series_laws.specs.Residual.{IsLeftAt, least_of}
+use Rattle.series_ops.specs.ListFunctions.{AreUpTo, part_listed, left_listed, star_left_listed, AreStarLeft, IsStarLeft}
+use Rattle.series_laws.specs.Residual.{IsLeftAt, least_of_first}
 use Rattle.series_laws.proofs.ResidualsRepeat.{least_of_le, le_least_of, left_repeats}
-use Rattle.series_laws.specs.ProductNeeds.{offsets_of, left_over, left_at, OffsetsDecide}
+use Rattle.series_laws.specs.ProductNeeds.{offsets_of, left_over, residual_at, OffsetsDecide}
 use Rattle.series_laws.proofs.Lefts.{left_is, left_mono}
+use Rattle.series_form.specs.SeriesLimits.{greatest_value, greatest_value_far_ahead, greatest_listed}
 use Rattle.series_ops.proofs.FirstValues.{listed_is, all_up_to}
 use Rattle.series_ops.proofs.LeftValues.{least_same, late_left, gentle_left, over_up_to}
 
@@ -121,13 +122,13 @@ module _ (s t u : ℕ → Date) (p n m k : ℕ) (x : ℤ) (pos_n : 0 < n) (again
             (cases_lt (k + j + n) m)
 
   -- the parts decide where the first o offsets do
-  parts_decide : (o : ℕ) → p + n ≤ o → k + o ≤ m → IsLeftAt s t k (least_of (λ i. date_left (s i) (t (k + i))) (o - 1))
-      → least_of part (p + n - 1) ≡ least_of (λ i. date_left (s i) (t (k + i))) (o - 1)
+  parts_decide : (o : ℕ) → p + n ≤ o → k + o ≤ m → IsLeftAt s t k (least_of_first (λ i. date_left (s i) (t (k + i))) (o - 1))
+      → least_of_first part (p + n - 1) ≡ least_of_first (λ i. date_left (s i) (t (k + i))) (o - 1)
   parts_decide o a b is =
       let f : ℕ → Date = λ i. date_left (s i) (t (k + i)) in
       le_antisym
-      (le_least_of f (o - 1) (least_of part (p + n - 1)) (λ j w. below (least_of part (p + n - 1)) (λ i v. least_of_le part (p + n - 1) i (omega arith)) j (omega arith)))
-      (le_least_of part (p + n - 1) (least_of f (o - 1)) (λ j w. above (least_of f (o - 1)) is.below j (omega arith)))
+      (le_least_of f (o - 1) (least_of_first part (p + n - 1)) (λ j w. below (least_of_first part (p + n - 1)) (λ i v. least_of_le part (p + n - 1) i (omega arith)) j (omega arith)))
+      (le_least_of part (p + n - 1) (least_of_first f (o - 1)) (λ j w. above (least_of_first f (o - 1)) is.below j (omega arith)))
 
 -- ---- the lists
 
@@ -175,17 +176,17 @@ multiple_le zero n h = absurd (omega arith)
 multiple_le (suc m) n h = omega arith
 
 module _ (f g : Form) (isf : IsForm f) (isg : IsForm g) (decide : OffsetsDecide f g) where
-  same : left_at f g ≡ left_over f g
+  same : residual_at f g ≡ left_over f g
   same = late_left f g decide.late ∙ gentle_left f g decide.gentle
 
   over_is : (k : ℕ) → IsLeftAt (value_at f) (value_at g) k (left_over f g k)
   over_is k = subst (λ (z : ℕ → Date). IsLeftAt (value_at f) (value_at g) k (z k)) same (left_is f g isf isg k)
 
-  pub over_again : Repeats (left_over f g) (start_of g) g.period g.step
-  over_again = subst (λ (z : ℕ → Date). Repeats z (start_of g) g.period g.step) same
-      (left_repeats (value_at f) (value_at g) (left_at f g) (start_of g) g.period g.step (left_is f g isf isg) (form_repeats_own g isg))
+  pub over_again : Repeats (left_over f g) (repeat_start g) g.period g.step
+  over_again = subst (λ (z : ℕ → Date). Repeats z (repeat_start g) g.period g.step) same
+      (left_repeats (value_at f) (value_at g) (residual_at f g) (repeat_start g) g.period g.step (left_is f g isf isg) (form_repeats_own g isg))
 
-  list_fits : start_of f + f.period ≤ offsets_of f g
+  list_fits : repeat_start f + f.period ≤ offsets_of f g
   list_fits =
       let l : 0 < period_with f g = common_positive f.period g.period isf.period_positive in
       let e : f.period ≤ period_with f g = multiple_le _ f.period l in
@@ -195,25 +196,25 @@ module _ (f g : Form) (isf : IsForm f) (isg : IsForm g) (decide : OffsetsDecide 
   list_reaches l k el w =
       let size : length l ≡ size_of g + offsets_of f g = ap length el ∙ table_length (value_at g) (size_of g + offsets_of f g) in
       let fits : f.period ≤ size_of f = isf.period_fits in
-      let last : start_of f + f.period ≤ offsets_of f g = list_fits in
+      let last : repeat_start f + f.period ≤ offsets_of f g = list_fits in
       omega arith
 
   -- the least residual over the list of the first form
   pub left_listed_is : (l r : List Date) (k : ℕ) → l ≡ table (value_at g) (size_of g + offsets_of f g) → IsStarLeft l r f.period f.step → k < size_of g
-      → left_listed f.values l r (start_of f) k ≡ left_over f g k
+      → left_listed f.values l r (repeat_start f) k ≡ left_over f g k
   left_listed_is l r k el h w =
       let size : length l ≡ size_of g + offsets_of f g = ap length el ∙ table_length (value_at g) (size_of g + offsets_of f g) in
       let fits : f.period ≤ size_of f = isf.period_fits in
-      let whole : start_of f + f.period - 1 ≡ size_of f - 1 = omega arith in
-      let last : start_of f + f.period ≤ offsets_of f g = list_fits in
+      let whole : repeat_start f + f.period - 1 ≡ size_of f - 1 = omega arith in
+      let last : repeat_start f + f.period ≤ offsets_of f g = list_fits in
       let u : ℕ → Date = λ j. get_or r (length r - 1 - j) Early in
-      least_same (part_listed f.values l r (start_of f) k) (λ i. date_left (value_at f i) (cond (ltb i (start_of f)) (value_at g (k + i)) (u (k + i)))) (size_of f - 1) (λ i v.
+      least_same (part_listed f.values l r (repeat_start f) k) (λ i. date_left (value_at f i) (cond (ltb i (repeat_start f)) (value_at g (k + i)) (u (k + i)))) (size_of f - 1) (λ i v.
       let a : get_or f.values i Early ≡ value_at f i = sym (value_in f i (omega (arith, isf.period_positive))) in
       let b : get_or l (k + i) Early ≡ value_at g (k + i) = listed_is (value_at g) (size_of g + offsets_of f g) l el (k + i) (omega (arith, isf.period_positive)) in
-      ap (λ (z : Date). date_left z (cond (ltb i (start_of f)) (get_or l (k + i) Early) (u (k + i)))) a
-      ∙ ap (λ (z : Date). date_left (value_at f i) (cond (ltb i (start_of f)) z (u (k + i)))) b)
-      ∙ ap (λ (z : ℕ). least_of (λ i. date_left (value_at f i) (cond (ltb i (start_of f)) (value_at g (k + i)) (u (k + i)))) z) (sym whole)
-      ∙ parts_decide (value_at f) (value_at g) u (start_of f) f.period (length l) k f.step isf.period_positive (form_repeats_own f isf)
+      ap (λ (z : Date). date_left z (cond (ltb i (repeat_start f)) (get_or l (k + i) Early) (u (k + i)))) a
+      ∙ ap (λ (z : Date). date_left (value_at f i) (cond (ltb i (repeat_start f)) z (u (k + i)))) b)
+      ∙ ap (λ (z : ℕ). least_of_first (λ i. date_left (value_at f i) (cond (ltb i (repeat_start f)) (value_at g (k + i)) (u (k + i)))) z) (sym whole)
+      ∙ parts_decide (value_at f) (value_at g) u (repeat_start f) f.period (length l) k f.step isf.period_positive (form_repeats_own f isf)
       (listed_star l r f.period f.step (value_at g) h (λ j v. listed_is (value_at g) (size_of g + offsets_of f g) l el j (omega arith)))
       (offsets_of f g) last (omega arith) (over_is k)
 
@@ -227,42 +228,42 @@ module _ (f g : Form) (isf : IsForm f) (isg : IsForm g) (decide : OffsetsDecide 
 
 -- ---- bounds
 
-back_up_to : (m : ℕ) (x : ℤ) (d : Date) → unsigned_abs x ≤ 1000000000000000000 → IsUpTo m d → IsUpTo (m + 1000000000000000000) (date_left (At x) d)
+back_up_to : (m : ℕ) (x : ℤ) (d : Date) → unsigned_abs x ≤ greatest_value → IsMagnitudeUpTo m d → IsMagnitudeUpTo (m + greatest_value) (date_left (At x) d)
 back_up_to m x Early h k = tt
-back_up_to m x (At t) h k = abs_difference t x m 1000000000000000000 k h
+back_up_to m x (At t) h k = abs_difference t x m greatest_value k h
 back_up_to m x Never h k = tt
 
-module _ (l r : List Date) (n : ℕ) (x : ℤ) (pos_n : 0 < n) (step : unsigned_abs x ≤ 1000000000000000000) (low : AreUpTo 60002000000000000000000 l) (h : AreStarLeft l r n x) where
-  by_place : (k : ℕ) → k < length r → (n ≤ k → IsUpTo (60002000000000000000000 + k * 1000000000000000000) (date_left (At x) (get_or r (k - n) Early)))
-      → IsUpTo (60002000000000000000000 + k * 1000000000000000000) (get_or r k Early)
-  by_place k w back = subst (λ (z : Date). IsUpTo (60002000000000000000000 + k * 1000000000000000000) z) (sym (h k w)) (⊎_elim
+module _ (l r : List Date) (n : ℕ) (x : ℤ) (pos_n : 0 < n) (step : unsigned_abs x ≤ greatest_value) (low : AreUpTo greatest_value_far_ahead l) (h : AreStarLeft l r n x) where
+  by_place : (k : ℕ) → k < length r → (n ≤ k → IsMagnitudeUpTo (greatest_value_far_ahead + k * greatest_value) (date_left (At x) (get_or r (k - n) Early)))
+      → IsMagnitudeUpTo (greatest_value_far_ahead + k * greatest_value) (get_or r k Early)
+  by_place k w back = subst (λ (z : Date). IsMagnitudeUpTo (greatest_value_far_ahead + k * greatest_value) z) (sym (h k w)) (⊎_elim
       (λ few. let e : ltb k n ≡ true = grind (arith, nat_tests) in rw e own)
       (λ many.
       let e : ltb k n ≡ false = grind (arith, nat_tests) in
-      rw e (earlier_up_to (60002000000000000000000 + k * 1000000000000000000) (get_or l (length l - 1 - k) Early) (date_left (At x) (get_or r (k - n) Early)) own (back many)))
+      rw e (earlier_up_to (greatest_value_far_ahead + k * greatest_value) (get_or l (length l - 1 - k) Early) (date_left (At x) (get_or r (k - n) Early)) own (back many)))
       (cases_lt k n)) where
-        own : IsUpTo (60002000000000000000000 + k * 1000000000000000000) (get_or l (length l - 1 - k) Early)
-        own = up_to_more 60002000000000000000000 (60002000000000000000000 + k * 1000000000000000000) (get_or l (length l - 1 - k) Early) (omega arith) (low (length l - 1 - k))
+        own : IsMagnitudeUpTo (greatest_value_far_ahead + k * greatest_value) (get_or l (length l - 1 - k) Early)
+        own = up_to_more greatest_value_far_ahead (greatest_value_far_ahead + k * greatest_value) (get_or l (length l - 1 - k) Early) (omega arith) (low (length l - 1 - k))
 
-  climbs : (c k : ℕ) → k ≤ c → k < length r → IsUpTo (60002000000000000000000 + k * 1000000000000000000) (get_or r k Early)
+  climbs : (c k : ℕ) → k ≤ c → k < length r → IsMagnitudeUpTo (greatest_value_far_ahead + k * greatest_value) (get_or r k Early)
   climbs zero k a w = by_place k w (λ many. absurd (omega arith))
   climbs (suc c) k a w = by_place k w (λ many.
-      up_to_more (60002000000000000000000 + (k - n) * 1000000000000000000 + 1000000000000000000) (60002000000000000000000 + k * 1000000000000000000) (date_left (At x) (get_or r (k - n) Early)) (omega arith)
-      (back_up_to (60002000000000000000000 + (k - n) * 1000000000000000000) x (get_or r (k - n) Early) step (climbs c (k - n) (omega arith) (omega arith))))
+      up_to_more (greatest_value_far_ahead + (k - n) * greatest_value + greatest_value) (greatest_value_far_ahead + k * greatest_value) (date_left (At x) (get_or r (k - n) Early)) (omega arith)
+      (back_up_to (greatest_value_far_ahead + (k - n) * greatest_value) x (get_or r (k - n) Early) step (climbs c (k - n) (omega arith) (omega arith))))
 
-  pub star_left_up_to : length r ≤ 60001 → AreUpTo 500000000000000000000000000 r
+  pub star_left_up_to : length r ≤ 60001 → AreUpTo greatest_listed r
   star_left_up_to short k = ⊎_elim
-      (λ w. up_to_more (60002000000000000000000 + k * 1000000000000000000) 500000000000000000000000000 (get_or r k Early) (omega arith) (climbs k k (omega arith) w))
-      (λ w. subst (λ (z : Date). IsUpTo 500000000000000000000000000 z) (sym (get_or-eq_default r Early {n = k} w)) tt)
+      (λ w. up_to_more (greatest_value_far_ahead + k * greatest_value) greatest_listed (get_or r k Early) (omega arith) (climbs k k (omega arith) w))
+      (λ w. subst (λ (z : Date). IsMagnitudeUpTo greatest_listed z) (sym (get_or-eq_default r Early {n = k} w)) tt)
       (cases_lt k (length r))
 
 -- the values of the residual that a list may have
-pub overs_up_to : (f g : Form) → IsSeries f → IsSeries g → offsets_of f g ≤ 40000 → (n : ℕ) (l : List Date) → n ≤ 20001 → l ≡ table (left_over f g) n → AreUpTo 500000000000000000000000000 l
-overs_up_to f g sf sg few n l short e = all_up_to 500000000000000000000000000 (left_over f g) n l e (λ k w. over_up_to f g sf sg few k (omega arith))
+pub overs_up_to : (f g : Form) → IsSeries f → IsSeries g → offsets_of f g ≤ 40000 → (n : ℕ) (l : List Date) → n ≤ 20001 → l ≡ table (left_over f g) n → AreUpTo greatest_listed l
+overs_up_to f g sf sg few n l short e = all_up_to greatest_listed (left_over f g) n l e (λ k w. over_up_to f g sf sg few k (omega arith))
 
 -- the negative of a step, as the code computes it
-pub negative_code : (b x : ℤ) → b ≡ x → unsigned_abs x ≤ 1000000000000000000 → to_z w128 (of_z w128 (pos 0 -ℤ to_z w128 (of_z w128 b))) ≡ pos 0 -ℤ x
+pub negative_code : (b x : ℤ) → b ≡ x → unsigned_abs x ≤ greatest_value → to_z w128 (of_z w128 (pos 0 -ℤ to_z w128 (of_z w128 b))) ≡ pos 0 -ℤ x
 negative_code b x e h =
     let same : to_z w128 (of_z w128 b) ≡ x = ap (λ (z : ℤ). to_z w128 (of_z w128 z)) e ∙ to_z-of_z w128 x (small_fits x h) in
-    let low : unsigned_abs (pos 0 -ℤ x) ≤ 0 + 1000000000000000000 = abs_difference (pos 0) x 0 1000000000000000000 (omega arith) h in
+    let low : unsigned_abs (pos 0 -ℤ x) ≤ 0 + greatest_value = abs_difference (pos 0) x 0 greatest_value (omega arith) h in
     ap (λ (z : ℤ). to_z w128 (of_z w128 (pos 0 -ℤ z))) same ∙ to_z-of_z w128 (pos 0 -ℤ x) (small_fits (pos 0 -ℤ x) (omega arith))

@@ -8,12 +8,12 @@ use Rattle.std.proofs.lemmas.List.{get_or-map, get_or-reverse, length-map, lengt
 use Rattle.dioid.specs.Dates.{later_of, earlier_of, date_product, date_left}
 use Rattle.dioid.specs.declared.dates.Date.{Date}
 use Rattle.dioid.specs.declared.dates.Date.TheVariants.{Early, At, Never}
-use Rattle.series_laws.specs.Product.{greatest}
-use Rattle.series_laws.specs.Residual.{least_of}
-use Rattle.series_form.specs.Bounds.{IsUpTo}
-use Rattle.series_form.proofs.Numbers.{abs_difference}
-use Rattle.series_ops.specs.Cells.{conjugate_of, turned}
-use Rattle.series_ops.specs.Listed.{AreEarlyTo, IsStarLeft, listed, part_listed, left_listed}
+use Rattle.series_laws.specs.Product.{greatest_of_first}
+use Rattle.series_laws.specs.Residual.{least_of_first}
+use Rattle.series_form.specs.NumberBounds.{IsMagnitudeUpTo}
+use Rattle.series_form.proofs.DateNumbers.{abs_difference}
+use Rattle.series_ops.specs.Cells.{conjugate_of, conjugates_reversed}
+use Rattle.series_ops.specs.ListFunctions.{AreEarlyTo, IsStarLeft, value_listed, part_listed, left_listed}
 use Rattle.series_ops.specs.Splits.{greatest_from, split_of}
 use Rattle.series_ops.proofs.LeftValues.{least_same}
 use Rattle.series_ops.proofs.SplitLaws.{greatest_same, greatest_joined, greatest_whole}
@@ -25,7 +25,7 @@ conjugate_twice Early = refl
 conjugate_twice (At t) = ap At (omega (arith, ints))
 conjugate_twice Never = refl
 
-pub conjugate_up_to : (m : ℕ) (d : Date) → IsUpTo m d → IsUpTo m (conjugate_of d)
+pub conjugate_up_to : (m : ℕ) (d : Date) → IsMagnitudeUpTo m d → IsMagnitudeUpTo m (conjugate_of d)
 conjugate_up_to m Early h = tt
 conjugate_up_to m (At t) h = let w : unsigned_abs (pos 0 -ℤ t) ≤ 0 + m = abs_difference (pos 0) t 0 m (omega arith) h in omega arith
 conjugate_up_to m Never h = tt
@@ -46,14 +46,14 @@ left_of_conjugate Never Early = refl
 left_of_conjugate Never (At t) = refl
 left_of_conjugate Never Never = refl
 
-least_conjugate : (g : ℕ → Date) (n : ℕ) → least_of (λ i. conjugate_of (g i)) n ≡ conjugate_of (greatest g n)
+least_conjugate : (g : ℕ → Date) (n : ℕ) → least_of_first (λ i. conjugate_of (g i)) n ≡ conjugate_of (greatest_of_first g n)
 least_conjugate g zero = refl
 least_conjugate g (suc n) =
-    ap (λ (z : Date). earlier_of z (conjugate_of (g (suc n)))) (least_conjugate g n) ∙ sym (conjugate_later (greatest g n) (g (suc n)))
+    ap (λ (z : Date). earlier_of z (conjugate_of (g (suc n)))) (least_conjugate g n) ∙ sym (conjugate_later (greatest_of_first g n) (g (suc n)))
 
 -- ---- lists
 
-turned_at : (l : List Date) (j : ℕ) → j < length l → get_or (turned l) j Early ≡ conjugate_of (listed l (length l - 1 - j))
+turned_at : (l : List Date) (j : ℕ) → j < length l → get_or (conjugates_reversed l) j Early ≡ conjugate_of (value_listed l (length l - 1 - j))
 turned_at l j w =
     let n : length (map conjugate_of l) ≡ length l = length-map l conjugate_of in
     let inside : length l - 1 - j < length l = omega arith in
@@ -61,10 +61,10 @@ turned_at l j w =
     ∙ ap (λ (z : ℕ). get_or (map conjugate_of l) (z - 1 - j) Early) n
     ∙ get_or-map conjugate_of l (length l - 1 - j) Early Early inside
 
-conjugated_at : (l : List Date) (j : ℕ) → j < length l → get_or (map conjugate_of l) j Early ≡ conjugate_of (listed l j)
+conjugated_at : (l : List Date) (j : ℕ) → j < length l → get_or (map conjugate_of l) j Early ≡ conjugate_of (value_listed l j)
 conjugated_at l j w = get_or-map conjugate_of l j Early Early w
 
-pub turned_length : (l : List Date) → length (turned l) ≡ length l
+pub turned_length : (l : List Date) → length (conjugates_reversed l) ≡ length l
 turned_length l = length-reverse (map conjugate_of l) ∙ length-map l conjugate_of
 
 -- one date more
@@ -76,7 +76,7 @@ conjugated_more l m i d w e ed =
     ∙ ap (λ (z : Date). take i m ++ z ∷ []) back
     ∙ sym (take_more m i Early w)
 
-pub turned_more : (l m : List Date) (i : ℕ) (d : Date) → i < length m → turned l ≡ drop (length m - i) m → d ≡ conjugate_of (get_or m (length m - 1 - i) Early) → turned (l ++ d ∷ []) ≡ drop (length m - (i + 1)) m
+pub turned_more : (l m : List Date) (i : ℕ) (d : Date) → i < length m → conjugates_reversed l ≡ drop (length m - i) m → d ≡ conjugate_of (get_or m (length m - 1 - i) Early) → conjugates_reversed (l ++ d ∷ []) ≡ drop (length m - (i + 1)) m
 turned_more l m i d w e ed =
     let back : conjugate_of d ≡ get_or m (length m - 1 - i) Early = ap conjugate_of ed ∙ conjugate_twice (get_or m (length m - 1 - i) Early) in
     let next : length m - 1 - i + 1 ≡ length m - i = omega arith in
@@ -103,10 +103,10 @@ greatest_early f p (suc m) h =
 
 module _ (l s r : List Date) (b p k : ℕ) (bp : b ≤ p) (pl : p < length l) (early : AreEarlyTo b l) (ls : k + length l ≤ length s) (lr : k + length l ≤ length r) where
   abbrev head : ℕ → Date
-  head = split_of (listed l) (listed s) (length s - 1 - k)
+  head = split_of (value_listed l) (value_listed s) (length s - 1 - k)
 
   abbrev rest : ℕ → Date
-  rest = split_of (listed l) (listed r) (length r - 1 - k)
+  rest = split_of (value_listed l) (value_listed r) (length r - 1 - k)
 
   abbrev both : ℕ → Date
   both i = cond (ltb i p) (head i) (rest i)
@@ -117,33 +117,33 @@ module _ (l s r : List Date) (b p k : ℕ) (bp : b ≤ p) (pl : p < length l) (e
   both_rest : (i : ℕ) → p ≤ i → both i ≡ rest i
   both_rest i w = let e : ltb i p ≡ false = grind (arith, nat_tests) in ap (λ (z : Bool). cond z (head i) (rest i)) e
 
-  part_is : (i : ℕ) → i < length l → part_listed l (turned s) (map conjugate_of r) p k i ≡ conjugate_of (both i)
+  part_is : (i : ℕ) → i < length l → part_listed l (conjugates_reversed s) (map conjugate_of r) p k i ≡ conjugate_of (both i)
   part_is i w = ⊎_elim
       (λ low.
       let e : ltb i p ≡ true = grind (arith, nat_tests) in
       let at : length s - 1 - (k + i) ≡ length s - 1 - k - i = omega arith in
-      ap (λ (z : Bool). date_left (listed l i) (cond z (get_or (turned s) (k + i) Early) (get_or (map conjugate_of r) (length (map conjugate_of r) - 1 - (k + i)) Early))) e
-      ∙ ap (date_left (listed l i)) (turned_at s (k + i) (omega arith))
-      ∙ ap (λ (z : ℕ). date_left (listed l i) (conjugate_of (listed s z))) at
-      ∙ left_of_conjugate (listed l i) (listed s (length s - 1 - k - i))
+      ap (λ (z : Bool). date_left (value_listed l i) (cond z (get_or (conjugates_reversed s) (k + i) Early) (get_or (map conjugate_of r) (length (map conjugate_of r) - 1 - (k + i)) Early))) e
+      ∙ ap (date_left (value_listed l i)) (turned_at s (k + i) (omega arith))
+      ∙ ap (λ (z : ℕ). date_left (value_listed l i) (conjugate_of (value_listed s z))) at
+      ∙ left_of_conjugate (value_listed l i) (value_listed s (length s - 1 - k - i))
       ∙ ap conjugate_of (sym (both_head i low)))
       (λ high.
       let e : ltb i p ≡ false = grind (arith, nat_tests) in
       let n : length (map conjugate_of r) ≡ length r = length-map r conjugate_of in
       let at : length r - 1 - (k + i) ≡ length r - 1 - k - i = omega arith in
-      ap (λ (z : Bool). date_left (listed l i) (cond z (get_or (turned s) (k + i) Early) (get_or (map conjugate_of r) (length (map conjugate_of r) - 1 - (k + i)) Early))) e
-      ∙ ap (λ (z : ℕ). date_left (listed l i) (get_or (map conjugate_of r) (z - 1 - (k + i)) Early)) n
-      ∙ ap (date_left (listed l i)) (conjugated_at r (length r - 1 - (k + i)) (omega arith))
-      ∙ ap (λ (z : ℕ). date_left (listed l i) (conjugate_of (listed r z))) at
-      ∙ left_of_conjugate (listed l i) (listed r (length r - 1 - k - i))
+      ap (λ (z : Bool). date_left (value_listed l i) (cond z (get_or (conjugates_reversed s) (k + i) Early) (get_or (map conjugate_of r) (length (map conjugate_of r) - 1 - (k + i)) Early))) e
+      ∙ ap (λ (z : ℕ). date_left (value_listed l i) (get_or (map conjugate_of r) (z - 1 - (k + i)) Early)) n
+      ∙ ap (date_left (value_listed l i)) (conjugated_at r (length r - 1 - (k + i)) (omega arith))
+      ∙ ap (λ (z : ℕ). date_left (value_listed l i) (conjugate_of (value_listed r z))) at
+      ∙ left_of_conjugate (value_listed l i) (value_listed r (length r - 1 - k - i))
       ∙ ap conjugate_of (sym (both_rest i high)))
       (cases_lt i p)
 
   begun_early : greatest_from both 0 b ≡ Early
   begun_early = greatest_early both 0 b (λ j w.
       let low : 0 + j < p = omega arith in
-      let here : listed l (0 + j) ≡ Early = early (0 + j) (omega arith) in
-      both_head (0 + j) low ∙ ap (λ (z : Date). date_product z (listed s (length s - 1 - k - (0 + j)))) here)
+      let here : value_listed l (0 + j) ≡ Early = early (0 + j) (omega arith) in
+      both_head (0 + j) low ∙ ap (λ (z : Date). date_product z (value_listed s (length s - 1 - k - (0 + j)))) here)
 
   both_parts : greatest_from both 0 (length l) ≡ later_of (greatest_from head b (p - b)) (greatest_from rest p (length l - p))
   both_parts =
@@ -159,11 +159,11 @@ module _ (l s r : List Date) (b p k : ℕ) (bp : b ≤ p) (pl : p < length l) (e
       ∙ ap (λ (z : Date). later_of z (greatest_from both p (length l - p))) (greatest_same both head b b (p - b) (λ j w. both_head (b + j) (omega arith)))
       ∙ ap (later_of (greatest_from head b (p - b))) (greatest_same both rest p p (length l - p) (λ j w. both_rest (p + j) (omega arith)))
 
-  pub left_by_splits : conjugate_of (later_of (greatest_from head b (p - b)) (greatest_from rest p (length l - p))) ≡ left_listed l (turned s) (map conjugate_of r) p k
+  pub left_by_splits : conjugate_of (later_of (greatest_from head b (p - b)) (greatest_from rest p (length l - p))) ≡ left_listed l (conjugates_reversed s) (map conjugate_of r) p k
   left_by_splits =
       let n : suc (length l - 1) ≡ length l = omega arith in
       ap conjugate_of (sym both_parts)
       ∙ ap (λ (z : ℕ). conjugate_of (greatest_from both 0 z)) (sym n)
       ∙ ap conjugate_of (sym (greatest_whole both (length l - 1)))
       ∙ sym (least_conjugate both (length l - 1))
-      ∙ sym (least_same (part_listed l (turned s) (map conjugate_of r) p k) (λ i. conjugate_of (both i)) (length l - 1) (λ i w. part_is i (omega arith)))
+      ∙ sym (least_same (part_listed l (conjugates_reversed s) (map conjugate_of r) p k) (λ i. conjugate_of (both i)) (length l - 1) (λ i w. part_is i (omega arith)))

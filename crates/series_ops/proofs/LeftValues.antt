@@ -3,42 +3,43 @@ use Rattle.std.proofs.Common.{◌≡◌, refl, ap, arith, ℕ, zero, suc, ◌+�
 use Rattle.dioid.specs.Dates.{date_left}
 use Rattle.dioid.specs.declared.dates.Date.{Date}
 use Rattle.dioid.specs.declared.dates.Date.TheVariants.{Early, At, Never}
-use Rattle.series_laws.specs.declared.plans.Plan.{Plan}
+use Rattle.series_laws.specs.declared.plans.NeedPlan.{NeedPlan}
 use Rattle.series_laws.specs.declared.plans.Slopes.{Slopes}
 use Rattle.series_laws.specs.declared.plans.Slopes.TheVariants.{Equal, First, Second}
-use Rattle.dioid.specs.Order.{Le}
+use Rattle.dioid.specs.DateOrder.{Le}
 use Rattle.dioid.proofs.AtMost.{le_is, le_trans, le_antisym}
-use Rattle.series_laws.specs.Forms.{Form, size_of, value_at, table, IsForm, HasValues}
-use Rattle.series_form.specs.Bounds.{IsUpTo, IsSeries}
+use Rattle.series_laws.specs.SeriesForms.{Form, size_of, value_at, table, IsForm, HasValues}
+use Rattle.series_form.specs.NumberBounds.{IsMagnitudeUpTo, IsSeries}
 use Rattle.series_laws.specs.Needs.{need_of, tail_of, slopes_of, slopes_by, common, period_with, rise_of, fall_of}
 use Rattle.series_laws.proofs.Sums.{Serves}
-use Rattle.series_form.proofs.Numbers.{abs_difference}
+use Rattle.series_form.proofs.DateNumbers.{abs_difference}
 use Rattle.series_form.proofs.Finished.{IsTabled, up_to_more, value_up_to}
 use Rattle.series_form.proofs.PointwiseTables.{earlier_up_to}
-use Rattle.series_ops.specs.Listed.{AreUpTo, all_but_last, last_of}
-use Rattle.series_laws.specs.Residual.{IsLeftAt, least_of}
+use Rattle.series_ops.specs.ListFunctions.{AreUpTo, all_but_last, last_value}
+use Rattle.series_laws.specs.Residual.{IsLeftAt, least_of_first}
 use Rattle.series_laws.proofs.ResidualsRepeat.{least_of_le, le_least_of}
-use Rattle.series_laws.specs.ProductNeeds.{offsets_of, left_over, left_by_slopes, left_by, left_at, left_plan, left_plan_by, left_plan_by_slopes, long_left}
+use Rattle.series_laws.specs.ProductNeeds.{offsets_of, left_over, left_by_slopes, left_by, residual_at, left_plan, left_plan_by, left_plan_by_slopes, long_left}
 use Rattle.series_laws.proofs.Lefts.{left_is, left_rises, left_serves}
+use Rattle.series_form.specs.SeriesLimits.{greatest_value, greatest_value_far_ahead, greatest_listed}
 use Rattle.series_ops.proofs.FirstValues.{listed_tabled, all_up_to}
 
 -- ---- lists of two series
 
-pub long_value_up_to : (f : Form) → IsSeries f → (k : ℕ) → k ≤ 60001 → IsUpTo 60002000000000000000000 (value_at f k)
-long_value_up_to f h k w = up_to_more (1000000000000000000 + 60001 * 1000000000000000000) 60002000000000000000000 (value_at f k) (omega arith) (value_up_to f h k 60001 w)
+pub long_value_up_to : (f : Form) → IsSeries f → (k : ℕ) → k ≤ 60001 → IsMagnitudeUpTo greatest_value_far_ahead (value_at f k)
+long_value_up_to f h k w = up_to_more (greatest_value + 60001 * greatest_value) greatest_value_far_ahead (value_at f k) (omega arith) (value_up_to f h k 60001 w)
 
-pub long_table_up_to : (f : Form) (n : ℕ) (l : List Date) → IsSeries f → n ≤ 60001 → l ≡ table (value_at f) n → AreUpTo 60002000000000000000000 l
-long_table_up_to f n l h short e = all_up_to 60002000000000000000000 (value_at f) n l e (λ k w. long_value_up_to f h k (omega arith))
+pub long_table_up_to : (f : Form) (n : ℕ) (l : List Date) → IsSeries f → n ≤ 60001 → l ≡ table (value_at f) n → AreUpTo greatest_value_far_ahead l
+long_table_up_to f n l h short e = all_up_to greatest_value_far_ahead (value_at f) n l e (λ k w. long_value_up_to f h k (omega arith))
 
-least_half : (f g : ℕ → Date) (n : ℕ) → ((i : ℕ) → i ≤ n → f i ≡ g i) → Le (least_of f n) (least_of g n)
-least_half f g n h = le_least_of g n (least_of f n) (λ j w. le_trans (least_of_le f n j w) (le_is (h j w)))
+least_half : (f g : ℕ → Date) (n : ℕ) → ((i : ℕ) → i ≤ n → f i ≡ g i) → Le (least_of_first f n) (least_of_first g n)
+least_half f g n h = le_least_of g n (least_of_first f n) (λ j w. le_trans (least_of_le f n j w) (le_is (h j w)))
 
-pub least_same : (f g : ℕ → Date) (n : ℕ) → ((i : ℕ) → i ≤ n → f i ≡ g i) → least_of f n ≡ least_of g n
+pub least_same : (f g : ℕ → Date) (n : ℕ) → ((i : ℕ) → i ≤ n → f i ≡ g i) → least_of_first f n ≡ least_of_first g n
 least_same f g n h = le_antisym (least_half f g n h) (least_half g f n (λ i w. sym (h i w)))
 
 -- ---- how great a residual is
 
-left_up_to : (m : ℕ) (a b : Date) → IsUpTo m a → IsUpTo m b → IsUpTo (m + m) (date_left a b)
+left_up_to : (m : ℕ) (a b : Date) → IsMagnitudeUpTo m a → IsMagnitudeUpTo m b → IsMagnitudeUpTo (m + m) (date_left a b)
 left_up_to m Early b h k = tt
 left_up_to m (At s) Early h k = tt
 left_up_to m (At s) (At t) h k = abs_difference t s m m k h
@@ -47,14 +48,14 @@ left_up_to m Never Early h k = tt
 left_up_to m Never (At t) h k = tt
 left_up_to m Never Never h k = tt
 
-least_up_to : (f : ℕ → Date) (n m : ℕ) → ((i : ℕ) → i ≤ n → IsUpTo m (f i)) → IsUpTo m (least_of f n)
+least_up_to : (f : ℕ → Date) (n m : ℕ) → ((i : ℕ) → i ≤ n → IsMagnitudeUpTo m (f i)) → IsMagnitudeUpTo m (least_of_first f n)
 least_up_to f zero m h = h 0 (omega arith)
-least_up_to f (suc n) m h = earlier_up_to m (least_of f n) (f (suc n)) (least_up_to f n m (λ i w. h i (omega arith))) (h (suc n) (omega arith))
+least_up_to f (suc n) m h = earlier_up_to m (least_of_first f n) (f (suc n)) (least_up_to f n m (λ i w. h i (omega arith))) (h (suc n) (omega arith))
 
-pub over_up_to : (f g : Form) → IsSeries f → IsSeries g → offsets_of f g ≤ 40000 → (k : ℕ) → k ≤ 20000 → IsUpTo 500000000000000000000000000 (left_over f g k)
-over_up_to f g sf sg few k w = least_up_to (λ i. date_left (value_at f i) (value_at g (k + i))) (offsets_of f g - 1) 500000000000000000000000000 (λ i u.
-    up_to_more (60002000000000000000000 + 60002000000000000000000) 500000000000000000000000000 (date_left (value_at f i) (value_at g (k + i))) (omega arith)
-    (left_up_to 60002000000000000000000 (value_at f i) (value_at g (k + i)) (long_value_up_to f sf i (omega arith)) (long_value_up_to g sg (k + i) (omega arith))))
+pub over_up_to : (f g : Form) → IsSeries f → IsSeries g → offsets_of f g ≤ 40000 → (k : ℕ) → k ≤ 20000 → IsMagnitudeUpTo greatest_listed (left_over f g k)
+over_up_to f g sf sg few k w = least_up_to (λ i. date_left (value_at f i) (value_at g (k + i))) (offsets_of f g - 1) greatest_listed (λ i u.
+    up_to_more (greatest_value_far_ahead + greatest_value_far_ahead) greatest_listed (date_left (value_at f i) (value_at g (k + i))) (omega arith)
+    (left_up_to greatest_value_far_ahead (value_at f i) (value_at g (k + i)) (long_value_up_to f sf i (omega arith)) (long_value_up_to g sg (k + i) (omega arith))))
 
 -- ---- the offsets are few where the need is short
 
@@ -90,10 +91,10 @@ few_offsets f g sf sg late gentle short = cases (tail_of f) (tail_of g) refl ref
 
 -- ---- the cases
 
-pub early_left : (f g : Form) → tail_of f ≡ Early → left_at f g ≡ (λ _. Never)
+pub early_left : (f g : Form) → tail_of f ≡ Early → residual_at f g ≡ (λ _. Never)
 early_left f g e = ap (λ (z : Date). left_by z f g) e
 
-pub late_left : (f g : Form) → (tail_of f ≡ Early → ⊥) → left_at f g ≡ left_by_slopes (slopes_of f g) f g
+pub late_left : (f g : Form) → (tail_of f ≡ Early → ⊥) → residual_at f g ≡ left_by_slopes (slopes_of f g) f g
 late_left f g h = cases (tail_of f) h where
   cases : (a : Date) → (a ≡ Early → ⊥) → left_by a f g ≡ left_by_slopes (slopes_of f g) f g
   cases Early k = absurd (k refl)
@@ -110,24 +111,24 @@ gentle_left f g h = cases (slopes_of f g) h where
   cases First k = absurd (k refl)
   cases Second k = refl
 
-bounded : (f g : Form) → IsSeries f → IsSeries g → need_of (left_plan f g) ≤ 20000 → (k : ℕ) → k ≤ 20000 → IsUpTo 500000000000000000000000000 (left_at f g k)
+bounded : (f g : Form) → IsSeries f → IsSeries g → need_of (left_plan f g) ≤ 20000 → (k : ℕ) → k ≤ 20000 → IsMagnitudeUpTo greatest_listed (residual_at f g k)
 bounded f g sf sg short k w = by_tail (tail_of f) refl where
-  by_slopes : (tail_of f ≡ Early → ⊥) → (o : Slopes) → slopes_of f g ≡ o → IsUpTo 500000000000000000000000000 (left_by_slopes o f g k)
+  by_slopes : (tail_of f ≡ Early → ⊥) → (o : Slopes) → slopes_of f g ≡ o → IsMagnitudeUpTo greatest_listed (left_by_slopes o f g k)
   by_slopes late Equal e = over_up_to f g sf sg (few_offsets f g sf sg late (λ h. absurd (let c : Equal ≡ First = sym e ∙ h in cc)) short) k w
   by_slopes late First e = tt
   by_slopes late Second e = over_up_to f g sf sg (few_offsets f g sf sg late (λ h. absurd (let c : Second ≡ First = sym e ∙ h in cc)) short) k w
 
-  by_tail : (a : Date) → tail_of f ≡ a → IsUpTo 500000000000000000000000000 (left_by a f g k)
+  by_tail : (a : Date) → tail_of f ≡ a → IsMagnitudeUpTo greatest_listed (left_by a f g k)
   by_tail Early e = tt
   by_tail (At s) e = by_slopes (λ h. absurd (let c : At s ≡ Early = sym e ∙ h in cc)) (slopes_of f g) refl
   by_tail Never e = by_slopes (λ h. absurd (let c : Never ≡ Early = sym e ∙ h in cc)) (slopes_of f g) refl
 
-pub left_tabled : (f g : Form) (r : Plan) (l : List Date) → IsSeries f → IsSeries g → r ≡ left_plan f g → need_of r ≤ 20000 → l ≡ table (left_at f g) (need_of r + 1) → IsTabled (left_at f g) r (all_but_last l) (last_of l)
-left_tabled f g r l sf sg e short items = listed_tabled (left_at f g) r l
+pub left_tabled : (f g : Form) (r : NeedPlan) (l : List Date) → IsSeries f → IsSeries g → r ≡ left_plan f g → need_of r ≤ 20000 → l ≡ table (residual_at f g) (need_of r + 1) → IsTabled (residual_at f g) r (all_but_last l) (last_value l)
+left_tabled f g r l sf sg e short items = listed_tabled (residual_at f g) r l
     (left_rises f g sf.canonical.form sg.canonical.form)
-    (subst (λ (z : Plan). Serves (left_at f g) z) (sym e) (left_serves f g sf.canonical.form sg.canonical.form))
-    items (λ k w. bounded f g sf sg (subst (λ (z : Plan). need_of z ≤ 20000) e short) k (omega arith))
+    (subst (λ (z : NeedPlan). Serves (residual_at f g) z) (sym e) (left_serves f g sf.canonical.form sg.canonical.form))
+    items (λ k w. bounded f g sf sg (subst (λ (z : NeedPlan). need_of z ≤ 20000) e short) k (omega arith))
 
 -- the values of the code's residual are the residuals of the definition, and no others are
-pub has_residuals : (f g r : Form) → IsForm f → IsForm g → HasValues r (left_at f g) → (k : ℕ) → IsLeftAt (value_at f) (value_at g) k (value_at r k)
+pub has_residuals : (f g r : Form) → IsForm f → IsForm g → HasValues r (residual_at f g) → (k : ℕ) → IsLeftAt (value_at f) (value_at g) k (value_at r k)
 has_residuals f g r isf isg h k = subst (λ (z : Date). IsLeftAt (value_at f) (value_at g) k z) (sym (h k)) (left_is f g isf isg k)

@@ -9,13 +9,13 @@ use Rattle.dioid.specs.declared.dates.Date.{Date}
 use Rattle.dioid.specs.declared.dates.Date.TheVariants.{Early, At}
 use Rattle.dioid.proofs.Moves.{move_zero, move_move, product_is_move, product_move_left}
 use Rattle.series_laws.specs.Periodic.{times}
-use Rattle.series_laws.specs.Forms.{table}
+use Rattle.series_laws.specs.SeriesForms.{table}
 use Rattle.series_laws.proofs.FormValues.{table_length, table_at, same_lists}
-use Rattle.series_form.specs.Bounds.{IsUpTo}
+use Rattle.series_form.specs.NumberBounds.{IsMagnitudeUpTo}
+use Rattle.series_form.specs.SeriesLimits.{greatest_listed, greatest_value_ahead, greatest_moderate}
 use Rattle.series_form.proofs.Finished.{up_to_more}
-use Rattle.series_ops.specs.Cells.{greatest_listed}
-use Rattle.series_ops.specs.Listed.{listed, AreUpTo}
-use Rattle.series_ops.specs.Pieces.{window, carried_at, joined_at, AreSums, RepeatsIn}
+use Rattle.series_ops.specs.ListFunctions.{value_listed, AreUpTo}
+use Rattle.series_ops.specs.Pieces.{window, carried_at, joined_at, ArePieceSums, RepeatsIn}
 use Rattle.series_ops.specs.Splits.{greatest_from, split_of, places_to}
 use Rattle.series_ops.proofs.FirstValues.{table_same, listed_is, added_up_to, all_up_to}
 use Rattle.series_ops.proofs.SplitLaws.{later_early, greatest_same, greatest_joined, greatest_moved, greatest_from_up_to}
@@ -32,12 +32,12 @@ carried_same : (t u : ℕ → Date) (n : ℕ) (d : Date) (k : ℕ) → ((i : ℕ
 carried_same t u n d k h = ap (λ (z : Date). cond (ltb k n) Early (date_product d z)) (h (k - n) (omega arith))
 
 -- the lists of joined sums
-pub joined_listed : (s t : ℕ → Date) (n m : ℕ) (d : Date) (a b r : List Date) → r ≡ table (joined_at (listed a) (listed b) n d) (length a)
+pub joined_listed : (s t : ℕ → Date) (n m : ℕ) (d : Date) (a b r : List Date) → r ≡ table (joined_at (value_listed a) (value_listed b) n d) (length a)
     → length a ≡ m → a ≡ table s m → b ≡ table t m → r ≡ table (joined_at s t n d) m
-joined_listed s t n m d a b r er el ea eb = er ∙ ap (table (joined_at (listed a) (listed b) n d)) el
-    ∙ table_same (joined_at (listed a) (listed b) n d) (joined_at s t n d) m (λ k w.
-    ap (λ (z : Date). later_of z (carried_at (listed b) n d k)) (listed_is s m a ea k w)
-    ∙ ap (later_of (s k)) (carried_same (listed b) t n d k (λ i u. listed_is t m b eb i (omega arith))))
+joined_listed s t n m d a b r er el ea eb = er ∙ ap (table (joined_at (value_listed a) (value_listed b) n d)) el
+    ∙ table_same (joined_at (value_listed a) (value_listed b) n d) (joined_at s t n d) m (λ k w.
+    ap (λ (z : Date). later_of z (carried_at (value_listed b) n d k)) (listed_is s m a ea k w)
+    ∙ ap (later_of (s k)) (carried_same (value_listed b) t n d k (λ i u. listed_is t m b eb i (omega arith))))
 
 -- ---- one place more
 
@@ -154,71 +154,71 @@ turns_doubled s t p m n w v k x again fits room =
 
 -- ---- bounds
 
-pub window_up_to : (l m : List Date) (p n a b c : ℕ) (k : ℕ) → AreUpTo a l → AreUpTo b m → a + b ≤ c → IsUpTo c (window (listed l) (listed m) p n k)
-window_up_to l m p n a b c k hl hm w = up_to_more (a + b) c (window (listed l) (listed m) p n k) w
-    (greatest_from_up_to (split_of (listed l) (listed m) k) p (places_to p n k) (a + b) (λ j u. added_up_to a b (listed l (p + j)) (listed m (k - (p + j))) (hl (p + j)) (hm (k - (p + j)))))
+pub window_up_to : (l m : List Date) (p n a b c : ℕ) (k : ℕ) → AreUpTo a l → AreUpTo b m → a + b ≤ c → IsMagnitudeUpTo c (window (value_listed l) (value_listed m) p n k)
+window_up_to l m p n a b c k hl hm w = up_to_more (a + b) c (window (value_listed l) (value_listed m) p n k) w
+    (greatest_from_up_to (split_of (value_listed l) (value_listed m) k) p (places_to p n k) (a + b) (λ j u. added_up_to a b (value_listed l (p + j)) (value_listed m (k - (p + j))) (hl (p + j)) (hm (k - (p + j)))))
 
-pub windows_up_to : (l m r : List Date) (p n q : ℕ) → AreUpTo 20001000000000000000000 l → AreUpTo greatest_listed m → r ≡ table (window (listed l) (listed m) p n) q → AreUpTo 1000000000000000000000000000 r
-windows_up_to l m r p n q hl hm e = all_up_to 1000000000000000000000000000 (window (listed l) (listed m) p n) q r e (λ k w.
-    window_up_to l m p n 20001000000000000000000 greatest_listed 1000000000000000000000000000 k hl hm (omega arith))
+pub windows_up_to : (l m r : List Date) (p n q : ℕ) → AreUpTo greatest_value_ahead l → AreUpTo greatest_listed m → r ≡ table (window (value_listed l) (value_listed m) p n) q → AreUpTo greatest_moderate r
+windows_up_to l m r p n q hl hm e = all_up_to greatest_moderate (window (value_listed l) (value_listed m) p n) q r e (λ k w.
+    window_up_to l m p n greatest_value_ahead greatest_listed greatest_moderate k hl hm (omega arith))
 
 -- ---- lists of sums
 
-pub own_table : (l : List Date) → l ≡ table (listed l) (length l)
-own_table l = same_lists l (table (listed l) (length l)) (sym (table_length (listed l) (length l))) (λ k w. sym (table_at (listed l) (length l) k w))
+pub own_table : (l : List Date) → l ≡ table (value_listed l) (length l)
+own_table l = same_lists l (table (value_listed l) (length l)) (sym (table_length (value_listed l) (length l))) (λ k w. sym (table_at (value_listed l) (length l) k w))
 
 -- the sums with the first values of a list
-pub first_sums : (l m o r : List Date) (p n size : ℕ) → o ≡ table (listed m) size → r ≡ table (window (listed l) (listed o) p n) (length o) → AreSums r l m p n
+pub first_sums : (l m o r : List Date) (p n size : ℕ) → o ≡ table (value_listed m) size → r ≡ table (window (value_listed l) (value_listed o) p n) (length o) → ArePieceSums r l m p n
 first_sums l m o r p n size eo er =
-    let whole : length o ≡ size = ap length eo ∙ table_length (listed m) size in
-    let long : length r ≡ length o = ap length er ∙ table_length (window (listed l) (listed o) p n) (length o) in
-    er ∙ ap (table (window (listed l) (listed o) p n)) (sym long)
-    ∙ table_same (window (listed l) (listed o) p n) (window (listed l) (listed m) p n) (length r) (λ k w.
-    greatest_same (split_of (listed l) (listed o) k) (split_of (listed l) (listed m) k) p p (places_to p n k) (λ j u.
-    ap (date_product (listed l (p + j))) (listed_is (listed m) size o eo (k - (p + j)) (omega arith))))
+    let whole : length o ≡ size = ap length eo ∙ table_length (value_listed m) size in
+    let long : length r ≡ length o = ap length er ∙ table_length (window (value_listed l) (value_listed o) p n) (length o) in
+    er ∙ ap (table (window (value_listed l) (value_listed o) p n)) (sym long)
+    ∙ table_same (window (value_listed l) (value_listed o) p n) (window (value_listed l) (value_listed m) p n) (length r) (λ k w.
+    greatest_same (split_of (value_listed l) (value_listed o) k) (split_of (value_listed l) (value_listed m) k) p p (places_to p n k) (λ j u.
+    ap (date_product (value_listed l (p + j))) (listed_is (value_listed m) size o eo (k - (p + j)) (omega arith))))
 
 -- no place
 pub none_begun : (s t : ℕ → Date) (p n : ℕ) (l : List Date) → l ≡ table (λ _. Early) n → l ≡ table (window s t p 0) n
 none_begun s t p n l e = e ∙ table_same (λ _. Early) (window s t p 0) n (λ k w. sym (window_none s t p k))
 
 -- one place more
-pub places_more : (l m a r : List Date) (p i : ℕ) → a ≡ table (window (listed l) (listed m) p i) (length m)
-    → r ≡ table (joined_at (listed a) (listed m) (p + i) (listed l (p + i))) (length a) → r ≡ table (window (listed l) (listed m) p (i + 1)) (length m)
+pub places_more : (l m a r : List Date) (p i : ℕ) → a ≡ table (window (value_listed l) (value_listed m) p i) (length m)
+    → r ≡ table (joined_at (value_listed a) (value_listed m) (p + i) (value_listed l (p + i))) (length a) → r ≡ table (window (value_listed l) (value_listed m) p (i + 1)) (length m)
 places_more l m a r p i ea er =
-    let size : length a ≡ length m = ap length ea ∙ table_length (window (listed l) (listed m) p i) (length m) in
-    joined_listed (window (listed l) (listed m) p i) (listed m) (p + i) (length m) (listed l (p + i)) a m r er size ea (own_table m)
-    ∙ table_same _ (window (listed l) (listed m) p (i + 1)) (length m) (λ k w. window_more (listed l) (listed m) p i k)
+    let size : length a ≡ length m = ap length ea ∙ table_length (window (value_listed l) (value_listed m) p i) (length m) in
+    joined_listed (window (value_listed l) (value_listed m) p i) (value_listed m) (p + i) (length m) (value_listed l (p + i)) a m r er size ea (own_table m)
+    ∙ table_same _ (window (value_listed l) (value_listed m) p (i + 1)) (length m) (λ k w. window_more (value_listed l) (value_listed m) p i k)
 
 -- some turns more
-pub turns_more : (l m a r : List Date) (p q n w v : ℕ) (x : ℤ) → RepeatsIn (listed l) p q n x → v ≤ w → n * (w + v) ≤ q
-    → a ≡ table (window (listed l) (listed m) p (n * w)) (length m)
-    → r ≡ table (joined_at (listed a) (listed a) (n * v) (At (times v x))) (length a) → r ≡ table (window (listed l) (listed m) p (n * (w + v))) (length m)
+pub turns_more : (l m a r : List Date) (p q n w v : ℕ) (x : ℤ) → RepeatsIn (value_listed l) p q n x → v ≤ w → n * (w + v) ≤ q
+    → a ≡ table (window (value_listed l) (value_listed m) p (n * w)) (length m)
+    → r ≡ table (joined_at (value_listed a) (value_listed a) (n * v) (At (times v x))) (length a) → r ≡ table (window (value_listed l) (value_listed m) p (n * (w + v))) (length m)
 turns_more l m a r p q n w v x again fits room ea er =
-    let size : length a ≡ length m = ap length ea ∙ table_length (window (listed l) (listed m) p (n * w)) (length m) in
-    joined_listed (window (listed l) (listed m) p (n * w)) (window (listed l) (listed m) p (n * w)) (n * v) (length m) (At (times v x)) a a r er size ea ea
-    ∙ table_same _ (window (listed l) (listed m) p (n * (w + v))) (length m) (λ k u. turns_doubled (listed l) (listed m) p q n w v k x again fits room)
+    let size : length a ≡ length m = ap length ea ∙ table_length (window (value_listed l) (value_listed m) p (n * w)) (length m) in
+    joined_listed (window (value_listed l) (value_listed m) p (n * w)) (window (value_listed l) (value_listed m) p (n * w)) (n * v) (length m) (At (times v x)) a a r er size ea ea
+    ∙ table_same _ (window (value_listed l) (value_listed m) p (n * (w + v))) (length m) (λ k u. turns_doubled (value_listed l) (value_listed m) p q n w v k x again fits room)
 
 -- no turn more
-pub joined_none : (l : List Date) (n m : ℕ) (x : ℤ) → m ≡ 0 → n ≡ 0 → l ≡ table (joined_at (listed l) (listed l) n (At (times m x))) (length l)
-joined_none l n m x em en = own_table l ∙ table_same (listed l) (joined_at (listed l) (listed l) n (At (times m x))) (length l) (λ k w.
+pub joined_none : (l : List Date) (n m : ℕ) (x : ℤ) → m ≡ 0 → n ≡ 0 → l ≡ table (joined_at (value_listed l) (value_listed l) n (At (times m x))) (length l)
+joined_none l n m x em en = own_table l ∙ table_same (value_listed l) (joined_at (value_listed l) (value_listed l) n (At (times m x))) (length l) (λ k w.
     let at : k - 0 ≡ k = omega arith in
-    sym (ap (λ (z : ℕ). joined_at (listed l) (listed l) z (At (times m x)) k) en
-    ∙ ap (λ (z : ℕ). joined_at (listed l) (listed l) 0 (At (times z x)) k) em
-    ∙ ap (later_of (listed l k)) (carried_high (listed l) 0 (At (pos 0)) k (omega arith) ∙ one_times (listed l (k - 0)) ∙ ap (listed l) at)
-    ∙ later_idempotent (listed l k)))
+    sym (ap (λ (z : ℕ). joined_at (value_listed l) (value_listed l) z (At (times m x)) k) en
+    ∙ ap (λ (z : ℕ). joined_at (value_listed l) (value_listed l) 0 (At (times z x)) k) em
+    ∙ ap (later_of (value_listed l k)) (carried_high (value_listed l) 0 (At (pos 0)) k (omega arith) ∙ one_times (value_listed l (k - 0)) ∙ ap (value_listed l) at)
+    ∙ later_idempotent (value_listed l k)))
 
 -- one piece more
-pub pieces_more : (l m a b r : List Date) (p i j : ℕ) → a ≡ table (window (listed l) (listed m) p i) (length m) → b ≡ table (window (listed l) (listed m) (p + i) j) (length m)
-    → r ≡ table (joined_at (listed a) (listed b) 0 (At (pos 0))) (length a) → r ≡ table (window (listed l) (listed m) p (i + j)) (length m)
+pub pieces_more : (l m a b r : List Date) (p i j : ℕ) → a ≡ table (window (value_listed l) (value_listed m) p i) (length m) → b ≡ table (window (value_listed l) (value_listed m) (p + i) j) (length m)
+    → r ≡ table (joined_at (value_listed a) (value_listed b) 0 (At (pos 0))) (length a) → r ≡ table (window (value_listed l) (value_listed m) p (i + j)) (length m)
 pieces_more l m a b r p i j ea eb er =
-    let size : length a ≡ length m = ap length ea ∙ table_length (window (listed l) (listed m) p i) (length m) in
-    joined_listed (window (listed l) (listed m) p i) (window (listed l) (listed m) (p + i) j) 0 (length m) (At (pos 0)) a b r er size ea eb
-    ∙ table_same _ (window (listed l) (listed m) p (i + j)) (length m) (λ k w. window_joined (listed l) (listed m) p i j k)
+    let size : length a ≡ length m = ap length ea ∙ table_length (window (value_listed l) (value_listed m) p i) (length m) in
+    joined_listed (window (value_listed l) (value_listed m) p i) (window (value_listed l) (value_listed m) (p + i) j) 0 (length m) (At (pos 0)) a b r er size ea eb
+    ∙ table_same _ (window (value_listed l) (value_listed m) p (i + j)) (length m) (λ k w. window_joined (value_listed l) (value_listed m) p i j k)
 
 -- the same of equal lists
-pub sums_same : (r q l k m : List Date) (p o n j : ℕ) → AreSums r l m p n → q ≡ r → k ≡ l → o ≡ p → j ≡ n → AreSums q k m o j
+pub sums_same : (r q l k m : List Date) (p o n j : ℕ) → ArePieceSums r l m p n → q ≡ r → k ≡ l → o ≡ p → j ≡ n → ArePieceSums q k m o j
 sums_same r q l k m p o n j h eq ek eo ej =
-    eq ∙ h ∙ ap (λ (z : List Date). table (window (listed z) (listed m) p n) (length r)) (sym ek)
-    ∙ ap (λ (z : ℕ). table (window (listed k) (listed m) z n) (length r)) (sym eo)
-    ∙ ap (λ (z : ℕ). table (window (listed k) (listed m) o z) (length r)) (sym ej)
-    ∙ ap (λ (z : List Date). table (window (listed k) (listed m) o j) (length z)) (sym eq)
+    eq ∙ h ∙ ap (λ (z : List Date). table (window (value_listed z) (value_listed m) p n) (length r)) (sym ek)
+    ∙ ap (λ (z : ℕ). table (window (value_listed k) (value_listed m) z n) (length r)) (sym eo)
+    ∙ ap (λ (z : ℕ). table (window (value_listed k) (value_listed m) o z) (length r)) (sym ej)
+    ∙ ap (λ (z : List Date). table (window (value_listed k) (value_listed m) o j) (length z)) (sym eq)

@@ -5,39 +5,40 @@ use Rattle.std.proofs.lemmas.Int.{unsigned_abs-mul}
 use Rattle.std.proofs.lemmas.Nat.{mul-le}
 use Rattle.std.proofs.Math.Nat.{le-mul_of_pos_right}
 use Rattle.dioid.specs.declared.dates.Date.{Date}
-use Rattle.series_laws.specs.declared.plans.Plan.{Plan}
+use Rattle.series_laws.specs.declared.plans.NeedPlan.{NeedPlan}
 use Rattle.series_laws.specs.Periodic.{times}
-use Rattle.series_laws.specs.Forms.{Form, value_at, table}
-use Rattle.series_form.specs.Bounds.{IsSeries}
+use Rattle.series_laws.specs.SeriesForms.{Form, value_at, table}
+use Rattle.series_form.specs.NumberBounds.{IsSeries}
 use Rattle.series_laws.specs.Needs.{need_of}
 use Rattle.series_laws.proofs.Sums.{Serves}
-use Rattle.series_form.proofs.Numbers.{times_product}
+use Rattle.series_form.proofs.DateNumbers.{times_product}
 use Rattle.series_form.proofs.Finished.{IsTabled}
-use Rattle.series_ops.specs.Listed.{all_but_last, last_of}
+use Rattle.series_ops.specs.ListFunctions.{all_but_last, last_value}
 use Rattle.series_laws.specs.Product.{product_at}
 use Rattle.series_laws.proofs.Products.{product_rises, product_serves}
 use Rattle.series_ops.proofs.FirstValues.{listed_tabled, product_up_to}
 use Rattle.series_laws.specs.ProductNeeds.{product_plan}
+use Rattle.series_form.specs.SeriesLimits.{greatest_value, most_covering_shifts, greatest_moderate}
 
 -- ---- lifts
 
 -- m lifts of l shifts, each with k periods, move by no more than the shifts do
-pub lifted_bound : (m k n l : ℕ) (x : ℤ) → k * n ≡ l → 0 < n → m * l ≤ 400020000 → unsigned_abs x ≤ 1000000000000000000 → unsigned_abs (times m (times k x)) ≤ 1000000000000000000000000000
+pub lifted_bound : (m k n l : ℕ) (x : ℤ) → k * n ≡ l → 0 < n → m * l ≤ most_covering_shifts → unsigned_abs x ≤ greatest_value → unsigned_abs (times m (times k x)) ≤ greatest_moderate
 lifted_bound m k n l x e pos_n low small =
     let a : unsigned_abs (times k x) ≡ k * unsigned_abs x = ap unsigned_abs (times_product k x) ∙ unsigned_abs-mul (pos k) x in
     let b : unsigned_abs (times m (times k x)) ≡ m * unsigned_abs (times k x) = ap unsigned_abs (times_product m (times k x)) ∙ unsigned_abs-mul (pos m) (times k x) in
     let c : k ≤ k * n = le-mul_of_pos_right k pos_n in
     let d : m * k ≤ m * l = mul-le m k m l (omega arith) (omega arith) in
-    let f : m * k * unsigned_abs x ≤ 400020000 * 1000000000000000000 = mul-le (m * k) (unsigned_abs x) 400020000 1000000000000000000 (omega arith) small in
+    let f : m * k * unsigned_abs x ≤ most_covering_shifts * greatest_value = mul-le (m * k) (unsigned_abs x) most_covering_shifts greatest_value (omega arith) small in
     let g : m * (k * unsigned_abs x) ≡ m * k * unsigned_abs x = omega arith in
     let h : unsigned_abs (times m (times k x)) ≡ m * (k * unsigned_abs x) = b ∙ ap (λ (z : ℕ). m * z) a in
     omega arith
 
 -- ---- the cases of the plan
 
-pub product_tabled : (f g : Form) (r : Plan) (l : List Date) → IsSeries f → IsSeries g → r ≡ product_plan f g → need_of r ≤ 20000 → l ≡ table (product_at (value_at f) (value_at g)) (need_of r + 1)
-    → IsTabled (product_at (value_at f) (value_at g)) r (all_but_last l) (last_of l)
+pub product_tabled : (f g : Form) (r : NeedPlan) (l : List Date) → IsSeries f → IsSeries g → r ≡ product_plan f g → need_of r ≤ 20000 → l ≡ table (product_at (value_at f) (value_at g)) (need_of r + 1)
+    → IsTabled (product_at (value_at f) (value_at g)) r (all_but_last l) (last_value l)
 product_tabled f g r l sf sg e short items = listed_tabled (product_at (value_at f) (value_at g)) r l
     (product_rises (value_at f) (value_at g) sf.canonical.form.rising sg.canonical.form.rising)
-    (subst (λ (z : Plan). Serves (product_at (value_at f) (value_at g)) z) (sym e) (product_serves f g sf.canonical.form sg.canonical.form))
+    (subst (λ (z : NeedPlan). Serves (product_at (value_at f) (value_at g)) z) (sym e) (product_serves f g sf.canonical.form sg.canonical.form))
     items (λ k w. product_up_to f g sf sg k (omega arith))

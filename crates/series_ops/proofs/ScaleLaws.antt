@@ -13,10 +13,10 @@ use Rattle.dioid.specs.Dates.{IsAtMostDate, later_of, date_product}
 use Rattle.dioid.specs.declared.dates.Date.{Date}
 use Rattle.dioid.specs.declared.dates.Date.TheVariants.{Early, At, Never}
 use Rattle.dioid.proofs.DateOrder.{never_last, later_is_right, later_is_left}
-use Rattle.series_form.specs.Bounds.{IsUpTo}
-use Rattle.series_form.proofs.Numbers.{abs_le, abs_sum}
-use Rattle.series_ops.specs.Cells.{cell_by, date_by, IsCellBy, AreCellsBy}
-use Rattle.series_ops.specs.Listed.{listed}
+use Rattle.series_form.specs.NumberBounds.{IsMagnitudeUpTo}
+use Rattle.series_form.proofs.DateNumbers.{abs_le, abs_sum}
+use Rattle.series_ops.specs.Cells.{cell_by, date_by_far, IsCellBy, AreCellsBy}
+use Rattle.series_ops.specs.ListFunctions.{value_listed}
 use Rattle.series_ops.specs.Splits.{greatest_from, split_of}
 
 -- how far the two numbers have to lie from the others, and what all of them fit in
@@ -33,43 +33,43 @@ pub record IsScale (far bound top : ℕ) (early never : ℤ) (width : Width) : T
 module _ (far bound top : ℕ) (early never : ℤ) (width : Width) (scale : IsScale far bound top early never width) where
   -- ---- the date of a number
 
-  pub in_never : (z : ℤ) → pos far <ℤ z → date_by far z ≡ Never
+  pub in_never : (z : ℤ) → pos far <ℤ z → date_by_far far z ≡ Never
   in_never (pos n) h = let w : far < n = omega (arith, ints) in let e : ltb far n ≡ true = grind (arith, nat_tests) in rw e refl
   in_never (negsuc n) h = absurd (omega (arith, ints))
 
-  pub in_early : (z : ℤ) → z <ℤ (pos 0 -ℤ pos far) → date_by far z ≡ Early
+  pub in_early : (z : ℤ) → z <ℤ (pos 0 -ℤ pos far) → date_by_far far z ≡ Early
   in_early (pos n) h = absurd (omega (arith, ints))
   in_early (negsuc n) h = let w : far < suc n = omega (arith, ints) in let e : ltb far (suc n) ≡ true = grind (arith, nat_tests) in rw e refl
 
-  pub in_number : (z : ℤ) → (pos 0 -ℤ pos far) ≤ℤ z → z ≤ℤ pos far → date_by far z ≡ At z
+  pub in_number : (z : ℤ) → (pos 0 -ℤ pos far) ≤ℤ z → z ≤ℤ pos far → date_by_far far z ≡ At z
   in_number (pos n) g h = let w : n ≤ far = omega (arith, ints) in let e : ltb far n ≡ false = grind (arith, nat_tests) in rw e refl
   in_number (negsuc n) g h = let w : suc n ≤ far = omega (arith, ints) in let e : ltb far (suc n) ≡ false = grind (arith, nat_tests) in rw e refl
 
   -- ---- the greater number
 
-  date_rises : (x y : ℤ) → x ≤ℤ y → IsAtMostDate (date_by far x) (date_by far y)
+  date_rises : (x y : ℤ) → x ≤ℤ y → IsAtMostDate (date_by_far far x) (date_by_far far y)
   date_rises x y w = by_lt_z (pos far) y
-      (λ h. rw (in_never y h) (never_last (date_by far x)))
+      (λ h. rw (in_never y h) (never_last (date_by_far far x)))
       (λ h. by_lt_z x (pos 0 -ℤ pos far)
       (λ k. rw (in_early x k) tt)
-      (λ k. let a : date_by far x ≡ At x = in_number x k (omega (arith, ints)) in let b : date_by far y ≡ At y = in_number y (omega (arith, ints)) h in rw (a, b) w))
+      (λ k. let a : date_by_far far x ≡ At x = in_number x k (omega (arith, ints)) in let b : date_by_far far y ≡ At y = in_number y (omega (arith, ints)) h in rw (a, b) w))
 
-  pub date_greater : (x y : ℤ) → date_by far (int_max x y) ≡ later_of (date_by far x) (date_by far y)
+  pub date_greater : (x y : ℤ) → date_by_far far (int_max x y) ≡ later_of (date_by_far far x) (date_by_far far y)
   date_greater x y = by_lt_z x y
-      (λ h. let e : int_max x y ≡ y = omega (arith, ints, clamps) in ap (date_by far) e ∙ sym (later_is_right (date_by far x) (date_by far y) (date_rises x y (omega (arith, ints)))))
-      (λ h. let e : int_max x y ≡ x = omega (arith, ints, clamps) in ap (date_by far) e ∙ sym (later_is_left (date_by far x) (date_by far y) (date_rises y x h)))
+      (λ h. let e : int_max x y ≡ y = omega (arith, ints, clamps) in ap (date_by_far far) e ∙ sym (later_is_right (date_by_far far x) (date_by_far far y) (date_rises x y (omega (arith, ints)))))
+      (λ h. let e : int_max x y ≡ x = omega (arith, ints, clamps) in ap (date_by_far far) e ∙ sym (later_is_left (date_by_far far x) (date_by_far far y) (date_rises y x h)))
 
   -- ---- the number of a date
 
-  pub kept : (d : Date) → IsUpTo bound d → date_by far (cell_by early never d) ≡ d
+  pub kept : (d : Date) → IsMagnitudeUpTo bound d → date_by_far far (cell_by early never d) ≡ d
   kept Early h = in_early early (omega (arith, ints))
   kept (At t) h = let b = abs_le t bound h in let b0 : t ≤ℤ pos bound = b.0 in let b1 : (pos 0 -ℤ pos bound) ≤ℤ t = b.1 in in_number t (omega (arith, ints)) (omega (arith, ints))
   kept Never h = in_never never (omega (arith, ints))
 
-  pub is_cell : (d : Date) → IsUpTo bound d → IsCellBy far bound early never (cell_by early never d)
-  is_cell d h = record { own = ap (cell_by early never) (kept d h); bound = subst (λ (z : Date). IsUpTo bound z) (sym (kept d h)) h }
+  pub is_cell : (d : Date) → IsMagnitudeUpTo bound d → IsCellBy far bound early never (cell_by early never d)
+  is_cell d h = record { own = ap (cell_by early never) (kept d h); bound = subst (λ (z : Date). IsMagnitudeUpTo bound z) (sym (kept d h)) h }
 
-  cells_added : (a b : Date) → IsUpTo bound a → IsUpTo bound b → date_by far (cell_by early never a +ℤ cell_by early never b) ≡ date_product a b
+  cells_added : (a b : Date) → IsMagnitudeUpTo bound a → IsMagnitudeUpTo bound b → date_by_far far (cell_by early never a +ℤ cell_by early never b) ≡ date_product a b
   cells_added Early Early h k = in_early (early +ℤ early) (omega (arith, ints))
   cells_added Early (At t) h k = let c = abs_le t bound k in let c0 : t ≤ℤ pos bound = c.0 in in_early (early +ℤ t) (omega (arith, ints))
   cells_added Early Never h k = in_early (early +ℤ never) (omega (arith, ints))
@@ -87,20 +87,20 @@ module _ (far bound top : ℕ) (early never : ℤ) (width : Width) (scale : IsSc
   cells_added Never (At t) h k = let c = abs_le t bound k in let c1 : (pos 0 -ℤ pos bound) ≤ℤ t = c.1 in in_never (never +ℤ t) (omega (arith, ints))
   cells_added Never Never h k = in_never (never +ℤ never) (omega (arith, ints))
 
-  pub date_added : (x y : ℤ) → IsCellBy far bound early never x → IsCellBy far bound early never y → date_by far (x +ℤ y) ≡ date_product (date_by far x) (date_by far y)
+  pub date_added : (x y : ℤ) → IsCellBy far bound early never x → IsCellBy far bound early never y → date_by_far far (x +ℤ y) ≡ date_product (date_by_far far x) (date_by_far far y)
   date_added x y h k =
-      ap (λ (z : ℤ). date_by far (z +ℤ y)) (sym h.own) ∙ ap (λ (z : ℤ). date_by far (cell_by early never (date_by far x) +ℤ z)) (sym k.own)
-      ∙ cells_added (date_by far x) (date_by far y) h.bound k.bound
+      ap (λ (z : ℤ). date_by_far far (z +ℤ y)) (sym h.own) ∙ ap (λ (z : ℤ). date_by_far far (cell_by early never (date_by_far far x) +ℤ z)) (sym k.own)
+      ∙ cells_added (date_by_far far x) (date_by_far far y) h.bound k.bound
 
   -- ---- how great the numbers are
 
-  cell_bound : (d : Date) → IsUpTo bound d → unsigned_abs (cell_by early never d) ≤ top
+  cell_bound : (d : Date) → IsMagnitudeUpTo bound d → unsigned_abs (cell_by early never d) ≤ top
   cell_bound Early h = scale.early_top
   cell_bound (At t) h = let a : unsigned_abs t ≤ bound = h in let b : bound ≤ top = scale.bound_top in omega arith
   cell_bound Never h = scale.never_top
 
   cell_low : (x : ℤ) → IsCellBy far bound early never x → unsigned_abs x ≤ top
-  cell_low x h = subst (λ (z : ℤ). unsigned_abs z ≤ top) h.own (cell_bound (date_by far x) h.bound)
+  cell_low x h = subst (λ (z : ℤ). unsigned_abs z ≤ top) h.own (cell_bound (date_by_far far x) h.bound)
 
   pub cells_fit : (x y : ℤ) → IsCellBy far bound early never x → IsCellBy far bound early never y → FitsSigned width (x +ℤ y)
   cells_fit x y h k = scale.fits (x +ℤ y) (abs_sum x y top top (cell_low x h) (cell_low y k))
@@ -121,16 +121,16 @@ module _ (far bound top : ℕ) (early never : ℤ) (width : Width) (scale : IsSc
 
   -- ---- lists
 
-  pub cells_up_to : (l : List ℤ) (k : ℕ) → AreCellsBy far bound early never l → IsUpTo bound (listed (map (date_by far) l) k)
+  pub cells_up_to : (l : List ℤ) (k : ℕ) → AreCellsBy far bound early never l → IsMagnitudeUpTo bound (value_listed (map (date_by_far far) l) k)
   cells_up_to l k h = ⊎_elim
-      (λ low. subst (λ (z : Date). IsUpTo bound z) (sym (get_or-map (date_by far) l k (pos 0) Early low)) (h k low).bound)
+      (λ low. subst (λ (z : Date). IsMagnitudeUpTo bound z) (sym (get_or-map (date_by_far far) l k (pos 0) Early low)) (h k low).bound)
       (λ high.
-      let size : length (map (date_by far) l) ≡ length l = length-map l (date_by far) in
-      subst (λ (z : Date). IsUpTo bound z) (sym (get_or-eq_default (map (date_by far) l) Early {n = k} (omega arith))) tt)
+      let size : length (map (date_by_far far) l) ≡ length l = length-map l (date_by_far far) in
+      subst (λ (z : Date). IsMagnitudeUpTo bound z) (sym (get_or-eq_default (map (date_by_far far) l) Early {n = k} (omega arith))) tt)
       (cases_lt k (length l))
 
-  pub dated_at : (l : List ℤ) (k : ℕ) → k < length l → listed (map (date_by far) l) k ≡ date_by far (get_or l k (pos 0))
-  dated_at l k w = get_or-map (date_by far) l k (pos 0) Early w
+  pub dated_at : (l : List ℤ) (k : ℕ) → k < length l → value_listed (map (date_by_far far) l) k ≡ date_by_far far (get_or l k (pos 0))
+  dated_at l k w = get_or-map (date_by_far far) l k (pos 0) Early w
 
   pub cells_more : (l : List ℤ) (z : ℤ) → AreCellsBy far bound early never l → IsCellBy far bound early never z → AreCellsBy far bound early never (l ++ z ∷ [])
   cells_more l z h c k w = ⊎_elim
@@ -141,24 +141,24 @@ module _ (far bound top : ℕ) (early never : ℤ) (width : Width) (scale : IsSc
       subst (λ (x : ℤ). IsCellBy far bound early never x) (sym (get_or_push l z (pos 0) k e)) c)
       (cases_lt k (length l))
 
-  pub dated_more : (l : List ℤ) (z : ℤ) (d : Date) → date_by far z ≡ d → map (date_by far) (l ++ z ∷ []) ≡ map (date_by far) l ++ d ∷ []
-  dated_more l z d e = map-append (date_by far) l (z ∷ []) ∙ ap (λ (x : Date). map (date_by far) l ++ x ∷ []) e
+  pub dated_more : (l : List ℤ) (z : ℤ) (d : Date) → date_by_far far z ≡ d → map (date_by_far far) (l ++ z ∷ []) ≡ map (date_by_far far) l ++ d ∷ []
+  dated_more l z d e = map-append (date_by_far far) l (z ∷ []) ∙ ap (λ (x : Date). map (date_by_far far) l ++ x ∷ []) e
 
   -- one more split
   pub split_step : (l r : List ℤ) (k p m : ℕ) (best sum new : ℤ) → AreCellsBy far bound early never l → AreCellsBy far bound early never r → p + m < length l → k - (p + m) < length r
       → sum ≡ get_or l (p + m) (pos 0) +ℤ get_or r (k - (p + m)) (pos 0) → new ≡ int_max best sum
-      → date_by far best ≡ greatest_from (split_of (listed (map (date_by far) l)) (listed (map (date_by far) r)) k) p m
-      → date_by far new ≡ greatest_from (split_of (listed (map (date_by far) l)) (listed (map (date_by far) r)) k) p (m + 1)
+      → date_by_far far best ≡ greatest_from (split_of (value_listed (map (date_by_far far) l)) (value_listed (map (date_by_far far) r)) k) p m
+      → date_by_far far new ≡ greatest_from (split_of (value_listed (map (date_by_far far) l)) (value_listed (map (date_by_far far) r)) k) p (m + 1)
   split_step l r k p m best sum new hl hr wl wr es en eb =
       let n : suc m ≡ m + 1 = omega arith in
       let x : ℤ = get_or l (p + m) (pos 0) in
       let y : ℤ = get_or r (k - (p + m)) (pos 0) in
-      let f : ℕ → Date = split_of (listed (map (date_by far) l)) (listed (map (date_by far) r)) k in
-      let here : date_by far sum ≡ f (p + m) =
-      ap (date_by far) es ∙ date_added x y (hl (p + m) wl) (hr (k - (p + m)) wr)
-      ∙ ap (λ (z : Date). date_product z (date_by far y)) (sym (dated_at l (p + m) wl))
-      ∙ ap (date_product (listed (map (date_by far) l) (p + m))) (sym (dated_at r (k - (p + m)) wr)) in
-      ap (date_by far) en ∙ date_greater best sum
-      ∙ ap (λ (z : Date). later_of z (date_by far sum)) eb
+      let f : ℕ → Date = split_of (value_listed (map (date_by_far far) l)) (value_listed (map (date_by_far far) r)) k in
+      let here : date_by_far far sum ≡ f (p + m) =
+      ap (date_by_far far) es ∙ date_added x y (hl (p + m) wl) (hr (k - (p + m)) wr)
+      ∙ ap (λ (z : Date). date_product z (date_by_far far y)) (sym (dated_at l (p + m) wl))
+      ∙ ap (date_product (value_listed (map (date_by_far far) l) (p + m))) (sym (dated_at r (k - (p + m)) wr)) in
+      ap (date_by_far far) en ∙ date_greater best sum
+      ∙ ap (λ (z : Date). later_of z (date_by_far far sum)) eb
       ∙ ap (later_of (greatest_from f p m)) here
       ∙ ap (greatest_from f p) n

@@ -10,16 +10,17 @@ use Rattle.dioid.specs.declared.dates.Date.{Date}
 use Rattle.dioid.specs.declared.dates.Date.TheVariants.{Early, At, Never}
 use Rattle.dioid.proofs.Moves.{later_move, product_move_left}
 use Rattle.series_laws.specs.Periodic.{Repeats}
-use Rattle.series_laws.specs.Forms.{Form, form_with, size_of, start_of, value_at, table}
+use Rattle.series_laws.specs.SeriesForms.{Form, form_with, size_of, repeat_start, value_at, table}
 use Rattle.series_laws.proofs.FormValues.{value_in, value_repeats}
-use Rattle.series_form.specs.Bounds.{IsUpTo, IsSeries}
-use Rattle.series_form.proofs.Numbers.{moderate_fits}
+use Rattle.series_form.specs.NumberBounds.{IsMagnitudeUpTo, IsSeries}
+use Rattle.series_form.proofs.DateNumbers.{moderate_fits}
 use Rattle.series_form.proofs.Finished.{up_to_more}
 use Rattle.series_form.proofs.PointwiseTables.{later_up_to, listed_up_to}
 use Rattle.dioid.proofs.Moves.{product_is_move}
-use Rattle.series_ops.specs.Listed.{listed, AreUpTo}
-use Rattle.series_laws.specs.Product.{product_at, greatest}
+use Rattle.series_ops.specs.ListFunctions.{value_listed, AreUpTo}
+use Rattle.series_laws.specs.Product.{product_at, greatest_of_first}
 use Rattle.series_laws.proofs.Products.{product_commutes}
+use Rattle.series_form.specs.SeriesLimits.{greatest_value, greatest_value_ahead, greatest_moderate}
 use Rattle.series_ops.specs.Splits.{greatest_from, split_of, product_from, places_to, tail_product, with_tail}
 use Rattle.series_ops.proofs.FirstValues.{table_same, product_same, listed_is, added_up_to, all_up_to, all_more}
 
@@ -50,13 +51,13 @@ greatest_joined f p m (suc n) =
     ∙ ap (λ (z : ℕ). later_of (later_of (greatest_from f p m) (greatest_from f (p + m) n)) (f z)) g
     ∙ later_assoc (greatest_from f p m) (greatest_from f (p + m) n) (f ((p + m) + n))
 
-pub greatest_whole : (f : ℕ → Date) (k : ℕ) → greatest f k ≡ greatest_from f 0 (suc k)
+pub greatest_whole : (f : ℕ → Date) (k : ℕ) → greatest_of_first f k ≡ greatest_from f 0 (suc k)
 greatest_whole f zero = refl
 greatest_whole f (suc k) =
     let e : suc k ≡ 0 + suc k = omega arith in
     ap (λ (z : Date). later_of z (f (suc k))) (greatest_whole f k) ∙ ap (λ (z : ℕ). later_of (greatest_from f 0 (suc k)) (f z)) e
 
-pub greatest_from_up_to : (f : ℕ → Date) (p m n : ℕ) → ((j : ℕ) → j < m → IsUpTo n (f (p + j))) → IsUpTo n (greatest_from f p m)
+pub greatest_from_up_to : (f : ℕ → Date) (p m n : ℕ) → ((j : ℕ) → j < m → IsMagnitudeUpTo n (f (p + j))) → IsMagnitudeUpTo n (greatest_from f p m)
 greatest_from_up_to f p zero n h = tt
 greatest_from_up_to f p (suc m) n h = later_up_to n (greatest_from f p m) (f (p + m)) (greatest_from_up_to f p m n (λ j w. h j (omega arith))) (h m (omega arith))
 
@@ -94,70 +95,70 @@ product_from_same s t u p k h = greatest_same (split_of s t k) (split_of s u k) 
 
 -- ---- by the list of a form
 
-listed_splits : (f : Form) (t : ℕ → Date) (k p m : ℕ) → p + m ≤ size_of f → greatest_from (split_of (listed f.values) t k) p m ≡ greatest_from (split_of (value_at f) t k) p m
-listed_splits f t k p m w = greatest_same (split_of (listed f.values) t k) (split_of (value_at f) t k) p p m (λ j u.
+listed_splits : (f : Form) (t : ℕ → Date) (k p m : ℕ) → p + m ≤ size_of f → greatest_from (split_of (value_listed f.values) t k) p m ≡ greatest_from (split_of (value_at f) t k) p m
+listed_splits f t k p m w = greatest_same (split_of (value_listed f.values) t k) (split_of (value_at f) t k) p p m (λ j u.
     ap (λ (z : Date). date_product z (t (k - (p + j)))) (sym (value_in f (p + j) (omega arith))))
 
 -- the splits whose first part is below the tail, and those where it is in the tail
-pub parted_listed : (f : Form) (t : ℕ → Date) (k p : ℕ) (d : Date) → p ≡ start_of f → d ≡ tail_product f t k → with_tail (listed f.values) t p d k ≡ product_at (value_at f) t k
+pub parted_listed : (f : Form) (t : ℕ → Date) (k p : ℕ) (d : Date) → p ≡ repeat_start f → d ≡ tail_product f t k → with_tail (value_listed f.values) t p d k ≡ product_at (value_at f) t k
 parted_listed f t k p d ep ed =
-    let inside : 0 + places_to 0 (start_of f) k ≤ size_of f = omega arith in
-    ap (λ (z : ℕ). with_tail (listed f.values) t z d k) ep
-    ∙ ap (λ (z : Date). with_tail (listed f.values) t (start_of f) z k) ed
-    ∙ ap (λ (z : Date). later_of z (tail_product f t k)) (listed_splits f t k 0 (places_to 0 (start_of f) k) inside)
-    ∙ sym (product_parted (value_at f) t (start_of f) k)
+    let inside : 0 + places_to 0 (repeat_start f) k ≤ size_of f = omega arith in
+    ap (λ (z : ℕ). with_tail (value_listed f.values) t z d k) ep
+    ∙ ap (λ (z : Date). with_tail (value_listed f.values) t (repeat_start f) z k) ed
+    ∙ ap (λ (z : Date). later_of z (tail_product f t k)) (listed_splits f t k 0 (places_to 0 (repeat_start f) k) inside)
+    ∙ sym (product_parted (value_at f) t (repeat_start f) k)
 
 -- the splits whose first part is in the tail and in the list
 tail_listed : (f : Form) (t : ℕ → Date) (k : ℕ) → f.period ≤ size_of f
-    → greatest_from (split_of (listed f.values) t k) (start_of f) (places_to (start_of f) f.period k) ≡ greatest_from (split_of (value_at f) t k) (start_of f) (places_to (start_of f) f.period k)
-tail_listed f t k fits = let inside : start_of f + places_to (start_of f) f.period k ≤ size_of f = omega arith in listed_splits f t k (start_of f) (places_to (start_of f) f.period k) inside
+    → greatest_from (split_of (value_listed f.values) t k) (repeat_start f) (places_to (repeat_start f) f.period k) ≡ greatest_from (split_of (value_at f) t k) (repeat_start f) (places_to (repeat_start f) f.period k)
+tail_listed f t k fits = let inside : repeat_start f + places_to (repeat_start f) f.period k ≤ size_of f = omega arith in listed_splits f t k (repeat_start f) (places_to (repeat_start f) f.period k) inside
 
 -- below a period they are all
-pub tail_begun : (f : Form) (t : ℕ → Date) (k : ℕ) → f.period ≤ size_of f → k < f.period → greatest_from (split_of (listed f.values) t k) (start_of f) (places_to (start_of f) f.period k) ≡ tail_product f t k
-tail_begun f t k fits w = tail_listed f t k fits ∙ sym (product_begun (value_at f) t (start_of f) f.period k w)
+pub tail_begun : (f : Form) (t : ℕ → Date) (k : ℕ) → f.period ≤ size_of f → k < f.period → greatest_from (split_of (value_listed f.values) t k) (repeat_start f) (places_to (repeat_start f) f.period k) ≡ tail_product f t k
+tail_begun f t k fits w = tail_listed f t k fits ∙ sym (product_begun (value_at f) t (repeat_start f) f.period k w)
 
 -- from there on the others are those of a period before, a step later
 pub tail_carried : (f : Form) (t : ℕ → Date) (k : ℕ) (l : List Date) → 0 < f.period → f.period ≤ size_of f → l ≡ table (tail_product f t) k → f.period ≤ k
-    → later_of (greatest_from (split_of (listed f.values) t k) (start_of f) (places_to (start_of f) f.period k)) (date_product (At f.step) (listed l (k - f.period))) ≡ tail_product f t k
+    → later_of (greatest_from (split_of (value_listed f.values) t k) (repeat_start f) (places_to (repeat_start f) f.period k)) (date_product (At f.step) (value_listed l (k - f.period))) ≡ tail_product f t k
 tail_carried f t k l pos_n fits e w =
-    let before : date_product (At f.step) (listed l (k - f.period)) ≡ move f.step (tail_product f t (k - f.period)) =
-    product_is_move f.step (listed l (k - f.period)) ∙ ap (move f.step) (listed_is (tail_product f t) k l e (k - f.period) (omega arith)) in
-    ap (λ (z : Date). later_of z (date_product (At f.step) (listed l (k - f.period)))) (tail_listed f t k fits)
-    ∙ ap (later_of (greatest_from (split_of (value_at f) t k) (start_of f) (places_to (start_of f) f.period k))) before
-    ∙ sym (product_carried (value_at f) t (start_of f) f.period k f.step (value_repeats f pos_n fits) w)
+    let before : date_product (At f.step) (value_listed l (k - f.period)) ≡ move f.step (tail_product f t (k - f.period)) =
+    product_is_move f.step (value_listed l (k - f.period)) ∙ ap (move f.step) (listed_is (tail_product f t) k l e (k - f.period) (omega arith)) in
+    ap (λ (z : Date). later_of z (date_product (At f.step) (value_listed l (k - f.period)))) (tail_listed f t k fits)
+    ∙ ap (later_of (greatest_from (split_of (value_at f) t k) (repeat_start f) (places_to (repeat_start f) f.period k))) before
+    ∙ sym (product_carried (value_at f) t (repeat_start f) f.period k f.step (value_repeats f pos_n fits) w)
 
 -- ---- the form of a series, as the code passes it
 
 pub stepped : (f : Form) (x : ℤ) → IsSeries f → x ≡ f.step → to_z w128 (of_z w128 x) ≡ f.step
-stepped f x h e = ap (λ (z : ℤ). to_z w128 (of_z w128 z)) e ∙ to_z-of_z w128 f.step (moderate_fits f.step (let w : unsigned_abs f.step ≤ 1000000000000000000 = h.small.step in omega arith))
+stepped f x h e = ap (λ (z : ℤ). to_z w128 (of_z w128 z)) e ∙ to_z-of_z w128 f.step (moderate_fits f.step (let w : unsigned_abs f.step ≤ greatest_value = h.small.step in omega arith))
 
 pub passed_form : (f : Form) (l : List Date) (n : ℕ) (x : ℤ) → IsSeries f → n ≡ f.period → x ≡ f.step → form_with l n (to_z w128 (of_z w128 x)) ≡ form_with l f.period f.step
 passed_form f l n x h en ex = ap (form_with l n) (stepped f x h ex) ∙ ap (λ (z : ℕ). form_with l z f.step) en
 
-pub passed_step : (f : Form) (x : ℤ) → IsSeries f → x ≡ f.step → unsigned_abs (to_z w128 (of_z w128 x)) ≤ 20001000000000000000000
+pub passed_step : (f : Form) (x : ℤ) → IsSeries f → x ≡ f.step → unsigned_abs (to_z w128 (of_z w128 x)) ≤ greatest_value_ahead
 passed_step f x h e =
-    let small : unsigned_abs f.step ≤ 1000000000000000000 = h.small.step in
+    let small : unsigned_abs f.step ≤ greatest_value = h.small.step in
     let same : unsigned_abs (to_z w128 (of_z w128 x)) ≡ unsigned_abs f.step = ap unsigned_abs (stepped f x h e) in
     omega arith
 
 -- ---- bounds
 
-pub values_up_to : (f : Form) (l : List Date) → IsSeries f → l ≡ f.values → AreUpTo 20001000000000000000000 l
-values_up_to f l h e = subst (λ (z : List Date). AreUpTo 20001000000000000000000 z) (sym e) (all_more 1000000000000000000 20001000000000000000000 f.values (omega arith) h.small.values)
+pub values_up_to : (f : Form) (l : List Date) → IsSeries f → l ≡ f.values → AreUpTo greatest_value_ahead l
+values_up_to f l h e = subst (λ (z : List Date). AreUpTo greatest_value_ahead z) (sym e) (all_more greatest_value greatest_value_ahead f.values (omega arith) h.small.values)
 
-pub splits_up_to : (s t : ℕ → Date) (p k n m : ℕ) (l : List Date) → l ≡ table (product_from s t p) k → ((i j : ℕ) → i + j < k → IsUpTo n (date_product (s i) (t j))) → n ≤ m → AreUpTo m l
+pub splits_up_to : (s t : ℕ → Date) (p k n m : ℕ) (l : List Date) → l ≡ table (product_from s t p) k → ((i j : ℕ) → i + j < k → IsMagnitudeUpTo n (date_product (s i) (t j))) → n ≤ m → AreUpTo m l
 splits_up_to s t p k n m l e low w = all_up_to m (product_from s t p) k l e (λ i u.
     up_to_more n m (product_from s t p i) w (greatest_from_up_to (split_of s t i) p (suc i - p) n (λ j v. low (p + j) (i - (p + j)) (omega arith))))
 
 -- the sums in the tail of a series
-pub tails_up_to : (f : Form) (m l : List Date) (k : ℕ) → IsSeries f → AreUpTo 20001000000000000000000 m → k ≤ 20001 → l ≡ table (tail_product f (listed m)) k → AreUpTo 1000000000000000000000000000 l
-tails_up_to f m l k h low w e = splits_up_to (value_at f) (listed m) (start_of f) k (20001000000000000000000 + 20001000000000000000000) 1000000000000000000000000000 l e
-    (λ i j u. added_up_to 20001000000000000000000 20001000000000000000000 (value_at f i) (listed m j) (listed_up_to f h i (omega arith)) (low j)) (omega arith)
+pub tails_up_to : (f : Form) (m l : List Date) (k : ℕ) → IsSeries f → AreUpTo greatest_value_ahead m → k ≤ 20001 → l ≡ table (tail_product f (value_listed m)) k → AreUpTo greatest_moderate l
+tails_up_to f m l k h low w e = splits_up_to (value_at f) (value_listed m) (repeat_start f) k (greatest_value_ahead + greatest_value_ahead) greatest_moderate l e
+    (λ i j u. added_up_to greatest_value_ahead greatest_value_ahead (value_at f i) (value_listed m j) (listed_up_to f h i (omega arith)) (low j)) (omega arith)
 
 -- ---- the table
 
-pub product_listed : (s t : ℕ → Date) (n : ℕ) (m : List Date) → m ≡ table t n → table (product_at s (listed m)) n ≡ table (product_at s t) n
-product_listed s t n m e = table_same (product_at s (listed m)) (product_at s t) n (λ k w. product_same s (listed m) s t k (λ i u. refl) (λ i u. listed_is t n m e i (omega arith)))
+pub product_listed : (s t : ℕ → Date) (n : ℕ) (m : List Date) → m ≡ table t n → table (product_at s (value_listed m)) n ≡ table (product_at s t) n
+product_listed s t n m e = table_same (product_at s (value_listed m)) (product_at s t) n (λ k w. product_same s (value_listed m) s t k (λ i u. refl) (λ i u. listed_is t n m e i (omega arith)))
 
 pub product_turned : (s t : ℕ → Date) (n : ℕ) → table (product_at s t) n ≡ table (product_at t s) n
 product_turned s t n = table_same (product_at s t) (product_at t s) n (λ k w. product_commutes s t k)

@@ -2,7 +2,8 @@
 use Rattle.std.specs.Prelude.{◌≡◌, ◌≤◌, ◌<◌, ◌-ℤ◌, ◌⊎◌, ℕ, ℤ, pos, negsuc, suc, cond, ltb, List, [], ◌∷◌, ◌++◌, length, get_or, map, reverse}
 use Rattle.dioid.specs.declared.dates.Date.{Date}
 use Rattle.dioid.specs.declared.dates.Date.TheVariants.{Early, At, Never}
-use Rattle.series_form.specs.Bounds.{IsUpTo}
+use Rattle.series_form.specs.NumberBounds.{IsMagnitudeUpTo}
+use Rattle.series_form.specs.SeriesLimits.{greatest_listed, greatest_reach}
 
 -- ---- by any such two numbers
 
@@ -13,14 +14,14 @@ cell_by early never (At t) = t
 cell_by early never Never = never
 
 -- the date that a number stands for, where one of a greater magnitude stands for no number
-abbrev pub date_by : ℕ → ℤ → Date
-date_by far (pos n) = cond (ltb far n) Never (At (pos n))
-date_by far (negsuc n) = cond (ltb far (suc n)) Early (At (negsuc n))
+abbrev pub date_by_far : ℕ → ℤ → Date
+date_by_far far (pos n) = cond (ltb far n) Never (At (pos n))
+date_by_far far (negsuc n) = cond (ltb far (suc n)) Early (At (negsuc n))
 
 -- the number is that of a date, with a magnitude of at most `most`
 pub record IsCellBy (far most : ℕ) (early never z : ℤ) : Type 0 where
-  pub own : cell_by early never (date_by far z) ≡ z
-  pub bound : IsUpTo most (date_by far z)
+  pub own : cell_by early never (date_by_far far z) ≡ z
+  pub bound : IsMagnitudeUpTo most (date_by_far far z)
 
 -- each number is one of a date
 abbrev pub AreCellsBy : ℕ → ℕ → ℤ → ℤ → List ℤ → Type 0
@@ -32,25 +33,21 @@ AreCellsBy far most early never l = (k : ℕ) → k < length l → IsCellBy far 
 abbrev pub far : ℕ
 far = 1000000000000000000000000000000
 
--- no number of a list has a greater magnitude
-abbrev pub greatest_listed : ℕ
-greatest_listed = 500000000000000000000000000
-
 -- the number that stands for Never
 abbrev pub never_cell : ℤ
 never_cell = pos 1000000000000000000000000000000000000
 
 -- the number that stands for Early: its sum with the one for Never stands for Early too
 abbrev pub early_cell : ℤ
-early_cell = pos 0 -ℤ pos 10000000000000000000000000000000000000
+early_cell = pos 0 -ℤ pos greatest_reach
 
 -- the number that stands for a date
-abbrev pub cell_of : Date → ℤ
-cell_of d = cell_by early_cell never_cell d
+abbrev pub cell_of_date : Date → ℤ
+cell_of_date d = cell_by early_cell never_cell d
 
 -- the date that a number stands for
-abbrev pub date_in : ℤ → Date
-date_in z = date_by far z
+abbrev pub date_of_far_cell : ℤ → Date
+date_of_far_cell z = date_by_far far z
 
 -- each number is one of a date
 abbrev pub AreCells : List ℤ → Type 0
@@ -79,8 +76,8 @@ abbrev pub short_of : Date → ℤ
 short_of d = cell_by early_short never_short d
 
 -- the date that a number stands for
-abbrev pub short_date : ℤ → Date
-short_date z = date_by short_far z
+abbrev pub date_of_short_cell : ℤ → Date
+date_of_short_cell z = date_by_far short_far z
 
 -- each number is one of a date
 abbrev pub AreShort : List ℤ → Type 0
@@ -90,11 +87,11 @@ AreShort l = AreCellsBy short_far greatest_short early_short never_short l
 pub record AreShortOf (l n : List ℤ) : Type 0 where
   pub fits : length l ≤ length n
   pub short : AreShort l
-  pub same : (k : ℕ) → k < length l → short_date (get_or l k (pos 0)) ≡ date_in (get_or n k (pos 0))
+  pub same : (k : ℕ) → k < length l → date_of_short_cell (get_or l k (pos 0)) ≡ date_of_far_cell (get_or n k (pos 0))
 
 -- m is l, or l and the number of the date in eight bytes behind it
 abbrev pub IsPushed : List ℤ → List ℤ → Date → Type 0
-IsPushed l m d = (m ≡ l) ⊎ ((m ≡ l ++ short_of d ∷ []) × IsUpTo greatest_short d)
+IsPushed l m d = (m ≡ l) ⊎ ((m ≡ l ++ short_of d ∷ []) × IsMagnitudeUpTo greatest_short d)
 
 -- ---- conjugates
 
@@ -105,5 +102,5 @@ conjugate_of (At t) = At (pos 0 -ℤ t)
 conjugate_of Never = Early
 
 -- the conjugates in reverse
-abbrev pub turned : List Date → List Date
-turned l = reverse (map conjugate_of l)
+abbrev pub conjugates_reversed : List Date → List Date
+conjugates_reversed l = reverse (map conjugate_of l)

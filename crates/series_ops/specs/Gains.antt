@@ -1,8 +1,8 @@
 -- The operations of the model on gains.
-use Rattle.series_laws.specs.Forms.{Form, IsCanonical, early_form, zero_form, value_at}
+use Rattle.series_laws.specs.SeriesForms.{Form, IsCanonical, early_form, zero_form, value_at}
 use Rattle.series_laws.specs.Needs.{need_of, sum_plan, least_plan, form_sum, form_least}
 use Rattle.series_laws.specs.ProductNeeds.{product_plan, star_plan_by, left_plan, form_product, form_star, form_left}
-use Rattle.series_form.specs.Answer.{Fits}
+use Rattle.series_form.specs.SeriesAnswers.{Fits}
 use Rattle.series_ops.specs.declared.gains.Gain.{Gain}
 
 -- the gain of a form
@@ -42,8 +42,8 @@ abbrev pub gain_meet : Gain → Gain → Gain
 gain_meet a b = gain_of (form_least a.series b.series)
 
 -- the need and the numbers of the sum are within the bounds of a series
-abbrev pub SumFits : Gain → Gain → Type 0
-SumFits a b = Fits (need_of (sum_plan a.series b.series)) (form_sum a.series b.series)
+abbrev pub GainSumFits : Gain → Gain → Type 0
+GainSumFits a b = Fits (need_of (sum_plan a.series b.series)) (form_sum a.series b.series)
 
 -- the same of the product
 abbrev pub ProductFits : Gain → Gain → Type 0

@@ -1,7 +1,7 @@
 pub mod Cells
 pub mod Gains
-pub mod Listed
+pub mod ListFunctions
 pub mod Pieces
 pub mod Proved
-pub mod Refusals
+pub mod ElementRefusals
 pub mod Splits

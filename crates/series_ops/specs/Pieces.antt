@@ -5,8 +5,8 @@ use Rattle.dioid.specs.declared.dates.Date.{Date}
 use Rattle.dioid.specs.declared.dates.Date.TheVariants.{Early}
 use Rattle.dioid.specs.Dates.{later_of, date_product, move}
 use Rattle.series_ops.specs.declared.pieces.Piece.{Piece}
-use Rattle.series_laws.specs.Forms.{table}
-use Rattle.series_ops.specs.Listed.{listed}
+use Rattle.series_laws.specs.SeriesForms.{table}
+use Rattle.series_ops.specs.ListFunctions.{value_listed}
 use Rattle.series_ops.specs.Splits.{greatest_from, split_of, places_to}
 
 -- the greatest sum of the splits of k whose first part is at one of the m places from p on, Early for none
@@ -22,13 +22,13 @@ abbrev pub joined_at : (ℕ → Date) → (ℕ → Date) → ℕ → Date → �
 joined_at s t n d k = later_of (s k) (carried_at t n d k)
 
 -- r has the greatest sums of l and m whose first part is at one of the n places from p on, as far as it goes
-abbrev pub AreSums : List Date → List Date → List Date → ℕ → ℕ → Type 0
-AreSums r l m p n = r ≡ table (window (listed l) (listed m) p n) (length r)
+abbrev pub ArePieceSums : List Date → List Date → List Date → ℕ → ℕ → Type 0
+ArePieceSums r l m p n = r ≡ table (window (value_listed l) (value_listed m) p n) (length r)
 
 -- r has the greatest sums of l and the first n values of m whose first part is at one of the first p places, as far as it goes
-pub record IsBegun (n : ℕ) (r l m : List Date) (p : ℕ) : Type 0 where
+pub record IsPieceBegun (n : ℕ) (r l m : List Date) (p : ℕ) : Type 0 where
   pub fits : n ≤ length m
-  pub sums : AreSums r l (take n m) 0 p
+  pub sums : ArePieceSums r l (take n m) 0 p
 
 -- of the m places from p on, n places move each by x
 abbrev pub RepeatsIn : (ℕ → Date) → ℕ → ℕ → ℕ → ℤ → Type 0

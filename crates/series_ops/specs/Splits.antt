@@ -3,7 +3,7 @@ use Rattle.std.specs.Prelude.{◌+◌, ◌-◌, ℕ, zero, suc, min}
 use Rattle.dioid.specs.Dates.{later_of, date_product}
 use Rattle.dioid.specs.declared.dates.Date.{Date}
 use Rattle.dioid.specs.declared.dates.Date.TheVariants.{Early}
-use Rattle.series_laws.specs.Forms.{Form, start_of, value_at}
+use Rattle.series_laws.specs.SeriesForms.{Form, repeat_start, value_at}
 
 -- the greatest of the m values of f from p on, Early for none
 abbrev pub greatest_from : (ℕ → Date) → ℕ → ℕ → Date
@@ -24,7 +24,7 @@ places_to p n k = min n (suc k - p)
 
 -- the greatest sum of the splits of k whose first part is in the tail of f
 abbrev pub tail_product : Form → (ℕ → Date) → ℕ → Date
-tail_product f t = product_from (value_at f) t (start_of f)
+tail_product f t = product_from (value_at f) t (repeat_start f)
 
 -- the later of d and of the splits of k whose first part is below p
 abbrev pub with_tail : (ℕ → Date) → (ℕ → Date) → ℕ → Date → ℕ → Date

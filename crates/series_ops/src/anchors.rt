@@ -3,23 +3,24 @@ ghost use Rattle.std.specs.Prelude.{◌≡◌, ◌≤◌, ◌<◌, ◌+◌, ◌-
 ghost use Rattle.std.specs.Int.RustNames.{unsigned_abs};
 ghost use Rattle.dioid.specs.declared.dates.Date.TheVariants.{At, Never};
 ghost use Rattle.series_laws.specs.Periodic.{times};
-ghost use Rattle.series_laws.specs.Forms.{form_with, start_of};
-ghost use Rattle.series_form.specs.Bounds.{IsUpTo};
+ghost use Rattle.series_laws.specs.SeriesForms.{form_with, repeat_start};
+ghost use Rattle.series_form.specs.NumberBounds.{IsMagnitudeUpTo};
 ghost use Rattle.series_laws.specs.Needs.{greatest_int};
-ghost use Rattle.series_laws.specs.ProductNeeds.{beats, anchor_step, anchor_of, loss_of, natural_of, own_plan, anchored_plan};
-ghost use Rattle.series_ops.specs.Listed.{AreUpTo, IsModest};
+ghost use Rattle.series_laws.specs.ProductNeeds.{beats, anchor_step, anchor_of, loss_of_part, natural_of, own_plan, anchored_plan};
+ghost use Rattle.series_form.specs.SeriesLimits.{greatest_part_value, greatest_part_product, greatest_part_loss, greatest_star_need};
+ghost use Rattle.series_ops.specs.ListFunctions.{AreUpTo, IsModest};
 
 use crate::cells::greater;
 use dioid::Date;
-use series_form::Plan;
+use series_form::NeedPlan;
 use series_laws::Anchor;
 
 // A number many times over.
 pub(crate) fn many(count: usize, number: i128) -> i128
     requires count { count ≤ 20000 }
-    requires number { unsigned_abs number ≤ 200000000000000000000000 }
+    requires number { unsigned_abs number ≤ greatest_part_value }
     ensures value { result ≡ times count number }
-    ensures bound { unsigned_abs result ≤ 4000000000000000000000000000 }
+    ensures bound { unsigned_abs result ≤ greatest_part_product }
 {
     count as i128 * number
 }
@@ -28,7 +29,7 @@ pub(crate) fn many(count: usize, number: i128) -> i128
 fn is_better(anchor: Anchor, shift: usize, value: i128) -> bool
     requires anchor { IsModest anchor }
     requires shift { shift ≤ 20000 }
-    requires value { unsigned_abs value ≤ 200000000000000000000000 }
+    requires value { unsigned_abs value ≤ greatest_part_value }
     ensures { result ≡ beats anchor shift value }
 {
     let theirs = many(shift, anchor.value);
@@ -51,7 +52,7 @@ fn is_less(first: i128, second: i128) -> bool
 fn next_anchor(anchor: Anchor, shift: usize, date: Date) -> Anchor
     requires anchor { IsModest anchor }
     requires shift { shift ≤ 20000 }
-    requires date { IsUpTo 200000000000000000000000 date }
+    requires date { IsMagnitudeUpTo greatest_part_value date }
     ensures value { result ≡ anchor_step anchor shift date }
     ensures modest { IsModest result }
 {
@@ -76,8 +77,8 @@ fn best_anchor(values: &[Date], period: usize, step: i128) -> Anchor
     requires some { 0 < length values.now }
     requires short { length values.now ≤ 20000 }
     requires period { period ≤ length values.now }
-    requires step { unsigned_abs step ≤ 200000000000000000000000 }
-    requires values { AreUpTo 200000000000000000000000 values.now }
+    requires step { unsigned_abs step ≤ greatest_part_value }
+    requires values { AreUpTo greatest_part_value values.now }
     ensures value { result ≡ anchor_of (form_with values.now period step) }
     ensures modest { IsModest result }
 {
@@ -97,10 +98,10 @@ fn loss(values: &[Date], period: usize, step: i128, place: usize) -> i128
     requires place { place < length values.now }
     requires short { length values.now ≤ 20000 }
     requires period { period ≤ length values.now }
-    requires step { unsigned_abs step ≤ 200000000000000000000000 }
-    requires values { AreUpTo 200000000000000000000000 values.now }
-    ensures value { result ≡ loss_of (form_with values.now period step) place }
-    ensures bound { unsigned_abs result ≤ 8000000000000000000000000000 }
+    requires step { unsigned_abs step ≤ greatest_part_value }
+    requires values { AreUpTo greatest_part_value values.now }
+    ensures value { result ≡ loss_of_part (form_with values.now period step) place }
+    ensures bound { unsigned_abs result ≤ greatest_part_loss }
 {
     match values[place] {
         Date::At(value) => many(place, step) - many(period, value),
@@ -113,11 +114,11 @@ fn greatest_loss(values: &[Date], period: usize, step: i128) -> i128
     requires positive { 0 < period }
     requires short { length values.now ≤ 20000 }
     requires period { period ≤ length values.now }
-    requires step { unsigned_abs step ≤ 200000000000000000000000 }
-    requires values { AreUpTo 200000000000000000000000 values.now }
-    ensures value { result ≡ greatest_int (λ i. loss_of (form_with values.now period step)
-        (start_of (form_with values.now period step) + i)) (period - 1) }
-    ensures bound { unsigned_abs result ≤ 8000000000000000000000000000 }
+    requires step { unsigned_abs step ≤ greatest_part_value }
+    requires values { AreUpTo greatest_part_value values.now }
+    ensures value { result ≡ greatest_int (λ i. loss_of_part (form_with values.now period step)
+        (repeat_start (form_with values.now period step) + i)) (period - 1) }
+    ensures bound { unsigned_abs result ≤ greatest_part_loss }
 {
     let start = values.len() - period;
     let mut worst = loss(values, period, step, start);
@@ -129,28 +130,28 @@ fn greatest_loss(values: &[Date], period: usize, step: i128) -> i128
 
 // A number, 0 where it is below.
 fn at_least_zero(number: i128) -> u128
-    requires { unsigned_abs number ≤ 8000000000000000000000000000 }
+    requires { unsigned_abs number ≤ greatest_part_loss }
     ensures value { result ≡ natural_of number }
-    ensures bound { result ≤ 8000000000000000000000000000 }
+    ensures bound { result ≤ greatest_part_loss }
 {
     if number < 0 { 0 } else { number as u128 }
 }
 
 // From where the star repeats where the tail is a number: by the anchor if there is one, else
 // past the greatest loss by the period.
-fn plan_of_number(values: &[Date], period: usize, step: i128) -> Plan
+fn plan_of_number(values: &[Date], period: usize, step: i128) -> NeedPlan
     requires positive { 0 < period }
     requires short { length values.now ≤ 20000 }
     requires period { period ≤ length values.now }
-    requires step { unsigned_abs step ≤ 200000000000000000000000 }
-    requires values { AreUpTo 200000000000000000000000 values.now }
+    requires step { unsigned_abs step ≤ greatest_part_value }
+    requires values { AreUpTo greatest_part_value values.now }
     ensures value { result ≡ anchored_plan (anchor_of (form_with values.now period step))
         (form_with values.now period step) }
-    ensures bound { result.from ≤ 1000000000000000000000000000000000 }
+    ensures bound { result.from ≤ greatest_star_need }
 {
     let anchor = best_anchor(values, period, step);
     if anchor.found {
-        return Plan {
+        return NeedPlan {
             from: (anchor.shift * values.len() + 1) as u128,
             turn: anchor.shift,
         };
@@ -158,26 +159,26 @@ fn plan_of_number(values: &[Date], period: usize, step: i128) -> Plan
     let worst = at_least_zero(greatest_loss(values, period, step));
     let more = period as u128 + 1;
     let turns = if more < worst { worst } else { more };
-    Plan {
+    NeedPlan {
         from: values.len() as u128 * turns + 1,
         turn: period,
     }
 }
 
 // From where the star of a form repeats, the form at least 0 from shift 1 on.
-pub(crate) fn plan_of_parts(values: &[Date], period: usize, step: i128) -> Plan
+pub(crate) fn plan_of_parts(values: &[Date], period: usize, step: i128) -> NeedPlan
     requires positive { 0 < period }
     requires short { length values.now ≤ 20000 }
     requires period { period ≤ length values.now }
-    requires step { unsigned_abs step ≤ 200000000000000000000000 }
-    requires values { AreUpTo 200000000000000000000000 values.now }
+    requires step { unsigned_abs step ≤ greatest_part_value }
+    requires values { AreUpTo greatest_part_value values.now }
     ensures value { result ≡ own_plan (form_with values.now period step) }
-    ensures bound { result.from ≤ 1000000000000000000000000000000000 }
+    ensures bound { result.from ≤ greatest_star_need }
 {
     match values[values.len() - period] {
-        Date::Early => Plan { from: 0, turn: 1 },
+        Date::Early => NeedPlan { from: 0, turn: 1 },
         Date::At(_) => plan_of_number(values, period, step),
-        Date::Never => Plan {
+        Date::Never => NeedPlan {
             from: values.len() as u128,
             turn: 1,
         },

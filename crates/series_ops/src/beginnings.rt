@@ -1,8 +1,9 @@
 //! The greatest sums of two lists of which the second goes on: those with what there was of it are
 //! found at once, piece by piece, and the others as it goes on.
 ghost use Rattle.std.specs.Prelude.{◌≡◌, ◌≤◌, ◌<◌, [], IfOk, length};
-ghost use Rattle.series_ops.specs.Listed.{listed, AreUpTo};
-ghost use Rattle.series_ops.specs.Pieces.{window, IsBegun};
+ghost use Rattle.series_form.specs.SeriesLimits.{greatest_value_ahead};
+ghost use Rattle.series_ops.specs.ListFunctions.{value_listed, AreUpTo};
+ghost use Rattle.series_ops.specs.Pieces.{window, IsPieceBegun};
 
 use crate::cells::{Cells, greatest_split};
 use crate::pieces::sums_in_few_pieces;
@@ -46,9 +47,9 @@ pub(crate) fn renewed(
     requires short { length first.now ≤ 20000 }
     requires long { length second.now ≤ 20001 }
     requires period { 0 < period }
-    requires first { AreUpTo 20001000000000000000000 first.now }
-    requires old { IsBegun old.count old.sums.items first.now second.now most }
-    ensures { IfOk result (λ begun. IsBegun begun.count begun.sums.items first.now second.now
+    requires first { AreUpTo greatest_value_ahead first.now }
+    requires old { IsPieceBegun old.count old.sums.items first.now second.now most }
+    ensures { IfOk result (λ begun. IsPieceBegun begun.count begun.sums.items first.now second.now
         most) }
 {
     let count = second.len();
@@ -69,8 +70,8 @@ pub(crate) fn greatest_begun(
 ) -> Date
     requires first { most ≤ length first.now }
     requires second { shift < length second.now }
-    requires begun { IsBegun begun.now.count begun.now.sums.items first.now second.now most }
-    ensures { result ≡ window (listed first.now) (listed second.now) 0 most shift }
+    requires begun { IsPieceBegun begun.now.count begun.now.sums.items first.now second.now most }
+    ensures { result ≡ window (value_listed first.now) (value_listed second.now) 0 most shift }
 {
     let known = begun.sums.as_slice();
     if shift < known.len() {

@@ -2,10 +2,11 @@
 //! of numbers alone: a number far below all others stands for Early, one far above for Never.
 ghost use Rattle.std.specs.Prelude.{◌≡◌, ◌≤◌, ◌<◌, ◌+◌, ◌-◌, ◌++◌, ◌∷◌, [], length, map, IfOk};
 ghost use Rattle.std.specs.Int.{int_max};
-ghost use Rattle.series_laws.specs.Forms.{table};
-ghost use Rattle.series_form.specs.Bounds.{IsUpTo};
-ghost use Rattle.series_ops.specs.Cells.{far, greatest_listed, cell_of, conjugate_of, date_in, short_date, turned, AreCells, AreShort, IsPushed};
-ghost use Rattle.series_ops.specs.Listed.{listed, AreUpTo};
+ghost use Rattle.series_laws.specs.SeriesForms.{table};
+ghost use Rattle.series_form.specs.NumberBounds.{IsMagnitudeUpTo};
+ghost use Rattle.series_form.specs.SeriesLimits.{greatest_listed};
+ghost use Rattle.series_ops.specs.Cells.{far, cell_of_date, conjugate_of, date_of_far_cell, date_of_short_cell, conjugates_reversed, AreCells, AreShort, IsPushed};
+ghost use Rattle.series_ops.specs.ListFunctions.{value_listed, AreUpTo};
 ghost use Rattle.series_ops.specs.Splits.{greatest_from, split_of};
 
 use dioid::Date;
@@ -23,7 +24,7 @@ const EARLY: i128 = -10_000_000_000_000_000_000_000_000_000_000_000_000;
 
 // The number that stands for a date.
 fn cell(date: Date) -> i128
-    ensures { result ≡ cell_of date }
+    ensures { result ≡ cell_of_date date }
 {
     match date {
         Date::Early => EARLY,
@@ -34,8 +35,8 @@ fn cell(date: Date) -> i128
 
 // The date that a number stands for.
 fn date_of(cell: i128) -> Date
-    ensures value { result ≡ date_in cell }
-    ensures bound { IsUpTo far result }
+    ensures value { result ≡ date_of_far_cell cell }
+    ensures bound { IsMagnitudeUpTo far result }
 {
     if cell > FAR {
         return Date::Never;
@@ -73,8 +74,8 @@ fn push_short(list: &mut Vec<i64>, date: Date) -> Result<(), AllocError>
 
 // The date that a number of eight bytes stands for.
 fn date_of_short(cell: i64) -> Date
-    ensures value { result ≡ short_date cell }
-    ensures bound { IsUpTo far result }
+    ensures value { result ≡ date_of_short_cell cell }
+    ensures bound { IsMagnitudeUpTo far result }
 {
     if cell > SHORT_FAR {
         return Date::Never;
@@ -101,7 +102,7 @@ pub(crate) fn greater(first: i128, second: i128) -> i128
 
 // Numbers change their sign, Early and Never their places.
 pub(crate) fn conjugate(date: Date) -> Date
-    requires { IsUpTo far date }
+    requires { IsMagnitudeUpTo far date }
     ensures { result ≡ conjugate_of date }
 {
     match date {
@@ -122,11 +123,11 @@ pub(crate) struct Cells {
 impl Model for Cells {
     ghost use Rattle.std.specs.Prelude.{List, map};
     ghost use Rattle.dioid.specs.declared.dates.Date.{Date};
-    ghost use Rattle.series_ops.specs.Cells.{date_in, AreCells, AreShortOf};
+    ghost use Rattle.series_ops.specs.Cells.{date_of_far_cell, AreCells, AreShortOf};
 
     ghost Value = { List Date };
 
-    ghost view = { λ c. map date_in c.numbers.items };
+    ghost view = { λ c. map date_of_far_cell c.numbers.items };
 
     ghost invariant = { λ c. AreCells c.numbers.items × AreShortOf c.short.items c.numbers.items };
 }
@@ -152,7 +153,7 @@ impl Cells {
 
     // The date at a place, Early past them.
     fn date(&self, place: usize) -> Date
-        ensures { result ≡ listed self.now place }
+        ensures { result ≡ value_listed self.now place }
     {
         let numbers = self.numbers.as_slice();
         if place < numbers.len() {
@@ -163,7 +164,7 @@ impl Cells {
 
     // Adds a date behind the others.
     pub(crate) fn push(&mut self, date: Date) -> Result<(), AllocError>
-        requires { IsUpTo greatest_listed date }
+        requires { IsMagnitudeUpTo greatest_listed date }
         ensures { IfOk result (λ _. self.new ≡ self.old ++ date ∷ []) }
     {
         let whole = self.short.len() == self.numbers.len();
@@ -189,7 +190,7 @@ pub(crate) fn collected(alloc: Global, dates: &[Date]) -> Result<Cells, AllocErr
 
 // The first dates of a list, Early past it.
 pub(crate) fn dates_of(alloc: Global, cells: &Cells, size: usize) -> Result<Vec<Date>, AllocError>
-    ensures value { IfOk result (λ dates. dates.items ≡ table (listed cells.now) size) }
+    ensures value { IfOk result (λ dates. dates.items ≡ table (value_listed cells.now) size) }
     ensures bound { AreUpTo greatest_listed cells.now }
 {
     let _size = cells.len();
@@ -215,7 +216,7 @@ pub(crate) fn conjugates(alloc: Global, dates: &[Date]) -> Result<Cells, AllocEr
 // The conjugates of the dates of a list, the last one first.
 pub(crate) fn conjugates_back(alloc: Global, dates: &[Date]) -> Result<Cells, AllocError>
     requires { AreUpTo greatest_listed dates.now }
-    ensures { IfOk result (λ cells. turned cells ≡ dates.now) }
+    ensures { IfOk result (λ cells. conjugates_reversed cells ≡ dates.now) }
 {
     let mut cells = Cells::new(alloc);
     for place in 0..dates.len() {
@@ -232,8 +233,9 @@ fn greatest_long(first: &[i128], second: &[i128], shift: usize, from: usize, cou
     requires second { shift < length second.now }
     requires cells { AreCells first.now }
     requires others { AreCells second.now }
-    ensures { date_in result ≡ greatest_from (split_of (listed (map date_in first.now))
-        (listed (map date_in second.now)) shift) from count }
+    ensures { date_of_far_cell result ≡ greatest_from (split_of (value_listed (map date_of_far_cell
+        first.now))
+        (value_listed (map date_of_far_cell second.now)) shift) from count }
 {
     let mut best = EARLY;
     for place in 0..count {
@@ -250,8 +252,9 @@ fn greatest_short(first: &[i64], second: &[i64], shift: usize, from: usize, coun
     requires second { shift < length second.now }
     requires cells { AreShort first.now }
     requires others { AreShort second.now }
-    ensures { short_date result ≡ greatest_from (split_of (listed (map short_date first.now))
-        (listed (map short_date second.now)) shift) from count }
+    ensures { date_of_short_cell result ≡ greatest_from (split_of (value_listed (map
+        date_of_short_cell first.now))
+        (value_listed (map date_of_short_cell second.now)) shift) from count }
 {
     let mut best = SHORT_EARLY;
     for place in 0..count {
@@ -273,9 +276,10 @@ pub(crate) fn greatest_split(
     requires first { from + count ≤ length first.now }
     requires splits { count ≤ shift + 1 - from }
     requires second { shift < length second.now }
-    ensures value { result ≡ greatest_from (split_of (listed first.now) (listed second.now) shift)
+    ensures value { result ≡ greatest_from (split_of (value_listed first.now) (value_listed
+        second.now) shift)
         from count }
-    ensures bound { IsUpTo far result }
+    ensures bound { IsMagnitudeUpTo far result }
 {
     let numbers = first.short.as_slice();
     let others = second.short.as_slice();

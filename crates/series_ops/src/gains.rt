@@ -16,11 +16,11 @@ pub struct Gain {
     pub series: Series,
 }
 
-ghost use Rattle.series_ops.specs.Refusals.{IsRefusal};
+ghost use Rattle.series_ops.specs.ElementRefusals.{IsElementRefusal};
 
 // TooLong and TooGreat become Range, want of memory stays itself.
 fn refused(why: SeriesRefused) -> Refused
-    ensures { IsRefusal why result }
+    ensures { IsElementRefusal why result }
 {
     match why {
         SeriesRefused::OutOfMemory => Refused::OutOfMemory,
@@ -30,7 +30,7 @@ fn refused(why: SeriesRefused) -> Refused
 
 impl Dioid for Gain {
     ghost use Rattle.std.specs.Prelude.{true};
-    ghost use Rattle.series_ops.specs.Gains.{IsCanonicalGain, gain_zero, gain_one, gain_sum, gain_product, SumFits, ProductFits};
+    ghost use Rattle.series_ops.specs.Gains.{IsCanonicalGain, gain_zero, gain_one, gain_sum, gain_product, GainSumFits, ProductFits};
     ghost use Rattle.series_ops.specs.Proved.GainLaws.{gains_closed, gain_laws};
 
     const TAKES_MEMORY: bool = true;
@@ -47,7 +47,7 @@ impl Dioid for Gain {
 
     ghost product = { gain_product };
 
-    ghost sum_fits = { SumFits };
+    ghost sum_fits = { GainSumFits };
 
     ghost product_fits = { ProductFits };
 

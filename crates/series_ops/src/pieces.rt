@@ -6,11 +6,11 @@ ghost use Rattle.std.specs.Int.RustNames.{unsigned_abs};
 ghost use Rattle.dioid.specs.declared.dates.Date.TheVariants.{Early, At};
 ghost use Rattle.dioid.specs.Dates.{move};
 ghost use Rattle.series_laws.specs.Periodic.{times};
-ghost use Rattle.series_laws.specs.Forms.{table};
-ghost use Rattle.series_form.specs.Bounds.{IsUpTo};
-ghost use Rattle.series_ops.specs.Cells.{greatest_listed};
-ghost use Rattle.series_ops.specs.Pieces.{carried_at, joined_at, window, AreSums, IsPiece, RepeatsIn};
-ghost use Rattle.series_ops.specs.Listed.{listed, AreUpTo};
+ghost use Rattle.series_laws.specs.SeriesForms.{table};
+ghost use Rattle.series_form.specs.NumberBounds.{IsMagnitudeUpTo};
+ghost use Rattle.series_form.specs.SeriesLimits.{greatest_listed, greatest_value_ahead, greatest_moderate, greatest_part_product};
+ghost use Rattle.series_ops.specs.Pieces.{carried_at, joined_at, window, ArePieceSums, IsPiece, RepeatsIn};
+ghost use Rattle.series_ops.specs.ListFunctions.{value_listed, AreUpTo};
 
 use crate::anchors::many;
 use crate::cells::{Cells, dates_of};
@@ -31,9 +31,9 @@ struct Piece {
 // The sum of a date with the value `back` shifts before, Early where there is none.
 fn carried(others: &[Date], back: usize, date: Date, shift: usize) -> Date
     requires shift { shift < length others.now }
-    requires date { IsUpTo 4000000000000000000000000000 date }
-    requires others { AreUpTo 1000000000000000000000000000 others.now }
-    ensures { result ≡ carried_at (listed others.now) back date shift }
+    requires date { IsMagnitudeUpTo greatest_part_product date }
+    requires others { AreUpTo greatest_moderate others.now }
+    ensures { result ≡ carried_at (value_listed others.now) back date shift }
 {
     if shift < back {
         return Date::Early;
@@ -50,10 +50,10 @@ fn joined(
     date: Date,
 ) -> Result<Vec<Date>, AllocError>
     requires size { length sums.now ≡ length others.now }
-    requires date { IsUpTo 4000000000000000000000000000 date }
-    requires others { AreUpTo 1000000000000000000000000000 others.now }
-    ensures { IfOk result (λ values. values.items ≡ table (joined_at (listed sums.now)
-        (listed others.now) back date) (length sums.now)) }
+    requires date { IsMagnitudeUpTo greatest_part_product date }
+    requires others { AreUpTo greatest_moderate others.now }
+    ensures { IfOk result (λ values. values.items ≡ table (joined_at (value_listed sums.now)
+        (value_listed others.now) back date) (length sums.now)) }
 {
     let mut values = Vec::new(alloc);
     for shift in 0..sums.len() {
@@ -71,10 +71,10 @@ fn sums_by_places(
     count: usize,
 ) -> Result<Vec<Date>, AllocError>
     requires places { from + count ≤ length first.now }
-    requires first { AreUpTo 20001000000000000000000 first.now }
+    requires first { AreUpTo greatest_value_ahead first.now }
     requires second { AreUpTo greatest_listed second.now }
-    ensures { IfOk result (λ values. values.items ≡ table (window (listed first.now)
-        (listed second.now) from count) (length second.now)) }
+    ensures { IfOk result (λ values. values.items ≡ table (window (value_listed first.now)
+        (value_listed second.now) from count) (length second.now)) }
 {
     let mut sums = repeated(alloc, Date::Early, second.len())?;
     for place in 0..count {
@@ -93,13 +93,13 @@ fn sums_by_turns(
     from: usize,
     piece: Piece,
 ) -> Result<Vec<Date>, AllocError>
-    requires piece { IsPiece (listed first.now) from piece }
+    requires piece { IsPiece (value_listed first.now) from piece }
     requires places { from + piece.size * piece.turns ≤ length first.now }
     requires short { length first.now ≤ 20000 }
-    requires first { AreUpTo 20001000000000000000000 first.now }
+    requires first { AreUpTo greatest_value_ahead first.now }
     requires second { AreUpTo greatest_listed second.now }
-    ensures { IfOk result (λ values. values.items ≡ table (window (listed first.now)
-        (listed second.now) from (piece.size * piece.turns)) (length second.now)) }
+    ensures { IfOk result (λ values. values.items ≡ table (window (value_listed first.now)
+        (value_listed second.now) from (piece.size * piece.turns)) (length second.now)) }
 {
     let mut sums = sums_by_places(alloc, first, second, from, piece.size)?;
     let mut done = 1;
@@ -123,9 +123,9 @@ fn with_turns(
     requires more { more ≤ 20000 }
     requires back { more ≡ 0 → back ≡ 0 }
     requires step { unsigned_abs step ≤ 40002000000000000000000 }
-    requires sums { AreUpTo 1000000000000000000000000000 sums.items }
-    ensures { IfOk result (λ values. values.items ≡ table (joined_at (listed sums.items)
-        (listed sums.items) back (At (times more step))) (length sums.items)) }
+    requires sums { AreUpTo greatest_moderate sums.items }
+    ensures { IfOk result (λ values. values.items ≡ table (joined_at (value_listed sums.items)
+        (value_listed sums.items) back (At (times more step))) (length sums.items)) }
 {
     if more == 0 {
         return Ok(sums);
@@ -143,8 +143,8 @@ fn lesser(first: usize, second: usize) -> usize
 
 // What the second date is above the first, 0 unless both are numbers.
 fn step_between(first: Date, second: Date) -> i128
-    requires first { IsUpTo 20001000000000000000000 first }
-    requires second { IsUpTo 20001000000000000000000 second }
+    requires first { IsMagnitudeUpTo greatest_value_ahead first }
+    requires second { IsMagnitudeUpTo greatest_value_ahead second }
     ensures { unsigned_abs result ≤ 40002000000000000000000 }
 {
     match (first, second) {
@@ -155,7 +155,7 @@ fn step_between(first: Date, second: Date) -> i128
 
 // Whether the second date is the first, moved by a step.
 fn is_moved(first: Date, second: Date, step: i128) -> bool
-    requires first { IsUpTo 20001000000000000000000 first }
+    requires first { IsMagnitudeUpTo greatest_value_ahead first }
     requires step { unsigned_abs step ≤ 40002000000000000000000 }
     ensures { result ≡ true → second ≡ move step first }
 {
@@ -172,11 +172,11 @@ fn turns_from(first: &[Date], from: usize, most: usize, size: usize, step: i128)
     requires places { from + most ≤ length first.now }
     requires positive { 0 < size }
     requires room { size ≤ most }
-    requires first { AreUpTo 20001000000000000000000 first.now }
+    requires first { AreUpTo greatest_value_ahead first.now }
     requires step { unsigned_abs step ≤ 40002000000000000000000 }
     ensures some { 0 < result }
     ensures room { size * result ≤ most }
-    ensures repeats { RepeatsIn (listed first.now) from (size * result) size step }
+    ensures repeats { RepeatsIn (value_listed first.now) from (size * result) size step }
 {
     for place in 0..most - size {
         if !is_moved(first[from + place], first[from + place + size], step) {
@@ -191,8 +191,8 @@ fn piece_from(first: &[Date], from: usize, most: usize, period: usize) -> Piece
     requires places { from + most ≤ length first.now }
     requires some { 0 < most }
     requires period { 0 < period }
-    requires first { AreUpTo 20001000000000000000000 first.now }
-    ensures piece { IsPiece (listed first.now) from result }
+    requires first { AreUpTo greatest_value_ahead first.now }
+    ensures piece { IsPiece (value_listed first.now) from result }
     ensures room { result.size * result.turns ≤ most }
     ensures fits { result.size ≤ most }
 {
@@ -217,7 +217,7 @@ fn is_short_in_pieces(first: &[Date], from: usize, count: usize, period: usize) 
     requires places { from + count ≤ length first.now }
     requires short { length first.now ≤ 20000 }
     requires period { 0 < period }
-    requires first { AreUpTo 20001000000000000000000 first.now }
+    requires first { AreUpTo greatest_value_ahead first.now }
 {
     let mut done = 0;
     let mut work = 0;
@@ -251,13 +251,14 @@ fn with_piece(
     requires places { from + count ≤ length first.now }
     requires short { length first.now ≤ 20000 }
     requires period { 0 < period }
-    requires first { AreUpTo 20001000000000000000000 first.now }
+    requires first { AreUpTo greatest_value_ahead first.now }
     requires second { AreUpTo greatest_listed second.now }
-    requires begun { begun.values.items ≡ table (window (listed first.now) (listed second.now) from
+    requires begun { begun.values.items ≡ table (window (value_listed first.now) (value_listed
+        second.now) from
         begun.places) (length second.now) }
     requires within { begun.places ≤ count }
-    ensures values { IfOk result (λ next. next.values.items ≡ table (window (listed first.now)
-        (listed second.now) from next.places) (length second.now)) }
+    ensures values { IfOk result (λ next. next.values.items ≡ table (window (value_listed first.now)
+        (value_listed second.now) from next.places) (length second.now)) }
     ensures within { IfOk result (λ next. next.places ≤ count) }
     ensures more { IfOk result (λ next. min (begun.places + 1) count ≤ next.places) }
 {
@@ -285,10 +286,10 @@ fn sums_by_pieces(
     requires places { from + count ≤ length first.now }
     requires short { length first.now ≤ 20000 }
     requires period { 0 < period }
-    requires first { AreUpTo 20001000000000000000000 first.now }
+    requires first { AreUpTo greatest_value_ahead first.now }
     requires second { AreUpTo greatest_listed second.now }
-    ensures { IfOk result (λ values. values.items ≡ table (window (listed first.now)
-        (listed second.now) from count) (length second.now)) }
+    ensures { IfOk result (λ values. values.items ≡ table (window (value_listed first.now)
+        (value_listed second.now) from count) (length second.now)) }
 {
     let values = repeated(alloc, Date::Early, second.len())?;
     let mut begun = PartialSums { places: 0, values };
@@ -304,7 +305,7 @@ fn stride_of(first: &[Date], from: usize, count: usize, period: usize) -> Option
     requires places { from + count ≤ length first.now }
     requires short { length first.now ≤ 20000 }
     requires period { 0 < period }
-    requires first { AreUpTo 20001000000000000000000 first.now }
+    requires first { AreUpTo greatest_value_ahead first.now }
     ensures { IfSome result (λ stride. 0 < stride) }
 {
     if is_short_in_pieces(first, from, count, 1) {
@@ -331,8 +332,8 @@ pub(crate) fn sums_in_few_pieces(
     requires places { from + count ≤ length first.now }
     requires short { length first.now ≤ 20000 }
     requires period { 0 < period }
-    requires first { AreUpTo 20001000000000000000000 first.now }
-    ensures { IfOk result (λ values. AreSums values.items first.now second.now from count) }
+    requires first { AreUpTo greatest_value_ahead first.now }
+    ensures { IfOk result (λ values. ArePieceSums values.items first.now second.now from count) }
 {
     let dates = dates_of(alloc, first, first.len())?;
     let own = dates.as_slice();

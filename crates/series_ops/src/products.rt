@@ -4,14 +4,15 @@ ghost use Rattle.std.specs.Int.RustNames.{unsigned_abs};
 ghost use Rattle.dioid.specs.declared.dates.Date.TheVariants.{Early, Never};
 ghost use Rattle.series_laws.specs.declared.plans.Slopes.TheVariants.{First};
 ghost use Rattle.series_laws.specs.Periodic.{times};
-ghost use Rattle.series_laws.specs.Forms.{value_at, table, HasValues};
-ghost use Rattle.series_form.specs.Bounds.{IsSeries};
-ghost use Rattle.series_form.specs.Answer.{AnswersOf, Answers};
+ghost use Rattle.series_laws.specs.SeriesForms.{value_at, table, HasValues};
+ghost use Rattle.series_form.specs.NumberBounds.{IsSeries};
+ghost use Rattle.series_form.specs.SeriesAnswers.{AnswersOf, AnswersForm};
 ghost use Rattle.series_laws.specs.Needs.{need_of, period_with, rise_of, fall_of, tail_of, slopes_of};
 ghost use Rattle.series_laws.specs.Product.{product_at};
 ghost use Rattle.series_ops.specs.Splits.{tail_product};
 ghost use Rattle.series_laws.specs.ProductNeeds.{lifts_of, waits_of, product_first, product_by_slopes, product_plan, form_product};
-ghost use Rattle.series_ops.specs.Listed.{IsNumber, listed, AreUpTo};
+ghost use Rattle.series_form.specs.SeriesLimits.{greatest_value_ahead, most_covering_shifts, greatest_moderate, greatest_reach, most_waits};
+ghost use Rattle.series_ops.specs.ListFunctions.{IsNumberDate, value_listed, AreUpTo};
 
 use crate::cells::{Cells, collected};
 use crate::pieces::sums_in_few_pieces;
@@ -19,7 +20,7 @@ use crate::splits::{tail_value, value_with_tail};
 use crate::tables::{ended, first_values};
 use dioid::Date;
 use series_form::{
-    Plan, Series, SeriesRefused, Slopes, common_period, compare_slopes, gain_over, gains_for,
+    NeedPlan, Series, SeriesRefused, Slopes, common_period, compare_slopes, gain_over, gains_for,
     lead_gain, start, tail,
 };
 use std::alloc::{AllocError, Global};
@@ -28,7 +29,7 @@ use std::alloc::{AllocError, Global};
 fn lifts(first: &Series, second: &Series) -> usize
     ensures value { result ≡ lifts_of first.now second.now }
     ensures bound { result ≤ 20000 }
-    ensures covers { result * period_with first.now second.now ≤ 400020000 }
+    ensures covers { result * period_with first.now second.now ≤ most_covering_shifts }
 {
     let shifts = common_period(first, second);
     (first.values().len() + (shifts - 1)) / shifts
@@ -37,7 +38,7 @@ fn lifts(first: &Series, second: &Series) -> usize
 // What the second series gains on the lifts.
 fn gain_on_lifts(first: &Series, second: &Series) -> i128
     ensures value { result ≡ times (lifts_of first.now second.now) (fall_of first.now second.now) }
-    ensures bound { unsigned_abs result ≤ 1000000000000000000000000000 }
+    ensures bound { unsigned_abs result ≤ greatest_moderate }
 {
     let lifts = lifts(first, second);
     let gain = gain_over(second, common_period(first, second));
@@ -49,66 +50,66 @@ fn gain_on_lifts(first: &Series, second: &Series) -> i128
 fn waits(first: &Series, second: &Series) -> u128
     requires { pos 0 <ℤ (rise_of first.now second.now -ℤ fall_of first.now second.now) }
     ensures value { result ≡ waits_of first.now second.now }
-    ensures bound { result ≤ 1800000000000000000000000000 }
+    ensures bound { result ≤ most_waits }
 {
     gains_for(gain_on_lifts(first, second), lead_gain(first, second))
 }
 
 // From where the product repeats where both tails are numbers and the first slope is greater.
-fn plan_of_numbers(first: &Series, second: &Series) -> Plan
+fn plan_of_numbers(first: &Series, second: &Series) -> NeedPlan
     requires gain { pos 0 <ℤ (rise_of first.now second.now -ℤ fall_of first.now second.now) }
-    requires number { IsNumber (tail_of first.now) }
+    requires number { IsNumberDate (tail_of first.now) }
     ensures value { result ≡ product_first first.now second.now }
-    ensures bound { result.from ≤ 10000000000000000000000000000000000000 }
+    ensures bound { result.from ≤ greatest_reach }
 {
     let shifts = common_period(first, second) as u128;
     let begun = (first.values().len() + start(second)) as u128;
-    Plan {
+    NeedPlan {
         from: begun + (lifts(first, second) as u128 * shifts + waits(first, second) * shifts),
         turn: first.period(),
     }
 }
 
 // From where the product repeats where the first tail is Never and the second one a number.
-fn plan_of_never(first: &Series, second: &Series) -> Plan
+fn plan_of_never(first: &Series, second: &Series) -> NeedPlan
     requires never { tail_of first.now ≡ Never }
-    requires number { IsNumber (tail_of second.now) }
+    requires number { IsNumberDate (tail_of second.now) }
     ensures value { result ≡ product_first first.now second.now }
-    ensures bound { result.from ≤ 10000000000000000000000000000000000000 }
+    ensures bound { result.from ≤ greatest_reach }
 {
     let shifts = common_period(first, second);
-    Plan {
+    NeedPlan {
         from: (first.values().len() + start(second) + lifts(first, second) * shifts) as u128,
         turn: 1,
     }
 }
 
 // From where the product repeats where the first slope is greater and the second tail not Early.
-fn plan_of_steeper(first: &Series, second: &Series) -> Plan
+fn plan_of_steeper(first: &Series, second: &Series) -> NeedPlan
     requires slopes { slopes_of first.now second.now ≡ First }
     requires tail { tail_of second.now ≡ Early → ⊥ }
     ensures value { result ≡ product_first first.now second.now }
-    ensures bound { result.from ≤ 10000000000000000000000000000000000000 }
+    ensures bound { result.from ≤ greatest_reach }
 {
     match (tail(first), tail(second)) {
         (Date::At(_), Date::At(_)) => plan_of_numbers(first, second),
         (Date::Never, Date::At(_)) => plan_of_never(first, second),
-        _ => Plan { from: 0, turn: 1 },
+        _ => NeedPlan { from: 0, turn: 1 },
     }
 }
 
 // From where the product repeats where no factor is Early everywhere.
-fn plan_by_slopes(first: &Series, second: &Series) -> Plan
+fn plan_by_slopes(first: &Series, second: &Series) -> NeedPlan
     requires left { tail_of first.now ≡ Early → ⊥ }
     requires right { tail_of second.now ≡ Early → ⊥ }
     ensures value { result ≡ product_by_slopes (slopes_of first.now second.now) first.now
         second.now }
-    ensures bound { result.from ≤ 10000000000000000000000000000000000000 }
+    ensures bound { result.from ≤ greatest_reach }
 {
     match compare_slopes(first, second) {
         Slopes::Equal => {
             let shifts = common_period(first, second);
-            Plan {
+            NeedPlan {
                 from: (start(first) + start(second) + shifts) as u128,
                 turn: shifts,
             }
@@ -119,14 +120,14 @@ fn plan_by_slopes(first: &Series, second: &Series) -> Plan
 }
 
 // From where the product repeats, and by how many shifts.
-fn plan_of_product(first: &Series, second: &Series) -> Plan
+fn plan_of_product(first: &Series, second: &Series) -> NeedPlan
     ensures value { result ≡ product_plan first.now second.now }
-    ensures bound { result.from ≤ 10000000000000000000000000000000000000 }
+    ensures bound { result.from ≤ greatest_reach }
     ensures left { IsSeries first.now }
     ensures right { IsSeries second.now }
 {
     match (tail(first), tail(second)) {
-        (Date::Early, _) | (_, Date::Early) => Plan { from: 0, turn: 1 },
+        (Date::Early, _) | (_, Date::Early) => NeedPlan { from: 0, turn: 1 },
         _ => plan_by_slopes(first, second),
     }
 }
@@ -142,9 +143,9 @@ fn tail_list(
     requires parts { parts.now ≡ first.now.values }
     requires short { count ≤ 20001 }
     requires second { count ≤ length second.now }
-    requires second_bound { AreUpTo 20001000000000000000000 second.now }
+    requires second_bound { AreUpTo greatest_value_ahead second.now }
     ensures { IfOk result (λ values. values.items ≡ table
-        (tail_product first.now (listed second.now)) count) }
+        (tail_product first.now (value_listed second.now)) count) }
 {
     let (period, step) = (first.period(), first.step());
     let from = start(first);
@@ -175,10 +176,10 @@ fn product_list(
 ) -> Result<Vec<Date>, AllocError>
     requires parts { parts.now ≡ first.now.values }
     requires second { length tails.now ≤ length second.now }
-    requires tails { tails.now ≡ table (tail_product first.now (listed second.now))
+    requires tails { tails.now ≡ table (tail_product first.now (value_listed second.now))
         (length tails.now) }
     ensures { IfOk result (λ values. values.items ≡ table
-        (product_at (value_at first.now) (listed second.now)) (length tails.now)) }
+        (product_at (value_at first.now) (value_listed second.now)) (length tails.now)) }
 {
     let from = start(first);
     let (size, period) = (tails.len(), first.period());
@@ -236,7 +237,7 @@ pub fn product(alloc: Global, first: &Series, second: &Series) -> Result<Series,
     ensures answer { AnswersOf (λ r. HasValues r (product_at (value_at first.now)
         (value_at second.now))) (need_of (product_plan first.now second.now))
         (need_of (product_plan first.now second.now)) result }
-    ensures model { Answers (need_of (product_plan first.now second.now))
+    ensures model { AnswersForm (need_of (product_plan first.now second.now))
         (form_product first.now second.now) result }
     ensures left { IsSeries first.now }
     ensures right { IsSeries second.now }

@@ -4,15 +4,16 @@ ghost use Rattle.std.specs.Int.RustNames.{unsigned_abs};
 ghost use Rattle.dioid.specs.declared.dates.Date.TheVariants.{Early};
 ghost use Rattle.dioid.specs.Dates.{date_left};
 ghost use Rattle.series_laws.specs.declared.plans.Slopes.TheVariants.{First};
-ghost use Rattle.series_laws.specs.Forms.{size_of, start_of, value_at, table};
-ghost use Rattle.series_form.specs.Bounds.{IsUpTo, IsSeries};
-ghost use Rattle.series_form.specs.Answer.{AnswersOf, Answers};
+ghost use Rattle.series_laws.specs.SeriesForms.{size_of, repeat_start, value_at, table};
+ghost use Rattle.series_form.specs.NumberBounds.{IsMagnitudeUpTo, IsSeries};
+ghost use Rattle.series_form.specs.SeriesAnswers.{AnswersOf, AnswersForm};
 ghost use Rattle.series_laws.specs.Needs.{need_of, tail_of};
 ghost use Rattle.series_laws.specs.Residual.{IsLeftAt};
-ghost use Rattle.series_laws.specs.ProductNeeds.{offsets_of, left_over, OffsetsDecide, left_at, long_left, short_left, left_plan, form_left};
-ghost use Rattle.series_ops.specs.Cells.{conjugate_of, turned};
-ghost use Rattle.series_ops.specs.Pieces.{AreSums};
-ghost use Rattle.series_ops.specs.Listed.{AreEarlyTo, AreUpTo, left_listed, star_left_listed, IsStarLeft};
+ghost use Rattle.series_laws.specs.ProductNeeds.{offsets_of, left_over, OffsetsDecide, residual_at, long_left, short_left, left_plan, form_left};
+ghost use Rattle.series_form.specs.SeriesLimits.{greatest_value, greatest_value_far_ahead, most_covering_shifts, greatest_listed};
+ghost use Rattle.series_ops.specs.Cells.{conjugate_of, conjugates_reversed};
+ghost use Rattle.series_ops.specs.Pieces.{ArePieceSums};
+ghost use Rattle.series_ops.specs.ListFunctions.{AreEarlyTo, AreUpTo, left_listed, star_left_listed, IsStarLeft};
 
 use crate::cells::{Cells, collected, conjugate, conjugates, conjugates_back};
 use crate::pieces::sums_in_few_pieces;
@@ -20,48 +21,48 @@ use crate::splits::greatest_at;
 use crate::tables::{ended, first_values, repeated};
 use dioid::Date;
 use series_form::{
-    Plan, Series, SeriesRefused, Slopes, common_period, common_start, compare_slopes, start, tail,
+    NeedPlan, Series, SeriesRefused, Slopes, common_period, common_start, compare_slopes, start, tail,
 };
 use std::alloc::{AllocError, Global};
 
 // The offsets that decide a residual.
 fn offsets(first: &Series, second: &Series) -> usize
     ensures value { result ≡ offsets_of first.now second.now }
-    ensures bound { result ≤ 400020000 }
+    ensures bound { result ≤ most_covering_shifts }
     ensures positive { 0 < result }
 {
     common_start(first, second) + common_period(first, second)
 }
 
 // The plan where the offsets decide how long the list is.
-fn plan_by_offsets(first: &Series, second: &Series) -> Plan
+fn plan_by_offsets(first: &Series, second: &Series) -> NeedPlan
     ensures value { result ≡ long_left first.now second.now }
-    ensures bound { result.from ≤ 400020000 }
+    ensures bound { result.from ≤ most_covering_shifts }
 {
     let offsets = offsets(first, second);
     let size = second.values().len();
     let longer = if size < offsets { offsets } else { size };
-    Plan {
+    NeedPlan {
         from: (longer - second.period()) as u128,
         turn: second.period(),
     }
 }
 
 // The plan where the list is as long as that of the second series.
-fn plan_by_second(first: &Series, second: &Series) -> Plan
+fn plan_by_second(first: &Series, second: &Series) -> NeedPlan
     ensures value { result ≡ short_left first.now second.now }
-    ensures bound { result.from ≤ 400020000 }
+    ensures bound { result.from ≤ most_covering_shifts }
 {
-    Plan {
+    NeedPlan {
         from: start(second) as u128,
         turn: second.period(),
     }
 }
 
 // From where the residual repeats, by the period of the second series.
-fn plan_of_left(first: &Series, second: &Series) -> Plan
+fn plan_of_left(first: &Series, second: &Series) -> NeedPlan
     ensures value { result ≡ left_plan first.now second.now }
-    ensures bound { result.from ≤ 400020000 }
+    ensures bound { result.from ≤ most_covering_shifts }
     ensures left { IsSeries first.now }
     ensures right { IsSeries second.now }
 {
@@ -77,8 +78,8 @@ fn plan_of_left(first: &Series, second: &Series) -> Plan
 
 // The greatest date whose sum with the first is at most the second.
 fn subtracted(first: Date, second: Date) -> Date
-    requires first { IsUpTo 500000000000000000000000000 first }
-    requires second { IsUpTo 500000000000000000000000000 second }
+    requires first { IsMagnitudeUpTo greatest_listed first }
+    requires second { IsMagnitudeUpTo greatest_listed second }
     ensures { result ≡ date_left first second }
 {
     match (first, second) {
@@ -94,8 +95,8 @@ fn subtracted(first: Date, second: Date) -> Date
 fn next_by_star(list: &[Date], values: &[Date], turn: usize, step: i128) -> Date
     requires place { length values.now < length list.now }
     requires turn { 0 < turn }
-    requires step { unsigned_abs step ≤ 1000000000000000000 }
-    requires values { AreUpTo 500000000000000000000000000 values.now }
+    requires step { unsigned_abs step ≤ greatest_value }
+    requires values { AreUpTo greatest_listed values.now }
     ensures { result ≡ star_left_listed list.now values.now turn step (length values.now) }
 {
     let date = list[list.len() - 1 - values.len()];
@@ -113,9 +114,9 @@ fn left_by_star(
     step: i128,
 ) -> Result<Vec<Date>, AllocError>
     requires turn { 0 < turn }
-    requires step { unsigned_abs step ≤ 1000000000000000000 }
+    requires step { unsigned_abs step ≤ greatest_value }
     requires short { length list.now ≤ 60001 }
-    requires list { AreUpTo 60002000000000000000000 list.now }
+    requires list { AreUpTo greatest_value_far_ahead list.now }
     ensures { IfOk result (λ values. IsStarLeft list.now values.items turn step) }
 {
     let mut values = Vec::new(alloc);
@@ -165,10 +166,11 @@ fn left_value(
     requires early { AreEarlyTo begun first.now }
     requires second { shift + length first.now ≤ length second.now }
     requires by_star { shift + length first.now ≤ length by_star.now }
-    requires head { AreSums known.now.head.items first.now second.now begun (from - begun) }
-    requires rest { AreSums known.now.rest.items first.now by_star.now from
+    requires head { ArePieceSums known.now.head.items first.now second.now begun (from - begun) }
+    requires rest { ArePieceSums known.now.rest.items first.now by_star.now from
         (length first.now - from) }
-    ensures { result ≡ left_listed first.now (turned second.now) (map conjugate_of by_star.now) from
+    ensures { result ≡ left_listed first.now (conjugates_reversed second.now) (map conjugate_of
+        by_star.now) from
         shift }
 {
     let last = second.len() - 1 - shift;
@@ -195,18 +197,19 @@ fn next_left(
     requires series { IsSeries first.now }
     requires decide { OffsetsDecide first.now second.now }
     requires parts { parts.now ≡ first.now.values }
-    requires begun { begun ≤ start_of first.now }
+    requires begun { begun ≤ repeat_start first.now }
     requires early { AreEarlyTo begun first.now.values }
     requires few { offsets_of first.now second.now ≤ 40000 }
-    requires list { turned list.now ≡ table (value_at second.now)
+    requires list { conjugates_reversed list.now ≡ table (value_at second.now)
         (size_of second.now + offsets_of first.now second.now) }
-    requires by_star { IsStarLeft (turned list.now) (map conjugate_of by_star.now) first.now.period
+    requires by_star { IsStarLeft (conjugates_reversed list.now) (map conjugate_of by_star.now)
+        first.now.period
         first.now.step }
     requires values { values.now ≡ table (left_over first.now second.now) (length values.now) }
-    requires head { AreSums known.now.head.items parts.now list.now begun
-        (start_of first.now - begun) }
-    requires rest { AreSums known.now.rest.items parts.now by_star.now (start_of first.now)
-        (size_of first.now - start_of first.now) }
+    requires head { ArePieceSums known.now.head.items parts.now list.now begun
+        (repeat_start first.now - begun) }
+    requires rest { ArePieceSums known.now.rest.items parts.now by_star.now (repeat_start first.now)
+        (size_of first.now - repeat_start first.now) }
     requires count { length values.now ≤ 20000 }
     ensures { result ≡ left_over first.now second.now (length values.now) }
 {
@@ -227,11 +230,11 @@ fn known_sums(
     by_star: &Cells,
 ) -> Result<Known, AllocError>
     requires parts { parts.now ≡ first.now.values }
-    requires begun { begun ≤ start_of first.now }
-    ensures head { IfOk result (λ known. AreSums known.head.items parts.now list.now begun
-        (start_of first.now - begun)) }
-    ensures rest { IfOk result (λ known. AreSums known.rest.items parts.now by_star.now
-        (start_of first.now) (size_of first.now - start_of first.now)) }
+    requires begun { begun ≤ repeat_start first.now }
+    ensures head { IfOk result (λ known. ArePieceSums known.head.items parts.now list.now begun
+        (repeat_start first.now - begun)) }
+    ensures rest { IfOk result (λ known. ArePieceSums known.rest.items parts.now by_star.now
+        (repeat_start first.now) (size_of first.now - repeat_start first.now)) }
 {
     let (from, period) = (start(first), first.period());
     let size = list.len();
@@ -254,9 +257,10 @@ fn left_list(
     requires series { IsSeries first.now }
     requires decide { OffsetsDecide first.now second.now }
     requires few { offsets_of first.now second.now ≤ 40000 }
-    requires list { turned list.now ≡ table (value_at second.now)
+    requires list { conjugates_reversed list.now ≡ table (value_at second.now)
         (size_of second.now + offsets_of first.now second.now) }
-    requires by_star { IsStarLeft (turned list.now) (map conjugate_of by_star.now) first.now.period
+    requires by_star { IsStarLeft (conjugates_reversed list.now) (map conjugate_of by_star.now)
+        first.now.period
         first.now.step }
     requires count { count ≤ 20001 }
     ensures { IfOk result (λ values. values.items ≡ table (left_over first.now second.now) count) }
@@ -316,7 +320,8 @@ fn values_by_slopes(
     requires late { tail_of first.now ≡ Early → ⊥ }
     requires short { need_of (left_plan first.now second.now) ≤ 20000 }
     requires count { count ≤ 20001 }
-    ensures { IfOk result (λ values. values.items ≡ table (left_at first.now second.now) count) }
+    ensures { IfOk result (λ values. values.items ≡ table (residual_at first.now second.now)
+        count) }
 {
     match compare_slopes(first, second) {
         Slopes::First => repeated(alloc, Date::Early, count),
@@ -333,7 +338,8 @@ fn left_values(
 ) -> Result<Vec<Date>, AllocError>
     requires short { need_of (left_plan first.now second.now) ≤ 20000 }
     requires count { count ≤ 20001 }
-    ensures { IfOk result (λ values. values.items ≡ table (left_at first.now second.now) count) }
+    ensures { IfOk result (λ values. values.items ≡ table (residual_at first.now second.now)
+        count) }
 {
     match tail(first) {
         Date::Early => repeated(alloc, Date::Never, count),
@@ -350,7 +356,7 @@ pub fn left(alloc: Global, first: &Series, second: &Series) -> Result<Series, Se
     ensures answer { AnswersOf (λ r. (k : ℕ) → IsLeftAt (value_at first.now) (value_at second.now) k
         (value_at r k)) (need_of (left_plan first.now second.now))
         (need_of (left_plan first.now second.now)) result }
-    ensures model { Answers (need_of (left_plan first.now second.now))
+    ensures model { AnswersForm (need_of (left_plan first.now second.now))
         (form_left first.now second.now) result }
     ensures left { IsSeries first.now }
     ensures right { IsSeries second.now }

@@ -2,20 +2,21 @@
 ghost use Rattle.std.specs.Prelude.{◌≡◌, ◌≤◌, ◌<◌, ◌+◌, ◌-◌, length};
 ghost use Rattle.std.specs.Int.RustNames.{unsigned_abs};
 ghost use Rattle.dioid.specs.Dates.{date_product};
-ghost use Rattle.series_laws.specs.Forms.{form_with, table};
-ghost use Rattle.series_form.specs.Bounds.{IsUpTo};
+ghost use Rattle.series_laws.specs.SeriesForms.{form_with, table};
+ghost use Rattle.series_form.specs.NumberBounds.{IsMagnitudeUpTo};
+ghost use Rattle.series_form.specs.SeriesLimits.{greatest_value_ahead, greatest_moderate, greatest_part_product};
 ghost use Rattle.series_ops.specs.Cells.{far};
-ghost use Rattle.series_ops.specs.Pieces.{window, AreSums};
+ghost use Rattle.series_ops.specs.Pieces.{window, ArePieceSums};
 ghost use Rattle.series_ops.specs.Splits.{places_to, tail_product, with_tail};
-ghost use Rattle.series_ops.specs.Listed.{listed, AreUpTo};
+ghost use Rattle.series_ops.specs.ListFunctions.{value_listed, AreUpTo};
 
 use crate::cells::{Cells, greatest_split};
 use dioid::Date;
 
 // The two dates added.
 pub(crate) fn added(first: Date, second: Date) -> Date
-    requires first { IsUpTo 4000000000000000000000000000 first }
-    requires second { IsUpTo 1000000000000000000000000000 second }
+    requires first { IsMagnitudeUpTo greatest_part_product first }
+    requires second { IsMagnitudeUpTo greatest_moderate second }
     ensures { result ≡ date_product first second }
 {
     match (first, second) {
@@ -51,9 +52,10 @@ pub(crate) fn greatest_at(
 ) -> Date
     requires first { from + most ≤ length first.now }
     requires second { shift < length second.now }
-    requires known { AreSums known.now first.now second.now from most }
-    ensures value { result ≡ window (listed first.now) (listed second.now) from most shift }
-    ensures bound { IsUpTo far result }
+    requires known { ArePieceSums known.now first.now second.now from most }
+    ensures value { result ≡ window (value_listed first.now) (value_listed second.now) from most
+        shift }
+    ensures bound { IsMagnitudeUpTo far result }
 {
     let (_first, _second) = (first.len(), second.len());
     if shift < known.len() {
@@ -75,14 +77,16 @@ pub(crate) fn tail_value(
 ) -> Date
     requires positive { 0 < period }
     requires period { period ≤ length values.now }
-    requires step { unsigned_abs step ≤ 20001000000000000000000 }
+    requires step { unsigned_abs step ≤ greatest_value_ahead }
     requires second { shift < length second.now }
     requires long { length tails.now ≡ shift }
-    requires tails_bound { AreUpTo 1000000000000000000000000000 tails.now }
+    requires tails_bound { AreUpTo greatest_moderate tails.now }
     requires tails { tails.now ≡ table (tail_product (form_with values.now period step)
-        (listed second.now)) shift }
-    requires known { AreSums known.now values.now second.now (length values.now - period) period }
-    ensures { result ≡ tail_product (form_with values.now period step) (listed second.now) shift }
+        (value_listed second.now)) shift }
+    requires known { ArePieceSums known.now values.now second.now (length values.now - period)
+        period }
+    ensures { result ≡ tail_product (form_with values.now period step) (value_listed second.now)
+        shift }
 {
     let from = values.len() - period;
     let here = greatest_at(known, values, second, shift, from, period);
@@ -104,8 +108,9 @@ pub(crate) fn value_with_tail(
 ) -> Date
     requires from { from ≤ length values.now }
     requires second { shift < length second.now }
-    requires known { AreSums known.now values.now second.now 0 from }
-    ensures { result ≡ with_tail (listed values.now) (listed second.now) from tail shift }
+    requires known { ArePieceSums known.now values.now second.now 0 from }
+    ensures { result ≡ with_tail (value_listed values.now) (value_listed second.now) from tail
+        shift }
 {
     greatest_at(known, values, second, shift, 0, from).later(tail)
 }

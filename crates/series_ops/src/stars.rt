@@ -2,16 +2,17 @@
 ghost use Rattle.std.specs.Prelude.{◌≡◌, ◌≤◌, ◌<◌, ◌+◌, ◌-◌, ℕ, IfOk, pos};
 ghost use Rattle.dioid.specs.declared.dates.Date.TheVariants.{At, Never};
 ghost use Rattle.series_laws.specs.Periodic.{times};
-ghost use Rattle.series_laws.specs.Forms.{size_of, value_at, table, Form, HasValues, IsCanonical, monomial_at};
-ghost use Rattle.series_form.specs.Bounds.{IsUpTo, IsSeries};
+ghost use Rattle.series_laws.specs.SeriesForms.{size_of, value_at, table, Form, HasValues, IsCanonical, monomial_at};
+ghost use Rattle.series_form.specs.NumberBounds.{IsMagnitudeUpTo, IsSeries};
 ghost use Rattle.series_laws.specs.Pointwise.{sum_at};
 ghost use Rattle.series_laws.specs.Needs.{need_of, sum_plan};
 ghost use Rattle.series_form.specs.declared.forms.SeriesRefused.{SeriesRefused};
-ghost use Rattle.dioid.specs.Order.{Le};
-ghost use Rattle.series_form.specs.Answer.{AnswersOf, Answers, IsBeginning, form_before};
+ghost use Rattle.dioid.specs.DateOrder.{Le};
+ghost use Rattle.series_form.specs.SeriesAnswers.{AnswersOf, AnswersForm, IsBeginning, form_before};
 ghost use Rattle.series_laws.specs.ProductNeeds.{own_plan, at_least, star_plan, carried_of, star_need, star_carried, form_star};
-ghost use Rattle.series_ops.specs.Listed.{AreUpTo, later_part};
+ghost use Rattle.series_ops.specs.ListFunctions.{AreUpTo, later_part};
 ghost use Rattle.series_laws.specs.StarOf.{parts_star, above_zero, IsStarOf};
+ghost use Rattle.series_form.specs.SeriesLimits.{greatest_value_ahead, greatest_star_need};
 
 use crate::anchors::plan_of_parts;
 use crate::beginnings::{greatest_begun, nothing_begun, renewed};
@@ -20,17 +21,17 @@ use crate::splits::tail_value;
 use crate::tables::ended;
 use dioid::Date;
 use series_form::{
-    Plan, Series, SeriesRefused, canonical_part, later_at, plan_of_sum, start, sum_values,
+    NeedPlan, Series, SeriesRefused, canonical_part, later_at, plan_of_sum, start, sum_values,
 };
 use std::alloc::{AllocError, Global};
 
 // A plan that has at least this need.
-fn raised(need: usize, own: Plan) -> Plan
+fn raised(need: usize, own: NeedPlan) -> NeedPlan
     ensures { result ≡ at_least need own }
 {
     let rest = if need < own.turn { 0 } else { need - own.turn };
     let rest = rest as u128;
-    Plan {
+    NeedPlan {
         from: if own.from < rest { rest } else { own.from },
         turn: own.turn,
     }
@@ -38,14 +39,14 @@ fn raised(need: usize, own: Plan) -> Plan
 
 // From where the star repeats, by the first values of the sum with the monomial of shift 1 and
 // date 0 and the value after them.
-fn plan_by_sum(mut values: Vec<Date>, turn: usize, next: Date, need: usize) -> Plan
+fn plan_by_sum(mut values: Vec<Date>, turn: usize, next: Date, need: usize) -> NeedPlan
     requires beginning { IsBeginning values.items turn next }
-    requires values { AreUpTo 20001000000000000000000 values.items }
-    requires next { IsUpTo 20001000000000000000000 next }
+    requires values { AreUpTo greatest_value_ahead values.items }
+    requires next { IsMagnitudeUpTo greatest_value_ahead next }
     requires need { need ≤ 20000 }
     ensures value { (g : Form) → IsCanonical g → HasValues g
         (value_at (form_before values.items turn next)) → result ≡ at_least need (own_plan g) }
-    ensures bound { result.from ≤ 1000000000000000000000000000000000 }
+    ensures bound { result.from ≤ greatest_star_need }
 {
     let shape = canonical_part(values.as_slice(), turn, next);
     values.truncate(shape.size);
@@ -113,11 +114,11 @@ fn star_values(alloc: Global, first: &Series, need: usize) -> Result<Vec<Date>, 
 }
 
 // The star by its plan.
-fn star_by_plan(alloc: Global, first: &Series, plan: Plan) -> Result<Series, SeriesRefused>
+fn star_by_plan(alloc: Global, first: &Series, plan: NeedPlan) -> Result<Series, SeriesRefused>
     requires series { IsSeries first.now }
     requires low { Le (value_at first.now 0) (At (pos 0)) }
     requires plan { plan ≡ star_plan first.now }
-    requires bound { plan.from ≤ 1000000000000000000000000000000000 }
+    requires bound { plan.from ≤ greatest_star_need }
     ensures { AnswersOf (λ r. HasValues r (parts_star (value_at first.now))) (need_of plan)
         (need_of plan) result }
 {
@@ -132,7 +133,7 @@ fn star_by_plan(alloc: Global, first: &Series, plan: Plan) -> Result<Series, Ser
 }
 
 // From where the star repeats, by the sum with the monomial of shift 1 and date 0 and its plan.
-fn plan_with(first: &Series, one: &Series, plan: Plan, values: Vec<Date>) -> Plan
+fn plan_with(first: &Series, one: &Series, plan: NeedPlan, values: Vec<Date>) -> NeedPlan
     requires left { IsSeries first.now }
     requires right { IsSeries one.now }
     requires one { HasValues one.now (monomial_at 1 (pos 0)) }
@@ -141,7 +142,7 @@ fn plan_with(first: &Series, one: &Series, plan: Plan, values: Vec<Date>) -> Pla
     requires values { values.items ≡ table (sum_at (value_at first.now) (value_at one.now))
         (need_of plan) }
     ensures value { result ≡ star_plan first.now }
-    ensures bound { result.from ≤ 1000000000000000000000000000000000 }
+    ensures bound { result.from ≤ greatest_star_need }
 {
     let need = plan.from as usize + plan.turn;
     let next = later_at(first, one, need);
@@ -201,7 +202,7 @@ fn is_above_zero(date: Date) -> bool
 pub fn star(alloc: Global, first: &Series) -> Result<Series, SeriesRefused>
     ensures answer { AnswersOf (λ r. (k : ℕ) → IsStarOf (value_at first.now) k (value_at r k))
         (star_need first.now) (star_carried first.now) result }
-    ensures model { Answers (star_need first.now) (form_star first.now) result }
+    ensures model { AnswersForm (star_need first.now) (form_star first.now) result }
     ensures operand { IsSeries first.now }
 {
     if is_above_zero(first.at(0)) {

@@ -1,9 +1,9 @@
 //! First values of a series, and the series of a list.
 ghost use Rattle.std.specs.Prelude.{◌≡◌, ◌≤◌, ◌<◌, ◌-◌, IfOk, length};
-ghost use Rattle.series_laws.specs.Forms.{value_at, table};
-ghost use Rattle.series_form.specs.Bounds.{IsSeries};
-ghost use Rattle.series_form.specs.Answer.{IsBeginning, IsShortest, form_before};
-ghost use Rattle.series_ops.specs.Listed.{all_but_last, last_of};
+ghost use Rattle.series_laws.specs.SeriesForms.{value_at, table};
+ghost use Rattle.series_form.specs.NumberBounds.{IsSeries};
+ghost use Rattle.series_form.specs.SeriesAnswers.{IsBeginning, IsShortestSeries, form_before};
+ghost use Rattle.series_ops.specs.ListFunctions.{all_but_last, last_value};
 
 use dioid::Date;
 use series_form::{Series, SeriesRefused, shortest};
@@ -41,9 +41,9 @@ pub(crate) fn repeated(alloc: Global, date: Date, count: usize) -> Result<Vec<Da
 // The series of a list whose last value is the one after the list of its form.
 pub(crate) fn ended(mut values: Vec<Date>, turn: usize) -> Result<Series, SeriesRefused>
     requires some { 0 < length values.items }
-    requires beginning { IsBeginning (all_but_last values.items) turn (last_of values.items) }
-    ensures { IsShortest (value_at (form_before (all_but_last values.items) turn
-        (last_of values.items))) result }
+    requires beginning { IsBeginning (all_but_last values.items) turn (last_value values.items) }
+    ensures { IsShortestSeries (value_at (form_before (all_but_last values.items) turn
+        (last_value values.items))) result }
 {
     let last = values.len() - 1;
     let next = values[last];

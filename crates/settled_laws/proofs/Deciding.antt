@@ -7,8 +7,8 @@ use Rattle.dioid.specs.declared.dates.Date.{Date}
 use Rattle.dioid.specs.declared.dates.Date.TheVariants.{Early, At, Never}
 use Rattle.dioid.specs.Dates.{move}
 use Rattle.dioid.proofs.Moves.{at_inj, move_swap}
-use Rattle.teg_model.specs.Systems.{Dating}
-use Rattle.settled_laws.specs.Forms.{RepeatsAfter}
+use Rattle.teg_model.proofs.DateFunctions.{Dating}
+use Rattle.settled_laws.specs.SettledForms.{RepeatsAfter}
 
 same_number : (a b : ℤ) → (a ≡ b) ⊎ (a ≡ b → ⊥)
 same_number a b = by_lt_z a b (λ l. inr (λ e. absurd (omega (arith, ints)))) (λ l. by_lt_z b a (λ m. inr (λ e. absurd (omega (arith, ints)))) (λ m. inl (omega (arith, ints))))

@@ -8,10 +8,11 @@ use Rattle.dioid.specs.Dates.{IsAtMostDate, delayed, move}
 use Rattle.dioid.proofs.DateOrder.{at_most_refl, same_by_at_most}
 use Rattle.dioid.proofs.Moves.{delayed_move}
 use Rattle.teg_net.specs.declared.entries.Place.{Place}
-use Rattle.teg_model.specs.Systems.{Dating, System}
-use Rattle.teg_model.specs.Ranks.{AreRanks}
+use Rattle.teg_model.specs.Systems.{System}
+use Rattle.teg_model.specs.LiveRanks.{AreRanks}
 use Rattle.teg_model.proofs.Delays.{delayed_not}
 use Rattle.teg_model.proofs.LeastOver.{least_over, least_is_feasible, least_is_tight}
+use Rattle.teg_model.proofs.DateFunctions.{Dating}
 use Rattle.settled_laws.proofs.Everywhere.{Repeats}
 use Rattle.settled_laws.proofs.Settling.{FollowsRelease}
 

@@ -6,8 +6,8 @@ use Rattle.dioid.specs.declared.dates.Date.{Date}
 use Rattle.dioid.specs.declared.dates.Date.TheVariants.{Early, Never}
 use Rattle.dioid.specs.Dates.{IsAtMostDate, move}
 use Rattle.teg_net.specs.declared.entries.Place.{Place}
-use Rattle.teg_model.specs.Systems.{Dating}
-use Rattle.settled_laws.specs.Forms.{RepeatsAfter}
+use Rattle.teg_model.proofs.DateFunctions.{Dating}
+use Rattle.settled_laws.specs.SettledForms.{RepeatsAfter}
 
 -- past `after` the dates of each number go on by its step in each period
 pub record Repeats (x : ℕ → ℕ → Date) (after period : ℕ) (step : ℕ → ℤ) : Type 0 where

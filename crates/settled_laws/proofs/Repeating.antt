@@ -6,8 +6,8 @@ use Rattle.std.proofs.lemmas.Bool.{cases_lt}
 use Rattle.std.proofs.lemmas.Nat.Gcd.{dvd_refl, le_of_dvd, IsGcd-from_sub, IsGcd-swap}
 use Rattle.dioid.specs.Dates.{move}
 use Rattle.dioid.proofs.Moves.{move_swap, move_injective, move_between}
-use Rattle.teg_model.specs.Systems.{Dating}
-use Rattle.settled_laws.specs.Forms.{RepeatsAfter}
+use Rattle.teg_model.proofs.DateFunctions.{Dating}
+use Rattle.settled_laws.specs.SettledForms.{RepeatsAfter}
 
 pub later_form : (c : ℕ) (x : Dating) (k j p : ℕ) (s : ℕ → ℤ) → k ≤ j → RepeatsAfter c x k p s → RepeatsAfter c x j p s
 later_form c x k j p s l h = record { at_least_one = h.at_least_one; again = λ t i b m. h.again t i b (omega arith) }

@@ -9,7 +9,8 @@ use Rattle.dioid.specs.Dates.{IsAtMostDate, delayed, move}
 use Rattle.dioid.proofs.DateOrder.{at_least_never}
 use Rattle.teg_net.specs.declared.entries.Place.{Place}
 use Rattle.teg_net.specs.Circuits.{no_place}
-use Rattle.teg_model.specs.Systems.{Dating, System, available, IsFeasibleIn}
+use Rattle.teg_model.specs.Systems.{System, available, IsFeasibleIn}
+use Rattle.teg_model.proofs.DateFunctions.{Dating}
 use Rattle.settled_laws.proofs.Everywhere.{Repeats, Climbing, IsRising}
 use Rattle.settled_laws.proofs.Settling.{available_again}
 use Rattle.settled_laws.proofs.Tails.{never_past, early_past}

@@ -10,10 +10,11 @@ use Rattle.dioid.specs.Dates.{IsAtMostDate, move}
 use Rattle.dioid.proofs.Moves.{move_rises}
 use Rattle.teg_net.specs.declared.entries.Place.{Place}
 use Rattle.teg_net.specs.Circuits.{no_place}
-use Rattle.teg_model.specs.Systems.{Dating, System, IsFeasibleIn}
-use Rattle.teg_model.specs.Ranks.{AreRanks}
+use Rattle.teg_model.specs.Systems.{System, IsFeasibleIn}
+use Rattle.teg_model.specs.LiveRanks.{AreRanks}
 use Rattle.teg_model.proofs.LeastOver.{least_over}
-use Rattle.settled_laws.specs.Windows.{between}
+use Rattle.teg_model.proofs.DateFunctions.{Dating}
+use Rattle.settled_laws.specs.DateDifferences.{between}
 use Rattle.settled_laws.proofs.Everywhere.{Repeats, Climbing, IsNeverPast, IsEarlyPast}
 use Rattle.settled_laws.proofs.Settling.{HasNoRelease, FollowsRelease, IsSeen, seen_is_least}
 use Rattle.settled_laws.proofs.Tails.{never_past, early_past}

@@ -10,11 +10,12 @@ use Rattle.dioid.proofs.DateOrder.{at_most_refl, never_last}
 use Rattle.dioid.proofs.Moves.{move_rises, delayed_move, moved_again}
 use Rattle.teg_net.specs.declared.entries.Place.{Place}
 use Rattle.teg_net.specs.Circuits.{no_place}
-use Rattle.teg_model.specs.Systems.{Dating, System, available, IsFeasibleIn, IsTightIn}
-use Rattle.teg_model.specs.Ranks.{AreRanks}
+use Rattle.teg_model.specs.Systems.{System, available, IsFeasibleIn, IsTightIn}
+use Rattle.teg_model.specs.LiveRanks.{AreRanks}
 use Rattle.teg_model.proofs.LeastOver.{least_over, least_is_feasible, least_is_attained, least_over_is_least, only_least_in}
 use Rattle.teg_model.proofs.Tokens.{available_same}
 use Rattle.teg_model.proofs.TightLeast.{tight_is_least_in}
+use Rattle.teg_model.proofs.DateFunctions.{Dating}
 use Rattle.settled_laws.proofs.Everywhere.{Repeats, IsNeverPast, IsEarlyPast, IsRising}
 
 -- a place has its token at just this date

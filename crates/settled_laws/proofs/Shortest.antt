@@ -10,8 +10,8 @@ use Rattle.dioid.specs.declared.dates.Date.TheVariants.{Early, Never}
 use Rattle.dioid.specs.Dates.{IsAtMostDate, move}
 use Rattle.dioid.proofs.DateOrder.{at_most_early, at_least_never}
 use Rattle.dioid.proofs.Moves.{same_move}
-use Rattle.teg_model.specs.Systems.{Dating}
-use Rattle.settled_laws.specs.Forms.{RepeatsAfter, IsTail, SettledForm, settled_length, row_of, row_date, step_of, HasSizes, StandsFor, IsShortest, IsSettlingLength, NeverFalls}
+use Rattle.teg_model.proofs.DateFunctions.{Dating}
+use Rattle.settled_laws.specs.SettledForms.{RepeatsAfter, IsTail, SettledForm, settled_length, row_of, row_date, step_of_form, HasSizes, StandsFor, IsShortestForm, IsSettlingLength, NeverFalls}
 use Rattle.settled_laws.proofs.Repeating.{period_least, after_least}
 use Rattle.settled_laws.proofs.Deciding.{RowRepeats, same_date, neat_step, neat_repeats, neat_is, all_below, decide_period}
 
@@ -75,7 +75,7 @@ made_date c x after period s t k l o m =
     rw (made_row c x (after + period) t l)
     (get_or-map-range_with_len (x t) 1 (after + period) (k - 1) k Early (omega arith) (omega arith))
 
-made_step : (c : ℕ) (x : Dating) (after period : ℕ) (s : ℕ → ℤ) (t : ℕ) → t < c → step_of (made_form c x after period s) t ≡ s t
+made_step : (c : ℕ) (x : Dating) (after period : ℕ) (s : ℕ → ℤ) (t : ℕ) → t < c → step_of_form (made_form c x after period s) t ≡ s t
 unfolding made_form
 made_step c x after period s t l = get_or-map-range_with_len s 0 c t t (pos 0) l (omega arith)
 
@@ -122,7 +122,7 @@ made_stands c x from after period s low h neat =
 
 made_is_shortest : (c : ℕ) (x : Dating) (after period : ℕ) (s : ℕ → ℤ) → StandsFor c (made_form c x after period s) x
     → ((k p : ℕ) (u : ℕ → ℤ) → RepeatsAfter c x k p u → period ≤ p) → ((k p : ℕ) (u : ℕ → ℤ) → RepeatsAfter c x k p u → after ≤ k)
-    → (f : SettledForm) × IsShortest c f x × IsSettlingLength c x (settled_length f)
+    → (f : SettledForm) × IsShortestForm c f x × IsSettlingLength c x (settled_length f)
 unfolding made_form
 made_is_shortest c x after period s stands least_p least_a = (
   made_form c x after period s,
@@ -130,16 +130,16 @@ made_is_shortest c x after period s stands least_p least_a = (
   record {
     attained = (made_form c x after period s, stands, refl);
     least = λ k st. (
-        let a = least_a k.after k.period (step_of k) st.repeats in
-        let b = least_p k.after k.period (step_of k) st.repeats in
+        let a = least_a k.after k.period (step_of_form k) st.repeats in
+        let b = least_p k.after k.period (step_of_form k) st.repeats in
         omega (arith, a, b));
   },
 )
 
-pub shortest_exists : (c : ℕ) (x : Dating) (g : SettledForm) → StandsFor c g x → (f : SettledForm) × IsShortest c f x × IsSettlingLength c x (settled_length f)
+pub shortest_exists : (c : ℕ) (x : Dating) (g : SettledForm) → StandsFor c g x → (f : SettledForm) × IsShortestForm c f x × IsSettlingLength c x (settled_length f)
 shortest_exists c x g h =
     let one = h.repeats.at_least_one in
-    let best : HasLeastPeriod c x g.after g.period = least_from c x g.after g.period (step_of g) h.repeats (g.period - 1) 1 (omega arith) (omega arith) (λ j s l r. absurd (let two = r.at_least_one in omega arith)) in
+    let best : HasLeastPeriod c x g.after g.period = least_from c x g.after g.period (step_of_form g) h.repeats (g.period - 1) 1 (omega arith) (omega arith) (λ j s l r. absurd (let two = r.at_least_one in omega arith)) in
     let s : ℕ → ℤ = neat_step x g.after best.period g.period in
     let low : HasLeastAfter c x g.after best.period s = lowest c x best.period s g.after best.repeats in
     made_is_shortest c x low.after best.period s
@@ -216,12 +216,12 @@ same_form f g a p r s =
     ∙ (ap (λ z. record { after = g.after; period = g.period; rows = z; steps = f.steps }) r
     ∙ ap (λ z. record { after = g.after; period = g.period; rows = g.rows; steps = z }) s))
 
-pub shortest_is_one : (c : ℕ) (x : Dating) → NeverFalls c x → (f g : SettledForm) → IsShortest c f x → IsShortest c g x → f ≡ g
+pub shortest_is_one : (c : ℕ) (x : Dating) → NeverFalls c x → (f g : SettledForm) → IsShortestForm c f x → IsShortestForm c g x → f ≡ g
 shortest_is_one c x climbs f g a b =
-    let up = a.least_after g.after g.period (step_of g) b.stands.repeats in
-    let down = b.least_after f.after f.period (step_of f) a.stands.repeats in
-    let less = a.least_period g.after g.period (step_of g) b.stands.repeats in
-    let more = b.least_period f.after f.period (step_of f) a.stands.repeats in
+    let up = a.least_after g.after g.period (step_of_form g) b.stands.repeats in
+    let down = b.least_after f.after f.period (step_of_form f) a.stands.repeats in
+    let less = a.least_period g.after g.period (step_of_form g) b.stands.repeats in
+    let more = b.least_period f.after f.period (step_of_form f) a.stands.repeats in
     let after_is : f.after ≡ g.after = omega arith in
     let period_is : f.period ≡ g.period = omega arith in
     let long : settled_length f ≡ settled_length g = omega arith in
@@ -240,9 +240,9 @@ shortest_is_one c x climbs f g a b =
     let steps_are : f.steps ≡ g.steps = same_list (pos 0) f.steps g.steps (fs.steps_are ∙ sym gs.steps_are)
     (λ t l.
     let in' : t < c = omega (arith, fs.steps_are) in
-    let other : RowRepeats (x t) f.after f.period (step_of g t) = λ k m. rw period_is (b.stands.repeats.again t k in' (omega (arith, after_is, m))) in
+    let other : RowRepeats (x t) f.after f.period (step_of_form g t) = λ k m. rw period_is (b.stands.repeats.again t k in' (omega (arith, after_is, m))) in
     ⊎_elim
-    (λ (e : step_of f t ≡ step_of g t). e)
+    (λ (e : step_of_form f t ≡ step_of_form g t). e)
     (λ (e : IsTail (x t) f.after f.period Never ⊎ IsTail (x t) f.after f.period Early). a.stands.still t in' e ∙ sym (b.stands.still t in' (rw (after_is, period_is) at e)))
-    (one_step (x t) (λ k o. climbs t k in' o) f.after f.period (step_of f t) (step_of g t) a.stands.repeats.at_least_one (λ k m. a.stands.repeats.again t k in' m) other)) in
+    (one_step (x t) (λ k o. climbs t k in' o) f.after f.period (step_of_form f t) (step_of_form g t) a.stands.repeats.at_least_one (λ k m. a.stands.repeats.again t k in' m) other)) in
     same_form f g after_is period_is rows_are steps_are

@@ -5,7 +5,7 @@ use Rattle.dioid.specs.declared.dates.Date.TheVariants.{Early, Never}
 use Rattle.dioid.specs.Dates.{move}
 use Rattle.dioid.proofs.DateOrder.{at_most_early, at_least_never}
 use Rattle.dioid.proofs.Moves.{moved_to_never}
-use Rattle.teg_model.specs.Systems.{Dating}
+use Rattle.teg_model.proofs.DateFunctions.{Dating}
 use Rattle.settled_laws.proofs.Everywhere.{Repeats, Climbing, IsNeverPast, IsEarlyPast}
 
 -- never at one number past `after` is never at all of them

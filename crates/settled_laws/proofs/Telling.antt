@@ -6,8 +6,8 @@ use Rattle.std.proofs.lemmas.Bool.{cases_lt}
 use Rattle.std.proofs.lemmas.Bool.Decides.{nat_tests}
 use Rattle.dioid.specs.Dates.{move}
 use Rattle.dioid.proofs.Moves.{move_zero, move_move}
-use Rattle.teg_model.specs.Systems.{Dating}
-use Rattle.settled_laws.specs.Forms.{RepeatsAfter, SettledForm, settled_length, step_of, row_date, rounds_past, date_past, date_of, StandsFor}
+use Rattle.teg_model.proofs.DateFunctions.{Dating}
+use Rattle.settled_laws.specs.SettledForms.{RepeatsAfter, SettledForm, settled_length, step_of_form, row_date, periods_past, settled_date_past, settled_date, StandsFor}
 
 -- the date some periods on
 pub rounds_on : (c : ℕ) (x : Dating) (after period : ℕ) (step : ℕ → ℤ) → RepeatsAfter c x after period step → (t k j : ℕ) → t < c → after < k
@@ -29,16 +29,16 @@ back_in after period k one l =
     let prod : (q + 1) * period ≡ period * q + period = grind arith in
     (omega arith, omega arith, omega arith)
 
-told_past : (c : ℕ) (f : SettledForm) (x : Dating) → StandsFor c f x → (t k : ℕ) → t < c → settled_length f < k → date_past f t k ≡ x t k
+told_past : (c : ℕ) (f : SettledForm) (x : Dating) → StandsFor c f x → (t k : ℕ) → t < c → settled_length f < k → settled_date_past f t k ≡ x t k
 told_past c f x h t k m l =
-    let r : ℕ = rounds_past f k in
+    let r : ℕ = periods_past f k in
     let at : ℕ = k - r * f.period in
     let back = back_in f.after f.period k h.sizes.at_least_one l in
     let here : row_date f t at ≡ x t at = h.dates t at m (omega (arith, back.0)) back.1 in
-    ap (move (pos r *ℤ step_of f t)) here
-    ∙ (sym (rounds_on c x f.after f.period (step_of f) h.repeats t at r m back.0) ∙ ap (x t) back.2)
+    ap (move (pos r *ℤ step_of_form f t)) here
+    ∙ (sym (rounds_on c x f.after f.period (step_of_form f) h.repeats t at r m back.0) ∙ ap (x t) back.2)
 
-pub form_tells : (c : ℕ) (f : SettledForm) (x : Dating) → StandsFor c f x → (t k : ℕ) → t < c → 1 ≤ k → date_of f t k ≡ x t k
+pub form_tells : (c : ℕ) (f : SettledForm) (x : Dating) → StandsFor c f x → (t k : ℕ) → t < c → 1 ≤ k → settled_date f t k ≡ x t k
 form_tells c f x h t k m o =
     ⊎_elim
     (λ (l : settled_length f < k). let e : leb k (settled_length f) ≡ false = grind (arith, nat_tests) in rw e (told_past c f x h t k m l))

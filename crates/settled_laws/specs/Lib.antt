@@ -1,3 +1,3 @@
-pub mod Forms
-pub mod Laws
-pub mod Windows
+pub mod SettledForms
+pub mod OneSettledForm
+pub mod DateDifferences

@@ -9,14 +9,14 @@ use Rattle.dioid.specs.declared.dates.Date.TheVariants.{Early, At, Never}
 use Rattle.dioid.specs.Dates.{IsAtMostDate, delayed}
 use Rattle.dioid.proofs.DateOrder.{at_most_is, at_most_trans, later_left}
 use Rattle.teg_net.specs.declared.entries.PlaceId.{PlaceId}
-use Rattle.teg_net.specs.Limits.{greatest_hold, most_tokens}
+use Rattle.teg_net.specs.Limits.{greatest_hold, most_place_tokens}
 use Rattle.teg_net.specs.Nets.{NetLists, IsNet}
 use Rattle.teg_net.specs.ReadyDates.{start_date}
 use Rattle.teg_net.specs.Circuits.{place_at, IsLive, time_of, tokens_of}
 use Rattle.teg_net.specs.Parts.{Reaches}
 use Rattle.teg_net.specs.Walks.{walk_time}
 use Rattle.teg_model.specs.Datings.{IsLeastUnder, at_input}
-use Rattle.teg_model.specs.Starts.{start_of}
+use Rattle.teg_model.specs.Starts.{start_of_firing}
 use Rattle.teg_model.specs.WalkDates.{IsDateOfWalk}
 use Rattle.teg_model.proofs.GreatestWalks.{least_is_walk}
 use Rattle.teg_model.proofs.LiveRanks.{live_ranks}
@@ -68,9 +68,9 @@ number_start (At (pos z)) time date l e =
 number_start (At (negsuc z)) time date l e = absurd (omega (arith, ints, l))
 number_start Never time date l e = absurd (at_most_is Never (At (pos date)) e)
 
-from_zero : (net : NetLists) (u : ℕ → ℕ → Date) (a s : ℕ) → IsAtMostDate (At (pos 0)) (start_of net u a s)
+from_zero : (net : NetLists) (u : ℕ → ℕ → Date) (a s : ℕ) → IsAtMostDate (At (pos 0)) (start_of_firing net u a s)
 from_zero net u a s =
-    at_most_trans (At (pos 0)) (At (pos (start_date net a s))) (start_of net u a s) (omega (arith, ints)) (later_left (At (pos (start_date net a s))) (at_input net a (u a s) Early))
+    at_most_trans (At (pos 0)) (At (pos (start_date net a s))) (start_of_firing net u a s) (omega (arith, ints)) (later_left (At (pos (start_date net a s))) (at_input net a (u a s) Early))
 
 -- ---- the sums
 
@@ -108,11 +108,11 @@ too_far nu step within c j k0 at s nexts tq mq times tokens many t q constant n1
 pub go_round_or :
     {W : Type 0} (net : NetLists) → IsNet net → IsLive net → (u x : ℕ → ℕ → Date) → IsLeastUnder net u x
     → (b k0 nu c step within constant : ℕ) → b < length net.transitions → 1 ≤ k0 → 1 ≤ nu → 1 ≤ step → 1 ≤ within → GoesBy x b k0 nu c step
-    → ((a s date : ℕ) → a < length net.transitions → 1 ≤ s → Reaches net a b → start_of net u a s ≡ At (pos date) → (s + within * (nu * date) ≤ within * (step * s) + constant) ⊎ W)
+    → ((a s date : ℕ) → a < length net.transitions → 1 ≤ s → Reaches net a b → start_of_firing net u a s ≡ At (pos date) → (s + within * (nu * date) ≤ within * (step * s) + constant) ⊎ W)
     → Tight net b nu step ⊎ W
 go_round_or {W} net ok live u x h b k0 nu c step within constant l o n1 s1 w1 goes behind =
     let n : ℕ = length net.transitions in
-    let t : ℕ = n * most_tokens in
+    let t : ℕ = n * most_place_tokens in
     let q : ℕ = n * greatest_hold in
     let d : ℕ = within * (step * k0 + nu * q) + constant in
     let j : ℕ = suc (d + d + t + d * t) in
@@ -125,8 +125,8 @@ go_round_or {W} net ok live u x h b k0 nu c step within constant l o n1 s1 w1 go
     let qs = parts.0 in
     let cs = parts.1 in
     let is : IsSplit net w.from path.places b qs cs = parts.2 in
-    let start : IsNumberStart (start_of net u w.from w.number) (walk_time net w.steps) (c + j * step) =
-    number_start (start_of net u w.from w.number) (walk_time net w.steps) (c + j * step) (from_zero net u w.from w.number) (ap (delayed (walk_time net w.steps)) (sym w.starts) ∙ (sym w.is ∙ goes j)) in
+    let start : IsNumberStart (start_of_firing net u w.from w.number) (walk_time net w.steps) (c + j * step) =
+    number_start (start_of_firing net u w.from w.number) (walk_time net w.steps) (c + j * step) (from_zero net u w.from w.number) (ap (delayed (walk_time net w.steps)) (sym w.starts) ∙ (sym w.is ∙ goes j)) in
     ⊎_elim
     (λ (tight : Tight net b nu step). inl tight)
     (λ (lacks : nu * sum_by (λ y. time_of net y) cs + length cs ≤ step * sum_by (λ y. tokens_of net y) cs).

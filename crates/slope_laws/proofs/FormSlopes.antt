@@ -7,10 +7,10 @@ use Rattle.dioid.specs.declared.dates.Date.TheVariants.{Early, At, Never}
 use Rattle.dioid.specs.Dates.{IsAtMostDate, move}
 use Rattle.dioid.proofs.DateOrder.{at_most_is, at_most_trans}
 use Rattle.dioid.proofs.Moves.{moved_to_never, delayed_is_move}
-use Rattle.teg_model.specs.Datings.{listed}
+use Rattle.teg_model.specs.Datings.{listed_releases}
 use Rattle.teg_model.proofs.Tokens.{not_before_zero, dates_climb}
-use Rattle.settled_laws.specs.Forms.{IsTail, step_of}
-use Rattle.slope_laws.specs.Laws.{FormsHaveSlopes, SettledFormsHaveSlopes}
+use Rattle.settled_laws.specs.SettledForms.{IsTail, step_of_form}
+use Rattle.slope_laws.specs.SlopesExist.{FormsHaveSlopes, SettledFormsHaveSlopes}
 use Rattle.slope_laws.proofs.Lower.{climb_many}
 use Rattle.slope_laws.proofs.Slopes.{GrowsBy, slopes_are_greatest}
 use Rattle.slope_laws.proofs.Nevers.{nevers_come_from_ended_lists}
@@ -40,7 +40,7 @@ at_least_itself n p l = let is : p ≡ suc (p - 1) = omega arith in let wide : n
 pub forms_have_slopes : FormsHaveSlopes
 forms_have_slopes net ok live x h t after period step l some again =
     let by = nevers_come_from_ended_lists net ok live x h t l in
-    let climbs : (s : ℕ) → 1 ≤ s → IsAtMostDate (x t s) (x t (s + 1)) = λ s o. dates_climb net (listed net) x h.feasible t s l o in
+    let climbs : (s : ℕ) → 1 ≤ s → IsAtMostDate (x t s) (x t (s + 1)) = λ s o. dates_climb net (listed_releases net) x h.feasible t s l o in
     let begun : x t (after + 1) ≡ Never → IsTail (x t) after period Never = λ e k low high. ap (x t) (omega (arith, low)) ∙ by.on (after + 1) (k - (after + 1)) (omega arith) e in
     record {
       never = (
@@ -52,7 +52,7 @@ forms_have_slopes net ok live x h t after period step l some again =
             never_back (x t) after period step again k n.0 low (ap (x t) (sym far) ∙ by.on n.0 (k + n.0 * period - n.0) n.1 n.2),
       );
       slope = λ not_never.
-          let date = number_from (x t (after + 1)) (not_before_zero net (listed net) x h.feasible t (after + 1) l (omega arith)) (λ e. not_never (begun e)) in
+          let date = number_from (x t (after + 1)) (not_before_zero net (listed_releases net) x h.feasible t (after + 1) l (omega arith)) (λ e. not_never (begun e)) in
           let next : x t ((after + 1) + period) ≡ At (pos date.0 +ℤ step) = again (after + 1) (omega arith) ∙ ap (move step) date.1 in
           let up : IsAtMostDate (At (pos date.0)) (At (pos date.0 +ℤ step)) = at_most_trans (At (pos date.0)) (x t (after + 1)) (At (pos date.0 +ℤ step)) (at_most_is (At (pos date.0)) (x t (after + 1)) (sym date.1)) (at_most_trans (x t (after + 1)) (x t ((after + 1) + period)) (At (pos date.0 +ℤ step)) (climb_many x t climbs (after + 1) period (omega arith)) (at_most_is (x t ((after + 1) + period)) (At (pos date.0 +ℤ step)) next)) in
           let s = step_from step date.0 up in
@@ -67,4 +67,4 @@ forms_have_slopes net ok live x h t after period step l some again =
 
 pub settled_forms_have_slopes : SettledFormsHaveSlopes
 settled_forms_have_slopes net ok live x h f stands t l =
-    forms_have_slopes net ok live x h t f.after f.period (step_of f t) l stands.repeats.at_least_one (λ k low. stands.repeats.again t k l low)
+    forms_have_slopes net ok live x h t f.after f.period (step_of_form f t) l stands.repeats.at_least_one (λ k low. stands.repeats.again t k l low)

@@ -1,7 +1,7 @@
 pub mod Sums
 pub mod WalkPaths
 pub mod BestWalks
-pub mod Lists
+pub mod EndedLists
 pub mod Lower
 pub mod Starts
 pub mod Slopes

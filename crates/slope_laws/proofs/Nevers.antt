@@ -7,24 +7,24 @@ use Rattle.dioid.specs.Dates.{delayed, later_of}
 use Rattle.dioid.proofs.DateOrder.{at_most_is, at_least_never, later_either}
 use Rattle.teg_net.specs.declared.entries.Again.{Again}
 use Rattle.teg_net.specs.declared.entries.InputList.{InputList}
-use Rattle.teg_net.specs.Nets.{NetLists, IsNet, IsInput, GoesOn}
+use Rattle.teg_net.specs.Nets.{NetLists, IsNet, IsInput, ListGoesOn}
 use Rattle.teg_net.specs.Inputs.{moved_by, IsInputDates, input_date}
 use Rattle.teg_net.specs.Circuits.{tokens_of}
 use Rattle.teg_net.specs.Parts.{Reaches}
 use Rattle.teg_net.specs.ReadyDates.{start_date}
 use Rattle.teg_net.specs.Walks.{walk_time}
 use Rattle.teg_net.proofs.InputDates.{AreInputDates-input_date}
-use Rattle.teg_model.specs.Datings.{listed, as_date, at_input}
-use Rattle.teg_model.specs.Starts.{start_of}
+use Rattle.teg_model.specs.Datings.{listed_releases, as_date, at_input}
+use Rattle.teg_model.specs.Starts.{start_of_firing}
 use Rattle.teg_model.specs.WalkDates.{IsDateOfWalk}
 use Rattle.teg_model.proofs.GreatestWalks.{least_is_walk}
 use Rattle.teg_model.proofs.LiveRanks.{live_ranks}
 use Rattle.teg_model.proofs.OfNet.{net_ends, input_or_not}
 use Rattle.teg_model.proofs.Tokens.{dates_climb}
 use Rattle.slope_laws.specs.Slopes.{IsEndedTowards}
-use Rattle.slope_laws.specs.Laws.{NeversComeFromEndedLists}
+use Rattle.slope_laws.specs.SlopesExist.{NeversComeFromEndedLists}
 use Rattle.slope_laws.proofs.WalkPaths.{IsPathOf, walk_path}
-use Rattle.slope_laws.proofs.Lists.{dates_of_list, rule_of, goes_past, ends_past, again_or_not, list_or_none, le_or_lt, IsSomeDate}
+use Rattle.slope_laws.proofs.EndedLists.{dates_of_list, rule_of, goes_past, ends_past, again_or_not, list_or_none, le_or_lt, IsSomeDate}
 use Rattle.slope_laws.proofs.Lower.{path_keeps, climb_many}
 use Rattle.slope_laws.proofs.Slopes.{least_keeps}
 
@@ -45,7 +45,7 @@ moved_none gap None e = refl
 moved_none gap (Some d) e = absurd (some_is_not (d + gap) e)
 
 -- a list that goes on has no date that is never
-never_none : (l : InputList) (again : Again) (u : ℕ → Option ℕ) → IsInputDates l u → l.again ≡ Some again → GoesOn l.dates again → (n s : ℕ) → s < n → 1 ≤ s → u s ≡ None → ⊥
+never_none : (l : InputList) (again : Again) (u : ℕ → Option ℕ) → IsInputDates l u → l.again ≡ Some again → ListGoesOn l.dates again → (n s : ℕ) → s < n → 1 ≤ s → u s ≡ None → ⊥
 never_none l again u h e g zero s m o is = absurd (omega arith)
 never_none l again u h e g (suc n) s m o is =
     ⊎_elim
@@ -71,17 +71,17 @@ ended_at net ok a b s o reaches none =
     (list_or_none net.inputs a)
 
 -- a start that is never is the release of an input
-never_start : (net : NetLists) (a s : ℕ) → start_of net (listed net) a s ≡ Never → input_date net a s ≡ None
+never_start : (net : NetLists) (a s : ℕ) → start_of_firing net (listed_releases net) a s ≡ Never → input_date net a s ≡ None
 never_start net a s start =
     let ready : Date = At (pos (start_date net a s)) in
-    let release : Date = at_input net a (listed net a s) Early in
+    let release : Date = at_input net a (listed_releases net a s) Early in
     ⊎_elim
     (λ (e : later_of ready release ≡ ready). absurd (at_most_is Never ready (sym start ∙ e)))
     (λ (e : later_of ready release ≡ release).
     ⊎_elim
-    (λ (i : IsInput net a × (release ≡ listed net a s)). never_given (input_date net a s) (sym i.1 ∙ (sym e ∙ start)))
+    (λ (i : IsInput net a × (release ≡ listed_releases net a s)). never_given (input_date net a s) (sym i.1 ∙ (sym e ∙ start)))
     (λ (i : (release ≡ Early) × (release ≡ Early)). absurd (at_most_is Never Early (sym start ∙ (e ∙ i.0))))
-    (input_or_not net a (listed net a s) Early Early))
+    (input_or_not net a (listed_releases net a s) Early Early))
     (later_either ready release)
 
 pub nevers_come_from_ended_lists : NeversComeFromEndedLists
@@ -91,8 +91,8 @@ nevers_come_from_ended_lists net ok live x h b in' =
     let ranks = live_ranks net ends live in
     record {
       ended = λ k o never.
-          let w : IsDateOfWalk net (listed net) b k (x b k) = (least_is_walk net (listed net) x (suc (suc (length net.transitions))) ranks.0 ends ranks.1 h b k in' o).reached in
-          let start : start_of net (listed net) w.from w.number ≡ Never = sym w.starts ∙ delayed_never (walk_time net w.steps) w.start (sym w.is ∙ never) in
+          let w : IsDateOfWalk net (listed_releases net) b k (x b k) = (least_is_walk net (listed_releases net) x (suc (suc (length net.transitions))) ranks.0 ends ranks.1 h b k in' o).reached in
+          let start : start_of_firing net (listed_releases net) w.from w.number ≡ Never = sym w.starts ∙ delayed_never (walk_time net w.steps) w.start (sym w.is ∙ never) in
           let path : IsPathOf net w.steps w.from w.number b k = walk_path net w.steps w.from w.number b k w.walk in
           ended_at net ok w.from b w.number w.from_one (path.places, path.path) (never_start net w.from w.number start);
       never = λ l e.
@@ -100,9 +100,9 @@ nevers_come_from_ended_lists net ok live x h b in' =
           let s : ℕ = suc (length l.dates) in
           let t : ℕ = l.transition.index in
           let none = ends_past (length l.dates) l.again (input_date net t) e.ends facts.1.past s (omega arith) in
-          let here : listed net t s ≡ Never = ap as_date none in
+          let here : listed_releases net t s ≡ Never = ap as_date none in
           let there : x t s ≡ Never = at_least_never (x t s) (rw here at (f.inputs t s (omega arith) facts.0.is_input)) in
           let on = path_keeps net x ok (least_keeps net x h) e.reaches.0 t b s (omega arith) e.reaches.1 in
           (s + tokens_of net e.reaches.0, omega arith, at_least_never (x b (s + tokens_of net e.reaches.0)) (rw there at on));
-      on = λ k j o never. at_least_never (x b (k + j)) (rw never at (climb_many x b (λ s p. dates_climb net (listed net) x f b s in' p) k j o));
+      on = λ k j o never. at_least_never (x b (k + j)) (rw never at (climb_many x b (λ s p. dates_climb net (listed_releases net) x f b s in' p) k j o));
     }

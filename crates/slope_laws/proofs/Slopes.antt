@@ -10,19 +10,19 @@ use Rattle.dioid.proofs.DateOrder.{at_most_trans}
 use Rattle.teg_net.specs.declared.entries.PlaceId.{PlaceId}
 use Rattle.teg_net.specs.declared.entries.Again.{Again}
 use Rattle.teg_net.specs.declared.entries.InputList.{InputList}
-use Rattle.teg_net.specs.Limits.{greatest_date, most_every, most_dates}
+use Rattle.teg_net.specs.Limits.{greatest_input_date, greatest_every, most_input_dates}
 use Rattle.teg_net.specs.Nets.{NetLists, IsNet}
 use Rattle.teg_net.specs.Inputs.{input_date}
 use Rattle.teg_net.specs.Circuits.{no_place, IsPathBetween, IsLive, time_of, tokens_of}
 use Rattle.teg_loops.specs.Loops.{IsCircuitTowards}
-use Rattle.teg_model.specs.Datings.{IsLeastDating, listed, as_date}
+use Rattle.teg_model.specs.Datings.{IsLeastDating, listed_releases, as_date}
 use Rattle.teg_model.proofs.OfNet.{feasible_in}
 use Rattle.teg_model.proofs.Tokens.{not_before_zero, dates_climb}
 use Rattle.teg_model.proofs.WalkSteps.{Keeps, feasible_keeps_in}
 use Rattle.teg_model.specs.Datings.{initial_date, system_of}
 use Rattle.slope_laws.specs.Slopes.{IsGoingOnTowards, IsSlope}
 use Rattle.slope_laws.proofs.BestWalks.{GoesBy, Tight, go_round_or}
-use Rattle.slope_laws.proofs.Lists.{dates_of_list, rule_of, list_grows}
+use Rattle.slope_laws.proofs.EndedLists.{dates_of_list, rule_of, list_grows}
 use Rattle.slope_laws.proofs.Lower.{lower, carried, round_grows}
 use Rattle.slope_laws.proofs.Starts.{KeepsUp, start_behind}
 
@@ -35,7 +35,7 @@ pub record GrowsBy (x : ℕ → ℕ → Date) (b after period step : ℕ) : Type
 
 -- what a least dating carries along steps
 pub least_keeps : (net : NetLists) (x : ℕ → ℕ → Date) → IsLeastDating net x → Keeps net x
-least_keeps net x h = feasible_keeps_in net initial_date (system_of net (listed net)).release x (feasible_in net (listed net) x h.feasible)
+least_keeps net x h = feasible_keeps_in net initial_date (system_of net (listed_releases net)).release x (feasible_in net (listed_releases net) x h.feasible)
 
 -- the dates some periods on
 goes_by : (x : ℕ → ℕ → Date) (b after nu step : ℕ) → (g : GrowsBy x b after nu step) → GoesBy x b (after + 1) nu g.date step
@@ -54,7 +54,7 @@ attained_at net ok live x h b after nu step l g =
     ⊎_elim
     (λ (e : step ≡ 0). inl e)
     (λ (e : step ≢ 0).
-    inr (go_round_or net ok live (listed net) x h b (after + 1) nu g.date step most_every (most_dates + most_every * (nu * greatest_date)) l (omega arith) g.some (omega arith) (omega arith) (goes_by x b after nu step g)
+    inr (go_round_or net ok live (listed_releases net) x h b (after + 1) nu g.date step greatest_every (most_input_dates + greatest_every * (nu * greatest_input_date)) l (omega arith) g.some (omega arith) (omega arith) (goes_by x b after nu step g)
     (λ a s date in' o reaches start. start_behind net ok b nu step (omega arith) a s date o reaches start)))
     (cases_eq step 0)
 
@@ -68,10 +68,10 @@ slopes_are_greatest net ok live x h b after nu step l g =
     let f = h.feasible in
     let c : Keeps net x = least_keeps net x h in
     let goes = goes_by x b after nu step g in
-    let climbs : (s : ℕ) → 1 ≤ s → IsAtMostDate (x b s) (x b (s + 1)) = λ s o. dates_climb net (listed net) x f b s l o in
+    let climbs : (s : ℕ) → 1 ≤ s → IsAtMostDate (x b s) (x b (s + 1)) = λ s o. dates_climb net (listed_releases net) x f b s l o in
     let circuits : (ps : List PlaceId) → IsCircuitTowards net b ps → nu * time_of net ps ≤ step * tokens_of net ps = λ ps t.
     (let a_in = towards_in net ok ps t.at t.round t.circuit.not_empty in
-    let first = not_before_zero net (listed net) x f t.at 1 a_in (omega arith) in
+    let first = not_before_zero net (listed_releases net) x f t.at 1 a_in (omega arith) in
     lower x b (after + 1) nu g.date step (1 + tokens_of net t.towards.0) (time_of net ps) (tokens_of net ps) climbs (omega arith) g.some (omega arith) goes
     (carried net x ok c t.towards.0 t.at b 1 (time_of net ps) (tokens_of net ps) (omega arith) t.towards.1 (round_grows net x ok c ps t.at t.round first))) in
     let lists : (list : InputList) (again : Again) → IsGoingOnTowards net b list again → nu * again.gap ≤ step * again.every = λ list again w.
@@ -83,7 +83,7 @@ slopes_are_greatest net ok live x h b after nu step l g =
     (λ i.
     let v = list_grows list again (input_date net list.transition.index) facts.1 w.goes_on rule i in
     let below = f.inputs list.transition.index (s + i * again.every) (omega (arith, rule.some, rule.enough)) facts.0.is_input in
-    let is : listed net list.transition.index (s + i * again.every) ≡ At (pos v.0) = ap as_date v.1 in
+    let is : listed_releases net list.transition.index (s + i * again.every) ≡ At (pos v.0) = ap as_date v.1 in
     at_most_trans (At (pos (i * again.gap))) (At (pos v.0)) (x list.transition.index (s + i * again.every)) (omega (arith, ints, v.2)) (rw is at below)))) in
     record {
       circuits = circuits;

@@ -9,37 +9,37 @@ use Rattle.dioid.specs.Dates.{later_of}
 use Rattle.dioid.proofs.DateOrder.{at_most_is, later_either}
 use Rattle.teg_net.specs.declared.entries.Again.{Again}
 use Rattle.teg_net.specs.declared.entries.InputList.{InputList}
-use Rattle.teg_net.specs.Limits.{greatest_date, most_every, most_dates}
-use Rattle.teg_net.specs.Nets.{NetLists, IsNet, IsInput, GoesOn}
+use Rattle.teg_net.specs.Limits.{greatest_input_date, greatest_every, most_input_dates}
+use Rattle.teg_net.specs.Nets.{NetLists, IsNet, IsInput, ListGoesOn}
 use Rattle.teg_net.specs.Inputs.{IsInputDates, input_date}
 use Rattle.teg_net.specs.Parts.{Reaches}
 use Rattle.teg_net.specs.ReadyDates.{start_date}
 use Rattle.teg_net.proofs.InputDates.{AreInputDates-input_date}
 use Rattle.teg_net.proofs.StartDates.{start_date-most}
-use Rattle.teg_model.specs.Datings.{listed, as_date, at_input}
-use Rattle.teg_model.specs.Starts.{start_of}
+use Rattle.teg_model.specs.Datings.{listed_releases, as_date, at_input}
+use Rattle.teg_model.specs.Starts.{start_of_firing}
 use Rattle.teg_model.proofs.OfNet.{input_or_not}
 use Rattle.slope_laws.specs.Slopes.{IsGoingOnTowards}
 use Rattle.slope_laws.proofs.Sums.{times_add, times_le, more_of}
-use Rattle.slope_laws.proofs.Lists.{dates_of_list, goes_past, rule_of, again_or_not, ends_past, list_or_none, le_or_lt, some_is, IsSomeDate, moved_from}
+use Rattle.slope_laws.proofs.EndedLists.{dates_of_list, goes_past, rule_of, again_or_not, ends_past, list_or_none, le_or_lt, some_is, IsSomeDate, moved_from}
 
 -- a start is so many firings behind the step
 abbrev pub Behind : ℕ → ℕ → ℕ → ℕ → Type 0
-Behind nu step s date = s + most_every * (nu * date) ≤ most_every * (step * s) + (most_dates + most_every * (nu * greatest_date))
+Behind nu step s date = s + greatest_every * (nu * date) ≤ greatest_every * (step * s) + (most_input_dates + greatest_every * (nu * greatest_input_date))
 
 -- a list towards b that keeps up with the step
 abbrev pub KeepsUp : NetLists → ℕ → ℕ → ℕ → Type 0
 KeepsUp net b nu step = (l : InputList) × (again : Again) × IsGoingOnTowards net b l again × (step * again.every ≤ nu * again.gap)
 
 -- a start at a date that keeps the limit falls behind
-early_behind : (nu step s date : ℕ) → 1 ≤ step → date ≤ greatest_date → Behind nu step s date
+early_behind : (nu step s date : ℕ) → 1 ≤ step → date ≤ greatest_input_date → Behind nu step s date
 early_behind nu step s date s1 d =
-    let one = times_le nu date greatest_date d in
+    let one = times_le nu date greatest_input_date d in
     let own : step * s ≡ s + (step - 1) * s = more_of step s s1 in
     omega (arith, one, own)
 
 -- a list that goes on more slowly falls behind
-share_on : (l : InputList) (again : Again) (u : ℕ → Option ℕ) (nu step : ℕ) → 1 ≤ step → IsInputDates l u → l.again ≡ Some again → GoesOn l.dates again → All (λ d. d ≤ greatest_date) l.dates → nu * again.gap < step * again.every
+share_on : (l : InputList) (again : Again) (u : ℕ → Option ℕ) (nu step : ℕ) → 1 ≤ step → IsInputDates l u → l.again ≡ Some again → ListGoesOn l.dates again → All (λ d. d ≤ greatest_input_date) l.dates → nu * again.gap < step * again.every
     → (n s v : ℕ) → s < n → 1 ≤ s → u s ≡ Some v → Behind nu step s v
 share_on l again u nu step s1 h e g small slow zero s v m o is = absurd (omega arith)
 share_on l again u nu step s1 h e g small slow (suc n) s v m o is =
@@ -76,7 +76,7 @@ list_start net ok b nu step s date l s1 o has reaches given =
     (λ (q : long < s). absurd (subst IsSomeDate (sym (sym (ends_past long l.again u e facts.1.past s q) ∙ given)) tt))
     (le_or_lt s long))
     (λ (e : (g : Again) × (l.again ≡ Some g)).
-    let g : GoesOn l.dates e.0 = rule_of l.dates l.again e.0 e.1 facts.0.again in
+    let g : ListGoesOn l.dates e.0 = rule_of l.dates l.again e.0 e.1 facts.0.again in
     ⊎_elim
     (λ (slow : nu * e.0.gap < step * e.0.every). inl (share_on l e.0 u nu step s1 facts.1 e.1 g facts.0.dates_in slow (suc s) s date (omega arith) o given))
     (λ (up : step * e.0.every ≤ nu * e.0.gap). inr (l, e.0, record { of_net = has; goes_on = e.1; reaches = reaches }, up))
@@ -104,19 +104,19 @@ same_number : (m n : ℕ) → At (pos m) ≡ At (pos n) → m ≡ n
 same_number m n e = omega (arith, ints, at_most_is (At (pos m)) (At (pos n)) e, at_most_is (At (pos n)) (At (pos m)) (sym e))
 
 -- the start of a firing is a ready date, or 0, or the release of an input
-pub start_behind : (net : NetLists) → IsNet net → (b nu step : ℕ) → 1 ≤ step → (a s date : ℕ) → 1 ≤ s → Reaches net a b → start_of net (listed net) a s ≡ At (pos date) → Behind nu step s date ⊎ KeepsUp net b nu step
+pub start_behind : (net : NetLists) → IsNet net → (b nu step : ℕ) → 1 ≤ step → (a s date : ℕ) → 1 ≤ s → Reaches net a b → start_of_firing net (listed_releases net) a s ≡ At (pos date) → Behind nu step s date ⊎ KeepsUp net b nu step
 start_behind net ok b nu step s1 a s date o reaches start =
     let ready : ℕ = start_date net a s in
-    let release : Date = at_input net a (listed net a s) Early in
+    let release : Date = at_input net a (listed_releases net a s) Early in
     ⊎_elim
     (λ (e : later_of (At (pos ready)) release ≡ At (pos ready)).
     let is : ready ≡ date = same_number ready date (sym e ∙ start) in
     inl (early_behind nu step s date s1 (omega (arith, is, start_date-most net a s ok))))
     (λ (e : later_of (At (pos ready)) release ≡ release).
     ⊎_elim
-    (λ (i : IsInput net a × (release ≡ listed net a s)).
+    (λ (i : IsInput net a × (release ≡ listed_releases net a s)).
     release_start net ok b nu step a s date s1 o reaches (date_given (input_date net a s) date (sym i.1 ∙ (sym e ∙ start))))
     (λ (i : (release ≡ Early) × (release ≡ Early)).
     absurd (at_most_is (At (pos date)) Early (sym start ∙ (e ∙ i.0))))
-    (input_or_not net a (listed net a s) Early Early))
+    (input_or_not net a (listed_releases net a s) Early Early))
     (later_either (At (pos ready)) release)

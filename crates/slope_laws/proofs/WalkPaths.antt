@@ -4,7 +4,7 @@ use Rattle.std.proofs.lemmas.List.Sums.{sum_by-cons}
 use Rattle.teg_net.specs.declared.entries.PlaceId.{PlaceId}
 use Rattle.teg_net.specs.declared.walks.Step.{Step}
 use Rattle.teg_net.specs.declared.walks.Step.TheVariants.{By, Next}
-use Rattle.teg_net.specs.Limits.{greatest_hold, most_tokens}
+use Rattle.teg_net.specs.Limits.{greatest_hold, most_place_tokens}
 use Rattle.teg_net.specs.Nets.{NetLists, IsNet}
 use Rattle.teg_net.specs.Circuits.{no_place, place_at, IsPathBetween, IsCircuit, time_of, tokens_of}
 use Rattle.teg_net.specs.Walks.{Walks, step_time, walk_time}
@@ -48,11 +48,11 @@ ends_below net ok = record {
 }
 
 -- a straight path has few tokens, and takes little time
-pub tokens_straight : (net : NetLists) (ps : List PlaceId) (a b : ℕ) → IsNet net → b < length net.transitions → IsStraight net a ps b → tokens_of net ps ≤ length net.transitions * most_tokens
+pub tokens_straight : (net : NetLists) (ps : List PlaceId) (a b : ℕ) → IsNet net → b < length net.transitions → IsStraight net a ps b → tokens_of net ps ≤ length net.transitions * most_place_tokens
 tokens_straight net ps a b ok l h =
     let few = straight_short net (length net.transitions) ps a b (ends_below net ok) l h in
-    let each = sum_most (λ q. (place_at net q).tokens) most_tokens net (λ id m. (ok.each_place id.index no_place m).tokens_in) ps a b h.path in
-    omega (arith, each, le_times most_tokens (length ps) (length net.transitions) (omega arith))
+    let each = sum_most (λ q. (place_at net q).tokens) most_place_tokens net (λ id m. (ok.each_place id.index no_place m).tokens_in) ps a b h.path in
+    omega (arith, each, le_times most_place_tokens (length ps) (length net.transitions) (omega arith))
 
 pub time_straight : (net : NetLists) (ps : List PlaceId) (a b : ℕ) → IsNet net → b < length net.transitions → IsStraight net a ps b → time_of net ps ≤ length net.transitions * greatest_hold
 time_straight net ps a b ok l h =
@@ -61,8 +61,8 @@ time_straight net ps a b ok l h =
     omega (arith, each, le_times greatest_hold (length ps) (length net.transitions) (omega arith))
 
 -- so does a circuit
-pub tokens_round : (net : NetLists) (ps : List PlaceId) → IsNet net → IsCircuit net ps → tokens_of net ps ≤ length net.transitions * most_tokens
+pub tokens_round : (net : NetLists) (ps : List PlaceId) → IsNet net → IsCircuit net ps → tokens_of net ps ≤ length net.transitions * most_place_tokens
 tokens_round net ps ok c =
     let few = loop_short net (length net.transitions) ps (ends_below net ok) c in
-    let each = sum_most (λ q. (place_at net q).tokens) most_tokens net (λ id m. (ok.each_place id.index no_place m).tokens_in) ps c.closed.0 c.closed.0 c.closed.1 in
-    omega (arith, each, le_times most_tokens (length ps) (length net.transitions) few)
+    let each = sum_most (λ q. (place_at net q).tokens) most_place_tokens net (λ id m. (ok.each_place id.index no_place m).tokens_in) ps c.closed.0 c.closed.0 c.closed.1 in
+    omega (arith, each, le_times most_place_tokens (length ps) (length net.transitions) few)

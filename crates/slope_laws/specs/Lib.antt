@@ -1,2 +1,2 @@
 pub mod Slopes
-pub mod Laws
+pub mod SlopesExist

@@ -9,7 +9,7 @@ use Rattle.teg_net.specs.Nets.{NetLists}
 use Rattle.teg_net.specs.Circuits.{time_of, tokens_of}
 use Rattle.teg_net.specs.Parts.{Reaches}
 use Rattle.teg_loops.specs.Loops.{IsCircuitTowards}
-use Rattle.settled_laws.specs.Forms.{IsTail}
+use Rattle.settled_laws.specs.SettledForms.{IsTail}
 
 -- an input list of the net that ends, and from whose transition a path leads to t
 pub record IsEndedTowards (net : NetLists) (t : ℕ) (l : InputList) : Type 0 where

@@ -1,5 +1,5 @@
 //! The laws of slopes. Each is a function that does nothing when it runs: its contract is the law.
-ghost use Rattle.slope_laws.specs.Laws.{FormsHaveSlopes, NeversComeFromEndedLists, SettledFormsHaveSlopes};
+ghost use Rattle.slope_laws.specs.SlopesExist.{FormsHaveSlopes, NeversComeFromEndedLists, SettledFormsHaveSlopes};
 
 /// In a live net a date of a transition is `Never` only where an input whose list ends reaches it,
 /// from then on all its dates are, and where such an input reaches it some date is.

@@ -7,7 +7,7 @@ use Rattle.teg_net.specs.declared.entries.Role.TheVariants.{Input}
 use Rattle.teg_net.specs.declared.entries.Place.{Place}
 use Rattle.teg_net.specs.Nets.{NetLists}
 use Rattle.bound_laws.specs.Critical.{AllReadyAtZero}
-use Rattle.teg_bound.specs.Bounds.{HasPlacesAlone, HasReadyDate}
+use Rattle.teg_bound.specs.PeriodicBounds.{HasPlacesAlone, HasReadyDate}
 use Rattle.teg_bound.proofs.Inputs.{input_is_some}
 
 -- the places are none

@@ -13,11 +13,11 @@ use Rattle.teg_net.specs.Ratios.{Fraction}
 use Rattle.teg_net.specs.Circuits.{IsCircuit, IsLive, time_of, tokens_of}
 use Rattle.teg_net.specs.GreatestRatios.{IsGreatestRatio, IsAnyPlace}
 use Rattle.teg_model.specs.Datings.{IsLeastDating}
-use Rattle.settled_laws.specs.Forms.{RepeatsAfter}
+use Rattle.settled_laws.specs.SettledForms.{RepeatsAfter}
 use Rattle.bound_laws.specs.Critical.{IsStrong, IsCommon, AllReadyAtZero, bound_of}
 use Rattle.bound_laws.proofs.Bounded.{still_nets_stay_at_zero_by}
 use Rattle.bound_laws.proofs.Shortest.{forms_keep_the_bound}
-use Rattle.teg_bound.specs.Bounds.{NoInput, EachReachesEach, IsNumberOf, IsChoice, IsMultipleOf, FormsKeepBound}
+use Rattle.teg_bound.specs.PeriodicBounds.{NoInput, EachReachesEach, IsNumberOf, IsChoice, IsMultipleOf, FormsKeepBound}
 
 -- the least common multiple of a choice, and each other, is a common multiple
 common_of : (net : NetLists) (r : Fraction) (chosen : ℕ → List PlaceId) (multiple : ℕ) → IsChoice net r chosen → IsMultipleOf net r chosen multiple → IsCommon net r.time r.tokens multiple

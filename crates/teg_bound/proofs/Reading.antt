@@ -1,11 +1,11 @@
 -- An answer is read back from its text.
 use Rattle.std.proofs.Common.{ℕ, ◌<◌, ◌^◌, List, codes, refl, arith}
 use Rattle.std.specs.Prelude.{if◌then◌else◌}
-use Rattle.teg_text.specs.Reading.{line_at, word, stands_at, number_in}
+use Rattle.teg_text.specs.WordReading.{line_at, word, stands_at, number_in}
 use Rattle.teg_text.proofs.Back.{number_back, word64_back}
 use Rattle.teg_text.proofs.Telling.{IsReadFrom, same_told}
 use Rattle.teg_text.proofs.Words.{decimal_is_word}
-use Rattle.teg_bound.specs.Texts.{Cause, InputsCause, PlacesCause, WaysCause, DatesCause, Told, BoundTold, CauseTold, bound_lines, AreNumbersIn, TextsOfBoundsDiffer}
+use Rattle.teg_bound.specs.BoundTexts.{Cause, InputsCause, PlacesCause, WaysCause, DatesCause, ToldBound, BoundTold, CauseTold, bound_lines, AreNumbersIn, TextsOfBoundsDiffer}
 
 -- ---- what is read
 
@@ -16,14 +16,14 @@ cause_in line =
     else if stands_at 2 line (codes "not") then WaysCause
     else DatesCause
 
-abbrev told_in : List (List (List ℕ)) → Told
+abbrev told_in : List (List (List ℕ)) → ToldBound
 told_in lines =
     if stands_at 0 (line_at 0 lines) (codes "bound") then BoundTold (number_in (word 1 (line_at 0 lines))) (number_in (word 2 (line_at 1 lines))) (number_in (word 4 (line_at 1 lines)))
     else CauseTold (cause_in (line_at 0 lines))
 
 -- ---- answers
 
-is_read : (p : Told) → AreNumbersIn p → IsReadFrom told_in (bound_lines p) p
+is_read : (p : ToldBound) → AreNumbersIn p → IsReadFrom told_in (bound_lines p) p
 is_read (BoundTold number after period) h = record {
   words = rw (decimal_is_word number, decimal_is_word after, decimal_is_word period) refl;
   back =

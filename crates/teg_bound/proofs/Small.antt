@@ -9,10 +9,11 @@ use Rattle.teg_net.specs.Nets.{NetLists, IsNet}
 use Rattle.teg_net.specs.Ratios.{Fraction, IsLowestTerms, IsRatioOf}
 use Rattle.teg_net.specs.Circuits.{IsLive, time_of, tokens_of}
 use Rattle.teg_net.specs.GreatestRatios.{IsGreatestRatio, IsAnyPlace}
+use Rattle.teg_net.specs.Limits.{greatest_circuit_time, most_circuit_tokens}
 use Rattle.teg_net.proofs.LowestTerms.{IsRatioOf-divided}
 use Rattle.teg_howard.proofs.Lowest_terms.{one_ratio}
 use Rattle.teg_cycle.proofs.Short.{circuit_sums}
-use Rattle.teg_bound.specs.Readings.{AreWithin}
+use Rattle.teg_bound.specs.Readings.{AreReadingsWithin}
 
 -- ---- the ratio
 
@@ -34,7 +35,7 @@ terms_small time tokens r some h =
     let same = one_ratio time tokens r (record { time = time / d; tokens = tokens / d }) some h (IsRatioOf-divided time tokens d some g.1) in
     (omega (arith, same.0, div-le_self time d), omega (arith, same.1, div-le_self tokens d))
 
-pub ratio_small : (net : NetLists) (r : Fraction) → IsNet net → IsLive net → IsGreatestRatio net IsAnyPlace r → IsLowestTerms r → (r.time ≤ 400000000000) × (r.tokens ≤ 400000)
+pub ratio_small : (net : NetLists) (r : Fraction) → IsNet net → IsLive net → IsGreatestRatio net IsAnyPlace r → IsLowestTerms r → (r.time ≤ greatest_circuit_time) × (r.tokens ≤ most_circuit_tokens)
 ratio_small net r rules live h terms =
     let ps : List PlaceId = h.attained.0 in
     let sums = circuit_sums net rules ps h.attained.1 in
@@ -47,17 +48,17 @@ ratio_small net r rules live h terms =
 -- what is multiplied and added on the way to the bound
 pub record AreSmall (count hold tokens time per : ℕ) : Type 0 where
   pub straight : (count - 1) * tokens ≤ 399000
-  pub around : count * tokens ≤ 400000
+  pub around : count * tokens ≤ most_circuit_tokens
   pub path : (count - 1) * hold ≤ 399000000000
   pub gain : per * ((count - 1) * hold) ≤ 159600000000000000
   pub cost : time * ((count - 1) * tokens + count * tokens) ≤ 319600000000000000
   pub product : count * tokens * (per * ((count - 1) * hold) + time * ((count - 1) * tokens + count * tokens)) ≤ 191680000000000000000000
 
-pub are_small : (count hold tokens time per : ℕ) → AreWithin count hold tokens time per → AreSmall count hold tokens time per
+pub are_small : (count hold tokens time per : ℕ) → AreReadingsWithin count hold tokens time per → AreSmall count hold tokens time per
 are_small count hold tokens time per h =
     let less : count - 1 ≤ 399 = (let l = h.count_in in omega arith) in
     let straight : (count - 1) * tokens ≤ 399000 = mul-le-mul less h.tokens_in in
-    let around : count * tokens ≤ 400000 = mul-le-mul h.count_in h.tokens_in in
+    let around : count * tokens ≤ most_circuit_tokens = mul-le-mul h.count_in h.tokens_in in
     let path : (count - 1) * hold ≤ 399000000000 = mul-le-mul less h.hold_in in
     let both : (count - 1) * tokens + count * tokens ≤ 799000 = omega arith in
     let gain : per * ((count - 1) * hold) ≤ 159600000000000000 = mul-le-mul h.per_in path in

@@ -10,12 +10,13 @@ use Rattle.teg_net.specs.Circuits.{no_place, from_of, IsCircuit, IsLive}
 use Rattle.teg_net.specs.Parts.{to_of}
 use Rattle.teg_net.specs.GreatestRatios.{IsGreatestRatio, IsAnyPlace, IsCycleTime, ratio_in, ratio_at}
 use Rattle.teg_net.specs.Certificates.{IsCertificate, IsPartCertificate}
+use Rattle.teg_net.specs.Limits.{greatest_circuit_time, most_circuit_tokens}
 use Rattle.teg_parts.specs.Partitions.{PartLists, AreParts}
 use Rattle.teg_cycle.specs.BestRatios.{named_ratio, best_ratio_of}
 use Rattle.teg_cycle.proofs.Certified.{tell_of_nets}
 use Rattle.teg_cycle.proofs.FirstBest.{told_in}
 use Rattle.teg_loops.proofs.Through.{pass_back}
-use Rattle.teg_bound.specs.Bounds.{EachReachesEach, HasNoWay}
+use Rattle.teg_bound.specs.PeriodicBounds.{EachReachesEach, HasNoWay}
 use Rattle.teg_bound.proofs.Small.{ratio_small}
 
 -- ---- parts
@@ -105,7 +106,7 @@ best_terms net answer r cert h =
 pub record IsBest (net : NetLists) (r : Fraction) : Type 0 where
   pub greatest : IsGreatestRatio net IsAnyPlace r
   pub terms : IsLowestTerms r
-  pub small : (r.time ≤ 400000000000) × (r.tokens ≤ 400000)
+  pub small : (r.time ≤ greatest_circuit_time) × (r.tokens ≤ most_circuit_tokens)
 
 pub best_is : (net : NetLists) (answer : CycleAnswer) (r : Fraction) → IsNet net → IsLive net → IsCertificate net answer → TellsBest answer r → IsBest net r
 best_is net answer r rules live cert h =

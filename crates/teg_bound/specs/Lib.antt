@@ -1,3 +1,3 @@
-pub mod Bounds
+pub mod PeriodicBounds
 pub mod Readings
-pub mod Texts
+pub mod BoundTexts

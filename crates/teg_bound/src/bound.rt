@@ -2,7 +2,7 @@
 ghost use Rattle.teg_net.specs.Certificates.{IsCertificate};
 ghost use Rattle.teg_check.specs.Ranks.{IsRanking};
 ghost use Rattle.teg_parts.specs.Partitions.{AreParts};
-ghost use Rattle.teg_bound.specs.Bounds.{IsRightBound};
+ghost use Rattle.teg_bound.specs.PeriodicBounds.{IsRightBound};
 
 use crate::numbers::bound_number;
 use crate::readings::{has_input, has_late_token};

@@ -1,7 +1,7 @@
 //! What is read off a net.
 ghost use Rattle.std.specs.Prelude.{◌≡◌, ◌↔◌, ◌≤◌, ◌<◌, Any, IsTrue, length};
 ghost use Rattle.teg_net.specs.declared.entries.Role.TheVariants.{Input};
-ghost use Rattle.teg_bound.specs.Bounds.{HasReadyDate, IsGreatestHold, IsMostTokens};
+ghost use Rattle.teg_bound.specs.PeriodicBounds.{HasReadyDate, IsGreatestHold, IsMostTokens};
 
 use teg_net::{Net, Place, Role};
 

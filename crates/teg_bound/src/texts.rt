@@ -2,7 +2,7 @@
 //! why there is none.
 ghost use Rattle.std.specs.Prelude.{◌≡◌, ◌++◌, [], IfOk, string_bytes};
 ghost use Rattle.teg_text.specs.Lines.{line_then, written};
-ghost use Rattle.teg_bound.specs.Texts.{BoundTold, told, bound_line, bound_lines, AreNumbersIn, IsCause, TextsOfBoundsDiffer};
+ghost use Rattle.teg_bound.specs.BoundTexts.{BoundTold, told_bound, bound_line, bound_lines, AreNumbersIn, IsCause, TextsOfBoundsDiffer};
 
 use crate::bound::BoundAnswer;
 use std::alloc::{AllocError, Global};
@@ -46,7 +46,7 @@ pub fn bound_text(
 // The line of an answer that tells no bound.
 fn cause_line(answer: &BoundAnswer) -> &'static str
     requires { IsCause answer.now }
-    ensures { result.now ≡ written (bound_lines (told answer.now 0 0)) }
+    ensures { result.now ≡ written (bound_lines (told_bound answer.now 0 0)) }
 {
     match answer {
         BoundAnswer::Bound { .. } => unreachable!(),
@@ -62,7 +62,7 @@ fn cause_line(answer: &BoundAnswer) -> &'static str
 pub fn no_bound_text(alloc: Global, answer: &BoundAnswer) -> Result<String, OutOfMemory>
     requires { IsCause answer.now }
     ensures { IfOk result (λ text. string_bytes text ≡ written
-        (bound_lines (told answer.now 0 0))) }
+        (bound_lines (told_bound answer.now 0 0))) }
 {
     let mut text = String::new(alloc);
     text.push_str(cause_line(answer))?;

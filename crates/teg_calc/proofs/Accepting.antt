@@ -8,10 +8,11 @@ use Rattle.teg_calc.specs.declared.brackets.Call.{Call}
 use Rattle.teg_calc.specs.declared.brackets.Call.TheVariants.{Text, Group, Star as StarCall, Least as LeastCall, Left as LeftCall}
 use Rattle.teg_calc.specs.declared.tokens.Part.{Part}
 use Rattle.teg_calc.specs.declared.tokens.Part.TheVariants.{Unit as UnitPart, Name, Shift, Delta, Date}
-use Rattle.teg_calc.specs.Trees.{Tree, mono, epsilon, unit, never, plus, star, least, left}
+use Rattle.teg_calc.specs.ExpressionTrees.{Tree, mono, epsilon, unit, never, plus, star, least, left}
 use Rattle.teg_calc.specs.Grammar.{Blanks, AreDigits, ExprText, TermText, FactorText, term, plus_term, factor, times_factor, mono_token, eps_word, e_word, never_word, bracketed, star_of, min_of, left_of, blanks, spaced, minus_text, mono_text, expr_text, term_text, factor_text, expr_tree, term_tree, factor_tree, IsExpression}
-use Rattle.teg_calc.specs.Readers.{Level, level, opened, State, state, start, operand, within, operator, step, run, nested, joined, multiplied, closed, takes_comma, digit_of, date_on, factored, operator_step, finish}
+use Rattle.teg_calc.specs.Readers.{Level, level, opened_level, State, state, start, operand, within, operator, step, nested, joined, multiplied, closed, takes_comma, digit_of, date_on, factored, operator_step, finish}
 use Rattle.teg_calc.proofs.Runs.{runs_then, runs_both, operand_blanks, operator_blanks, name_blanks}
+use Rattle.teg_calc.proofs.TextRuns.{run}
 
 -- ---- behind a term, whether its last token may go on or not
 
@@ -99,7 +100,7 @@ factor_token p token o i k t s h e =
 -- the bracket of a call, behind its name
 name_token : (p : Blanks) (o : List Level) (i : Level) (c : Call) → run (state o i (within (Name c))) (spaced p (codes "(")) ≡ Some (nested o i c)
 name_token p o i c =
-    runs_both (blanks p.before) (40 ∷ blanks p.after) _ _ _ (name_blanks p.before o i c) (operand_blanks p.after (i ∷ o) (opened c))
+    runs_both (blanks p.before) (40 ∷ blanks p.after) _ _ _ (name_blanks p.before o i c) (operand_blanks p.after (i ∷ o) (opened_level c))
 
 -- ---- numbers
 
@@ -214,7 +215,7 @@ mutual
   factor_reads (e_word p) o i = factor_token p (codes "e") o i _ _ (state o i (within UnitPart)) refl (in_unit i refl refl)
   factor_reads (never_word p) o i = factor_token p (codes "never") o i _ _ (factored o i never) refl ended
   factor_reads (bracketed p a q) o i =
-      then_reads _ _ (operand_token p (codes "(") o i (nested o i Group) refl (λ n. operand_blanks n (i ∷ o) (opened Group)))
+      then_reads _ _ (operand_token p (codes "(") o i (nested o i Group) refl (λ n. operand_blanks n (i ∷ o) (opened_level Group)))
       (closing o i Group None (expr_text a) (expr_tree a) (expr_tree a) q (expr_reads a (i ∷ o) Group None) refl)
   factor_reads (star_of n p a q) o i =
       then_reads _ _ (operand_token n (codes "star") o i (state o i (within (Name StarCall))) refl (λ m. name_blanks m o i StarCall))

@@ -10,7 +10,7 @@ use Rattle.teg_calc.specs.declared.brackets.Call.{Call}
 use Rattle.teg_calc.specs.declared.brackets.Call.TheVariants.{Text, Group, Star as StarCall, Least as LeastCall, Left as LeftCall}
 use Rattle.teg_calc.specs.declared.tokens.Part.{Part}
 use Rattle.teg_calc.specs.declared.tokens.Part.TheVariants.{Letters, Unit as UnitPart, Name, Shift, Delta, Date}
-use Rattle.teg_calc.specs.Trees.{Tree, mono, unit}
+use Rattle.teg_calc.specs.ExpressionTrees.{Tree, mono, unit}
 use Rattle.teg_calc.specs.Grammar.{Blanks, AreDigits, FactorText, mono_token, e_word, blanks, spaced, mono_text, expr_text, term_text, factor_text, term_tree, factor_tree}
 use Rattle.teg_calc.specs.Readers.{Level, level, State, state, operand, within, operator, nested, joined, multiplied, closed, factor_of, factored, factored_outside, comma_step, close_step, operator_by}
 use Rattle.teg_calc.proofs.Signs.{IsSign, is_blank, is_close, is_comma, is_plus, is_dot, decide}

@@ -2,7 +2,7 @@
 use Rattle.std.proofs.Common.{◌≡◌, refl, ap, ◌∙◌, List, [], ◌∷◌, ◌++◌, map, Some}
 use Rattle.std.proofs.lemmas.List.{reverse-append, map-append}
 use Rattle.teg_calc.specs.declared.brackets.Bracket.{Bracket}
-use Rattle.teg_calc.specs.Trees.{Tree}
+use Rattle.teg_calc.specs.ExpressionTrees.{Tree}
 use Rattle.teg_calc.specs.Readers.{Level, joined, closed, close_step, factored, level_of, levels_of}
 
 levels_pop : (new : List Bracket) (b : Bracket) → levels_of (new ++ (b ∷ [])) ≡ level_of b ∷ levels_of new

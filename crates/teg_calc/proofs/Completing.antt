@@ -7,13 +7,14 @@ use Rattle.teg_calc.specs.declared.tokens.Word.{Word}
 use Rattle.teg_calc.specs.declared.tokens.Word.TheVariants.{Eps, Never as NeverWord, Star as StarWord, Min, Left as LeftWord}
 use Rattle.teg_calc.specs.declared.tokens.Part.{Part}
 use Rattle.teg_calc.specs.declared.tokens.Part.TheVariants.{Letters, Unit as UnitPart, Name, Shift, Delta, Date}
-use Rattle.teg_calc.specs.Trees.{Tree}
+use Rattle.teg_calc.specs.ExpressionTrees.{Tree}
 use Rattle.teg_calc.specs.Grammar.{Blanks, AreDigits, FactorText, term, factor, mono_token, eps_word, e_word, never_word, star_of, min_of, left_of, blanks, expr_text, term_text, factor_text, term_tree, factor_tree, IsExpression, IsBegun}
-use Rattle.teg_calc.specs.Readers.{Level, Stand, State, state, start, operand, within, operator, run, joined, multiplied, letters_of, factor_of, term_of, finish_by, finish}
+use Rattle.teg_calc.specs.Readers.{Level, Stand, State, state, start, operand, within, operator, joined, multiplied, letters_of, factor_of, term_of, finish_by, finish}
 use Rattle.teg_calc.proofs.Holding.{AreDigitsOf, IsPartText, Holds}
 use Rattle.teg_calc.proofs.Written.{IsTermOf, IsExprOf, IsCompleted, with_product, with_sum, completed, tight}
 use Rattle.teg_calc.proofs.Behind.{sum_of, ends_holds}
 use Rattle.teg_calc.proofs.Stepping.{read_holds}
+use Rattle.teg_calc.proofs.TextRuns.{run}
 
 -- ---- tokens
 

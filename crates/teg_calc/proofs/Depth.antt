@@ -9,11 +9,12 @@ use Rattle.teg_calc.specs.declared.tokens.Word.{Word}
 use Rattle.teg_calc.specs.declared.tokens.Word.TheVariants.{Eps, Never as NeverWord, Star as StarWord, Min, Left as LeftWord}
 use Rattle.teg_calc.specs.declared.tokens.Part.{Part}
 use Rattle.teg_calc.specs.declared.tokens.Part.TheVariants.{Letters, Unit as UnitPart, Name, Shift, Delta, Date}
-use Rattle.teg_calc.specs.Trees.{Tree}
-use Rattle.teg_calc.specs.Reading.{count_of, open_brackets}
-use Rattle.teg_calc.specs.Readers.{Level, Stand, State, state, start, operand, within, operator, step, run, takes_comma, sign_of, digit_of, begun_by, letters_of, gone_on, date_on, shift_on, factor_of, factored_outside, operand_by, operator_by, word_end, word_on, letter_by, name_by, token_by, step_by, within_step, behind_step}
+use Rattle.teg_calc.specs.ExpressionTrees.{Tree}
+use Rattle.teg_calc.specs.ParseAnswers.{count_of_byte, open_brackets}
+use Rattle.teg_calc.specs.Readers.{Level, Stand, State, state, start, operand, within, operator, step, takes_comma, sign_of, digit_of, begun_by, letters_of, gone_on, date_on, shift_on, factor_of, factored_outside, operand_by, operator_by, word_end, word_on, letter_by, name_by, token_by, step_by, within_step, behind_step}
 use Rattle.teg_calc.proofs.Signs.{IsSign, is_open, is_close, sign_is, decide}
 use Rattle.number_laws.proofs.Numbers.{same_number}
+use Rattle.teg_calc.proofs.TextRuns.{run}
 
 -- ---- bytes that open or close no bracket
 
@@ -212,19 +213,19 @@ step_depth s n b e = decide (b == 40)
       not_close = λ v. let no : (b == 41) ≡ true = rw v refl in cc;
     }) e in rw (z, y) (omega arith)))
 
-run_depth : (u : List ℕ) (s t : State) → run s u ≡ Some t → length t.outer + count_of 41 u ≡ length s.outer + count_of 40 u
+run_depth : (u : List ℕ) (s t : State) → run s u ≡ Some t → length t.outer + count_of_byte 41 u ≡ length s.outer + count_of_byte 40 u
 run_depth [] s t e = let g : s ≡ t = cc in rw g refl
 run_depth (b ∷ u) s t e = by_step (step s b) refl e (λ n k. run_depth u n t k) where
-  by_step : (x : Option State) → step s b ≡ x → option_and_then (λ n. run n u) x ≡ Some t → ((n : State) → run n u ≡ Some t → length t.outer + count_of 41 u ≡ length n.outer + count_of 40 u)
-      → length t.outer + count_of 41 (b ∷ u) ≡ length s.outer + count_of 40 (b ∷ u)
+  by_step : (x : Option State) → step s b ≡ x → option_and_then (λ n. run n u) x ≡ Some t → ((n : State) → run n u ≡ Some t → length t.outer + count_of_byte 41 u ≡ length n.outer + count_of_byte 40 u)
+      → length t.outer + count_of_byte 41 (b ∷ u) ≡ length s.outer + count_of_byte 40 (b ∷ u)
   by_step None g k rest = cc
   by_step (Some n) g k rest =
       let d : length n.outer + cond (b == 41) 1 0 ≡ length s.outer + cond (b == 40) 1 0 = step_depth s n b g in
-      let r : length t.outer + count_of 41 u ≡ length n.outer + count_of 40 u = rest n k in
-      let x : count_of 41 (b ∷ u) ≡ (0 + cond (b == 41) 1 0) + count_of 41 u = sum_by-append (λ y. cond (y == 41) 1 0) (b ∷ []) u in
-      let y : count_of 40 (b ∷ u) ≡ (0 + cond (b == 40) 1 0) + count_of 40 u = sum_by-append (λ z. cond (z == 40) 1 0) (b ∷ []) u in
+      let r : length t.outer + count_of_byte 41 u ≡ length n.outer + count_of_byte 40 u = rest n k in
+      let x : count_of_byte 41 (b ∷ u) ≡ (0 + cond (b == 41) 1 0) + count_of_byte 41 u = sum_by-append (λ y. cond (y == 41) 1 0) (b ∷ []) u in
+      let y : count_of_byte 40 (b ∷ u) ≡ (0 + cond (b == 40) 1 0) + count_of_byte 40 u = sum_by-append (λ z. cond (z == 40) 1 0) (b ∷ []) u in
       omega arith
 
 -- so many brackets are open behind a text
 pub read_depth : (text : List ℕ) (s : State) → run start text ≡ Some s → open_brackets text ≡ length s.outer
-read_depth text s e = let h : length s.outer + count_of 41 text ≡ 0 + count_of 40 text = run_depth text start s e in omega arith
+read_depth text s e = let h : length s.outer + count_of_byte 41 text ≡ 0 + count_of_byte 40 text = run_depth text start s e in omega arith

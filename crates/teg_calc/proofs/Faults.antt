@@ -4,17 +4,18 @@ use Rattle.std.specs.Prelude.{slice_get, option_and_then}
 use Rattle.std.proofs.lemmas.Bool.{cases_lt}
 use Rattle.std.proofs.lemmas.List.{take_more, take_all, length-map, length-reverse}
 use Rattle.std.proofs.lemmas.Option.{get_or_from_slice_get, slice_get-get_or}
-use Rattle.teg_calc.specs.Trees.{Tree}
+use Rattle.teg_calc.specs.ExpressionTrees.{Tree}
 use Rattle.teg_calc.specs.Grammar.{IsBegun}
-use Rattle.teg_calc.specs.Reading.{open_brackets, IsShallow, IsParsed, IsFault, IsFirstTooDeep, IsParseOf}
+use Rattle.teg_calc.specs.ParseAnswers.{open_brackets, IsShallow, IsParsed, IsFault, IsFirstTooDeep, IsParseOf}
 use Rattle.teg_calc.specs.declared.brackets.Bracket.{Bracket}
 use Rattle.teg_calc.specs.declared.refusals.Stop.{Stop}
 use Rattle.teg_calc.specs.declared.refusals.Stop.TheVariants.{Unexpected, TooDeep, OutOfMemory}
-use Rattle.teg_calc.specs.Readers.{State, start, step, run, finish, level_of, levels_of, refused_at, OpensFew, GoesOn, Finishes}
+use Rattle.teg_calc.specs.Readers.{State, start, step, finish, level_of, levels_of, refused_at, OpensFew, GoesOnByByte, Finishes}
 use Rattle.teg_calc.proofs.Runs.{runs_then, stops_then}
 use Rattle.teg_calc.proofs.Accepting.{IsAccepted, accepted}
 use Rattle.teg_calc.proofs.Completing.{begun_is, whole_is}
 use Rattle.teg_calc.proofs.Depth.{read_depth}
+use Rattle.teg_calc.proofs.TextRuns.{run}
 
 one_step : (x : Option State) → option_and_then (λ n. Some n) x ≡ x
 one_step None = refl
@@ -123,7 +124,7 @@ levels_length brackets = length-reverse (map level_of brackets) ∙ length-map b
 
 -- what is told where the reader stops at a byte
 pub told_at : (text : List ℕ) (at depth : ℕ) (s : State) (stop : Stop) → at < length text → run start (take at text) ≡ Some s → depth ≡ length s.outer
-    → GoesOn (step s (get_or text at 0)) depth (get_or text at 0) (Err stop) → IsShallow text at → IsParseOf text (Err (refused_at at stop))
+    → GoesOnByByte (step s (get_or text at 0)) depth (get_or text at 0) (Err stop) → IsShallow text at → IsParseOf text (Err (refused_at at stop))
 told_at text at depth s Unexpected h e d g shallow = fault_at text at s h e g shallow
 told_at text at depth s TooDeep h e d g shallow = deep_at text at s g.0 h e g.1 g.2 (let many : 64 ≤ depth = g.3 in omega arith) shallow
 told_at text at depth s OutOfMemory h e d g shallow = tt

@@ -5,7 +5,7 @@ use Rattle.teg_calc.specs.declared.brackets.Call.{Call}
 use Rattle.teg_calc.specs.declared.brackets.Call.TheVariants.{Text, Group, Star as StarCall, Least as LeastCall, Left as LeftCall}
 use Rattle.teg_calc.specs.declared.tokens.Part.{Part}
 use Rattle.teg_calc.specs.declared.tokens.Part.TheVariants.{Letters, Unit as UnitPart, Name, Shift, Delta, Date}
-use Rattle.teg_calc.specs.Trees.{Tree}
+use Rattle.teg_calc.specs.ExpressionTrees.{Tree}
 use Rattle.teg_calc.specs.Grammar.{Blanks, AreDigits, ExprText, TermText, blanks, spaced, minus_text, expr_text, term_text, expr_tree, term_tree}
 use Rattle.teg_calc.specs.Readers.{Level, Stand, State, operand, within, operator, letters_of}
 

@@ -1,3 +1,4 @@
+pub mod TextRuns
 pub mod Runs
 pub mod Accepting
 pub mod Meanings

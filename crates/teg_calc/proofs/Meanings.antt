@@ -4,10 +4,10 @@ use Rattle.dioid.specs.Dates.{move}
 use Rattle.dioid.specs.declared.dates.Date.{Date}
 use Rattle.dioid.specs.declared.dates.Date.TheVariants.{Early, At, Never}
 use Rattle.series_form.specs.declared.forms.SeriesRefused.{SeriesRefused}
-use Rattle.series_form.specs.Answer.{IsConstant}
-use Rattle.series_laws.specs.Forms.{Form, value_at}
+use Rattle.series_form.specs.SeriesAnswers.{IsConstant}
+use Rattle.series_laws.specs.SeriesForms.{Form, value_at}
 use Rattle.series_laws.proofs.Canonical.{constant_is}
-use Rattle.teg_calc.specs.Trees.{Tree, mono, epsilon, unit, never, plus, times, star, least, left}
+use Rattle.teg_calc.specs.ExpressionTrees.{Tree, mono, epsilon, unit, never, plus, times, star, least, left}
 use Rattle.teg_calc.specs.Meaning.{Means, Evaluates}
 
 constant_means : (d : Date) → move (pos 0) d ≡ d → (s : Form) → IsConstant d (Ok s) → (k : ℕ) → value_at s k ≡ d

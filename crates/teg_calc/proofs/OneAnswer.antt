@@ -7,16 +7,16 @@ use Rattle.dioid.specs.declared.dates.Date.{Date}
 use Rattle.dioid.specs.declared.dates.Date.TheVariants.{Early, At, Never}
 use Rattle.series_form.specs.declared.forms.SeriesRefused.{SeriesRefused}
 use Rattle.series_form.specs.declared.forms.SeriesRefused.TheVariants.{TooLong, TooGreat, OutOfMemory}
-use Rattle.series_laws.specs.Forms.{Form, value_at, HasValues, IsCanonical, monomial_at}
+use Rattle.series_laws.specs.SeriesForms.{Form, value_at, HasValues, IsCanonical, monomial_at}
 use Rattle.series_laws.specs.Pointwise.{sum_at, least_at}
-use Rattle.series_form.specs.Bounds.{IsSmallDate}
+use Rattle.series_form.specs.NumberBounds.{IsSmallDate}
 use Rattle.series_form.proofs.Great.{no_great}
 use Rattle.series_laws.proofs.Canonical.{one_canonical}
-use Rattle.series_form.specs.Answer.{AnswersOf, IsConstant, IsFirstGreatValue, IsGreatStep}
+use Rattle.series_form.specs.SeriesAnswers.{AnswersOf, IsConstant, IsFirstGreatValue, IsGreatStep}
 use Rattle.series_laws.specs.Product.{product_at}
 use Rattle.series_laws.proofs.StarParts.{star_only}
 use Rattle.series_laws.proofs.ResidualsRepeat.{one_greatest}
-use Rattle.teg_calc.specs.Trees.{Tree, mono, epsilon, unit, never, plus, times, star, least, left}
+use Rattle.teg_calc.specs.ExpressionTrees.{Tree, mono, epsilon, unit, never, plus, times, star, least, left}
 use Rattle.teg_calc.specs.Meaning.{AnswersBoth, AnswersInOrder, AnswersOne, AnswersAfter, Evaluates, AreOneAnswer, signed_date, sum_answers, product_answers, least_answers, left_answers, star_answers}
 
 -- ---- one operation

@@ -3,9 +3,9 @@ use Rattle.std.proofs.Common.{◌≡◌, ap, sym, ◌∙◌, ℕ, ℤ, List, [],
 use Rattle.std.specs.List.{flat_map}
 use Rattle.std.specs.Fmt.{decimal, signed_decimal}
 use Rattle.dioid.specs.declared.dates.Date.{Date}
-use Rattle.series_laws.specs.Forms.{form_with}
+use Rattle.series_laws.specs.SeriesForms.{form_with}
 use Rattle.teg_text.specs.Lines.{written}
-use Rattle.teg_text.specs.Words.{date_word}
+use Rattle.teg_text.specs.ValueWords.{date_word}
 use Rattle.teg_text.proofs.Joining.{further_both}
 use Rattle.teg_calc.specs.Printing.{series_line}
 

@@ -4,8 +4,9 @@ use Rattle.std.specs.Prelude.{option_and_then}
 use Rattle.teg_calc.specs.declared.brackets.Call.{Call}
 use Rattle.teg_calc.specs.declared.tokens.Part.TheVariants.{Name}
 use Rattle.teg_calc.specs.Grammar.{blanks}
-use Rattle.teg_calc.specs.Trees.{Tree}
-use Rattle.teg_calc.specs.Readers.{Level, State, state, operand, within, operator, step, run}
+use Rattle.teg_calc.specs.ExpressionTrees.{Tree}
+use Rattle.teg_calc.specs.Readers.{Level, State, state, operand, within, operator, step}
+use Rattle.teg_calc.proofs.TextRuns.{run}
 
 through : (o : Option State) (f g : State → Option State) (t : State) (r : Option State) → ((n : State) → f n ≡ Some t → g n ≡ r) → option_and_then f o ≡ Some t → option_and_then g o ≡ r
 through None f g t r k h = cc

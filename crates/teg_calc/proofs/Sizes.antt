@@ -4,7 +4,7 @@ use Rattle.std.proofs.lemmas.List.{length-append}
 use Rattle.std.proofs.Math.Nat.{pow-le-pow_right}
 use Rattle.std.proofs.lemmas.Int.Digits.{digits_value-lt}
 use Rattle.std.specs.Str.Parse.{digits_value}
-use Rattle.teg_calc.specs.Trees.{Tree, node_count, HasShortNumbers}
+use Rattle.teg_calc.specs.ExpressionTrees.{Tree, node_count, HasShortNumbers}
 use Rattle.teg_calc.specs.Grammar.{Blanks, AreDigits, ExprText, TermText, FactorText, term, plus_term, factor, times_factor, mono_token, eps_word, e_word, never_word, bracketed, star_of, min_of, left_of, spaced, mono_text, expr_text, term_text, factor_text, expr_tree, term_tree, factor_tree, IsExpression}
 
 short_number : (digits : List ℕ) → AreDigits digits → digits_value 10 digits < 10 ^ 19

@@ -3,7 +3,7 @@ use Rattle.std.proofs.Common.{◌≡◌, refl, ap, sym, ◌∙◌, ℕ, ◌+◌,
 use Rattle.std.proofs.lemmas.List.{append-nil, replicate_more}
 use Rattle.teg_calc.specs.declared.brackets.Call.{Call}
 use Rattle.teg_calc.specs.declared.brackets.Call.TheVariants.{Text, Group, Star as StarCall, Least as LeastCall, Left as LeftCall}
-use Rattle.teg_calc.specs.Trees.{Tree, plus, times}
+use Rattle.teg_calc.specs.ExpressionTrees.{Tree, plus, times}
 use Rattle.teg_calc.specs.Grammar.{Blanks, ExprText, TermText, FactorText, term, plus_term, factor, times_factor, mono_token, eps_word, e_word, never_word, bracketed, star_of, min_of, left_of, blanks, spaced, mono_text, expr_text, term_text, factor_text, expr_tree, term_tree, factor_tree, IsExpression}
 use Rattle.teg_calc.specs.Readers.{Level, joined, multiplied, closed}
 use Rattle.teg_calc.proofs.Holding.{IsHead, IsSumText, IsProductText, IsHeads}

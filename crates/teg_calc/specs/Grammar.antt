@@ -9,7 +9,7 @@
 -- Digits are 1 to 19 decimal digits. Blanks may stand before and after each token. `+` and `.` group to the left.
 use Rattle.std.specs.Prelude.{◌≡◌, ℕ, ◌≤◌, Bool, true, false, List, [], ◌++◌, length, replicate, codes}
 use Rattle.std.specs.Str.Parse.{IsNumeral, digits_value}
-use Rattle.teg_calc.specs.Trees.{Tree, mono, epsilon, unit, never, plus, times, star, least, left}
+use Rattle.teg_calc.specs.ExpressionTrees.{Tree, mono, epsilon, unit, never, plus, times, star, least, left}
 
 -- how many blanks stand before and after a token
 pub record Blanks : Type 0 where

@@ -1,6 +1,6 @@
-pub mod Trees
+pub mod ExpressionTrees
 pub mod Grammar
-pub mod Reading
+pub mod ParseAnswers
 pub mod Meaning
 pub mod Readers
 pub mod Printing

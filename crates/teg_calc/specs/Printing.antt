@@ -1,8 +1,8 @@
 -- The line of a series.
 use Rattle.std.specs.Prelude.{ℕ, List, [], ◌∷◌, ◌++◌, map, codes}
 use Rattle.std.specs.Fmt.{decimal, signed_decimal}
-use Rattle.series_laws.specs.Forms.{Form}
-use Rattle.teg_text.specs.Words.{date_word}
+use Rattle.series_laws.specs.SeriesForms.{Form}
+use Rattle.teg_text.specs.ValueWords.{date_word}
 
 -- the word `series`, the values of the list, the period and the step
 abbrev pub series_line : Form → List (List ℕ)

@@ -11,14 +11,14 @@ use Rattle.teg_calc.specs.declared.tokens.Word.{Word}
 use Rattle.teg_calc.specs.declared.tokens.Word.TheVariants.{Eps, Never as NeverWord, Star as StarWord, Min, Left as LeftWord}
 use Rattle.teg_calc.specs.declared.tokens.Part.{Part}
 use Rattle.teg_calc.specs.declared.tokens.Part.TheVariants.{Letters, Unit as UnitPart, Name, Shift, Delta, Date}
-use Rattle.teg_calc.specs.declared.readers.Place.{Place}
-use Rattle.teg_calc.specs.declared.readers.Place.TheVariants.{Operand, Within, Operator}
+use Rattle.teg_calc.specs.declared.readers.ReadPlace.{ReadPlace}
+use Rattle.teg_calc.specs.declared.readers.ReadPlace.TheVariants.{Operand, Within, Operator}
 use Rattle.teg_calc.specs.declared.readers.Reader.{Reader}
 use Rattle.teg_calc.specs.declared.refusals.Stop.{Stop}
 use Rattle.teg_calc.specs.declared.refusals.Stop.TheVariants.{Unexpected, TooDeep, OutOfMemory}
 use Rattle.teg_calc.specs.declared.refusals.ParseRefused.{ParseRefused}
 use Rattle.teg_calc.specs.declared.refusals.ParseRefused.TheVariants.{Syntax, TooDeep as TooDeepText, OutOfMemory as NoMemory}
-use Rattle.teg_calc.specs.Trees.{Tree, tree_of, mono, epsilon, unit, never, plus, times, star, least, left}
+use Rattle.teg_calc.specs.ExpressionTrees.{Tree, tree_of_expression, mono, epsilon, unit, never, plus, times, star, least, left}
 
 -- ---- bytes and tokens
 
@@ -111,8 +111,8 @@ abbrev pub level : Call → Option Tree → Option Tree → Option Tree → Leve
 level call first sum product = record { call = call; first = first; sum = sum; product = product }
 
 -- a bracket in which nothing stands
-abbrev pub opened : Call → Level
-opened call = level call None None None
+abbrev pub opened_level : Call → Level
+opened_level call = level call None None None
 
 -- ---- readers
 
@@ -134,11 +134,11 @@ state outer inner stand = record { outer = outer; inner = inner; stand = stand }
 
 -- before the first byte
 abbrev pub start : State
-start = state [] (opened Text) operand
+start = state [] (opened_level Text) operand
 
 -- once one more bracket is opened
 abbrev pub nested : List Level → Level → Call → State
-nested outer inner call = state (inner ∷ outer) (opened call) operand
+nested outer inner call = state (inner ∷ outer) (opened_level call) operand
 
 -- where an operand begins, by the sign, or by what the byte begins
 abbrev pub operand_by : Sign → Option Part → List Level → Level → Option State
@@ -278,11 +278,6 @@ step_by (operator term) outer inner byte = operator_step outer inner term byte
 abbrev pub step : State → ℕ → Option State
 step s byte = step_by s.stand s.outer s.inner byte
 
--- a text
-abbrev pub run : State → List ℕ → Option State
-run s [] = Some s
-run s (byte ∷ text) = option_and_then (λ next. run next text) (step s byte)
-
 -- the term that was read, where one may end
 abbrev pub term_of : Stand → Option Tree → Option Tree
 term_of operand product = None
@@ -302,7 +297,7 @@ finish s = finish_by s.outer s.inner.sum (term_of s.stand s.inner.product)
 
 -- the tree, where there is one
 abbrev pub tree_in : Option Expr → Option Tree
-tree_in expr = option_map tree_of expr
+tree_in expr = option_map tree_of_expression expr
 
 -- what stands in a bracket
 abbrev pub level_of : Bracket → Level
@@ -313,10 +308,10 @@ abbrev pub levels_of : List Bracket → List Level
 levels_of brackets = reverse (map level_of brackets)
 
 -- where the next byte stands
-abbrev pub stand_of : Place → Stand
+abbrev pub stand_of : ReadPlace → Stand
 stand_of Operand = operand
 stand_of (Within part) = within part
-stand_of (Operator term) = operator (tree_of term)
+stand_of (Operator term) = operator (tree_of_expression term)
 
 -- what a reader has read
 abbrev pub state_of : Reader → State
@@ -333,11 +328,11 @@ abbrev pub OpensFew : ℕ → ℕ → Type 0
 OpensFew depth byte = byte ≡ 40 → depth < 64
 
 -- a reader that goes on by the byte as `next` says; no expression goes on so; it goes on, but a bracket opens too deep
-abbrev pub GoesOn : Option State → ℕ → ℕ → Result Reader Stop → Type 0
-GoesOn next depth byte (Ok r) = (next ≡ Some (state_of r)) × StandsWell (stand_of r.place) × OpensFew depth byte
-GoesOn next depth byte (Err Unexpected) = next ≡ None
-GoesOn next depth byte (Err TooDeep) = (s : State) × (next ≡ Some s) × (byte ≡ 40) × (64 ≤ depth)
-GoesOn next depth byte (Err OutOfMemory) = Unit {0}
+abbrev pub GoesOnByByte : Option State → ℕ → ℕ → Result Reader Stop → Type 0
+GoesOnByByte next depth byte (Ok r) = (next ≡ Some (state_of r)) × StandsWell (stand_of r.place) × OpensFew depth byte
+GoesOnByByte next depth byte (Err Unexpected) = next ≡ None
+GoesOnByByte next depth byte (Err TooDeep) = (s : State) × (next ≡ Some s) × (byte ≡ 40) × (64 ≤ depth)
+GoesOnByByte next depth byte (Err OutOfMemory) = Unit {0}
 
 -- a reader of this state, or none
 abbrev pub IsReached : Option State → Result Reader Stop → Type 0
@@ -351,12 +346,12 @@ abbrev pub IsAt : (List Level → Level → Option State) → List Bracket → B
 IsAt next outer inner r = (next (levels_of outer) (level_of inner) ≡ Some (state_of r)) × StandsWell (stand_of r.place)
 
 -- the same, or none
-abbrev pub Reaches : (List Level → Level → Option State) → List Bracket → Bracket → Result Reader Stop → Type 0
-Reaches next outer inner result = IsReached (next (levels_of outer) (level_of inner)) result
+abbrev pub ReachesLevels : (List Level → Level → Option State) → List Bracket → Bracket → Result Reader Stop → Type 0
+ReachesLevels next outer inner result = IsReached (next (levels_of outer) (level_of inner)) result
 
 -- the reader that these brackets and the byte lead to
 abbrev pub Goes : (List Level → Level → ℕ → Option State) → List Bracket → Bracket → ℕ → Result Reader Stop → Type 0
-Goes next outer inner byte result = GoesOn (next (levels_of outer) (level_of inner) byte) (length outer) byte result
+Goes next outer inner byte result = GoesOnByByte (next (levels_of outer) (level_of inner) byte) (length outer) byte result
 
 -- the refusal at an offset
 abbrev pub refused_at : ℕ → Stop → ParseRefused
@@ -366,7 +361,7 @@ refused_at at OutOfMemory = NoMemory
 
 -- the whole tree, or none
 abbrev pub Finishes : Option Tree → Result Expr Stop → Type 0
-Finishes tree (Ok expr) = tree ≡ Some (tree_of expr)
+Finishes tree (Ok expr) = tree ≡ Some (tree_of_expression expr)
 Finishes tree (Err Unexpected) = tree ≡ None
 Finishes tree (Err TooDeep) = ⊥
 Finishes tree (Err OutOfMemory) = Unit {0}

@@ -1,7 +1,7 @@
 //! What stands in an open bracket before the operand that is read, and what operators make of it.
 ghost use Rattle.std.specs.Prelude.{◌≡◌, IfOk};
-ghost use Rattle.teg_calc.specs.Trees.{tree_of};
-ghost use Rattle.teg_calc.specs.Readers.{closed, joined, level_of, multiplied, opened, takes_comma, tree_in};
+ghost use Rattle.teg_calc.specs.ExpressionTrees.{tree_of_expression};
+ghost use Rattle.teg_calc.specs.Readers.{closed, joined, level_of, multiplied, opened_level, takes_comma, tree_in};
 
 use crate::expressions::Expr;
 use std::alloc::{AllocError, Global};
@@ -28,7 +28,7 @@ pub(crate) struct Bracket {
 
 // A bracket in which nothing stands.
 pub(crate) fn opened(call: Call) -> Bracket
-    ensures { level_of result ≡ opened call }
+    ensures { level_of result ≡ opened_level call }
 {
     Bracket {
         call,
@@ -40,7 +40,8 @@ pub(crate) fn opened(call: Call) -> Bracket
 
 // The sum so far, with one more term.
 pub(crate) fn joined(alloc: Global, sum: Option<Expr>, term: Expr) -> Result<Expr, AllocError>
-    ensures { IfOk result (λ expr. tree_of expr ≡ joined (tree_in sum) (tree_of term)) }
+    ensures { IfOk result (λ expr. tree_of_expression expr ≡ joined (tree_in sum)
+        (tree_of_expression term)) }
 {
     match sum {
         None => Ok(term),
@@ -58,7 +59,8 @@ pub(crate) fn multiplied(
     product: Option<Expr>,
     factor: Expr,
 ) -> Result<Expr, AllocError>
-    ensures { IfOk result (λ e. tree_of e ≡ multiplied (tree_in product) (tree_of factor)) }
+    ensures { IfOk result (λ e. tree_of_expression e ≡ multiplied (tree_in product)
+        (tree_of_expression factor)) }
 {
     match product {
         None => Ok(factor),
@@ -77,7 +79,8 @@ pub(crate) fn closed(
     first: Option<Expr>,
     last: Expr,
 ) -> Result<Option<Expr>, AllocError>
-    ensures { IfOk result (λ expr. tree_in expr ≡ closed call (tree_in first) (tree_of last)) }
+    ensures { IfOk result (λ expr. tree_in expr ≡ closed call (tree_in first) (tree_of_expression
+        last)) }
 {
     match (call, first) {
         (Call::Group, None) => Ok(Some(last)),

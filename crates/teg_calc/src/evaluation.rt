@@ -1,9 +1,9 @@
 //! The meaning of expressions.
 ghost use Rattle.std.specs.Prelude.{◌≡◌, ◌≤◌, ◌<◌, ◌^◌, IfOk};
 ghost use Rattle.std.specs.Int.RustNames.{unsigned_abs};
-ghost use Rattle.series_laws.specs.Forms.{value_at};
-ghost use Rattle.series_form.specs.Bounds.{IsSeries};
-ghost use Rattle.teg_calc.specs.Trees.{HasShortNumbers, mono, node_count, tree_of};
+ghost use Rattle.series_laws.specs.SeriesForms.{value_at};
+ghost use Rattle.series_form.specs.NumberBounds.{IsSeries};
+ghost use Rattle.teg_calc.specs.ExpressionTrees.{HasShortNumbers, mono, node_count, tree_of_expression};
 ghost use Rattle.teg_calc.specs.Meaning.{Evaluates, Means, signed_date};
 
 use crate::expressions::Expr;
@@ -16,10 +16,11 @@ use std::alloc::Global;
 /// operator; or the first refusal in this order. The expression has at most 4,096 nodes, and each
 /// shift and date in it is below 10^19. `OutOfMemory` comes only where no memory is found.
 pub fn evaluate(alloc: Global, expr: &Expr) -> Result<Series, SeriesRefused>
-    requires nodes { node_count (tree_of expr.now) ≤ 4096 }
-    requires numbers { HasShortNumbers (tree_of expr.now) }
-    ensures answer { Evaluates (tree_of expr.now) result }
-    ensures meaning { IfOk result (λ series. Means (tree_of expr.now) (value_at series)) }
+    requires nodes { node_count (tree_of_expression expr.now) ≤ 4096 }
+    requires numbers { HasShortNumbers (tree_of_expression expr.now) }
+    ensures answer { Evaluates (tree_of_expression expr.now) result }
+    ensures meaning { IfOk result (λ series. Means (tree_of_expression expr.now) (value_at
+        series)) }
     ensures series { IfOk result IsSeries }
 {
     match expr {

@@ -1,7 +1,7 @@
 //! Texts as trees.
 ghost use Rattle.std.specs.Prelude.{◌≡◌, ◌≤◌, IfOk, length};
-ghost use Rattle.teg_calc.specs.Trees.{HasShortNumbers, node_count, tree_of};
-ghost use Rattle.teg_calc.specs.Reading.{HasOneTree, IsParseOf};
+ghost use Rattle.teg_calc.specs.ExpressionTrees.{HasShortNumbers, node_count, tree_of_expression};
+ghost use Rattle.teg_calc.specs.ParseAnswers.{HasOneTree, IsParseOf};
 ghost use Rattle.teg_calc.specs.Readers.{refused_at};
 
 use crate::expressions::Expr;
@@ -19,8 +19,8 @@ use std::alloc::Global;
 pub fn parse(alloc: Global, text: &[u8]) -> Result<Expr, ParseRefused>
     requires { length text.now ≤ 4096 }
     ensures answer { IsParseOf text.now result }
-    ensures nodes { IfOk result (λ expr. node_count (tree_of expr) ≤ 4096) }
-    ensures numbers { IfOk result (λ expr. HasShortNumbers (tree_of expr)) }
+    ensures nodes { IfOk result (λ expr. node_count (tree_of_expression expr) ≤ 4096) }
+    ensures numbers { IfOk result (λ expr. HasShortNumbers (tree_of_expression expr)) }
     ensures one { HasOneTree text.now }
 {
     let mut reader = Reader::new(alloc);

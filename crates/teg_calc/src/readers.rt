@@ -1,7 +1,7 @@
 //! A reader of expressions, byte by byte: the open brackets, and where the next byte stands.
 ghost use Rattle.std.specs.Prelude.{◌≡◌, ◌≢◌, IfSome, length};
-ghost use Rattle.teg_calc.specs.Trees.{tree_of};
-ghost use Rattle.teg_calc.specs.Readers.{Finishes, Goes, GoesOn, HasFewDigits, IsAt, Reaches, StandsWell, behind_step, close_step, comma_step, date_on, factor_of, factored, finish, gone_on, nested, operand_step, operator_by, operator_step, stand_of, start, state, state_of, step, tree_in, within, within_step};
+ghost use Rattle.teg_calc.specs.ExpressionTrees.{tree_of_expression};
+ghost use Rattle.teg_calc.specs.Readers.{Finishes, Goes, GoesOnByByte, HasFewDigits, IsAt, ReachesLevels, StandsWell, behind_step, close_step, comma_step, date_on, factor_of, factored, finish, gone_on, nested, operand_step, operator_by, operator_step, stand_of, start, state, state_of, step, tree_in, within, within_step};
 
 use crate::brackets::{Bracket, Call, closed, joined, multiplied, opened, takes_comma};
 use crate::bytes::{Sign, digit_of, sign_of};
@@ -12,7 +12,7 @@ use std::alloc::Global;
 
 // Where the next byte stands.
 #[derive(Drop)]
-pub(crate) enum Place {
+pub(crate) enum ReadPlace {
     // Where an operand begins.
     Operand,
     // Inside a token or behind it.
@@ -26,7 +26,7 @@ pub(crate) enum Place {
 pub(crate) struct Reader {
     pub(crate) outer: Vec<Bracket>,
     pub(crate) inner: Bracket,
-    pub(crate) place: Place,
+    pub(crate) place: ReadPlace,
 }
 
 impl Reader {
@@ -37,14 +37,14 @@ impl Reader {
         Reader {
             outer: Vec::new(alloc),
             inner: opened(Call::Text),
-            place: Place::Operand,
+            place: ReadPlace::Operand,
         }
     }
 
     // The reader after one more byte.
     pub(crate) fn after(self, alloc: Global, byte: u8) -> Result<Reader, Stop>
         requires { StandsWell (stand_of self.place) }
-        ensures { GoesOn (step (state_of self) byte) (length self.outer.items) byte result }
+        ensures { GoesOnByByte (step (state_of self) byte) (length self.outer.items) byte result }
     {
         let Reader {
             outer,
@@ -52,9 +52,9 @@ impl Reader {
             place,
         } = self;
         match place {
-            Place::Operand => operand(outer, inner, byte),
-            Place::Within(part) => within(alloc, outer, inner, part, byte),
-            Place::Operator(term) => operator(alloc, outer, inner, term, byte),
+            ReadPlace::Operand => operand(outer, inner, byte),
+            ReadPlace::Within(part) => within(alloc, outer, inner, part, byte),
+            ReadPlace::Operator(term) => operator(alloc, outer, inner, term, byte),
         }
     }
 
@@ -77,15 +77,15 @@ impl Reader {
             product,
         } = inner;
         match place {
-            Place::Operator(term) => Ok(joined(alloc, sum, term)?),
-            Place::Within(part) => match factor_of(part) {
+            ReadPlace::Operator(term) => Ok(joined(alloc, sum, term)?),
+            ReadPlace::Within(part) => match factor_of(part) {
                 Some(factor) => {
                     let term = multiplied(alloc, product, factor)?;
                     Ok(joined(alloc, sum, term)?)
                 }
                 None => Err(Stop::Unexpected),
             },
-            Place::Operand => Err(Stop::Unexpected),
+            ReadPlace::Operand => Err(Stop::Unexpected),
         }
     }
 }
@@ -101,7 +101,7 @@ fn nested(mut outer: Vec<Bracket>, inner: Bracket, call: Call) -> Result<Reader,
     Ok(Reader {
         outer,
         inner: opened(call),
-        place: Place::Operand,
+        place: ReadPlace::Operand,
     })
 }
 
@@ -113,14 +113,14 @@ fn operand(outer: Vec<Bracket>, inner: Bracket, byte: u8) -> Result<Reader, Stop
         Sign::Blank => Ok(Reader {
             outer,
             inner,
-            place: Place::Operand,
+            place: ReadPlace::Operand,
         }),
         Sign::Open => nested(outer, inner, Call::Group),
         _ => match begun_by(byte) {
             Some(part) => Ok(Reader {
                 outer,
                 inner,
-                place: Place::Within(part),
+                place: ReadPlace::Within(part),
             }),
             None => Err(Stop::Unexpected),
         },
@@ -134,7 +134,8 @@ fn factored(
     inner: Bracket,
     factor: Expr,
 ) -> Result<Reader, Stop>
-    ensures { Reaches (λ o i. Some (factored o i (tree_of factor))) outer.items inner result }
+    ensures { ReachesLevels (λ o i. Some (factored o i (tree_of_expression factor))) outer.items
+        inner result }
 {
     let Bracket {
         call,
@@ -151,13 +152,14 @@ fn factored(
             sum,
             product: None,
         },
-        place: Place::Operator(term),
+        place: ReadPlace::Operator(term),
     })
 }
 
 // The innermost bracket closed behind a term.
 fn close(alloc: Global, mut outer: Vec<Bracket>, inner: Bracket, term: Expr) -> Result<Reader, Stop>
-    ensures { Reaches (λ o i. close_step o i (tree_of term)) outer.items inner result }
+    ensures { ReachesLevels (λ o i. close_step o i (tree_of_expression term)) outer.items inner
+        result }
 {
     let Bracket {
         call,
@@ -183,13 +185,14 @@ fn operator(
     term: Expr,
     byte: u8,
 ) -> Result<Reader, Stop>
-    ensures { Goes (λ o i b. operator_step o i (tree_of term) b) outer.items inner byte result }
+    ensures { Goes (λ o i b. operator_step o i (tree_of_expression term) b) outer.items inner byte
+        result }
 {
     match sign_of(byte) {
         Sign::Blank => Ok(Reader {
             outer,
             inner,
-            place: Place::Operator(term),
+            place: ReadPlace::Operator(term),
         }),
         Sign::Plus => summed(alloc, outer, inner, term),
         Sign::Dot => Ok(before_factor(outer, inner, term)),
@@ -201,7 +204,8 @@ fn operator(
 
 // Behind a term and a `+`.
 fn summed(alloc: Global, outer: Vec<Bracket>, inner: Bracket, term: Expr) -> Result<Reader, Stop>
-    ensures { Reaches (λ o i. operator_by Sign.Plus o i (tree_of term)) outer.items inner result }
+    ensures { ReachesLevels (λ o i. operator_by Sign.Plus o i (tree_of_expression term)) outer.items
+        inner result }
 {
     let Bracket {
         call,
@@ -218,13 +222,14 @@ fn summed(alloc: Global, outer: Vec<Bracket>, inner: Bracket, term: Expr) -> Res
             sum: Some(sum),
             product: None,
         },
-        place: Place::Operand,
+        place: ReadPlace::Operand,
     })
 }
 
 // Behind a term and a `.`.
 fn before_factor(outer: Vec<Bracket>, inner: Bracket, term: Expr) -> Reader
-    ensures { IsAt (λ o i. operator_by Sign.Dot o i (tree_of term)) outer.items inner result }
+    ensures { IsAt (λ o i. operator_by Sign.Dot o i (tree_of_expression term)) outer.items inner
+        result }
 {
     let Bracket {
         call,
@@ -240,13 +245,14 @@ fn before_factor(outer: Vec<Bracket>, inner: Bracket, term: Expr) -> Reader
             sum,
             product: Some(term),
         },
-        place: Place::Operand,
+        place: ReadPlace::Operand,
     }
 }
 
 // Behind the first operand of a call and a comma.
 fn comma(alloc: Global, outer: Vec<Bracket>, inner: Bracket, term: Expr) -> Result<Reader, Stop>
-    ensures { Reaches (λ o i. comma_step o i (tree_of term)) outer.items inner result }
+    ensures { ReachesLevels (λ o i. comma_step o i (tree_of_expression term)) outer.items inner
+        result }
 {
     let Bracket {
         call,
@@ -266,7 +272,7 @@ fn comma(alloc: Global, outer: Vec<Bracket>, inner: Bracket, term: Expr) -> Resu
             sum: None,
             product: None,
         },
-        place: Place::Operand,
+        place: ReadPlace::Operand,
     })
 }
 
@@ -314,7 +320,7 @@ fn within(
             Some(part) => Ok(Reader {
                 outer,
                 inner,
-                place: Place::Within(part),
+                place: ReadPlace::Within(part),
             }),
             None => match factor_of(part) {
                 Some(factor) => behind(alloc, outer, inner, factor, byte),
@@ -332,7 +338,8 @@ fn behind(
     factor: Expr,
     byte: u8,
 ) -> Result<Reader, Stop>
-    ensures { Goes (λ o i b. behind_step o i (Some (tree_of factor)) b) outer.items inner byte
+    ensures { Goes (λ o i b. behind_step o i (Some (tree_of_expression factor)) b) outer.items inner
+        byte
         result }
 {
     let Bracket {
@@ -463,7 +470,7 @@ fn letter(
         return Ok(Reader {
             outer,
             inner,
-            place: Place::Within(Part::Letters {
+            place: ReadPlace::Within(Part::Letters {
                 word,
                 read: read + 1,
             }),
@@ -485,7 +492,7 @@ fn before_bracket(outer: Vec<Bracket>, inner: Bracket, call: Call) -> Reader
     Reader {
         outer,
         inner,
-        place: Place::Within(Part::Name { call }),
+        place: ReadPlace::Within(Part::Name { call }),
     }
 }
 

@@ -5,7 +5,7 @@ use Rattle.std.proofs.lemmas.List.{length-set, length-replicate, get_or-set_same
 use Rattle.teg_net.specs.declared.entries.PlaceId.{PlaceId}
 use Rattle.teg_net.specs.Nets.{NetLists}
 use Rattle.teg_net.specs.Circuits.{from_of, place_at}
-use Rattle.teg_check.specs.Exits.{Leaves, IsExit, IsUnranked, IsUpTo, AreExitsLeft, HaveExits, ExitsGoOn}
+use Rattle.teg_check.specs.Exits.{Leaves, IsExit, IsUnranked, IsExitUpTo, AreExitsLeft, HaveExits, ExitsGoOn}
 
 -- ---- the loop of `Exits::new`
 
@@ -15,10 +15,10 @@ pub record ListedTo (net : NetLists) (last before : List (Option PlaceId)) (i : 
   pub count_before : length before ≡ length net.places
   pub sound : (t : ℕ) (id : PlaceId) → get_or last t None ≡ Some id → Leaves net t id
   pub low : (t : ℕ) (id : PlaceId) → get_or last t None ≡ Some id → id.index < i
-  pub complete : (t : ℕ) (id : PlaceId) → Leaves net t id → id.index < i → IsUpTo (get_or last t None) id
+  pub complete : (t : ℕ) (id : PlaceId) → Leaves net t id → id.index < i → IsExitUpTo (get_or last t None) id
   pub before_sound : (id b : PlaceId) → get_or before id.index None ≡ Some b → Leaves net (from_of net id) b
   pub before_lower : (id b : PlaceId) → get_or before id.index None ≡ Some b → b.index < id.index
-  pub before_complete : (id q : PlaceId) → id.index < i → Leaves net (from_of net id) id → Leaves net (from_of net id) q → q.index < id.index → IsUpTo (get_or before id.index None) q
+  pub before_complete : (id q : PlaceId) → id.index < i → Leaves net (from_of net id) id → Leaves net (from_of net id) q → q.index < id.index → IsExitUpTo (get_or before id.index None) q
 
 none_there : (n t : ℕ) → get_or (replicate {A = Option PlaceId} n None) t None ≡ None
 none_there n t =

@@ -20,30 +20,30 @@ pub record IsExit (net : NetLists) (ranked : List Bool) (from : ℕ) (id : Place
   pub ends_unranked : IsUnranked ranked (place_at net id).to.index
 
 -- the place is the one that is told, or stands before it
-abbrev pub IsUpTo : Option PlaceId → PlaceId → Type 0
-IsUpTo None id = ⊥
-IsUpTo (Some last) id = id.index ≤ last.index
+abbrev pub IsExitUpTo : Option PlaceId → PlaceId → Type 0
+IsExitUpTo None id = ⊥
+IsExitUpTo (Some last) id = id.index ≤ last.index
 
 -- of each place without tokens the one before it that leaves the same transition
 pub record AreBefore (net : NetLists) (before : List (Option PlaceId)) : Type 0 where
   pub count : length before ≡ length net.places
   pub sound : (id b : PlaceId) → slice_index_or before id.index None ≡ Some b → Leaves net (from_of net id) b
   pub lower : (id b : PlaceId) → slice_index_or before id.index None ≡ Some b → b.index < id.index
-  pub complete : (id q : PlaceId) → Leaves net (from_of net id) id → Leaves net (from_of net id) q → q.index < id.index → IsUpTo (slice_index_or before id.index None) q
+  pub complete : (id q : PlaceId) → Leaves net (from_of net id) id → Leaves net (from_of net id) q → q.index < id.index → IsExitUpTo (slice_index_or before id.index None) q
 
 -- of each transition the last place without tokens that leaves it
 pub record AreAllExits (net : NetLists) (last before : List (Option PlaceId)) : Type 0 where
   pub count : length last ≡ length net.transitions
   pub links : AreBefore net before
   pub sound : (t : ℕ) (id : PlaceId) → slice_index_or last t None ≡ Some id → Leaves net t id
-  pub complete : (t : ℕ) (id : PlaceId) → Leaves net t id → IsUpTo (slice_index_or last t None) id
+  pub complete : (t : ℕ) (id : PlaceId) → Leaves net t id → IsExitUpTo (slice_index_or last t None) id
 
 -- of each transition a place without tokens that leaves it, past which none leads to one without a rank; ranked ones have none
 pub record AreExitsLeft (net : NetLists) (ranked : List Bool) (last before : List (Option PlaceId)) : Type 0 where
   pub count : length last ≡ length net.transitions
   pub links : AreBefore net before
   pub sound : (t : ℕ) (id : PlaceId) → slice_index_or last t None ≡ Some id → Leaves net t id
-  pub complete : (t : ℕ) (id : PlaceId) → IsExit net ranked t id → IsUpTo (slice_index_or last t None) id
+  pub complete : (t : ℕ) (id : PlaceId) → IsExit net ranked t id → IsExitUpTo (slice_index_or last t None) id
   pub unranked : (t : ℕ) → slice_index_or last t None ≢ None → IsUnranked ranked t
 
 -- each transition without a rank has an exit

@@ -1,3 +1,3 @@
 pub mod Ranks
-pub mod Refusals
+pub mod CheckRefusals
 pub mod Exits

@@ -3,7 +3,7 @@
 ghost use Rattle.std.specs.Prelude.{ℕ, IfOk, IfErr, IfSome, IfNone};
 ghost use Rattle.teg_net.specs.Circuits.{IsLive};
 ghost use Rattle.teg_check.specs.Ranks.{IsRanking};
-ghost use Rattle.teg_check.specs.Refusals.{IsRightRefusal};
+ghost use Rattle.teg_check.specs.CheckRefusals.{IsRightCheckRefusal};
 ghost use Rattle.teg_check.specs.Exits.{IsUnranked};
 
 use crate::exits::{Exits, circuit_from};
@@ -33,7 +33,7 @@ fn first_unranked(ranked: &[bool]) -> Option<usize>
 pub fn check(alloc: Global, net: &Net) -> Result<Live, CheckRefusal>
     ensures ranks { IfOk result (λ live. IsRanking net.now live) }
     ensures live { IfOk result (λ _. IsLive net.now) }
-    ensures token_free { IfErr result (λ refusal. IsRightRefusal net.now refusal) }
+    ensures token_free { IfErr result (λ refusal. IsRightCheckRefusal net.now refusal) }
 {
     let count = net.transitions().len();
     let mut ranks = vec![in alloc; 0u32; count]?;

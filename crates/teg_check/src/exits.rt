@@ -2,7 +2,7 @@
 ghost use Rattle.std.specs.Prelude.{◌≡◌, ◌≢◌, ◌<◌, length, IfOk, IfSome, IfNone, slice_index_or, None};
 ghost use Rattle.teg_net.specs.declared.entries.PlaceId.{PlaceId};
 ghost use Rattle.teg_net.specs.Circuits.{IsCircuit, tokens_of};
-ghost use Rattle.teg_check.specs.Exits.{IsUnranked, IsExit, IsUpTo, AreAllExits, AreExitsLeft, HaveExits, ExitsGoOn};
+ghost use Rattle.teg_check.specs.Exits.{IsUnranked, IsExit, IsExitUpTo, AreAllExits, AreExitsLeft, HaveExits, ExitsGoOn};
 
 use std::alloc::{AllocError, Global};
 use teg_net::{Net, PlaceId};
@@ -41,7 +41,8 @@ impl Exits {
         requires exits { AreExitsLeft net.now ranked.now self.now.last.items self.now.before.items }
         requires transition { transition < length net.now.transitions }
         ensures exit { IfSome result (IsExit net.now ranked.now transition) }
-        ensures last { (id : PlaceId) → IsExit net.now ranked.now transition id → IsUpTo result id }
+        ensures last { (id : PlaceId) → IsExit net.now ranked.now transition id → IsExitUpTo result
+            id }
     {
         let places = net.places();
         let mut exit = self.last[transition];

@@ -17,14 +17,14 @@ use Rattle.teg_net.specs.Nets.{NetLists, IsNet}
 use Rattle.teg_net.specs.Parts.{IsMember}
 use Rattle.teg_net.specs.PartAnswers.{ArePartAnswers, IsPartAnswer}
 use Rattle.teg_parts.specs.Partitions.{AreParts, PartLists}
-use Rattle.teg_cycle.specs.LastRounds.{AreRunsFrom, rounds_in}
+use Rattle.teg_cycle.specs.LastRounds.{AreRunsFrom, rounds_of_runs}
 use Rattle.teg_net.specs.Ratios.{Fraction}
-use Rattle.teg_howard.specs.Rounds.{IsRound, IsPolicyRun, choice_in, place_in}
-use Rattle.teg_report.specs.Meanings.{cycle_lists, part_lists, round_lists, runs_lists}
-use Rattle.teg_report.specs.Rounds.{RoundLists, IsRoundIn, IsRunIn, AreRunsTold}
+use Rattle.teg_howard.specs.PolicyRounds.{IsRound, IsPolicyRun, choice_of_member, chosen_place}
+use Rattle.teg_report.specs.AnswerMeanings.{cycle_lists, part_lists, round_lists, runs_lists}
+use Rattle.teg_report.specs.RoundLines.{RoundLists, IsRoundIn, IsRunIn, AreRunsTold}
 use Rattle.teg_text.specs.Lines.{written}
 use Rattle.teg_commands.specs.Cycle.{IsCycleAnswer}
-use Rattle.teg_commands.specs.Texts.{cycle_text, no_circuit_text, times_lines}
+use Rattle.teg_commands.specs.CommandTexts.{cycle_text, no_circuit_text, times_lines}
 use Rattle.teg_commands.proofs.Paths.{path_in_range}
 use Rattle.teg_howard.proofs.Rising.{each_round}
 use Rattle.teg_commands.proofs.Rounds.{choice_at}
@@ -60,7 +60,7 @@ round_told net part_of part r full h =
           let t = (get_or cs i d).transition.index in
           let member = subst (IsMember part_of part) (get_or-map (λ (e : Choice). e.transition.index) cs i d 0 l) (h.members.only i 0 (omega (arith, l, length-map cs (λ (e : Choice). e.transition.index)))) in
           let entered = (h.policy t member).inside.in_range in
-          let chosen_is : place_in (choice_in cs t) ≡ (get_or cs i d).place = ap place_in (choice_at cs h.members.ordered i d l) in
+          let chosen_is : chosen_place (choice_of_member cs t) ≡ (get_or cs i d).place = ap chosen_place (choice_at cs h.members.ordered i d l) in
           record {
             transition = omega (arith, member.in_range, full);
             place = subst (λ (p : PlaceId). p.index < length net.places) chosen_is entered;
@@ -86,9 +86,9 @@ told_from net part_of k (Best ratio circuit potentials ∷ answers) (rounds ∷ 
     }
 
 -- as the code holds them
-pub lists_of : (runs : List (Vec Round)) → map (map round_lists) (rounds_in runs) ≡ runs_lists runs
+pub lists_of : (runs : List (Vec Round)) → map (map round_lists) (rounds_of_runs runs) ≡ runs_lists runs
 lists_of runs = map-map (map round_lists) (λ run. run.items) runs
 
-pub runs_told : (net : NetLists) (part_of : List ℕ) (answers : List PartAnswer) (runs : List (Vec Round)) → length part_of ≡ length net.transitions → AreRunsFrom net part_of 0 answers (rounds_in runs) →
+pub runs_told : (net : NetLists) (part_of : List ℕ) (answers : List PartAnswer) (runs : List (Vec Round)) → length part_of ≡ length net.transitions → AreRunsFrom net part_of 0 answers (rounds_of_runs runs) →
     AreRunsTold net (map part_lists answers) (runs_lists runs)
-runs_told net part_of answers runs full h = subst (AreRunsTold net (map part_lists answers)) (lists_of runs) (told_from net part_of 0 answers (rounds_in runs) full h)
+runs_told net part_of answers runs full h = subst (AreRunsTold net (map part_lists answers)) (lists_of runs) (told_from net part_of 0 answers (rounds_of_runs runs) full h)

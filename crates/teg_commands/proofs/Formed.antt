@@ -2,11 +2,11 @@
 use Rattle.std.proofs.Common.{◌≢◌, ℕ, ◌<◌, List, [], ◌∷◌, length, sym, arith}
 use Rattle.teg_form.specs.declared.form.StarEntry.{StarEntry}
 use Rattle.teg_form.specs.declared.form.Entry.{Entry}
-use Rattle.teg_form.specs.Forms.{FormLists, IsFormOf, IsStarEntry, IsEntry}
+use Rattle.teg_form.specs.StandardForms.{FormLists, IsStandardFormOf, IsStarEntry, IsEntry}
 use Rattle.teg_net.specs.declared.entries.PlaceId.{PlaceId}
 use Rattle.teg_net.specs.Nets.{NetLists, IsNet}
 use Rattle.teg_net.specs.Circuits.{IsPathBetween, place_at, no_place}
-use Rattle.teg_report.specs.Forms.{IsFormWithin}
+use Rattle.teg_report.specs.FormLines.{HasEndsIn}
 
 -- a path that begins at a transition of the net ends at one
 path_ends : (net : NetLists) → IsNet net → (ps : List PlaceId) (a b : ℕ) → a < length net.transitions → IsPathBetween net a ps b → b < length net.transitions
@@ -31,7 +31,7 @@ star_within net ok e h = star_path_within net ok h.time.reached.places e.from.in
 entry_within : (net : NetLists) → IsNet net → (e : Entry) → IsEntry net e → (e.from.index < length net.transitions) × (e.to.index < length net.transitions)
 entry_within net ok e h = path_within net ok h.time.reached.first h.time.reached.others e.from.index e.to.index h.time.reached.path
 
-pub form_within : (net : NetLists) → IsNet net → (form : FormLists) → IsFormOf net form → IsFormWithin net form
+pub form_within : (net : NetLists) → IsNet net → (form : FormLists) → IsStandardFormOf net form → HasEndsIn net form
 form_within net ok form h =
     record {
       stars_to = λ k d lt. (star_within net ok _ (h.stars.known k d lt)).1;

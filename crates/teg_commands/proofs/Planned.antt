@@ -1,21 +1,21 @@
 -- What a plan and a late row come to.
 use Rattle.std.proofs.Common.{◌≢◌, List, refl}
-use Rattle.due_laws.specs.Dues.{AreLatestInputs, InputsMeet, inputs_at_zero}
-use Rattle.due_laws.specs.Laws.{ZeroInputsMeet}
+use Rattle.due_laws.specs.MeetingDueDates.{AreLatestInputs, InputsMeet, inputs_at_zero}
+use Rattle.due_laws.specs.LatestInputs.{ZeroInputsMeet}
 use Rattle.teg_due.specs.declared.rows.DueRow.{DueRow}
-use Rattle.teg_due.specs.Rules.{IsDueOf}
+use Rattle.teg_due.specs.RowRules.{IsDueOf}
 use Rattle.teg_jit.specs.declared.answers.JitRefusal.{JitRefusal}
 use Rattle.teg_jit.specs.declared.answers.JitRefusal.TheVariants.{Late, OutOfMemory}
 use Rattle.teg_jit.specs.DueDates.{due_in, IsGreatestNumber}
-use Rattle.teg_jit.specs.Laws.{LateExcludesMeet, PlansLead}
-use Rattle.teg_jit.specs.Plans.{IsPlanFor, KeepsSizes, PlanDates, dates_of}
-use Rattle.teg_jit.specs.Refusals.{LateIsRight}
+use Rattle.teg_jit.specs.PlansAndLateness.{LateExcludesMeet, PlansLead}
+use Rattle.teg_jit.specs.Plans.{IsPlanFor, KeepsSizes, PlanDates, dates_of_plan}
+use Rattle.teg_jit.specs.LateRefusals.{LateIsRight}
 use Rattle.teg_net.specs.Circuits.{IsLive}
 use Rattle.teg_net.specs.Nets.{NetLists, IsNet}
 use Rattle.teg_commands.specs.Jit.{IsPlanOf, NoInputsMeet}
 
 pub plan_of : (net : NetLists) (rows : List DueRow) (plan : PlanDates) → IsNet net → PlansLead → KeepsSizes plan → IsGreatestNumber rows plan.numbers → IsPlanFor net (due_in rows) plan →
-    AreLatestInputs net (due_in rows) (dates_of plan) → InputsMeet net (due_in rows) inputs_at_zero → IsPlanOf net rows plan
+    AreLatestInputs net (due_in rows) (dates_of_plan plan) → InputsMeet net (due_in rows) inputs_at_zero → IsPlanOf net rows plan
 plan_of net rows plan ok leads sizes numbers stands inputs meets =
     record { numbers = numbers; plan_for = stands; steps = leads net ok plan sizes (due_in rows) stands; inputs = inputs; in_time = meets }
 

@@ -13,17 +13,17 @@ use Rattle.teg_replay.specs.declared.refusal.FireRefusal.{FireRefusal}
 use Rattle.teg_replay.specs.declared.refusal.FireRefusal.TheVariants.{Illegal, BackInTime, BeforeRelease, OutOfMemory}
 use Rattle.teg_replay.specs.declared.replayed.Refused.{Refused}
 use Rattle.teg_replay.specs.declared.replayed.Replayed.{Replayed}
-use Rattle.teg_replay.specs.Failures.{Fails}
+use Rattle.teg_replay.specs.RefusedFirings.{Fails}
 use Rattle.teg_replay.specs.Replays.{AreFiringsOf, EndsBy, IsReplayOf, WereShown}
 use Rattle.run_laws.proofs.Prefixes.{legal_begins}
 use Rattle.teg_commands.specs.declared.outcome.Verdict.{Verdict}
 use Rattle.teg_net.specs.declared.memory.OutOfMemory.{OutOfMemory as NoMemory}
 use Rattle.teg_commands.specs.declared.outcome.Outcome.{Outcome}
-use Rattle.teg_commands.specs.Outcomes.{Tells, outcome_of}
-use Rattle.teg_commands.specs.Replay.{CanTell, SaysEnd, SaysReplay, SaysRun, ShowsLog, ShowsNothing, ShowsReplay, ShowsRun, TellsBadLog}
+use Rattle.teg_commands.specs.CommandOutcomes.{Tells, outcome_of}
+use Rattle.teg_commands.specs.Replay.{CanTellRefusal, SaysEnd, SaysReplay, SaysRun, ShowsLog, ShowsNothing, ShowsReplay, ShowsRun, TellsBadLog}
 use Rattle.teg_commands.proofs.Telling.{tells_weaker}
 
-failure_told : (net : NetLists) (run : List Fired) (f : Fired) (why : FireRefusal) → Fails net run f why → CanTell net why
+failure_told : (net : NetLists) (run : List Fired) (f : Fired) (why : FireRefusal) → Fails net run f why → CanTellRefusal net why
 failure_told net run f (Illegal place date) h = h.in_range
 failure_told net run f (BackInTime last) h = tt
 failure_told net run f (BeforeRelease release) h = tt
@@ -32,7 +32,7 @@ failure_told net run f OutOfMemory h = h
 no_row : LogRow
 no_row = record { row = 0; transition = record { index = 0 }; date = 0 }
 
-pub end_told : (net : NetLists) (rows : List LogRow) (n : ℕ) (refused : Option Refused) → EndsBy net rows n refused → IfSome refused (λ r. CanTell net r.why)
+pub end_told : (net : NetLists) (rows : List LogRow) (n : ℕ) (refused : Option Refused) → EndsBy net rows n refused → IfSome refused (λ r. CanTellRefusal net r.why)
 end_told net rows n None h = tt
 end_told net rows n (Some refused) h = failure_told net _ _ refused.why (h.fails no_row)
 

@@ -2,11 +2,11 @@
 use Rattle.std.proofs.Common.{◌≡◌, ℕ, zero, suc, ◌<◌, ◌==◌, true, false, List, [], ◌∷◌, AllPairs, Some, length, get_or, refl, arith, eq-eqb, ne_eqb}
 use Rattle.std.proofs.lemmas.List.{get_or-map, length-map}
 use Rattle.teg_net.specs.declared.rounds.Choice.{Choice}
-use Rattle.teg_howard.specs.Rounds.{choice_in, chosen_for}
+use Rattle.teg_howard.specs.PolicyRounds.{choice_of_member, chosen_for}
 
 -- the choice for the transition of a choice is this one
 pub choice_at : (cs : List Choice) → AllPairs (λ t u. t < u) (chosen_for cs) → (i : ℕ) (d : Choice) → i < length cs →
-    choice_in cs (get_or cs i d).transition.index ≡ Some (get_or cs i d)
+    choice_of_member cs (get_or cs i d).transition.index ≡ Some (get_or cs i d)
 choice_at [] rises i d l = absurd (omega (arith, l))
 choice_at (c ∷ cs) rises zero d l =
     let here : (c.transition.index == c.transition.index) ≡ true = eq-eqb c.transition.index c.transition.index refl in rw here refl

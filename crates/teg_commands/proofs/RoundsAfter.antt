@@ -13,20 +13,20 @@ use Rattle.teg_net.specs.GreatestRatios.{IsFirstGreatest, ratio_at}
 use Rattle.teg_net.specs.Nets.{NetLists, IsNet}
 use Rattle.teg_net.specs.PartAnswers.{ArePartAnswers, IsPartAnswer}
 use Rattle.teg_net.specs.Ratios.{Fraction}
-use Rattle.teg_parts.specs.Laws.{PartsAreOne}
+use Rattle.teg_parts.specs.CircuitsAndParts.{PartsAreOne}
 use Rattle.teg_parts.specs.Partitions.{PartLists as Partition}
-use Rattle.teg_howard.specs.Laws.{PolicyRunsAreOne, AreSameRounds, AreSameRuns}
-use Rattle.teg_howard.specs.Runs.{IsAnswerOf, IsAnswerOfLast, potential_of}
-use Rattle.teg_howard.specs.Rounds.{last_of}
+use Rattle.teg_howard.specs.OnePolicyRun.{PolicyRunsAreOne, AreSameRounds, AreSameRuns}
+use Rattle.teg_howard.specs.PolicyRuns.{IsAnswerOf, IsAnswerOfLast, potential_of}
+use Rattle.teg_howard.specs.PolicyRounds.{last_policy_round}
 use Rattle.teg_cycle.specs.LastRounds.{AreLastOfRuns, AreRunsFrom, IsLastOfRun}
-use Rattle.teg_report.specs.Cycles.{CycleLists, PartLists, NoCircuitIn, BestOf, cycle_lines}
-use Rattle.teg_report.specs.Meanings.{cycle_lists, part_lists, round_lists}
-use Rattle.teg_report.specs.Texts.{no_circuit_line}
-use Rattle.teg_report.specs.Rounds.{RoundLists, runs_lines, told_runs}
+use Rattle.teg_report.specs.Cycles.{CycleLists, ToldPart, NoCircuitIn, BestOf, cycle_lines}
+use Rattle.teg_report.specs.AnswerMeanings.{cycle_lists, part_lists, round_lists}
+use Rattle.teg_report.specs.ShortAnswers.{no_circuit_line}
+use Rattle.teg_report.specs.RoundLines.{RoundLists, runs_lines, told_runs}
 use Rattle.teg_text.specs.Lines.{written}
 use Rattle.teg_text.proofs.Joining.{written_append}
-use Rattle.teg_commands.specs.Laws.{RoundsFollowTimes}
-use Rattle.teg_commands.specs.Texts.{cycle_text, times_lines}
+use Rattle.teg_commands.specs.SpecialCases.{RoundsFollowTimes}
+use Rattle.teg_commands.specs.CommandTexts.{cycle_text, times_lines}
 
 -- one answer of a part
 
@@ -36,7 +36,7 @@ last_alike [] qs r q c d v w some same ends last = absurd (omega (arith, some))
 last_alike (x ∷ xs) qs r q c d v w some same ends last =
     let k = length (x ∷ xs) - 1 in
     let round : AreSameRounds (slice_index_or (x ∷ xs) k x) (slice_index_or qs k x) = same.rounds k x (omega (arith, some)) in
-    let at : last_of qs x ≡ slice_index_or qs k x = ap (λ (n : ℕ). slice_index_or qs (n - 1) x) (sym same.count) in
+    let at : last_policy_round qs x ≡ slice_index_or qs k x = ap (λ (n : ℕ). slice_index_or qs (n - 1) x) (sym same.count) in
     let this = ends x in
     let that = subst (λ (z : Round). IsAnswerOf z (Best q d w)) at (last x) in
     let ratios : r ≡ q = this.0 ∙ (round.ratio ∙ sym that.0) in
@@ -78,7 +78,7 @@ ends_in net part_of n (Best r c v ∷ answers) (rounds ∷ runs) h (suc k) l =
 
 -- the first part of greatest ratio
 
-abbrev told_ratio : PartLists → Option Fraction
+abbrev told_ratio : ToldPart → Option Fraction
 told_ratio NoCircuitIn = None
 told_ratio (BestOf ratio circuit potentials) = Some ratio
 
@@ -132,7 +132,7 @@ rounds_said one_parts one_runs net one other times text kept live says told =
     let at : 0 + k ≡ k = omega arith in
     let ends = subst (λ (m : ℕ). IsLastOfRun net b.part_of.items m (slice_index_or b.parts.items k NoCircuit)) at (ends_in net b.part_of.items 0 b.parts.items t.1 t.3 k there) in
     alike one_runs net b.part_of.items k (slice_index_or a.parts.items k NoCircuit) (slice_index_or b.parts.items k NoCircuit) kept live (tells k l) (t.2.parts k there) (lasts k l) ends) in
-    let ratios = λ (k : ℕ). ratio_told a.parts.items k ∙ (ap (λ (l : List PartLists). told_ratio (slice_index_or l k NoCircuitIn)) lists ∙ sym (ratio_told b.parts.items k)) in
+    let ratios = λ (k : ℕ). ratio_told a.parts.items k ∙ (ap (λ (l : List ToldPart). told_ratio (slice_index_or l k NoCircuitIn)) lists ∙ sym (ratio_told b.parts.items k)) in
     let best : a.best ≡ b.best = one_best a.parts.items b.parts.items a.best b.best ratios s.1.first t.2.first in
     let all : cycle_lists a ≡ cycle_lists b = cc (part_of, lists, best) in
     let after = then_rounds net b.best (cycle_lists b) (map (map round_lists) t.1) in

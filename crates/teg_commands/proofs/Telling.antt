@@ -1,7 +1,7 @@
 -- What is told of the outcome of a command.
 use Rattle.std.proofs.Common.{ℕ, List, Option, Some, None}
 use Rattle.teg_commands.specs.declared.outcome.Verdict.{Verdict}
-use Rattle.teg_commands.specs.Outcomes.{Tells}
+use Rattle.teg_commands.specs.CommandOutcomes.{Tells}
 
 -- what is told is told of weaker claims too
 pub tells_weaker : (says claims : Verdict → List ℕ → Type 0) (outcome : Option (Verdict × List ℕ)) →

@@ -9,7 +9,7 @@ use Rattle.std.proofs.lemmas.List.Elements.{All-append, All-cons, All-filter, Al
 use Rattle.std.proofs.Math.Seq.{take-suc}
 use Rattle.std.proofs.lemmas.List.FromFn.{filter_of_map_range_with_len_more, get_or-map-range_with_len, length-map-range_with_len}
 use native.Mathlib.Numerals.{unary_clauses}
-use Rattle.settled_laws.specs.Forms.{SettledForm, settled_length}
+use Rattle.settled_laws.specs.SettledForms.{SettledForm, settled_length}
 use Rattle.teg_net.specs.declared.entries.Role.{Role}
 use Rattle.teg_net.specs.declared.entries.Role.TheVariants.{Internal, Input, Output}
 use Rattle.teg_net.specs.declared.entries.Transition.{Transition}
@@ -17,27 +17,27 @@ use Rattle.teg_net.specs.declared.entries.TransitionId.{TransitionId}
 use Rattle.teg_net.specs.Nets.{NetLists, IsInput}
 use Rattle.teg_report.specs.SettledTexts.{AreTimesIn, TimesFrom, TimesTo}
 use Rattle.teg_settle.specs.Transfers.{IsTransferOf}
-use Rattle.teg_commands.specs.Transfer.{AreTimesFrom, IsTimesFrom, has_role, is_same_role, those_of_role, times_in, times_of, transition_id}
+use Rattle.teg_commands.specs.Transfer.{AreTimesFrom, IsTimesFrom, has_transition_role, is_same_role, those_of_role, times_in, times_of, transition_id}
 
 -- the transitions of a role are some of the net
 pub those_within : (net : NetLists) (role : Role) → All (λ t. t.index < length net.transitions) (those_of_role net role)
 those_within net role =
-    All-filter (has_role net role) (λ (t : TransitionId). t.index < length net.transitions) (map transition_id (range_with_len 0 (length net.transitions)))
+    All-filter (has_transition_role net role) (λ (t : TransitionId). t.index < length net.transitions) (map transition_id (range_with_len 0 (length net.transitions)))
     (λ k d lt. within k d (omega (arith, lt, length-map-range_with_len transition_id 0 (length net.transitions))))
   where
     within : (k : ℕ) (d : TransitionId) → k < length net.transitions → (get_or (map transition_id (range_with_len 0 (length net.transitions))) k d).index < length net.transitions
     within k d lt = rw (get_or-map-range_with_len transition_id 0 (length net.transitions) k k d lt (omega arith)) lt
 
 -- one transition more
-pub one_more : (net : NetLists) (role : Role) (k : ℕ) → has_role net role (transition_id k) ≡ true →
-    filter (has_role net role) (map transition_id (range_with_len 0 (k + 1))) ≡ filter (has_role net role) (map transition_id (range_with_len 0 k)) ++ transition_id k ∷ []
-one_more net role k h = filter_of_map_range_with_len_more (has_role net role) transition_id 0 k k (omega arith) ∙ ap (λ (b : Bool). filter (has_role net role) (map transition_id (range_with_len 0 k)) ++ cond b (transition_id k ∷ []) []) h
+pub one_more : (net : NetLists) (role : Role) (k : ℕ) → has_transition_role net role (transition_id k) ≡ true →
+    filter (has_transition_role net role) (map transition_id (range_with_len 0 (k + 1))) ≡ filter (has_transition_role net role) (map transition_id (range_with_len 0 k)) ++ transition_id k ∷ []
+one_more net role k h = filter_of_map_range_with_len_more (has_transition_role net role) transition_id 0 k k (omega arith) ∙ ap (λ (b : Bool). filter (has_transition_role net role) (map transition_id (range_with_len 0 k)) ++ cond b (transition_id k ∷ []) []) h
 
-pub none_more : (net : NetLists) (role : Role) (k : ℕ) → has_role net role (transition_id k) ≡ false →
-    filter (has_role net role) (map transition_id (range_with_len 0 (k + 1))) ≡ filter (has_role net role) (map transition_id (range_with_len 0 k))
+pub none_more : (net : NetLists) (role : Role) (k : ℕ) → has_transition_role net role (transition_id k) ≡ false →
+    filter (has_transition_role net role) (map transition_id (range_with_len 0 (k + 1))) ≡ filter (has_transition_role net role) (map transition_id (range_with_len 0 k))
 none_more net role k h =
-    filter_of_map_range_with_len_more (has_role net role) transition_id 0 k k (omega arith)
-    ∙ (ap (λ (b : Bool). filter (has_role net role) (map transition_id (range_with_len 0 k)) ++ cond b (transition_id k ∷ []) []) h ∙ append-nil (filter (has_role net role) (map transition_id (range_with_len 0 k))))
+    filter_of_map_range_with_len_more (has_transition_role net role) transition_id 0 k k (omega arith)
+    ∙ (ap (λ (b : Bool). filter (has_transition_role net role) (map transition_id (range_with_len 0 k)) ++ cond b (transition_id k ∷ []) []) h ∙ append-nil (filter (has_transition_role net role) (map transition_id (range_with_len 0 k))))
 
 input_role : (role : Role) → is_same_role role Input ≡ true → role ≡ Input
 input_role Internal h = absurd (false≢true h)
@@ -51,7 +51,7 @@ input_there (Some x) h = input_role x.role h
 -- those of the role of inputs are inputs
 pub those_are_inputs : (net : NetLists) → All (λ t. IsInput net t.index) (those_of_role net Input)
 those_are_inputs net k d lt =
-    input_there (slice_get net.transitions (get_or (those_of_role net Input) k d).index) (filter_passes (has_role net Input) (map transition_id (range_with_len 0 (length net.transitions))) k d lt)
+    input_there (slice_get net.transitions (get_or (those_of_role net Input) k d).index) (filter_passes (has_transition_role net Input) (map transition_id (range_with_len 0 (length net.transitions))) k d lt)
 
 lines_within : (net : NetLists) (f : SettledForm) → All (λ l. l.to.index < length net.transitions) (map (times_in f) (those_of_role net Output))
 lines_within net f = All-map (λ (l : TimesTo). l.to.index < length net.transitions) (times_in f) (those_of_role net Output) (those_within net Output)

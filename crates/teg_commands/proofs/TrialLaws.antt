@@ -7,14 +7,14 @@ use Rattle.teg_check.specs.Ranks.{IsRanking}
 use Rattle.teg_check.proofs.Liveness.{ranking_is_live}
 use Rattle.teg_critical.specs.declared.slacks.Slack.{Slack}
 use Rattle.teg_critical.specs.Slacks.{AreSlacks}
-use Rattle.teg_dates.specs.Tables.{TableDates, HasLeastDates, date_at}
+use Rattle.teg_dates.specs.DateTables.{TableDates, HasLeastDates, date_at}
 use Rattle.teg_net.specs.declared.entries.Place.{Place}
 use Rattle.teg_net.specs.declared.entries.PlaceId.{PlaceId}
 use Rattle.teg_net.specs.Circuits.{IsCircuit, IsLive}
 use Rattle.teg_net.specs.GreatestRatios.{HasNoCircuit, IsAnyPlace}
 use Rattle.teg_net.specs.Nets.{NetLists}
 use Rattle.teg_net.specs.Ratios.{Fraction}
-use Rattle.teg_report.specs.Answers.{Trial}
+use Rattle.teg_report.specs.AnswerValues.{Trial}
 use Rattle.teg_report.specs.Reports.{text_of}
 use Rattle.trial_net.specs.Trials.{trial}
 use Rattle.trial_net.proofs.TrialNets.{each_place, width}

@@ -1,9 +1,9 @@
 -- What is said of how soon the dates of a live net become periodic.
 use Rattle.std.specs.Prelude.{ℕ, ◌≤◌, ◌≡◌, ◌⊎◌, List}
-use Rattle.settled_laws.specs.Forms.{SettledForm, IsSettledFormOf}
+use Rattle.settled_laws.specs.SettledForms.{SettledForm, IsSettledFormOf}
 use Rattle.teg_bound.specs.declared.bound.BoundAnswer.{BoundAnswer}
-use Rattle.teg_bound.specs.Bounds.{IsBoundOf, IsRightBound}
-use Rattle.teg_bound.specs.Texts.{BoundTold, bound_lines, told, IsCause}
+use Rattle.teg_bound.specs.PeriodicBounds.{IsBoundOf, IsRightBound}
+use Rattle.teg_bound.specs.BoundTexts.{BoundTold, bound_lines, told_bound, IsCause}
 use Rattle.teg_net.specs.Nets.{NetLists}
 use Rattle.teg_text.specs.Lines.{written}
 use Rattle.teg_commands.specs.declared.outcome.Verdict.{Verdict}
@@ -15,7 +15,7 @@ bound_text number f = written (bound_lines (BoundTold number f.after f.period))
 
 -- the text of an answer that tells no bound
 abbrev pub no_bound_text : BoundAnswer → List ℕ
-no_bound_text answer = written (bound_lines (told answer 0 0))
+no_bound_text answer = written (bound_lines (told_bound answer 0 0))
 
 -- the bound of the net is said, with the number and the period of the shortest settled form of its least dating; that number is no greater
 abbrev pub SaysNumber : NetLists → List ℕ → Type 0

@@ -2,16 +2,16 @@
 use Rattle.std.specs.Prelude.{ℕ, ◌≡◌, ◌≢◌, ◌⊎◌, List, Ok, Err}
 use Rattle.series_form.specs.declared.forms.SeriesRefused.{SeriesRefused}
 use Rattle.series_form.specs.declared.forms.SeriesRefused.TheVariants.{OutOfMemory as NoRoom}
-use Rattle.series_form.specs.Bounds.{IsSeries}
-use Rattle.series_laws.specs.Forms.{Form, value_at}
+use Rattle.series_form.specs.NumberBounds.{IsSeries}
+use Rattle.series_laws.specs.SeriesForms.{Form, value_at}
 use Rattle.teg_calc.specs.declared.refusals.ParseRefused.{ParseRefused}
 use Rattle.teg_calc.specs.declared.refusals.ParseRefused.TheVariants.{OutOfMemory as NoMemory}
 use Rattle.teg_calc.specs.Meaning.{Evaluates, Means}
-use Rattle.teg_calc.specs.Reading.{IsParsed, IsParseOf}
-use Rattle.teg_calc.specs.Trees.{Tree}
+use Rattle.teg_calc.specs.ParseAnswers.{IsParsed, IsParseOf}
+use Rattle.teg_calc.specs.ExpressionTrees.{Tree}
 use Rattle.teg_commands.specs.declared.outcome.Verdict.{Verdict}
 use Rattle.teg_commands.specs.declared.outcome.Verdict.TheVariants.{Done as VerdictDone, Calc as VerdictCalc}
-use Rattle.teg_commands.specs.Texts.{series_text, parse_text, series_refused_text}
+use Rattle.teg_commands.specs.CommandTexts.{series_text, parse_text, series_refused_text}
 
 -- this is the canonical form of what the tree means at every shift
 pub record IsSeriesOf (tree : Tree) (form : Form) : Type 0 where

@@ -3,7 +3,7 @@ use Rattle.std.specs.Prelude.{ℕ, ◌≡◌, List}
 use Rattle.teg_net.specs.Nets.{NetLists}
 use Rattle.teg_commands.specs.declared.outcome.Verdict.{Verdict}
 use Rattle.teg_commands.specs.declared.outcome.Verdict.TheVariants.{Done as VerdictDone}
-use Rattle.teg_commands.specs.Texts.{live_text}
+use Rattle.teg_commands.specs.CommandTexts.{live_text}
 
 -- of a live net its size is said
 abbrev pub SaysCheck : NetLists → Verdict → List ℕ → Type 0

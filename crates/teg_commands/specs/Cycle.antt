@@ -9,7 +9,7 @@ use Rattle.teg_net.specs.PartAnswers.{ArePartAnswers}
 use Rattle.teg_parts.specs.Partitions.{AreParts}
 use Rattle.teg_commands.specs.declared.outcome.Verdict.{Verdict}
 use Rattle.teg_commands.specs.declared.outcome.Verdict.TheVariants.{Done as VerdictDone}
-use Rattle.teg_commands.specs.Texts.{cycle_text, runs_text}
+use Rattle.teg_commands.specs.CommandTexts.{cycle_text, runs_text}
 
 -- the numbers are those of the strong parts of the net in their order, with an answer for each
 abbrev pub HasStrongParts : NetLists → CycleAnswer → Type 0

@@ -1,15 +1,15 @@
 -- What is said of the latest inputs of a live net for a file of due dates without end.
 use Rattle.std.specs.Prelude.{ℕ, ◌≡◌, ◌≢◌, ◌⊎◌, List, Ok, Err}
 use Rattle.forever_laws.specs.declared.rows.EndlessRow.{EndlessRow}
-use Rattle.forever_laws.specs.Rows.{IsEndlessOf}
+use Rattle.forever_laws.specs.EndlessRows.{IsEndlessOf}
 use Rattle.teg_forever.specs.declared.releases.ForeverRefusal.{ForeverRefusal}
 use Rattle.teg_forever.specs.declared.releases.ForeverRefusal.TheVariants.{Late, TooLong, TooWide, OutOfMemory}
 use Rattle.teg_forever.specs.declared.releases.Release.{Release}
 use Rattle.teg_forever.specs.declared.rows.EndlessRefusal.{EndlessRefusal}
 use Rattle.teg_forever.specs.declared.rows.EndlessRefusal.TheVariants.{OutOfMemory as NoRoom}
-use Rattle.teg_forever.specs.Releases.{AreReleases, ForeverRefused}
-use Rattle.teg_forever.specs.Rows.{endless_of}
-use Rattle.teg_forever.specs.Texts.{Answered, Faulty, answer_lines}
+use Rattle.teg_forever.specs.LatestReleases.{AreEndlessReleases, ForeverRefused}
+use Rattle.teg_forever.specs.EndlessFiles.{endless_of}
+use Rattle.teg_forever.specs.EndlessTexts.{Answered, Faulty, answer_lines}
 use Rattle.teg_net.specs.Nets.{NetLists}
 use Rattle.teg_text.specs.Lines.{written}
 use Rattle.teg_commands.specs.declared.outcome.Verdict.{Verdict}
@@ -38,7 +38,7 @@ SaysBadEndless net bytes verdict text = (fault : EndlessRefusal) × (endless_of 
 -- of endless due dates the latest releases of the inputs are said
 abbrev pub SaysReleases : NetLists → List EndlessRow → Verdict → List ℕ → Type 0
 SaysReleases net rows verdict text =
-    (verdict ≡ VerdictDone) × ((releases : List Release) × AreReleases net rows releases × (text ≡ forever_text net releases))
+    (verdict ≡ VerdictDone) × ((releases : List Release) × AreEndlessReleases net rows releases × (text ≡ forever_text net releases))
 
 -- how a command ends whose releases are not told; it does not end so for want of memory
 abbrev pub EndsUnreleased : ForeverRefusal → Verdict → Type 0

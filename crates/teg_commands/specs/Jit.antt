@@ -3,24 +3,24 @@ use Rattle.std.specs.Prelude.{ℕ, pos, ◌<◌, ◌≤◌, ◌≡◌, ◌≢◌
 use Rattle.dioid.specs.declared.dates.Date.{Date}
 use Rattle.dioid.specs.declared.dates.Date.TheVariants.{At as on_date}
 use Rattle.dioid.specs.Dates.{delayed}
-use Rattle.due_laws.specs.Dues.{InputsMeet, AreLatestInputs, inputs_at_zero}
+use Rattle.due_laws.specs.MeetingDueDates.{InputsMeet, AreLatestInputs, inputs_at_zero}
 use Rattle.teg_due.specs.declared.rows.DueRefusal.{DueRefusal}
 use Rattle.teg_due.specs.declared.rows.DueRefusal.TheVariants.{OutOfMemory as NoRoom}
 use Rattle.teg_due.specs.declared.rows.DueRow.{DueRow}
-use Rattle.teg_due.specs.Dues.{due_of}
-use Rattle.teg_due.specs.Rules.{IsDueOf}
+use Rattle.teg_due.specs.DueFileRows.{due_of}
+use Rattle.teg_due.specs.RowRules.{IsDueOf}
 use Rattle.teg_jit.specs.declared.answers.JitRefusal.{JitRefusal}
 use Rattle.teg_jit.specs.declared.answers.JitRefusal.TheVariants.{OutOfMemory}
 use Rattle.teg_jit.specs.declared.answers.LatestDate.TheVariants.{Free}
 use Rattle.teg_jit.specs.DueDates.{due_in, IsGreatestNumber}
-use Rattle.teg_jit.specs.Plans.{PlanDates, IsPlanFor, FollowsPlan, latest_at, dates_of}
-use Rattle.teg_jit.specs.Refusals.{LateIsRight}
+use Rattle.teg_jit.specs.Plans.{PlanDates, IsPlanFor, FollowsPlan, latest_at, dates_of_plan}
+use Rattle.teg_jit.specs.LateRefusals.{LateIsRight}
 use Rattle.teg_net.specs.declared.walks.Step.{Step}
 use Rattle.teg_net.specs.Nets.{NetLists}
 use Rattle.teg_net.specs.Walks.{Walks, walk_time}
 use Rattle.teg_commands.specs.declared.outcome.Verdict.{Verdict}
 use Rattle.teg_commands.specs.declared.outcome.Verdict.TheVariants.{Done as VerdictDone, Schedule as VerdictSchedule, Late as VerdictLate}
-use Rattle.teg_commands.specs.Texts.{due_text, jit_text, late_text}
+use Rattle.teg_commands.specs.CommandTexts.{due_text, jit_text, late_text}
 
 -- why a due file says no due dates is told; it is not want of memory
 abbrev pub TellsBadDue : DueRefusal → Verdict → List ℕ → Type 0
@@ -34,7 +34,7 @@ SaysBadDue net bytes verdict text = (refusal : DueRefusal) × (due_of net bytes 
 abbrev pub StepsLead : NetLists → (ℕ → ℕ → Option ℕ) → PlanDates → Type 0
 StepsLead net due plan = (t k : ℕ) → t < plan.width → 1 ≤ k → k ≤ plan.numbers → latest_at plan t k ≢ Free
     → (steps : List Step) × FollowsPlan net plan t k steps × (b : ℕ) × (n : ℕ) × (d : ℕ) × Walks net t k steps b n × (due b n ≡ Some d)
-    × (delayed (walk_time net steps) (dates_of plan t k) ≡ on_date (pos d))
+    × (delayed (walk_time net steps) (dates_of_plan plan t k) ≡ on_date (pos d))
 
 -- the plan of a due list: up to the greatest number that is due the latest date of each firing, with the first step of a tight walk;
 -- its dates at the inputs are the latest inputs that meet the due dates, which inputs at 0 meet
@@ -42,7 +42,7 @@ pub record IsPlanOf (net : NetLists) (rows : List DueRow) (plan : PlanDates) : T
   pub numbers : IsGreatestNumber rows plan.numbers
   pub plan_for : IsPlanFor net (due_in rows) plan
   pub steps : StepsLead net (due_in rows) plan
-  pub inputs : AreLatestInputs net (due_in rows) (dates_of plan)
+  pub inputs : AreLatestInputs net (due_in rows) (dates_of_plan plan)
   pub in_time : InputsMeet net (due_in rows) inputs_at_zero
 
 -- no inputs meet the due dates

@@ -5,7 +5,7 @@ use Rattle.teg_model.specs.Datings.{IsLeastDating}
 use Rattle.teg_net.specs.Nets.{NetLists}
 use Rattle.teg_commands.specs.declared.outcome.Verdict.{Verdict}
 use Rattle.teg_commands.specs.declared.outcome.Verdict.TheVariants.{Done as VerdictDone}
-use Rattle.teg_commands.specs.Texts.{list_text}
+use Rattle.teg_commands.specs.CommandTexts.{list_text}
 
 -- of a live net the first dates of its least dating are said
 abbrev pub SaysList : ℕ → NetLists → Verdict → List ℕ → Type 0

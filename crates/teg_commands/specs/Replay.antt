@@ -15,7 +15,7 @@ use Rattle.teg_report.specs.declared.answer.Failure.{Failure}
 use Rattle.teg_report.specs.declared.answer.Failure.TheVariants.{Illegal as ToldIllegal, BackInTime as ToldBackInTime, BeforeRelease as ToldBeforeRelease}
 use Rattle.teg_commands.specs.declared.outcome.Verdict.{Verdict}
 use Rattle.teg_commands.specs.declared.outcome.Verdict.TheVariants.{Done as VerdictDone, Log as VerdictLog}
-use Rattle.teg_commands.specs.Texts.{log_text, replayed_text, refused_text}
+use Rattle.teg_commands.specs.CommandTexts.{log_text, replayed_text, refused_text}
 
 -- why a log says no firings is told; it is not want of memory
 abbrev pub TellsBadLog : LogRefusal → Verdict → List ℕ → Type 0
@@ -33,11 +33,11 @@ IsToldAs (BeforeRelease release) failure = failure ≡ ToldBeforeRelease
 IsToldAs OutOfMemory failure = ⊥
 
 -- a refusal that can be told: a place that it names is one of the net, and it is not want of memory
-abbrev pub CanTell : NetLists → FireRefusal → Type 0
-CanTell net (Illegal place ready) = place.index < length net.places
-CanTell net (BackInTime last) = ⊤
-CanTell net (BeforeRelease release) = ⊤
-CanTell net OutOfMemory = ⊥
+abbrev pub CanTellRefusal : NetLists → FireRefusal → Type 0
+CanTellRefusal net (Illegal place ready) = place.index < length net.places
+CanTellRefusal net (BackInTime last) = ⊤
+CanTellRefusal net (BeforeRelease release) = ⊤
+CanTellRefusal net OutOfMemory = ⊥
 
 -- how many firings were accepted is said where none was refused, and otherwise the first refused row and why; then a line of each monitor
 abbrev pub SaysEnd : NetLists → Option Refused → ℕ → List (List ℕ) → Verdict → List ℕ → Type 0

@@ -5,7 +5,7 @@ use Rattle.teg_net.specs.Nets.{NetLists}
 use Rattle.teg_net.specs.Ratios.{Fraction, IsRatioOf}
 use Rattle.teg_sizing.specs.declared.sizing.Sizing.{Sizing}
 use Rattle.teg_sizing.specs.Sizings.{IsSizing}
-use Rattle.teg_sizing.specs.Texts.{no_place_lines, sizing_lines, told}
+use Rattle.teg_sizing.specs.SizingTexts.{no_place_lines, sizing_lines, told_sizing}
 use Rattle.teg_text.specs.Lines.{written}
 use Rattle.teg_commands.specs.declared.outcome.Verdict.{Verdict}
 use Rattle.teg_commands.specs.declared.outcome.Verdict.TheVariants.{Done as VerdictDone, Name as VerdictName}
@@ -16,7 +16,7 @@ no_place_text word = written (no_place_lines word)
 
 -- the text of an answer about a place and a target
 abbrev pub sizing_text : NetLists → PlaceId → Fraction → Sizing → List ℕ
-sizing_text net p r sizing = written (sizing_lines net p r (told sizing))
+sizing_text net p r sizing = written (sizing_lines net p r (told_sizing sizing))
 
 -- the place has this name
 abbrev pub HasPlaceName : NetLists → PlaceId → List ℕ → Type 0

@@ -7,7 +7,7 @@ use Rattle.teg_net.specs.Nets.{NetLists}
 use Rattle.teg_net.specs.Ratios.{Fraction, IsLowestTerms}
 use Rattle.teg_commands.specs.declared.outcome.Verdict.{Verdict}
 use Rattle.teg_commands.specs.declared.outcome.Verdict.TheVariants.{Done as VerdictDone}
-use Rattle.teg_commands.specs.Texts.{no_circuit_text, slack_text}
+use Rattle.teg_commands.specs.CommandTexts.{no_circuit_text, slack_text}
 
 -- the greatest ratio of the net, in lowest terms
 pub record IsBestRatio (net : NetLists) (r : Fraction) : Type 0 where

@@ -1,26 +1,26 @@
 -- What is said of a timetable of a live net and its delays.
 use Rattle.std.specs.Prelude.{ℕ, ◌≡◌, ◌⊎◌, List, Option, Ok, Err}
 use Rattle.delay_laws.specs.declared.table.Timetable.{Timetable}
-use Rattle.delay_laws.specs.Tables.{IsTableOf}
+use Rattle.delay_laws.specs.PlannedTimetables.{IsTableOf}
 use Rattle.teg_net.specs.Nets.{NetLists}
 use Rattle.teg_text.specs.Lines.{written}
 use Rattle.teg_timetable.specs.declared.refusals.DelayRefusal.{DelayRefusal}
 use Rattle.teg_timetable.specs.declared.refusals.DelayRefusal.TheVariants.{TooLarge, Unworkable, TooLong, OutOfMemory}
 use Rattle.teg_timetable.specs.declared.refusals.TableRefusal.{TableRefusal}
-use Rattle.teg_timetable.specs.Answers.{IsDelayRefusal, IsSpread}
+use Rattle.teg_timetable.specs.DelayAnswers.{IsDelayRefusal, IsSpread}
 use Rattle.teg_timetable.specs.Spreads.{Spread}
-use Rattle.teg_timetable.specs.Tables.{lists_of_table, timetable_of}
-use Rattle.teg_timetable.specs.Texts.{Told, IsTextOf, delay_told, spread_told, table_told, told_lines}
+use Rattle.teg_timetable.specs.TimetableFiles.{lists_of_table, timetable_of}
+use Rattle.teg_timetable.specs.TimetableTexts.{ToldTimetable, IsTimetableText, delay_told, spread_told, table_told, told_lines}
 use Rattle.teg_commands.specs.declared.outcome.Verdict.{Verdict}
 use Rattle.teg_commands.specs.declared.outcome.Verdict.TheVariants.{Done as VerdictDone, Schedule as VerdictSchedule, TooLong as VerdictTooLong}
 
 -- the text of what is told of a timetable
-abbrev pub timetable_text : NetLists → Told → List ℕ
+abbrev pub timetable_text : NetLists → ToldTimetable → List ℕ
 timetable_text net told = written (told_lines net told)
 
 -- why a file says no timetable is told; it is not want of memory, of which nothing is told
 abbrev pub TellsBadTable : NetLists → TableRefusal → Verdict → List ℕ → Type 0
-TellsBadTable net fault verdict text = (verdict ≡ VerdictSchedule) × IsTextOf net (table_told fault) text
+TellsBadTable net fault verdict text = (verdict ≡ VerdictSchedule) × IsTimetableText net (table_told fault) text
 
 -- the first fault of the file is said
 abbrev pub SaysBadTable : NetLists → List ℕ → Verdict → List ℕ → Type 0
@@ -41,7 +41,7 @@ EndsUnspread OutOfMemory verdict = ⊥
 -- of a timetable is said why it is not told how its delays spread
 abbrev pub SaysUnspread : ℕ → Option ℕ → NetLists → Timetable → Verdict → List ℕ → Type 0
 SaysUnspread period limit net table verdict text =
-    (refusal : DelayRefusal) × EndsUnspread refusal verdict × IsDelayRefusal net period table limit refusal × IsTextOf net (delay_told refusal) text
+    (refusal : DelayRefusal) × EndsUnspread refusal verdict × IsDelayRefusal net period table limit refusal × IsTimetableText net (delay_told refusal) text
 
 -- of a timetable is said how its delays spread, or why not
 abbrev pub SaysDelays : ℕ → Option ℕ → NetLists → Timetable → Verdict → List ℕ → Type 0

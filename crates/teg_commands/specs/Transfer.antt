@@ -2,7 +2,7 @@
 use Rattle.std.specs.Prelude.{ℕ, Bool, true, false, ◌≤◌, ◌≡◌, ◌⊎◌, List, All, Some, length, map, slice_get}
 use Rattle.std.specs.List.{filter, range_with_len}
 use Rattle.std.specs.Option.{option_map_or}
-use Rattle.settled_laws.specs.Forms.{SettledForm, settled_length, row_of, step_of}
+use Rattle.settled_laws.specs.SettledForms.{SettledForm, settled_length, row_of, step_of_form}
 use Rattle.teg_net.specs.declared.entries.Role.{Role}
 use Rattle.teg_net.specs.declared.entries.Role.TheVariants.{Internal, Input, Output}
 use Rattle.teg_net.specs.declared.entries.TransitionId.{TransitionId}
@@ -11,8 +11,8 @@ use Rattle.teg_report.specs.SettledTexts.{TimesFrom, TimesTo}
 use Rattle.teg_settle.specs.Transfers.{IsTransferOf, TransferSettlesPast}
 use Rattle.teg_commands.specs.declared.outcome.Verdict.{Verdict}
 use Rattle.teg_commands.specs.declared.outcome.Verdict.TheVariants.{Done as VerdictDone}
-use Rattle.teg_commands.specs.Dates.{SaysTooLong}
-use Rattle.teg_commands.specs.Texts.{transfer_text}
+use Rattle.teg_commands.specs.CommandDates.{SaysTooLong}
+use Rattle.teg_commands.specs.CommandTexts.{transfer_text}
 
 -- whether two roles are one
 abbrev pub is_same_role : Role → Role → Bool
@@ -22,8 +22,8 @@ is_same_role Output Output = true
 is_same_role _ _ = false
 
 -- whether the transition has this role
-abbrev pub has_role : NetLists → Role → TransitionId → Bool
-has_role net role t = option_map_or (λ x. is_same_role x.role role) (slice_get net.transitions t.index) false
+abbrev pub has_transition_role : NetLists → Role → TransitionId → Bool
+has_transition_role net role t = option_map_or (λ x. is_same_role x.role role) (slice_get net.transitions t.index) false
 
 -- the transition of this number, counted from 0
 abbrev pub transition_id : ℕ → TransitionId
@@ -31,11 +31,11 @@ transition_id index = record { index = index }
 
 -- the transitions of a role, in order
 abbrev pub those_of_role : NetLists → Role → List TransitionId
-those_of_role net role = filter (has_role net role) (map transition_id (range_with_len 0 (length net.transitions)))
+those_of_role net role = filter (has_transition_role net role) (map transition_id (range_with_len 0 (length net.transitions)))
 
 -- of a settled form what goes to one transition
 abbrev pub times_in : SettledForm → TransitionId → TimesTo
-times_in f t = record { to = t; dates = row_of f t.index; step = step_of f t.index }
+times_in f t = record { to = t; dates = row_of f t.index; step = step_of_form f t.index }
 
 -- of a settled form what goes from this input to each output, in order
 abbrev pub times_of : NetLists → TransitionId → SettledForm → TimesFrom

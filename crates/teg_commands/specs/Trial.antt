@@ -10,7 +10,7 @@ use Rattle.trial_net.specs.Trials.{trial}
 use Rattle.teg_commands.specs.declared.outcome.Verdict.{Verdict}
 use Rattle.teg_commands.specs.declared.outcome.Verdict.TheVariants.{Done as VerdictDone}
 use Rattle.teg_commands.specs.Slack.{IsBestRatio}
-use Rattle.teg_commands.specs.Texts.{trial_text}
+use Rattle.teg_commands.specs.CommandTexts.{trial_text}
 
 -- 1 where a place is critical
 abbrev pub one_critical : Slack → ℕ

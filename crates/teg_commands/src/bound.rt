@@ -1,8 +1,8 @@
 //! How soon the dates of a live net become periodic.
-ghost use Rattle.teg_bound.specs.Bounds.{IsBoundOf, IsRightBound};
-ghost use Rattle.teg_bound.specs.Texts.{IsCause};
+ghost use Rattle.teg_bound.specs.PeriodicBounds.{IsBoundOf, IsRightBound};
+ghost use Rattle.teg_bound.specs.BoundTexts.{IsCause};
 ghost use Rattle.teg_commands.specs.Bound.{SaysBound};
-ghost use Rattle.teg_commands.specs.Outcomes.{Tells, outcome_of};
+ghost use Rattle.teg_commands.specs.CommandOutcomes.{Tells, outcome_of};
 
 use crate::live_net::LiveNet;
 use crate::outcome::{Outcome, Verdict};

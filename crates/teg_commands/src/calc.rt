@@ -1,8 +1,8 @@
 //! The values of expressions.
 ghost use Rattle.std.specs.Prelude.{◌≡◌, ◌≤◌, IfOk, length};
-ghost use Rattle.teg_calc.specs.Trees.{HasShortNumbers, node_count, tree_of};
-ghost use Rattle.teg_commands.specs.Limits.{most_expression};
-ghost use Rattle.teg_commands.specs.Outcomes.{Tells, outcome_of};
+ghost use Rattle.teg_calc.specs.ExpressionTrees.{HasShortNumbers, node_count, tree_of_expression};
+ghost use Rattle.teg_commands.specs.CommandLimits.{most_expression};
+ghost use Rattle.teg_commands.specs.CommandOutcomes.{Tells, outcome_of};
 ghost use Rattle.teg_commands.specs.Calc.{RefusesParse, RefusesSeries, SaysSeries, SaysCalc};
 
 use crate::outcome::{Outcome, Verdict};
@@ -21,7 +21,7 @@ pub struct Expression {
 
 impl Model for Expression {
     ghost use Rattle.std.specs.Prelude.{List, ℕ, ◌≤◌, length};
-    ghost use Rattle.teg_commands.specs.Limits.{most_expression};
+    ghost use Rattle.teg_commands.specs.CommandLimits.{most_expression};
 
     ghost Value = { List ℕ };
 
@@ -79,9 +79,9 @@ fn refuse_series(alloc: Global, refusal: &SeriesRefused) -> Result<Outcome, OutO
 
 // The value of an expression that was read.
 fn tell_series(alloc: Global, expr: &Expr) -> Result<Outcome, OutOfMemory>
-    requires nodes { node_count (tree_of expr.now) ≤ 4096 }
-    requires numbers { HasShortNumbers (tree_of expr.now) }
-    ensures { Tells (SaysSeries (tree_of expr.now)) (outcome_of result) }
+    requires nodes { node_count (tree_of_expression expr.now) ≤ 4096 }
+    requires numbers { HasShortNumbers (tree_of_expression expr.now) }
+    ensures { Tells (SaysSeries (tree_of_expression expr.now)) (outcome_of result) }
 {
     match evaluate(alloc, expr) {
         Ok(series) => {

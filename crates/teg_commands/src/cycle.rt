@@ -2,11 +2,11 @@
 ghost use Rattle.std.specs.Prelude.{◌≡◌, IfOk};
 ghost use Rattle.std.specs.Option.{option_copied, option_map};
 ghost use Rattle.teg_net.specs.Certificates.{IsCertificate};
-ghost use Rattle.teg_report.specs.Meanings.{cycle_lists, runs_lists};
-ghost use Rattle.teg_report.specs.Rounds.{AreRoundsTold};
+ghost use Rattle.teg_report.specs.AnswerMeanings.{cycle_lists, runs_lists};
+ghost use Rattle.teg_report.specs.RoundLines.{AreRoundsTold};
 ghost use Rattle.teg_commands.specs.Cycle.{SaysCycle, SaysRounds};
-ghost use Rattle.teg_commands.specs.Outcomes.{Tells, outcome_of};
-ghost use Rattle.teg_commands.specs.Texts.{cycle_text};
+ghost use Rattle.teg_commands.specs.CommandOutcomes.{Tells, outcome_of};
+ghost use Rattle.teg_commands.specs.CommandTexts.{cycle_text};
 
 use crate::live_net::LiveNet;
 use crate::outcome::{Outcome, Verdict};

@@ -1,10 +1,10 @@
 //! The dates of a live net for ever, and one of them.
 ghost use Rattle.std.specs.Prelude.{◌≤◌, ◌<◌, IfSome, Some, length};
-ghost use Rattle.settled_laws.specs.Forms.{NetSettlesPast};
-ghost use Rattle.teg_commands.specs.Outcomes.{Tells, outcome_of};
-ghost use Rattle.teg_commands.specs.Dates.{ExceedsLimit, SaysDate, SaysDateOf, SaysDates, SaysTooLong, TellsNoTransition};
-ghost use Rattle.teg_net.specs.Limits.{greatest_number};
-ghost use Rattle.teg_settle.specs.Refusals.{greatest_limit};
+ghost use Rattle.settled_laws.specs.SettledForms.{NetSettlesPast};
+ghost use Rattle.teg_commands.specs.CommandOutcomes.{Tells, outcome_of};
+ghost use Rattle.teg_commands.specs.CommandDates.{FormExceedsLimit, SaysDate, SaysDateOf, SaysDates, SaysTooLong, TellsNoTransition};
+ghost use Rattle.teg_net.specs.Limits.{greatest_firing_number};
+ghost use Rattle.teg_settle.specs.LimitRefusals.{greatest_limit};
 
 use crate::live_net::LiveNet;
 use crate::numbers::{FiringNumber, Limit, most_of};
@@ -22,7 +22,7 @@ fn tell_too_long(
     limit: Option<u32>,
     refusal: SettleRefusal,
 ) -> Result<Outcome, OutOfMemory>
-    requires { ExceedsLimit net.now limit refusal }
+    requires { FormExceedsLimit net.now limit refusal }
     ensures { Tells (SaysTooLong (NetSettlesPast net.now) limit) (outcome_of result) }
 {
     match refusal {
@@ -66,7 +66,7 @@ fn tell_date_of(
 ) -> Result<Outcome, OutOfMemory>
     requires transition { transition.index < length net.now.transitions }
     requires first { 1 ≤ number }
-    requires last { number ≤ greatest_number }
+    requires last { number ≤ greatest_firing_number }
     requires limit { IfSome limit (λ most. most ≤ greatest_limit) }
     ensures { Tells (SaysDateOf transition number limit net.now) (outcome_of result) }
 {

@@ -1,6 +1,6 @@
 //! The standard form of a live net.
 ghost use Rattle.teg_commands.specs.Form.{SaysForm};
-ghost use Rattle.teg_commands.specs.Outcomes.{Tells, outcome_of};
+ghost use Rattle.teg_commands.specs.CommandOutcomes.{Tells, outcome_of};
 
 use crate::live_net::LiveNet;
 use crate::outcome::{Outcome, Verdict};

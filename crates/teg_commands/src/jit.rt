@@ -2,9 +2,9 @@
 ghost use Rattle.std.specs.Prelude.{◌≤◌, length};
 ghost use Rattle.csv_records.specs.Records.{most_file_bytes};
 ghost use Rattle.teg_commands.specs.Jit.{SaysJit, SaysLate, SaysLatest, TellsBadDue};
-ghost use Rattle.teg_commands.specs.Outcomes.{Tells, outcome_of};
-ghost use Rattle.teg_due.specs.Rules.{IsDueOf};
-ghost use Rattle.teg_jit.specs.Refusals.{LateIsRight};
+ghost use Rattle.teg_commands.specs.CommandOutcomes.{Tells, outcome_of};
+ghost use Rattle.teg_due.specs.RowRules.{IsDueOf};
+ghost use Rattle.teg_jit.specs.LateRefusals.{LateIsRight};
 ghost use Rattle.teg_net.specs.Circuits.{IsLive};
 
 use crate::live_net::LiveNet;

@@ -1,13 +1,13 @@
 //! Nets that were found live.
 ghost use Rattle.std.specs.Prelude.{◌≡◌, ◌≤◌, ◌<◌, length, All, IfErr, IfOk, IfSome};
-ghost use Rattle.teg_due.specs.Rules.{IsDueOf};
+ghost use Rattle.teg_due.specs.RowRules.{IsDueOf};
 ghost use Rattle.teg_check.specs.Ranks.{IsRanking};
 ghost use Rattle.teg_dates.specs.Streams.{AreFirstRowsOf, HasLeast, first_rows_given};
-ghost use Rattle.teg_dates.specs.Tables.{most_numbers, HasLeastDates};
-ghost use Rattle.forever_laws.specs.Rows.{IsEndlessOf};
-ghost use Rattle.teg_forever.specs.Releases.{AreReleases, ForeverRefused};
-ghost use Rattle.teg_form.specs.Forms.{IsFormOf};
-ghost use Rattle.teg_cycle.specs.LastRounds.{AreLastOfRuns, rounds_in};
+ghost use Rattle.teg_dates.specs.DateTables.{most_numbers, HasLeastDates};
+ghost use Rattle.forever_laws.specs.EndlessRows.{IsEndlessOf};
+ghost use Rattle.teg_forever.specs.LatestReleases.{AreEndlessReleases, ForeverRefused};
+ghost use Rattle.teg_form.specs.StandardForms.{IsStandardFormOf};
+ghost use Rattle.teg_cycle.specs.LastRounds.{AreLastOfRuns, rounds_of_runs};
 ghost use Rattle.teg_critical.specs.declared.slacks.Slack.TheVariants.{NoCircuit};
 ghost use Rattle.teg_critical.specs.Slacks.{AreSlacks};
 ghost use Rattle.teg_net.specs.Certificates.{IsCertificate};
@@ -15,22 +15,22 @@ ghost use Rattle.teg_net.specs.GreatestRatios.{HasNoCircuit, IsAnyPlace, IsGreat
 ghost use Rattle.teg_net.specs.Nets.{IsInput};
 ghost use Rattle.teg_net.specs.Ratios.{Fraction};
 ghost use Rattle.teg_parts.specs.Partitions.{AreParts};
-ghost use Rattle.teg_report.specs.Forms.{IsFormWithin};
-ghost use Rattle.settled_laws.specs.Forms.{IsSettledFormOf, settled_length};
-ghost use Rattle.teg_settle.specs.Refusals.{IsRightRefusal, greatest_limit};
+ghost use Rattle.teg_report.specs.FormLines.{HasEndsIn};
+ghost use Rattle.settled_laws.specs.SettledForms.{IsSettledFormOf, settled_length};
+ghost use Rattle.teg_settle.specs.LimitRefusals.{IsRightSettleRefusal, greatest_limit};
 ghost use Rattle.teg_settle.specs.Transfers.{IsTransferOf, TransferSettlesPast};
-ghost use Rattle.due_laws.specs.Dues.{AreLatestInputs, InputsMeet, inputs_at_zero};
+ghost use Rattle.due_laws.specs.MeetingDueDates.{AreLatestInputs, InputsMeet, inputs_at_zero};
 ghost use Rattle.teg_jit.specs.DueDates.{IsGreatestNumber, due_in};
-ghost use Rattle.teg_jit.specs.Plans.{IsPlanFor, dates_of};
-ghost use Rattle.teg_jit.specs.Refusals.{LateIsRight};
+ghost use Rattle.teg_jit.specs.Plans.{IsPlanFor, dates_of_plan};
+ghost use Rattle.teg_jit.specs.LateRefusals.{LateIsRight};
 ghost use Rattle.teg_net.specs.Circuits.{IsLive};
-ghost use Rattle.teg_bound.specs.Bounds.{IsRightBound};
-ghost use Rattle.delay_laws.specs.Tables.{IsTableOf};
-ghost use Rattle.teg_timetable.specs.Answers.{IsDelayRefusal, IsOutcomeIn, IsSpread};
+ghost use Rattle.teg_bound.specs.PeriodicBounds.{IsRightBound};
+ghost use Rattle.delay_laws.specs.PlannedTimetables.{IsTableOf};
+ghost use Rattle.teg_timetable.specs.DelayAnswers.{IsDelayRefusal, IsOutcomeIn, IsSpread};
 ghost use Rattle.teg_timetable.specs.Spreads.{greatest_period};
-ghost use Rattle.teg_sizing.specs.Rounds.{IsTarget};
+ghost use Rattle.teg_sizing.specs.ValueRounds.{IsTarget};
 ghost use Rattle.teg_sizing.specs.Sizings.{IsSizing};
-ghost use Rattle.teg_commands.specs.Dates.{IsWithinLimit, ExceedsLimit};
+ghost use Rattle.teg_commands.specs.CommandDates.{IsFormWithinLimit, FormExceedsLimit};
 ghost use Rattle.teg_commands.specs.Cycle.{AreRuns, IsCycleAnswer};
 
 use std::alloc::Global;
@@ -108,8 +108,8 @@ impl LiveNet {
 
     /// The standard form.
     pub fn standard_form(&self, alloc: Global) -> Result<Form, OutOfMemory>
-        ensures form { IfOk result (λ form. IsFormOf self.now form) }
-        ensures within { IfOk result (λ form. IsFormWithin self.now form) }
+        ensures form { IfOk result (λ form. IsStandardFormOf self.now form) }
+        ensures within { IfOk result (λ form. HasEndsIn self.now form) }
     {
         // The rules of the net, by which both ends of an entry are among these.
         let _transitions = self.net.transitions();
@@ -120,8 +120,8 @@ impl LiveNet {
     pub fn settled(&self, alloc: Global, limit: Option<u32>) -> Result<Settled, SettleRefusal>
         requires { IfSome limit (λ most. most ≤ greatest_limit) }
         ensures form { IfOk result (IsSettledFormOf self.now) }
-        ensures within { IfOk result (IsWithinLimit limit) }
-        ensures too_long { IfErr result (ExceedsLimit self.now limit) }
+        ensures within { IfOk result (IsFormWithinLimit limit) }
+        ensures too_long { IfErr result (FormExceedsLimit self.now limit) }
     {
         match limit {
             Some(most) => settle_within(alloc, &self.net, &self.live, most),
@@ -144,8 +144,8 @@ impl LiveNet {
     ) -> Result<SettledDates, SettleRefusal>
         requires { IfSome limit (λ most. most ≤ greatest_limit) }
         ensures form { IfOk result (IsSettledFormOf self.now) }
-        ensures within { IfOk result (IsWithinLimit limit) }
-        ensures too_long { IfErr result (ExceedsLimit self.now limit) }
+        ensures within { IfOk result (IsFormWithinLimit limit) }
+        ensures too_long { IfErr result (FormExceedsLimit self.now limit) }
     {
         match limit {
             Some(most) => settle_dates_within(alloc, &self.net, &self.live, most),
@@ -182,7 +182,7 @@ impl LiveNet {
         requires limit { limit ≤ greatest_limit }
         ensures form { IfOk result (IsTransferOf self.now input.index) }
         ensures within { IfOk result (λ form. settled_length form ≤ limit) }
-        ensures too_long { IfErr result (IsRightRefusal
+        ensures too_long { IfErr result (IsRightSettleRefusal
             (TransferSettlesPast self.now input.index limit) limit) }
     {
         transfer(alloc, &self.net, &self.live, input, limit)
@@ -194,7 +194,7 @@ impl LiveNet {
         ensures numbers { IfOk result (λ plan. IsGreatestNumber due.now.rows.items plan.numbers) }
         ensures plan { IfOk result (λ plan. IsPlanFor self.now (due_in due.now.rows.items) plan) }
         ensures inputs { IfOk result (λ plan. AreLatestInputs self.now (due_in due.now.rows.items)
-            (dates_of plan)) }
+            (dates_of_plan plan)) }
         ensures in_time { IfOk result (λ _. InputsMeet self.now (due_in due.now.rows.items)
             inputs_at_zero) }
         ensures late { IfErr result (LateIsRight self.now due.now.rows.items) }
@@ -211,7 +211,8 @@ impl LiveNet {
         rows: &[EndlessRow],
     ) -> Result<Vec<Release>, ForeverRefusal>
         requires { IsEndlessOf self.now rows.now }
-        ensures releases { IfOk result (λ releases. AreReleases self.now rows.now releases.items) }
+        ensures releases { IfOk result (λ releases. AreEndlessReleases self.now rows.now
+            releases.items) }
         ensures refused { IfErr result (ForeverRefused self.now rows.now) }
     {
         forever(alloc, &self.net, &self.live, rows)
@@ -280,7 +281,7 @@ impl LiveNet {
     ) -> Result<(CycleAnswer, Vec<Vec<Round>>), OutOfMemory>
         requires { AreParts self.now parts.now }
         ensures answer { IfOk result (λ w. IsCycleAnswer self.now w.0) }
-        ensures runs { IfOk result (λ w. AreRuns self.now w.0 (rounds_in w.1.items)) }
+        ensures runs { IfOk result (λ w. AreRuns self.now w.0 (rounds_of_runs w.1.items)) }
         ensures certificate { IfOk result (λ w. IsCertificate self.now w.0) }
     {
         let (answer, runs) = cycle_with_runs(alloc, &self.net, &self.live, parts)?;

@@ -1,6 +1,6 @@
 //! A live net as a file of the second version.
 ghost use Rattle.teg_commands.specs.Migrate.{SaysMigrate};
-ghost use Rattle.teg_commands.specs.Outcomes.{Tells, outcome_of};
+ghost use Rattle.teg_commands.specs.CommandOutcomes.{Tells, outcome_of};
 
 use crate::live_net::LiveNet;
 use crate::outcome::{Outcome, Verdict};

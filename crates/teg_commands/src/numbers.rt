@@ -1,7 +1,7 @@
 //! The numbers that commands take, each a type with its bounds.
 ghost use Rattle.std.specs.Prelude.{◌≡◌, ◌≤◌, IfSome};
-ghost use Rattle.teg_commands.specs.Limits.{greatest_target_time, most_target_tokens};
-ghost use Rattle.teg_settle.specs.Refusals.{greatest_limit};
+ghost use Rattle.teg_net.specs.Limits.{greatest_target_time, most_target_tokens};
+ghost use Rattle.teg_settle.specs.LimitRefusals.{greatest_limit};
 
 use std::marker::Model;
 
@@ -91,7 +91,6 @@ pub struct Target {
 
 impl Model for Target {
     ghost use Rattle.std.specs.Prelude.{ℕ, ◌≤◌};
-    ghost use Rattle.teg_commands.specs.Limits.{greatest_target_time, most_target_tokens};
 
     ghost Value = { ℕ × ℕ };
 

@@ -1,10 +1,11 @@
 //! Recorded runs: a log that is replayed, and the lines of the monitors.
 ghost use Rattle.std.specs.Prelude.{◌≡◌, ◌≤◌, ◌++◌, Some, ◌∷◌, [], All, IfOk, IfSome, is_ok, length, map, string_bytes};
-ghost use Rattle.teg_commands.specs.Outcomes.{Tells, outcome_of};
+ghost use Rattle.teg_outside.specs.Monitors.{IsOneLine};
+ghost use Rattle.teg_commands.specs.CommandOutcomes.{Tells, outcome_of};
 ghost use Rattle.csv_records.specs.Records.{most_file_bytes};
-ghost use Rattle.teg_commands.specs.Replay.{CanTell, IsToldAs, SaysEnd, SaysReplay, SaysRun, ShowsReplay, ShowsRun, TellsBadLog};
-ghost use Rattle.teg_due.specs.Rules.{IsLogOf};
-ghost use Rattle.teg_report.specs.FileRows.{IsFailureIn, IsOneLine};
+ghost use Rattle.teg_commands.specs.Replay.{CanTellRefusal, IsToldAs, SaysEnd, SaysReplay, SaysRun, ShowsReplay, ShowsRun, TellsBadLog};
+ghost use Rattle.teg_due.specs.RowRules.{IsLogOf};
+ghost use Rattle.teg_report.specs.FileRows.{IsFailureIn};
 
 use crate::live_net::LiveNet;
 use crate::outcome::{Outcome, Verdict};
@@ -68,7 +69,7 @@ fn lines_of(alloc: Global, monitors: &[Box<dyn Monitor>]) -> Result<Vec<String>,
 
 // Why a firing was refused, as it is told.
 fn failure_of(net: &LiveNet, why: &FireRefusal) -> Failure
-    requires { CanTell net.now why.now }
+    requires { CanTellRefusal net.now why.now }
     ensures told { IsToldAs why.now result }
     ensures about { IsFailureIn (Some net.now) result }
 {
@@ -87,7 +88,7 @@ fn tell_end(
     replayed: &Replayed,
     lines: &[String],
 ) -> Result<Outcome, OutOfMemory>
-    requires named { IfSome replayed.now.refused (λ refused. CanTell net.now refused.why) }
+    requires named { IfSome replayed.now.refused (λ refused. CanTellRefusal net.now refused.why) }
     requires one_line { All IsOneLine (map string_bytes lines.now) }
     ensures { Tells (SaysEnd net.now replayed.now.refused replayed.now.accepted
         (map string_bytes lines.now)) (outcome_of result) }
@@ -119,7 +120,7 @@ fn tell_seen(
     replayed: &Replayed,
     monitors: &[Box<dyn Monitor>],
 ) -> Result<Outcome, OutOfMemory>
-    requires { IfSome replayed.now.refused (λ refused. CanTell net.now refused.why) }
+    requires { IfSome replayed.now.refused (λ refused. CanTellRefusal net.now refused.why) }
     ensures { let lines = map (λ m. line_text m []) monitors.now in
         Tells (SaysEnd net.now replayed.now.refused replayed.now.accepted lines) (outcome_of result) }
 {

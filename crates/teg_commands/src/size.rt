@@ -1,8 +1,8 @@
 //! The fewest further tokens of a place of a live net for a target ratio.
 ghost use Rattle.std.specs.Prelude.{◌<◌, length};
-ghost use Rattle.teg_commands.specs.Outcomes.{Tells, outcome_of};
+ghost use Rattle.teg_commands.specs.CommandOutcomes.{Tells, outcome_of};
 ghost use Rattle.teg_commands.specs.Size.{SaysSize, SaysSizeOf, TellsNoPlace};
-ghost use Rattle.teg_sizing.specs.Rounds.{IsTarget};
+ghost use Rattle.teg_sizing.specs.ValueRounds.{IsTarget};
 
 use crate::live_net::LiveNet;
 use crate::numbers::Target;

@@ -1,7 +1,7 @@
 //! The slack of the places of a live net.
 ghost use Rattle.std.specs.Prelude.{IfNone, IfSome};
 ghost use Rattle.teg_commands.specs.Cycle.{IsCycleAnswer};
-ghost use Rattle.teg_commands.specs.Outcomes.{Tells, outcome_of};
+ghost use Rattle.teg_commands.specs.CommandOutcomes.{Tells, outcome_of};
 ghost use Rattle.teg_commands.specs.Slack.{IsBestRatio, SaysSlack};
 ghost use Rattle.teg_net.specs.Certificates.{IsCertificate};
 ghost use Rattle.teg_net.specs.GreatestRatios.{HasNoCircuit, IsAnyPlace};

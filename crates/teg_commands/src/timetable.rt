@@ -1,13 +1,13 @@
 //! How the delays of a timetable spread through a live net.
 ghost use Rattle.std.specs.Prelude.{◌≡◌, ◌≤◌, IfNone, IfSome, length};
 ghost use Rattle.csv_records.specs.Records.{most_file_bytes};
-ghost use Rattle.delay_laws.specs.Tables.{IsTableOf};
-ghost use Rattle.teg_commands.specs.Outcomes.{Tells, outcome_of};
+ghost use Rattle.delay_laws.specs.PlannedTimetables.{IsTableOf};
+ghost use Rattle.teg_commands.specs.CommandOutcomes.{Tells, outcome_of};
 ghost use Rattle.teg_commands.specs.Timetable.{EndsUnspread, SaysDelays, SaysTimetable, SaysUnspread, TellsBadTable};
-ghost use Rattle.teg_settle.specs.Refusals.{greatest_limit};
-ghost use Rattle.teg_timetable.specs.Answers.{IsDelayRefusal};
+ghost use Rattle.teg_settle.specs.LimitRefusals.{greatest_limit};
+ghost use Rattle.teg_timetable.specs.DelayAnswers.{IsDelayRefusal};
 ghost use Rattle.teg_timetable.specs.Spreads.{greatest_period};
-ghost use Rattle.teg_timetable.specs.Tables.{IsTableRefusalIn};
+ghost use Rattle.teg_timetable.specs.TimetableFiles.{IsTableRefusalIn};
 
 use crate::live_net::LiveNet;
 use crate::numbers::{Limit, Period, most_of};

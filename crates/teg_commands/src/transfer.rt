@@ -1,12 +1,12 @@
 //! The times from the inputs of a live net to its outputs.
 ghost use Rattle.std.specs.Prelude.{◌≡◌, ◌≤◌, ◌<◌, ◌++◌, ◌∷◌, [], Some, All, IfErr, IfOk, OnOk, length, map};
-ghost use Rattle.teg_commands.specs.Outcomes.{Tells, outcome_of};
-ghost use Rattle.teg_commands.specs.Dates.{SaysTooLong};
-ghost use Rattle.teg_commands.specs.Transfer.{AreTimesFrom, IsTimesFrom, SaysTransfer, TimesSettlePast, has_role, those_of_role, times_in};
+ghost use Rattle.teg_commands.specs.CommandOutcomes.{Tells, outcome_of};
+ghost use Rattle.teg_commands.specs.CommandDates.{SaysTooLong};
+ghost use Rattle.teg_commands.specs.Transfer.{AreTimesFrom, IsTimesFrom, SaysTransfer, TimesSettlePast, has_transition_role, those_of_role, times_in};
 ghost use Rattle.teg_net.specs.declared.entries.Role.TheVariants.{Output};
 ghost use Rattle.teg_net.specs.Nets.{IsInput};
-ghost use Rattle.teg_report.specs.Meanings.{times_from, times_to};
-ghost use Rattle.teg_settle.specs.Refusals.{IsRightRefusal, greatest_limit};
+ghost use Rattle.teg_report.specs.AnswerMeanings.{times_from, times_to};
+ghost use Rattle.teg_settle.specs.LimitRefusals.{IsRightSettleRefusal, greatest_limit};
 
 use crate::live_net::LiveNet;
 use crate::numbers::Limit;
@@ -27,7 +27,7 @@ fn keep<T: Drop>(list: &mut Vec<T>, item: T) -> Result<(), AllocError>
 // Whether the transition has this role.
 fn has_role(net: &Net, transition: TransitionId, role: Role) -> bool
     requires { transition.index < length net.now.transitions }
-    ensures { result ≡ has_role net.now role transition }
+    ensures { result ≡ has_transition_role net.now role transition }
 {
     net.transitions()[transition.index as usize].role == role
 }
@@ -87,7 +87,7 @@ fn times_from(
     requires limit { limit ≤ greatest_limit }
     ensures from { IfOk result (λ from. from.from ≡ input) }
     ensures times { IfOk result (λ from. IsTimesFrom net.now limit (times_from from)) }
-    ensures too_long { IfErr result (IsRightRefusal (TimesSettlePast net.now limit) limit) }
+    ensures too_long { IfErr result (IsRightSettleRefusal (TimesSettlePast net.now limit) limit) }
 {
     let settled = net.transfer(alloc, input, limit)?;
     let lines = times_to_all(alloc, &settled, outputs)?;
@@ -103,7 +103,7 @@ fn times_from(
 fn all_times(alloc: Global, net: &LiveNet, limit: u32) -> Result<Vec<TransferFrom>, SettleRefusal>
     requires { limit ≤ greatest_limit }
     ensures times { IfOk result (λ times. AreTimesFrom net.now limit (map times_from times.items)) }
-    ensures too_long { IfErr result (IsRightRefusal (TimesSettlePast net.now limit) limit) }
+    ensures too_long { IfErr result (IsRightSettleRefusal (TimesSettlePast net.now limit) limit) }
 {
     let inputs = those_of_role(alloc, net.net(), Role::Input)?;
     let outputs = those_of_role(alloc, net.net(), Role::Output)?;
@@ -122,7 +122,7 @@ fn tell_too_long(
     limit: u32,
     refusal: SettleRefusal,
 ) -> Result<Outcome, OutOfMemory>
-    requires { IsRightRefusal (TimesSettlePast net.now limit) limit refusal }
+    requires { IsRightSettleRefusal (TimesSettlePast net.now limit) limit refusal }
     ensures { Tells (SaysTooLong (TimesSettlePast net.now) (Some limit)) (outcome_of result) }
 {
     match refusal {

@@ -1,6 +1,6 @@
 //! The line of machines, and what is told of it.
 ghost use Rattle.std.specs.Prelude.{◌≡◌, ◌≤◌, IfOk, length};
-ghost use Rattle.teg_commands.specs.Outcomes.{Tells, outcome_of};
+ghost use Rattle.teg_commands.specs.CommandOutcomes.{Tells, outcome_of};
 ghost use Rattle.teg_commands.specs.Cycle.{IsCycleAnswer};
 ghost use Rattle.teg_commands.specs.Slack.{IsBestRatio};
 ghost use Rattle.teg_commands.specs.Trial.{SaysTrial, critical_count};

@@ -16,13 +16,13 @@ use Rattle.teg_net.specs.Certificates.{IsCertificate}
 use Rattle.teg_cycle.specs.BestRatios.{named_ratio, best_ratio_of}
 use Rattle.teg_critical.specs.declared.endings.Ending.{Ending}
 use Rattle.teg_critical.specs.declared.losses.Loss.{Loss}
-use Rattle.teg_critical.specs.Endings.{ending_at, IsEnding, AreEndings}
+use Rattle.teg_critical.specs.LossEndings.{ending_at, IsEnding, AreEndings}
 use Rattle.teg_critical.specs.declared.slacks.Slack.{Slack}
 use Rattle.teg_critical.specs.declared.slacks.Slack.TheVariants.{NoCircuit}
 use Rattle.teg_critical.specs.Slacks.{IsOnCircuit, IsSlackOf, AreSlacks}
 use Rattle.teg_critical.specs.Losses.{loss_at, AreLosses}
-use Rattle.teg_critical.specs.Searches.{IsLeastLoss, told_at, IsToldBack}
-use Rattle.teg_critical.specs.Told.{CanTell, slack_at, AreToldMore, AreUntold}
+use Rattle.teg_critical.specs.LeastLosses.{IsLeastLoss, told_at, IsToldBack}
+use Rattle.teg_critical.specs.Told.{CanTellSlack, slack_at, AreToldMore, AreUntold}
 use Rattle.teg_critical.proofs.Certified.{no_circuit}
 use Rattle.teg_critical.proofs.LossFacts.{IsToldBy, best_told}
 use Rattle.teg_critical.proofs.Rounds.{greatest}
@@ -71,7 +71,7 @@ pub record ToldOrLeft (net : NetLists) (r : Fraction) (slacks : List Slack) (res
   pub each : (p : PlaceId) → p.index < length net.places → IsSlackOf net r p (slack_at slacks p) ⊎ Contains rest (ending_at net p)
 
 -- places that are told no loss are on no circuit, and the others are listed
-pub told_begin : (net : NetLists) (r : Fraction) (losses : List (Option Loss)) → CanTell net r losses → (slacks : List Slack) → AreUntold net slacks → (order : List Ending) → AreEndings net losses order → ToldOrLeft net r slacks order
+pub told_begin : (net : NetLists) (r : Fraction) (losses : List (Option Loss)) → CanTellSlack net r losses → (slacks : List Slack) → AreUntold net slacks → (order : List Ending) → AreEndings net losses order → ToldOrLeft net r slacks order
 told_begin net r losses can slacks none order h = record {
   count = ap length none ∙ length-replicate {A = Slack} (length net.places) NoCircuit;
   known = h.known;
@@ -107,7 +107,7 @@ told_end net r slacks rest h none = record {
 
 -- ---- what the losses tell of a place
 
-module _ (net : NetLists) (r : Fraction) (losses : List (Option Loss)) (can : CanTell net r losses) (e : Ending) (is : IsEnding net e) where
+module _ (net : NetLists) (r : Fraction) (losses : List (Option Loss)) (can : CanTellSlack net r losses) (e : Ending) (is : IsEnding net e) where
   -- no loss is told: no circuit passes it
   pub no_loss : loss_at losses e.place ≡ None → IsOnCircuit net e.place → ⊥
   no_loss f c = none_of net can.rules r losses can e.place is.in_range f c
@@ -122,7 +122,7 @@ module _ (net : NetLists) (r : Fraction) (losses : List (Option Loss)) (can : Ca
 
 -- ---- the losses of a certified answer
 
-pub can_tell : (net : NetLists) → IsNet net → (answer : CycleAnswer) → (h : IsCertificate net answer) → IsLive net → (best : Fraction) → best_ratio_of answer ≡ Some best → (losses : List (Option Loss)) → AreLosses net answer best losses → CanTell net best losses
+pub can_tell : (net : NetLists) → IsNet net → (answer : CycleAnswer) → (h : IsCertificate net answer) → IsLive net → (best : Fraction) → best_ratio_of answer ≡ Some best → (losses : List (Option Loss)) → AreLosses net answer best losses → CanTellSlack net best losses
 can_tell net ok answer h live best b losses lost =
     let told : IsToldBy net best = best_told net answer h best b in
     record {

@@ -12,7 +12,7 @@ use Rattle.teg_net.specs.Circuits.{no_place, place_at}
 use Rattle.teg_critical.specs.declared.endings.Ending.{Ending}
 use Rattle.teg_critical.specs.declared.losses.Loss.{Loss}
 use Rattle.teg_critical.specs.Losses.{loss_at}
-use Rattle.teg_critical.specs.Endings.{ending_at, IsEnding, IsEndingAt, AreEndings}
+use Rattle.teg_critical.specs.LossEndings.{ending_at, IsEnding, IsEndingAt, AreEndings}
 use Rattle.teg_net.proofs.Reading.{same_id}
 
 -- the places below k that are told a loss are listed

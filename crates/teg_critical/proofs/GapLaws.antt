@@ -16,7 +16,7 @@ use Rattle.teg_loops.proofs.Splitting.{shorten}
 use Rattle.teg_loops.proofs.Through.{IsThrough, through, closes}
 use Rattle.teg_critical.specs.Slacks.{IsCritical, raised}
 use Rattle.teg_critical.specs.Gaps.{IsGap}
-use Rattle.teg_critical.specs.Laws.{GapTells, GapsTellSlacks}
+use Rattle.teg_critical.specs.SlackAndPaths.{GapTells, GapsTellSlacks}
 use Rattle.teg_critical.proofs.Raised.{circuit_up, circuit_down, tokens_same, time_without, time_with, passes_or_not}
 
 pub any_places : (ps : List PlaceId) → All IsAnyPlace ps

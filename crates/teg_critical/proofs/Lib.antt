@@ -1,3 +1,4 @@
+pub mod SearchStates
 pub mod Raised
 pub mod GapLaws
 pub mod SameRatio

@@ -7,10 +7,10 @@ use Rattle.std.proofs.lemmas.List.{length-append, get_or_append_left, get_or-app
 use Rattle.teg_net.specs.declared.entries.PlaceId.{PlaceId}
 use Rattle.teg_net.specs.declared.answers.Potential.{Potential}
 use Rattle.teg_net.specs.declared.answers.CycleAnswer.{CycleAnswer}
-use Rattle.teg_net.specs.Limits.{greatest_potential}
+use Rattle.teg_net.specs.Limits.{greatest_checked_potential}
 use Rattle.teg_net.specs.Nets.{NetLists}
 use Rattle.teg_net.specs.Ratios.{Fraction}
-use Rattle.teg_net.specs.ReducedTimes.{IsWithin}
+use Rattle.teg_net.specs.ReducedTimes.{IsMagnitudeWithin}
 use Rattle.teg_net.specs.Certificates.{potential_at}
 use Rattle.teg_critical.specs.declared.losses.Loss.{Loss}
 use Rattle.teg_critical.specs.Losses.{IsPlaceLoss, loss_at}
@@ -18,10 +18,10 @@ use Rattle.teg_critical.specs.Losses.{IsPlaceLoss, loss_at}
 -- ---- potentials
 
 -- a potential that is looked up is within the bound
-pub potential_within : (vs : List Potential) (t : ℕ) → All (λ v. IsWithin greatest_potential v.value) vs → IsWithin greatest_potential (potential_at vs t)
+pub potential_within : (vs : List Potential) (t : ℕ) → All (λ v. IsMagnitudeWithin greatest_checked_potential v.value) vs → IsMagnitudeWithin greatest_checked_potential (potential_at vs t)
 potential_within [] t h = record { low = omega (arith, ints); high = omega (arith, ints) }
 potential_within (v ∷ vs) t h = by_test (eqb v.transition.index t) (h 0 v (omega arith)) (potential_within vs t (λ i d l. h (suc i) d (omega arith))) where
-  by_test : (b : Bool) → IsWithin greatest_potential v.value → IsWithin greatest_potential (potential_at vs t) → IsWithin greatest_potential (cond b v.value (potential_at vs t))
+  by_test : (b : Bool) → IsMagnitudeWithin greatest_checked_potential v.value → IsMagnitudeWithin greatest_checked_potential (potential_at vs t) → IsMagnitudeWithin greatest_checked_potential (cond b v.value (potential_at vs t))
   by_test true here rest = here
   by_test false here rest = rest
 

@@ -14,18 +14,18 @@ use Rattle.teg_net.specs.declared.answers.PartAnswer.{PartAnswer}
 use Rattle.teg_net.specs.declared.answers.PartAnswer.TheVariants.{NoCircuit, Best}
 use Rattle.teg_net.specs.declared.answers.CycleAnswer.{CycleAnswer}
 use Rattle.teg_net.specs.declared.circuits.Circuit.{Circuit}
-use Rattle.teg_net.specs.Limits.{greatest_potential}
+use Rattle.teg_net.specs.Limits.{greatest_checked_potential}
 use Rattle.teg_net.specs.Nets.{NetLists, IsNet, IsPlaceOf}
-use Rattle.teg_net.specs.Ratios.{Fraction}
+use Rattle.teg_net.specs.Ratios.{Fraction, IsRatioWithin}
 use Rattle.teg_net.specs.Circuits.{no_place, place_at, from_of, IsCircuit, time_of, tokens_of}
 use Rattle.teg_net.specs.Parts.{to_of, IsPlaceOfPart}
-use Rattle.teg_net.specs.ReducedTimes.{IsWithin}
+use Rattle.teg_net.specs.ReducedTimes.{IsMagnitudeWithin, reduced_time_of_place}
 use Rattle.teg_net.specs.GreatestRatios.{ratio_in, ratio_at, IsFirstGreatest}
 use Rattle.teg_net.specs.Certificates.{potential_at, IsBestCertificate, IsPartCertificate, IsCertificate}
 use Rattle.teg_cycle.specs.BestRatios.{named_ratio, best_ratio_of}
 use Rattle.teg_critical.specs.declared.losses.Loss.{Loss}
-use Rattle.teg_critical.specs.Losses.{most_lost, count_of, IsLost, CanLose, ratio_of, potentials_of, IsLossOf, IsLossIn, part_at, part_of, IsPlaceLoss}
-use Rattle.teg_critical.specs.Told.{IsSmallRatio, CanLoseBy}
+use Rattle.teg_critical.specs.Losses.{most_lost, IsLost, CanLose, ratio_of, potentials_of, IsLossOf, IsLossIn, answer_of_part, part_of_transition, IsPlaceLoss}
+use Rattle.teg_critical.specs.Told.{CanLoseBy}
 use Rattle.teg_critical.proofs.Listed.{potential_within}
 
 -- what lies between two whole numbers
@@ -34,12 +34,12 @@ gap_of x y h =
     let e : pos (nat_abs (y -ℤ x)) ≡ (y -ℤ x) = pos-nat_abs (y -ℤ x) (yes_non_neg (omega (arith, ints, h))) in
     (nat_abs (y -ℤ x), omega (arith, ints, e))
 
-lost_low : (n gain cost : ℕ) (s t : ℤ) → ((pos n +ℤ (pos gain -ℤ pos cost)) +ℤ s) ≡ t → IsWithin greatest_potential s → IsWithin greatest_potential t → cost ≤ 1000000000000000 → n ≤ most_lost
+lost_low : (n gain cost : ℕ) (s t : ℤ) → ((pos n +ℤ (pos gain -ℤ pos cost)) +ℤ s) ≡ t → IsMagnitudeWithin greatest_checked_potential s → IsMagnitudeWithin greatest_checked_potential t → cost ≤ 1000000000000000 → n ≤ most_lost
 lost_low n gain cost s t e f g l = omega (arith, ints, e, f.low, g.high, l)
 
 -- a ratio within the limits that some circuit has
 pub record IsToldBy (net : NetLists) (r : Fraction) : Type 0 where
-  pub small : IsSmallRatio r
+  pub small : IsRatioWithin r
   pub some : 1 ≤ r.tokens
   pub places : List PlaceId
   pub circuit : IsCircuit net places
@@ -53,7 +53,7 @@ told_facts net part_of k NoCircuit r h e = absurd (none_told r e) where
   none_told r e = cc
 told_facts net part_of k (Best ratio circuit potentials) r h e =
     let same : ratio ≡ r = cc in
-    subst (IsToldBy net) same (record { small = record { time = h.time_in; tokens = h.tokens_in }; some = h.terms.some; places = circuit.places.items; circuit = h.circuit; attains = h.attains })
+    subst (IsToldBy net) same (record { small = record { time_in = h.time_in; tokens_in = h.tokens_in }; some = h.terms.some; places = circuit.places.items; circuit = h.circuit; attains = h.attains })
 
 -- the part that the answer names tells this ratio
 record IsBestOf (answer : CycleAnswer) (r : Fraction) : Type 0 where
@@ -75,14 +75,14 @@ module _ (net : NetLists) (answer : CycleAnswer) (h : IsCertificate net answer) 
   part_in : b.part < length answer.parts.items
   part_in = ⊎_elim
       (λ (l : b.part < length answer.parts.items). l)
-      (λ (l : length answer.parts.items ≤ b.part). absurd (let past : part_at answer b.part ≡ NoCircuit = get_or_past answer.parts.items b.part NoCircuit l in none best (sym (ap ratio_in past) ∙ b.told)))
+      (λ (l : length answer.parts.items ≤ b.part). absurd (let past : answer_of_part answer b.part ≡ NoCircuit = get_or_past answer.parts.items b.part NoCircuit l in none best (sym (ap ratio_in past) ∙ b.told)))
       (cases_lt b.part (length answer.parts.items)) where
         none : (r : Fraction) → ratio_in NoCircuit ≡ Some r → ⊥
         none r e = cc
 
   -- the best ratio is such a ratio
   pub best_told : IsToldBy net best
-  best_told = told_facts net answer.part_of.items b.part (part_at answer b.part) best (h.parts b.part part_in) b.told
+  best_told = told_facts net answer.part_of.items b.part (answer_of_part answer b.part) best (h.parts b.part part_in) b.told
 
   -- no part tells a greater one
   pub below_best : (k : ℕ) (r : Fraction) → ratio_at answer.parts.items k ≡ Some r → r.time * best.tokens ≤ best.time * r.tokens
@@ -95,7 +95,7 @@ module _ (net : NetLists) (answer : CycleAnswer) (h : IsCertificate net answer) 
 
   -- the part of a place, and its answer, as they are read
   pub read_part : IsNet net → (p : PlaceId) → p.index < length net.places → (q : Place) → q ≡ place_at net p → (k : ℕ) → k ≡ get_or answer.part_of.items q.from.index k → (to : ℕ) → to ≡ get_or answer.part_of.items q.to.index to → to ≡ k
-      → (read : PartAnswer) → read ≡ get_or answer.parts.items k read → (k ≡ part_of answer q.from.index) × (part_of answer q.to.index ≡ k) × (read ≡ part_at answer k)
+      → (read : PartAnswer) → read ≡ get_or answer.parts.items k read → (k ≡ part_of_transition answer q.from.index) × (part_of_transition answer q.to.index ≡ k) × (read ≡ answer_of_part answer k)
   read_part ok p l q q_is k k_read to to_read same read is =
       let rules : IsPlaceOf net q = subst (IsPlaceOf net) (sym q_is) (ok.each_place p.index no_place l) in
       let count = h.count in
@@ -103,23 +103,23 @@ module _ (net : NetLists) (answer : CycleAnswer) (h : IsCertificate net answer) 
       let to_in = rules.to_in in
       let from_low : q.from.index < length answer.part_of.items = omega arith in
       let to_low : q.to.index < length answer.part_of.items = omega arith in
-      let k_is : k ≡ part_of answer q.from.index = get_or_read answer.part_of.items q.from.index k from_low k_read 0 in
-      let to_is : to ≡ part_of answer q.to.index = get_or_read answer.part_of.items q.to.index to to_low to_read 0 in
-      let below : part_of answer q.from.index < length answer.parts.items = h.below q.from.index 0 from_low in
+      let k_is : k ≡ part_of_transition answer q.from.index = get_or_read answer.part_of.items q.from.index k from_low k_read 0 in
+      let to_is : to ≡ part_of_transition answer q.to.index = get_or_read answer.part_of.items q.to.index to to_low to_read 0 in
+      let below : part_of_transition answer q.from.index < length answer.parts.items = h.below q.from.index 0 from_low in
       (k_is, sym to_is ∙ same, get_or_read answer.parts.items k read (omega arith) is NoCircuit)
 
   -- a place with both ends in part k, whose answer tells a ratio
-  module _ (ok : IsNet net) (p : PlaceId) (l : p.index < length net.places) (q : Place) (q_is : q ≡ place_at net p) (k : ℕ) (k_is : k ≡ part_of answer q.from.index) (to_is : part_of answer q.to.index ≡ k)
-      (r : Fraction) (c : Circuit) (vs : List Potential) (told : PartAnswer) (told_is : told ≡ part_at answer k) (certificate : k < length answer.parts.items → IsPartCertificate net answer.part_of.items k told → IsBestCertificate net answer.part_of.items k r c.places.items vs)
+  module _ (ok : IsNet net) (p : PlaceId) (l : p.index < length net.places) (q : Place) (q_is : q ≡ place_at net p) (k : ℕ) (k_is : k ≡ part_of_transition answer q.from.index) (to_is : part_of_transition answer q.to.index ≡ k)
+      (r : Fraction) (c : Circuit) (vs : List Potential) (told : PartAnswer) (told_is : told ≡ answer_of_part answer k) (certificate : k < length answer.parts.items → IsPartCertificate net answer.part_of.items k told → IsBestCertificate net answer.part_of.items k r c.places.items vs)
       (ratio_is : ratio_of told ≡ r) (ratio_told : ratio_in told ≡ Some r) (potentials_is : potentials_of told ≡ vs) where
     rules : IsPlaceOf net q
     rules = subst (IsPlaceOf net) (sym q_is) (ok.each_place p.index no_place l)
 
-    from_is : part_of answer (from_of net p) ≡ k
-    from_is = ap (λ (z : Place). part_of answer z.from.index) (sym q_is) ∙ sym k_is
+    from_is : part_of_transition answer (from_of net p) ≡ k
+    from_is = ap (λ (z : Place). part_of_transition answer z.from.index) (sym q_is) ∙ sym k_is
 
-    there : part_of answer (to_of net p) ≡ k
-    there = ap (λ (z : Place). part_of answer z.to.index) (sym q_is) ∙ to_is
+    there : part_of_transition answer (to_of net p) ≡ k
+    there = ap (λ (z : Place). part_of_transition answer z.to.index) (sym q_is) ∙ to_is
 
     inside : IsPlaceOfPart net answer.part_of.items k p
     inside =
@@ -131,24 +131,24 @@ module _ (net : NetLists) (answer : CycleAnswer) (h : IsCertificate net answer) 
 
     part_low : k < length answer.parts.items
     part_low =
-        let low : part_of answer (from_of net p) < length answer.parts.items = h.below (from_of net p) 0 (let m = inside.from_member.in_range in m) in
+        let low : part_of_transition answer (from_of net p) < length answer.parts.items = h.below (from_of net p) 0 (let m = inside.from_member.in_range in m) in
         subst (λ (z : ℕ). z < length answer.parts.items) from_is low
 
     facts : IsBestCertificate net answer.part_of.items k r c.places.items vs
     facts = certificate part_low (subst (IsPartCertificate net answer.part_of.items k) (sym told_is) (h.parts k part_low))
 
-    small_own : IsSmallRatio r
-    small_own = record { time = facts.time_in; tokens = facts.tokens_in }
+    small_own : IsRatioWithin r
+    small_own = record { time_in = facts.time_in; tokens_in = facts.tokens_in }
 
     below_own : r.time * best.tokens ≤ best.time * r.tokens
     below_own = below_best k r (ap ratio_in (sym told_is) ∙ ratio_told)
 
-    can_lose : CanLose (count_of r q) (potential_at vs q.from.index) (potential_at vs q.to.index)
+    can_lose : CanLose (reduced_time_of_place r q) (potential_at vs q.from.index) (potential_at vs q.to.index)
     can_lose =
-        let keeps : (count_of r (place_at net p) +ℤ potential_at vs (from_of net p)) ≤ℤ potential_at vs (to_of net p) = facts.potentials p inside in
-        let own : (count_of r q +ℤ potential_at vs q.from.index) ≤ℤ potential_at vs q.to.index = subst (λ (z : Place). (count_of r z +ℤ potential_at vs z.from.index) ≤ℤ potential_at vs z.to.index) (sym q_is) keeps in
-        let gap = gap_of (count_of r q +ℤ potential_at vs q.from.index) (potential_at vs q.to.index) own in
-        let is : IsLost (count_of r q) (potential_at vs q.from.index) (potential_at vs q.to.index) gap.0 = grouped gap.0 (count_of r q) (potential_at vs q.from.index) (potential_at vs q.to.index) gap.1 in
+        let keeps : (reduced_time_of_place r (place_at net p) +ℤ potential_at vs (from_of net p)) ≤ℤ potential_at vs (to_of net p) = facts.potentials p inside in
+        let own : (reduced_time_of_place r q +ℤ potential_at vs q.from.index) ≤ℤ potential_at vs q.to.index = subst (λ (z : Place). (reduced_time_of_place r z +ℤ potential_at vs z.from.index) ≤ℤ potential_at vs z.to.index) (sym q_is) keeps in
+        let gap = gap_of (reduced_time_of_place r q +ℤ potential_at vs q.from.index) (potential_at vs q.to.index) own in
+        let is : IsLost (reduced_time_of_place r q) (potential_at vs q.from.index) (potential_at vs q.to.index) gap.0 = grouped gap.0 (reduced_time_of_place r q) (potential_at vs q.from.index) (potential_at vs q.to.index) gap.1 in
         let start = potential_within vs q.from.index facts.within in
         let above = potential_within vs q.to.index facts.within in
         let few = rules.tokens_in in

@@ -15,12 +15,13 @@ use Rattle.std.proofs.lemmas.Map.Keys.{ge_from_not_lt}
 use Rattle.teg_net.specs.Nets.{NetLists}
 use Rattle.teg_net.specs.Circuits.{from_of}
 use Rattle.teg_critical.specs.declared.losses.Loss.{Loss}
-use Rattle.teg_critical.specs.declared.searches.Step.{Step}
+use Rattle.teg_critical.specs.declared.searches.LossStep.{LossStep}
 use Rattle.teg_critical.specs.Losses.{most_loss}
-use Rattle.teg_critical.specs.Searches.{told_at, IsWithin, is_settled, unsettled, IsSearching, IsNearest, IsOver, IsRelaxed, entry, nearest_first, AreQueued, IsQueueing}
+use Rattle.teg_critical.specs.LeastLosses.{told_at, IsToldWithin, is_settled, IsRelaxed, entry, nearest_first, AreQueued}
 use Rattle.teg_critical.proofs.Searching.{within_more, within_some, IsTold, within_told}
 use Rattle.teg_critical.proofs.Settling.{true_false}
 use Rattle.teg_critical.proofs.Stepping.{RelaxedUpTo}
+use Rattle.teg_critical.proofs.SearchStates.{unsettled, IsSearching, IsNearest, IsOver, IsQueueing}
 
 abbrev Entry : Type 0
 Entry = Reverse (ℕ × ℕ)
@@ -59,17 +60,17 @@ first_is_least x (y ∷ ys) h e c =
 -- no loss that is told rises
 lower :
     (mid : List (Option ℕ)) (to offered t x : ℕ) → to < length mid → ((d : ℕ) → told_at mid to ≡ Some d → offered ≤ d)
-    → IsWithin (told_at mid t) x → IsWithin (told_at (set mid to (Some offered)) t) x
+    → IsToldWithin (told_at mid t) x → IsToldWithin (told_at (set mid to (Some offered)) t) x
 lower mid to offered t x in' less h =
     let new : List (Option ℕ) = set mid to (Some offered) in
     ⊎_elim
     (λ (q : t ≡ to).
-    let told : IsTold (told_at mid to) x = within_told (told_at mid to) x (subst (λ z. IsWithin (told_at mid z) x) q h) in
+    let told : IsTold (told_at mid to) x = within_told (told_at mid to) x (subst (λ z. IsToldWithin (told_at mid z) x) q h) in
     let low = told.low in
     let high = less told.number told.is in
-    let here : IsWithin (told_at new to) offered = within_some (told_at new to) offered (get_or-set_same mid to (Some offered) None in') in
-    subst (λ z. IsWithin (told_at new z) x) (sym q) (within_more (told_at new to) offered x here (omega arith)))
-    (λ (q : t ≢ to). subst (λ z. IsWithin z x) (sym (get_or-set_other mid to t (Some offered) None q)) h)
+    let here : IsToldWithin (told_at new to) offered = within_some (told_at new to) offered (get_or-set_same mid to (Some offered) None in') in
+    subst (λ z. IsToldWithin (told_at new z) x) (sym q) (within_more (told_at new to) offered x here (omega arith)))
+    (λ (q : t ≢ to). subst (λ z. IsToldWithin z x) (sym (get_or-set_other mid to t (Some offered) None q)) h)
     (cases_eq t to)
 
 -- a lesser loss is told and queued
@@ -92,7 +93,7 @@ one_queued old mid before items after to offered h in' less moved heap =
           (cases_eq t to);
       sound = λ e c.
           ⊎_elim
-          (λ (q : entry offered to ≡ e). inr (subst (λ z. IsWithin (told_at (set mid to (Some offered)) z.0.1) z.0.0) q (within_some (told_at (set mid to (Some offered)) to) offered same)))
+          (λ (q : entry offered to ≡ e). inr (subst (λ z. IsToldWithin (told_at (set mid to (Some offered)) z.0.1) z.0.0) q (within_some (told_at (set mid to (Some offered)) to) offered same)))
           (λ (q : Contains items e). ⊎_elim (λ o. inl o) (λ w. inr (lower mid to offered e.0.1 e.0.0 in' less w)) (h.sound e q))
           (contains_cases items (entry offered to) e (Contains-permutation after (entry offered to ∷ items) e (IsPermutation-sym _ _ moved) c));
       heap = λ was. heap (h.heap was);
@@ -100,14 +101,14 @@ one_queued old mid before items after to offered h in' less moved heap =
 
 -- the step at k offers no less than is told
 pub step_past :
-    (steps : List Step) (base k : ℕ) (old mid : List (Option ℕ)) (s : Step) → RelaxedUpTo steps base k old mid → k < length steps → s ≡ get_or steps k s
-    → IsWithin (told_at mid s.to) (base + s.loss) → RelaxedUpTo steps base (k + 1) old mid
+    (steps : List LossStep) (base k : ℕ) (old mid : List (Option ℕ)) (s : LossStep) → RelaxedUpTo steps base k old mid → k < length steps → s ≡ get_or steps k s
+    → IsToldWithin (told_at mid s.to) (base + s.loss) → RelaxedUpTo steps base (k + 1) old mid
 step_past steps base k old mid s h l is here = record {
   count = h.count;
   offered = λ i d m n. ⊎_elim
       (λ (q : i ≡ k).
       let read : s ≡ get_or steps i d = is ∙ (get_or_default steps k s d l ∙ ap (λ z. get_or steps z d) (sym q)) in
-      subst (λ z. IsWithin (told_at mid z.to) (base + z.loss)) read here)
+      subst (λ z. IsToldWithin (told_at mid z.to) (base + z.loss)) read here)
       (λ (q : i ≢ k). h.offered i d (omega arith) n)
       (cases_eq i k);
   lowered = h.lowered;
@@ -116,7 +117,7 @@ step_past steps base k old mid s h l is here = record {
 
 -- or less, which is told
 pub step_taken :
-    (steps : List Step) (base k : ℕ) (old mid : List (Option ℕ)) (s : Step) → RelaxedUpTo steps base k old mid → k < length steps → s ≡ get_or steps k s → s.to < length mid
+    (steps : List LossStep) (base k : ℕ) (old mid : List (Option ℕ)) (s : LossStep) → RelaxedUpTo steps base k old mid → k < length steps → s ≡ get_or steps k s → s.to < length mid
     → ((d : ℕ) → told_at mid s.to ≡ Some d → base + s.loss ≤ d) → RelaxedUpTo steps base (k + 1) old (set mid s.to (Some (base + s.loss)))
 step_taken steps base k old mid s h l is in' less =
     let new : List (Option ℕ) = set mid s.to (Some (base + s.loss)) in
@@ -126,7 +127,7 @@ step_taken steps base k old mid s h l is in' less =
       offered = λ i d m n. ⊎_elim
           (λ (q : i ≡ k).
           let read : s ≡ get_or steps i d = is ∙ (get_or_default steps k s d l ∙ ap (λ z. get_or steps z d) (sym q)) in
-          subst (λ z. IsWithin (told_at new z.to) (base + z.loss)) read (within_some (told_at new s.to) (base + s.loss) same))
+          subst (λ z. IsToldWithin (told_at new z.to) (base + z.loss)) read (within_some (told_at new s.to) (base + s.loss) same))
           (λ (q : i ≢ k). lower mid s.to (base + s.loss) (get_or steps i d).to (base + (get_or steps i d).loss) in' less (h.offered i d (omega arith) n))
           (cases_eq i k);
       lowered = λ t x w. lower mid s.to (base + s.loss) t x in' less (h.lowered t x w);
@@ -141,10 +142,10 @@ step_taken steps base k old mid s h l is in' less =
 -- ---- the search
 
 -- what is told is told of a transition of the list
-told_in : (least : List (Option ℕ)) (t x : ℕ) → IsWithin (told_at least t) x → t < length least
+told_in : (least : List (Option ℕ)) (t x : ℕ) → IsToldWithin (told_at least t) x → t < length least
 told_in least t x h = ⊎_elim
     (λ (l : t < length least). l)
-    (λ (l : length least ≤ t). absurd (subst (λ z. IsWithin z x) (get_or_past least t None l) h))
+    (λ (l : length least ≤ t). absurd (subst (λ z. IsToldWithin z x) (get_or_past least t None l) h))
     (cases_lt t (length least))
 
 -- nothing is told and none is settled
@@ -207,7 +208,7 @@ queue_begins net losses start none settled n empty queue searching is l nothing 
     record {
       searching = searching;
       heap = heap;
-      sound = λ e c. subst (λ z. IsWithin (told_at least z.0.1) z.0.0) (only e c) searching.begins;
+      sound = λ e c. subst (λ z. IsToldWithin (told_at least z.0.1) z.0.0) (only e c) searching.begins;
       waits = λ u d opened told.
           ⊎_elim
           (λ (q : u ≡ start).
@@ -233,7 +234,7 @@ module _ (net : NetLists) (losses : List (Option Loss)) (start : ℕ) (least : L
   of_queue : (e : Entry) → Contains rest e → Contains queue e
   of_queue e c = Contains-permutation (first ∷ rest) queue e (IsPermutation-sym _ _ moved) (contains_more rest first e c)
 
-  pub first_told : IsWithin (told_at least first.0.1) first.0.0
+  pub first_told : IsToldWithin (told_at least first.0.1) first.0.0
   first_told = h.sound first (Contains-permutation (first ∷ rest) queue first (IsPermutation-sym _ _ moved) (contains_first rest first))
 
   pub first_in : first.0.1 < length net.transitions
@@ -270,7 +271,7 @@ module _ (net : NetLists) (losses : List (Option Loss)) (start : ℕ) (least : L
 
   -- it is settled, and its steps are taken
   pub goes_on :
-      (steps : List Step) (new : List (Option ℕ)) (after : List Entry) → first.0.1 < length settled → IsRelaxed steps first.0.0 least new → AreQueued least new rest after
+      (steps : List LossStep) (new : List (Option ℕ)) (after : List Entry) → first.0.1 < length settled → IsRelaxed steps first.0.0 least new → AreQueued least new rest after
       → IsHeap nearest_first rest → IsSearching net losses start new (set settled first.0.1 true) → IsQueueing net losses start new (set settled first.0.1 true) after
   goes_on steps new after in' relaxed queued heap searching =
       let at : ℕ = first.0.1 in
@@ -299,11 +300,11 @@ queue_over net losses start least settled h u opened = by_told (told_at least u)
   by_told (Some d) e = absurd (contains_none (entry d u) (h.waits u d opened e))
 
 -- how much is left: the queue, and what unsettled transitions may add to it
-abbrev pub left : List Bool → List (List Step) → ℕ → ℕ
+abbrev pub left : List Bool → List (List LossStep) → ℕ → ℕ
 left settled steps queued = unsettled settled * (sum_by length steps + 1) + queued
 
 pub less_left :
-    (settled marks : List Bool) (steps : List (List Step)) (own : List Step) (at queued rest after : ℕ) → at < length steps → own ≡ get_or steps at [] → unsettled marks + 1 ≡ unsettled settled
+    (settled marks : List Bool) (steps : List (List LossStep)) (own : List LossStep) (at queued rest after : ℕ) → at < length steps → own ≡ get_or steps at [] → unsettled marks + 1 ≡ unsettled settled
     → rest + 1 ≡ queued → after ≤ rest + length own → left marks steps after < left settled steps queued
 less_left settled marks steps own at queued rest after l is fewer popped few =
     let most : length (get_or steps at []) ≤ sum_by length steps = get_or-le-sum_by length steps at [] l in

@@ -16,8 +16,8 @@ use Rattle.teg_net.specs.GreatestRatios.{IsGreatestRatio, IsAnyPlace}
 use Rattle.teg_net.specs.Certificates.{potential_at, IsCertificate}
 use Rattle.teg_critical.proofs.Certified.{reduced_is, closed_inside}
 use Rattle.teg_critical.specs.declared.losses.Loss.{Loss}
-use Rattle.teg_critical.specs.Losses.{ratio_of, potentials_of, IsLossOf, IsLossIn, part_at, loss_at, AreLosses}
-use Rattle.teg_critical.specs.Searches.{amount_in, loss_of, IsWay}
+use Rattle.teg_critical.specs.Losses.{ratio_of, potentials_of, IsLossOf, IsLossIn, answer_of_part, loss_at, AreLosses}
+use Rattle.teg_critical.specs.LeastLosses.{amount_in, loss_of_path, IsWay}
 use Rattle.teg_critical.proofs.GapLaws.{any_places}
 
 -- one more place
@@ -48,10 +48,10 @@ module _ (net : NetLists) (ok : IsNet net) (answer : CycleAnswer) (h : IsCertifi
   parts = answer.part_of.items
 
   abbrev value : ℕ → ℕ → ℤ
-  value k t = potential_at (potentials_of (part_at answer k)) t
+  value k t = potential_at (potentials_of (answer_of_part answer k)) t
 
   abbrev own : ℕ → Fraction
-  own k = ratio_of (part_at answer k)
+  own k = ratio_of (answer_of_part answer k)
 
   -- how much the part's ratio is below the greatest
   abbrev slower : ℕ → ℕ
@@ -74,7 +74,7 @@ module _ (net : NetLists) (ok : IsNet net) (answer : CycleAnswer) (h : IsCertifi
   pub record HasSum (k : ℕ) (s : ℕ) (ps : List PlaceId) (t : ℕ) : Type 0 where
     pub all : ℕ
     pub is : ((pos all +ℤ reduced_time_of net (own k).time (own k).tokens ps) +ℤ value k s) ≡ value k t
-    pub amount : loss_of losses ps ≡ r.tokens * all + slower k * tokens_of net ps
+    pub amount : loss_of_path losses ps ≡ r.tokens * all + slower k * tokens_of net ps
 
   -- the sums along a path of a part
   sums : (k : ℕ) (ps : List PlaceId) (s t : ℕ) → All (IsPlaceOfPart net parts k) ps → IsPathBetween net s ps t → HasSum k s ps t
@@ -89,7 +89,7 @@ module _ (net : NetLists) (ok : IsNet net) (answer : CycleAnswer) (h : IsCertifi
       let rest : HasSum k (to_of net p) ps t = sums k ps (to_of net p) t (λ i d l. inside (suc i) d (omega arith)) path.2 in
       let from : value k (from_of net p) ≡ value k s = ap (value k) path.1 in
       let amount : amount_in (loss_at losses p) ≡ r.tokens * here.is.lost + slower k * (place_at net p).tokens = ap amount_in here.told ∙ here.is.amount in
-      let both = amount_more r.tokens (slower k) here.is.lost rest.all (place_at net p).tokens (tokens_of net ps) (amount_in (loss_at losses p)) (loss_of losses ps) amount rest.amount in
+      let both = amount_more r.tokens (slower k) here.is.lost rest.all (place_at net p).tokens (tokens_of net ps) (amount_in (loss_at losses p)) (loss_of_path losses ps) amount rest.amount in
       let start = subst (λ (z : ℤ). ((pos here.is.lost +ℤ (pos ((own k).tokens * (place_at net p).hold) -ℤ pos ((own k).time * (place_at net p).tokens))) +ℤ z) ≡ value k (to_of net p)) from here.is.is_lost in
       let more = sum_by-cons (λ q. (place_at net q).tokens) p ps in
       record {
@@ -100,13 +100,13 @@ module _ (net : NetLists) (ok : IsNet net) (answer : CycleAnswer) (h : IsCertifi
 
   -- a round of the part k from p on
   pub round_is : (k : ℕ) (p : PlaceId) (ps : List PlaceId) (a : ℕ) → All (IsPlaceOfPart net parts k) (p ∷ ps) → IsPathBetween net a (p ∷ ps) a
-      → loss_of losses (p ∷ ps) + (own k).tokens * (time_of net (p ∷ ps) * r.tokens) ≡ (own k).tokens * (r.time * tokens_of net (p ∷ ps))
+      → loss_of_path losses (p ∷ ps) + (own k).tokens * (time_of net (p ∷ ps) * r.tokens) ≡ (own k).tokens * (r.time * tokens_of net (p ∷ ps))
   round_is k p ps a inside path =
       let here : HasLoss k p = has_loss k p (inside 0 p (omega arith)) in
       let sum : HasSum k a (p ∷ ps) a = sums k (p ∷ ps) a a inside path in
       let counts = reduced_is net (own k).time (own k).tokens (p ∷ ps) in
       let below = here.is.below in
-      round_amount r.time r.tokens (slower k) (own k).time (own k).tokens sum.all (time_of net (p ∷ ps)) (tokens_of net (p ∷ ps)) (loss_of losses (p ∷ ps)) (omega arith)
+      round_amount r.time r.tokens (slower k) (own k).time (own k).tokens sum.all (time_of net (p ∷ ps)) (tokens_of net (p ∷ ps)) (loss_of_path losses (p ∷ ps)) (omega arith)
       (round_lost sum.all ((own k).time * tokens_of net (p ∷ ps)) ((own k).tokens * time_of net (p ∷ ps)) (reduced_time_of net (own k).time (own k).tokens (p ∷ ps)) (value k a) sum.is counts) sum.amount
 
   -- no closed path is above the ratio

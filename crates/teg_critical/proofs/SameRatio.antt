@@ -10,7 +10,7 @@ use Rattle.teg_net.specs.GreatestRatios.{IsGreatestRatio, IsAnyPlace}
 use Rattle.teg_critical.specs.declared.slacks.Slack.{Slack}
 use Rattle.teg_critical.specs.declared.slacks.Slack.TheVariants.{NoCircuit, Critical, Rise}
 use Rattle.teg_critical.specs.Slacks.{IsCritical, IsSlackOf, raised}
-use Rattle.teg_critical.specs.Laws.{SlacksAreOne, SlacksAreOfTheNet}
+use Rattle.teg_critical.specs.SlackAndPaths.{SlacksAreOne, SlacksAreOfTheNet}
 use Rattle.teg_critical.proofs.GapLaws.{any_places}
 
 -- the same ratio, by products

@@ -11,10 +11,11 @@ use Rattle.teg_net.specs.Circuits.{from_of, IsPathBetween}
 use Rattle.teg_net.specs.Parts.{to_of}
 use Rattle.teg_net.proofs.PathLaws.{IsPathBetween-append}
 use Rattle.teg_critical.specs.declared.losses.Loss.{Loss}
-use Rattle.teg_critical.specs.declared.searches.Step.{Step}
+use Rattle.teg_critical.specs.declared.searches.LossStep.{LossStep}
 use Rattle.teg_critical.specs.Losses.{most_loss, loss_at}
-use Rattle.teg_critical.specs.Searches.{amount_in, loss_of, IsWay, told_at, IsStepBy, AreStepsFrom, IsWithin, unsettled, is_settled, IsSearching, IsNearest, IsRelaxed}
+use Rattle.teg_critical.specs.LeastLosses.{amount_in, loss_of_path, IsWay, told_at, IsStepBy, AreStepsFrom, IsToldWithin, is_settled, IsRelaxed}
 use Rattle.teg_critical.proofs.Searching.{within_more, within_some, IsTold, within_told}
+use Rattle.teg_critical.proofs.SearchStates.{unsettled, IsSearching, IsNearest}
 
 pub true_false : (b : Bool) → b ≡ true → b ≡ false → ⊥
 true_false b e f = cc
@@ -32,7 +33,7 @@ one_more p P h zero d l = h
 one_more p P h (suc i) d l = absurd (omega arith)
 
 module _ (net : NetLists) (losses : List (Option Loss)) (start : ℕ) (least : List (Option ℕ)) (settled : List Bool) (s : IsSearching net losses start least settled)
-    (at base : ℕ) (near : IsNearest least settled at base) (steps : List Step) (from : AreStepsFrom net losses at steps) (new : List (Option ℕ)) (relaxed : IsRelaxed steps base least new) where
+    (at base : ℕ) (near : IsNearest least settled at base) (steps : List LossStep) (from : AreStepsFrom net losses at steps) (new : List (Option ℕ)) (relaxed : IsRelaxed steps base least new) where
   told : told_at least at ≡ Some base
   told = near.told
 
@@ -61,19 +62,19 @@ module _ (net : NetLists) (losses : List (Option Loss)) (start : ℕ) (least : L
   no_less_at : (d : ℕ) → told_at new at ≡ Some d → base ≤ d
   no_less_at d f = no_less at d near.open_ f
 
-  at_base : IsWithin (told_at new at) base
+  at_base : IsToldWithin (told_at new at) base
   at_base = relaxed.lowered at base (within_some (told_at least at) base told)
 
   -- a settled transition was told no more
-  settled_base : (t : ℕ) → t < length settled → is_settled settled t ≡ true → IsWithin (told_at least t) base
+  settled_base : (t : ℕ) → t < length settled → is_settled settled t ≡ true → IsToldWithin (told_at least t) base
   settled_base t l e = s.before t at base l e near.open_ told
 
-  pub sound : (t d : ℕ) → told_at new t ≡ Some d → (ps : List PlaceId) × IsWay net losses start ps t × (loss_of losses ps ≡ d)
+  pub sound : (t d : ℕ) → told_at new t ≡ Some d → (ps : List PlaceId) × IsWay net losses start ps t × (loss_of_path losses ps ≡ d)
   sound t d e = ⊎_elim
       (λ (old : told_at least t ≡ Some d). s.sound t d old)
       (λ (step : Any (λ x. (x.to ≡ t) × (base + x.loss ≡ d)) steps).
-      let x : Step = step.1 in
-      let by = subst (λ (z : Step). (p : PlaceId) × IsStepBy net losses at p z) step.3 (from.sound step.0 x step.2) in
+      let x : LossStep = step.1 in
+      let by = subst (λ (z : LossStep). (p : PlaceId) × IsStepBy net losses at p z) step.3 (from.sound step.0 x step.2) in
       let p : PlaceId = by.0 in
       let is : IsStepBy net losses at p x = by.1 in
       let before = s.sound at base told in
@@ -91,12 +92,12 @@ module _ (net : NetLists) (losses : List (Option Loss)) (start : ℕ) (least : L
       ))
       (relaxed.by_step t d e)
 
-  pub before : (t u d : ℕ) → t < length marks → is_settled marks t ≡ true → is_settled marks u ≡ false → told_at new u ≡ Some d → IsWithin (told_at new t) d
+  pub before : (t u d : ℕ) → t < length marks → is_settled marks t ≡ true → is_settled marks u ≡ false → told_at new u ≡ Some d → IsToldWithin (told_at new t) d
   before t u d l e f g =
       let long = length-set settled at true in
       let was = was_open u f in
       ⊎_elim
-      (λ (same : t ≡ at). within_more (told_at new t) base d (subst (λ (z : ℕ). IsWithin (told_at new z) base) (sym same) at_base) (no_less u d was.1 g))
+      (λ (same : t ≡ at). within_more (told_at new t) base d (subst (λ (z : ℕ). IsToldWithin (told_at new z) base) (sym same) at_base) (no_less u d was.1 g))
       (λ (ne : t ≢ at).
       let old : is_settled settled t ≡ true = sym (mark_other t ne) ∙ e in
       ⊎_elim
@@ -106,16 +107,16 @@ module _ (net : NetLists) (losses : List (Option Loss)) (start : ℕ) (least : L
       (cases_eq t at)
 
   -- the steps of the settled transition
-  offered : (p : PlaceId) → p.index < length net.places → from_of net p ≡ at → IsSome (loss_at losses p) → IsWithin (told_at new (to_of net p)) (base + amount_in (loss_at losses p))
+  offered : (p : PlaceId) → p.index < length net.places → from_of net p ≡ at → IsSome (loss_at losses p) → IsToldWithin (told_at new (to_of net p)) (base + amount_in (loss_at losses p))
   offered p l e f =
       let step = from.complete p l e f in
-      let x : Step = step.1 in
-      let one = subst (λ (z : Step). IsWithin (told_at new z.to) (base + z.loss)) step.3 (relaxed.offered step.0 x step.2) in
-      let two = subst (λ (z : ℕ). IsWithin (told_at new z) (base + x.loss)) step.4.0 one in
-      subst (λ (z : ℕ). IsWithin (told_at new (to_of net p)) (base + z)) step.4.1 two
+      let x : LossStep = step.1 in
+      let one = subst (λ (z : LossStep). IsToldWithin (told_at new z.to) (base + z.loss)) step.3 (relaxed.offered step.0 x step.2) in
+      let two = subst (λ (z : ℕ). IsToldWithin (told_at new z) (base + x.loss)) step.4.0 one in
+      subst (λ (z : ℕ). IsToldWithin (told_at new (to_of net p)) (base + z)) step.4.1 two
 
   pub taken : (p : PlaceId) (d : ℕ) → p.index < length net.places → from_of net p < length settled → IsSome (loss_at losses p) → is_settled marks (from_of net p) ≡ true → told_at new (from_of net p) ≡ Some d
-      → IsWithin (told_at new (to_of net p)) (d + amount_in (loss_at losses p))
+      → IsToldWithin (told_at new (to_of net p)) (d + amount_in (loss_at losses p))
   taken p d l m f e g = ⊎_elim
       (λ (same : from_of net p ≡ at).
       let low : base ≤ d = no_less_at d (ap (told_at new) (sym same) ∙ g) in
@@ -147,7 +148,7 @@ module _ (net : NetLists) (losses : List (Option Loss)) (start : ℕ) (least : L
       (λ (step : Any (λ x. (x.to ≡ t) × (base + x.loss ≡ d)) steps).
       let sum = step.4.1 in
       let was = s.small at base told in
-      let most : step.1.loss ≤ most_loss = subst (λ (z : Step). z.loss ≤ most_loss) step.3 (from.small step.0 step.1 step.2) in
+      let most : step.1.loss ≤ most_loss = subst (λ (z : LossStep). z.loss ≤ most_loss) step.3 (from.small step.0 step.1 step.2) in
       omega arith)
       (relaxed.by_step t d e)
 

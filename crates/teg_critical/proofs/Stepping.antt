@@ -10,17 +10,17 @@ use Rattle.teg_net.specs.Nets.{NetLists, IsNet, IsPlaceOf}
 use Rattle.teg_net.specs.Circuits.{no_place, place_at, from_of}
 use Rattle.teg_net.specs.Parts.{to_of}
 use Rattle.teg_critical.specs.declared.losses.Loss.{Loss}
-use Rattle.teg_critical.specs.declared.searches.Step.{Step}
+use Rattle.teg_critical.specs.declared.searches.LossStep.{LossStep}
 use Rattle.teg_critical.specs.Losses.{most_loss, loss_at, AreKeptSmall}
-use Rattle.teg_critical.specs.Searches.{amount_in, told_at, IsStepBy, IsStepOf, AreStepsFrom, AreSteps, IsWithin}
+use Rattle.teg_critical.specs.LeastLosses.{amount_in, told_at, IsStepBy, IsLossStepOf, AreStepsFrom, AreSteps, IsToldWithin}
 
 -- ---- the steps from a transition
 
-abbrev IsStep : NetLists → List (Option Loss) → PlaceId → Step → Type 0
+abbrev IsStep : NetLists → List (Option Loss) → PlaceId → LossStep → Type 0
 IsStep net losses p s = (s.to ≡ to_of net p) × (s.loss ≡ amount_in (loss_at losses p))
 
 -- the places below k are listed
-pub record StepsUpTo (net : NetLists) (losses : List (Option Loss)) (t : ℕ) (steps : List Step) (k : ℕ) : Type 0 where
+pub record StepsUpTo (net : NetLists) (losses : List (Option Loss)) (t : ℕ) (steps : List LossStep) (k : ℕ) : Type 0 where
   pub sound : All (λ s. (p : PlaceId) × IsStepBy net losses t p s) steps
   pub complete : (p : PlaceId) → p.index < k → from_of net p ≡ t → IsSome (loss_at losses p) → Any (λ s. IsStep net losses p s) steps
   pub ends : All (λ s. s.to < length net.transitions) steps
@@ -46,7 +46,7 @@ last_any : {X : Type 0} (P : X → Type 0) (xs : List X) (x : X) → P x → Any
 last_any P xs x here = let long = length-append xs (x ∷ []) in (length xs + 0, x, omega arith, get_or-append-add xs (x ∷ []) 0 x, here)
 
 -- a place that is no step
-pub steps_past : (net : NetLists) (losses : List (Option Loss)) (t : ℕ) (steps : List Step) (k : ℕ) → StepsUpTo net losses t steps k
+pub steps_past : (net : NetLists) (losses : List (Option Loss)) (t : ℕ) (steps : List LossStep) (k : ℕ) → StepsUpTo net losses t steps k
     → ((p : PlaceId) → p.index ≡ k → from_of net p ≡ t → IsSome (loss_at losses p) → ⊥) → StepsUpTo net losses t steps (k + 1)
 steps_past net losses t steps k h none = record {
   sound = h.sound;
@@ -59,7 +59,7 @@ steps_past net losses t steps k h none = record {
 }
 
 -- a place that is one
-pub steps_more : (net : NetLists) (losses : List (Option Loss)) (t : ℕ) (steps : List Step) (k : ℕ) (s : Step) → StepsUpTo net losses t steps k
+pub steps_more : (net : NetLists) (losses : List (Option Loss)) (t : ℕ) (steps : List LossStep) (k : ℕ) (s : LossStep) → StepsUpTo net losses t steps k
     → IsStepBy net losses t (record { index = k }) s → s.to < length net.transitions → s.loss ≤ most_loss → StepsUpTo net losses t (steps ++ (s ∷ [])) (k + 1)
 steps_more net losses t steps k s h by end_in low = record {
   sound = one_more (λ x. (p : PlaceId) × IsStepBy net losses t p x) steps s h.sound (record { index = k }, by);
@@ -82,8 +82,8 @@ kept_amount losses p small = by_told (loss_at losses p) refl where
   by_told (Some l) e = small p l e
 
 -- the place of this number is a step
-pub steps_place : (net : NetLists) (losses : List (Option Loss)) (t : ℕ) (steps : List Step) (k : ℕ) (q : Place) (told : Option Loss) (s : Step) → IsNet net → AreKeptSmall losses → StepsUpTo net losses t steps k → k < length net.places
-    → q ≡ place_at net (record { index = k }) → told ≡ loss_at losses (record { index = k }) → IsStepOf q told t s → StepsUpTo net losses t (steps ++ (s ∷ [])) (k + 1)
+pub steps_place : (net : NetLists) (losses : List (Option Loss)) (t : ℕ) (steps : List LossStep) (k : ℕ) (q : Place) (told : Option Loss) (s : LossStep) → IsNet net → AreKeptSmall losses → StepsUpTo net losses t steps k → k < length net.places
+    → q ≡ place_at net (record { index = k }) → told ≡ loss_at losses (record { index = k }) → IsLossStepOf q told t s → StepsUpTo net losses t (steps ++ (s ∷ [])) (k + 1)
 steps_place net losses t steps k q told s ok small h l q_is told_is is =
     let p : PlaceId = record { index = k } in
     let rules : IsPlaceOf net (place_at net p) = ok.each_place k no_place l in
@@ -101,7 +101,7 @@ steps_place net losses t steps k q told s ok small h l q_is told_is is =
     steps_more net losses t steps k s h by (omega arith) (omega arith)
 
 -- the place of this number is none
-pub steps_skip : (net : NetLists) (losses : List (Option Loss)) (t : ℕ) (steps : List Step) (k : ℕ) (q : Place) (told : Option Loss) → StepsUpTo net losses t steps k
+pub steps_skip : (net : NetLists) (losses : List (Option Loss)) (t : ℕ) (steps : List LossStep) (k : ℕ) (q : Place) (told : Option Loss) → StepsUpTo net losses t steps k
     → q ≡ place_at net (record { index = k }) → told ≡ loss_at losses (record { index = k }) → (q.from.index ≡ t → told ≡ None) → StepsUpTo net losses t steps (k + 1)
 steps_skip net losses t steps k q told h q_is told_is none = steps_past net losses t steps k h (λ p e from some.
     let same : p ≡ record { index = k } = ap (λ (z : ℕ). record { index = z }) e in
@@ -114,13 +114,13 @@ steps_skip net losses t steps k q told h q_is told_is none = steps_past net loss
 -- ---- the steps from each transition
 
 -- the places below k are listed at the transitions that they leave
-pub record AllStepsUpTo (net : NetLists) (losses : List (Option Loss)) (steps : List (List Step)) (k : ℕ) : Type 0 where
+pub record AllStepsUpTo (net : NetLists) (losses : List (Option Loss)) (steps : List (List LossStep)) (k : ℕ) : Type 0 where
   pub count : length steps ≡ length net.transitions
   pub each : (t : ℕ) → t < length net.transitions → StepsUpTo net losses t (get_or steps t []) k
 
-pub all_begin : (net : NetLists) (losses : List (Option Loss)) (steps : List (List Step)) (n : ℕ) → steps ≡ replicate n [] → n ≡ length net.transitions → AllStepsUpTo net losses steps 0
+pub all_begin : (net : NetLists) (losses : List (Option Loss)) (steps : List (List LossStep)) (n : ℕ) → steps ≡ replicate n [] → n ≡ length net.transitions → AllStepsUpTo net losses steps 0
 all_begin net losses steps n is n_is = record {
-  count = ap length is ∙ (length-replicate {A = List Step} n [] ∙ n_is);
+  count = ap length is ∙ (length-replicate {A = List LossStep} n [] ∙ n_is);
   each = λ t l.
       let empty : get_or steps t [] ≡ [] = ap (λ z. get_or z t []) is ∙ get_or-replicate n t [] [] (omega arith) in
       rw empty (record {
@@ -131,12 +131,12 @@ all_begin net losses steps n is n_is = record {
       });
 }
 
-pub all_place : (net : NetLists) (losses : List (Option Loss)) (steps : List (List Step)) (k : ℕ) (q : Place) (told : Option Loss) (s : Step) → IsNet net → AreKeptSmall losses → AllStepsUpTo net losses steps k → k < length net.places
-    → q ≡ place_at net (record { index = k }) → told ≡ loss_at losses (record { index = k }) → IsStepOf q told q.from.index s
+pub all_place : (net : NetLists) (losses : List (Option Loss)) (steps : List (List LossStep)) (k : ℕ) (q : Place) (told : Option Loss) (s : LossStep) → IsNet net → AreKeptSmall losses → AllStepsUpTo net losses steps k → k < length net.places
+    → q ≡ place_at net (record { index = k }) → told ≡ loss_at losses (record { index = k }) → IsLossStepOf q told q.from.index s
     → AllStepsUpTo net losses (set steps q.from.index (get_or steps q.from.index [] ++ s ∷ [])) (k + 1)
 all_place net losses steps k q told s ok small h l q_is told_is is =
     let from : ℕ = q.from.index in
-    let own : List Step = get_or steps from [] ++ s ∷ [] in
+    let own : List LossStep = get_or steps from [] ++ s ∷ [] in
     let rules : IsPlaceOf net (place_at net (record { index = k })) = ok.each_place k no_place l in
     let from_in : from < length net.transitions = rw q_is rules.from_in in
     let count = h.count in
@@ -153,14 +153,14 @@ all_place net losses steps k q told s ok small h l q_is told_is is =
           (cases_eq t from);
     }
 
-pub all_skip : (net : NetLists) (losses : List (Option Loss)) (steps : List (List Step)) (k : ℕ) (q : Place) (told : Option Loss) → AllStepsUpTo net losses steps k
+pub all_skip : (net : NetLists) (losses : List (Option Loss)) (steps : List (List LossStep)) (k : ℕ) (q : Place) (told : Option Loss) → AllStepsUpTo net losses steps k
     → q ≡ place_at net (record { index = k }) → told ≡ loss_at losses (record { index = k }) → told ≡ None → AllStepsUpTo net losses steps (k + 1)
 all_skip net losses steps k q told h q_is told_is none = record {
   count = h.count;
   each = λ t m. steps_skip net losses t (get_or steps t []) k q told (h.each t m) q_is told_is (λ f. none);
 }
 
-pub all_end : (net : NetLists) (losses : List (Option Loss)) (steps : List (List Step)) (k : ℕ) → length net.places ≤ k → AllStepsUpTo net losses steps k → AreSteps net losses steps
+pub all_end : (net : NetLists) (losses : List (Option Loss)) (steps : List (List LossStep)) (k : ℕ) → length net.places ≤ k → AllStepsUpTo net losses steps k → AreSteps net losses steps
 all_end net losses steps k full h = record {
   count = h.count;
   each = λ t m. let own = h.each t m in record {
@@ -172,14 +172,14 @@ all_end net losses steps k full h = record {
 }
 
 -- the steps that are read for one transition
-pub own_steps : (net : NetLists) (losses : List (Option Loss)) (steps : List (List Step)) (t : ℕ) (own : List Step) → AreSteps net losses steps → t < length net.transitions → own ≡ get_or steps t own → AreStepsFrom net losses t own
+pub own_steps : (net : NetLists) (losses : List (Option Loss)) (steps : List (List LossStep)) (t : ℕ) (own : List LossStep) → AreSteps net losses steps → t < length net.transitions → own ≡ get_or steps t own → AreStepsFrom net losses t own
 own_steps net losses steps t own h l is = subst (AreStepsFrom net losses t) (sym (get_or_read steps t own (let count = h.count in omega arith) is [])) (h.each t l)
 
 -- ---- steps taken
 
 -- the first k steps are taken
-pub record RelaxedUpTo (steps : List Step) (base k : ℕ) (old new : List (Option ℕ)) : Type 0 where
+pub record RelaxedUpTo (steps : List LossStep) (base k : ℕ) (old new : List (Option ℕ)) : Type 0 where
   pub count : length new ≡ length old
-  pub offered : (i : ℕ) (d : Step) → i < k → i < length steps → IsWithin (told_at new (get_or steps i d).to) (base + (get_or steps i d).loss)
-  pub lowered : (t x : ℕ) → IsWithin (told_at old t) x → IsWithin (told_at new t) x
+  pub offered : (i : ℕ) (d : LossStep) → i < k → i < length steps → IsToldWithin (told_at new (get_or steps i d).to) (base + (get_or steps i d).loss)
+  pub lowered : (t x : ℕ) → IsToldWithin (told_at old t) x → IsToldWithin (told_at new t) x
   pub by_step : (t d : ℕ) → told_at new t ≡ Some d → (told_at old t ≡ Some d) ⊎ Any (λ s. (s.to ≡ t) × (base + s.loss ≡ d)) steps

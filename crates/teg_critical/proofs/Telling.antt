@@ -4,7 +4,7 @@ use Rattle.std.specs.Prelude.{All}
 use Rattle.std.proofs.lemmas.List.Sums.{sum_by-cons}
 use Rattle.std.proofs.Math.Nat.{mul-le-mul_left, mul-le-mul_right, le_of_mul-le-mul_left, mul-div_cancel_left}
 use Rattle.teg_net.specs.declared.entries.PlaceId.{PlaceId}
-use Rattle.teg_net.specs.Limits.{most_tokens, most_transitions}
+use Rattle.teg_net.specs.Limits.{most_place_tokens, most_transitions}
 use Rattle.teg_net.specs.Nets.{NetLists, IsNet, IsPlaceOf}
 use Rattle.teg_net.specs.Ratios.{Fraction}
 use Rattle.teg_net.specs.Circuits.{no_place, place_at, from_of, IsPathBetween, time_of, tokens_of}
@@ -20,10 +20,10 @@ use Rattle.teg_critical.specs.declared.slacks.Slack.{Slack}
 use Rattle.teg_critical.specs.declared.slacks.Slack.TheVariants.{NoCircuit, Critical, Rise}
 use Rattle.teg_critical.specs.Slacks.{IsOnCircuit, IsSlack, IsSlackOf}
 use Rattle.teg_critical.specs.Gaps.{IsGap}
-use Rattle.teg_critical.specs.Laws.{GapTells}
-use Rattle.teg_critical.specs.Losses.{part_of, loss_at, LeavesGap}
-use Rattle.teg_critical.specs.Searches.{amount_in, loss_of, IsWay, IsLeastLoss}
-use Rattle.teg_critical.specs.Told.{CanTell, IsSlackOfGap}
+use Rattle.teg_critical.specs.SlackAndPaths.{GapTells}
+use Rattle.teg_critical.specs.Losses.{part_of_transition, loss_at, LeavesGap}
+use Rattle.teg_critical.specs.LeastLosses.{amount_in, loss_of_path, IsWay, IsLeastLoss}
+use Rattle.teg_critical.specs.Told.{CanTellSlack, IsSlackOfGap}
 use Rattle.teg_critical.proofs.GapLaws.{gaps_tell}
 use Rattle.teg_critical.proofs.Rounds.{HasLoss, has_loss, round_is, is_way}
 
@@ -40,9 +40,9 @@ apart_some o l e f = cc
 same_loss : (o : Option Loss) (l m : Loss) → o ≡ Some l → o ≡ Some m → l ≡ m
 same_loss o l m e f = (let h : Some l ≡ Some m = sym e ∙ f in cc)
 
-module _ (net : NetLists) (ok : IsNet net) (r : Fraction) (losses : List (Option Loss)) (can : CanTell net r losses) (p : PlaceId) (l : p.index < length net.places) where
+module _ (net : NetLists) (ok : IsNet net) (r : Fraction) (losses : List (Option Loss)) (can : CanTellSlack net r losses) (p : PlaceId) (l : p.index < length net.places) where
   abbrev own_part : ℕ
-  own_part = part_of can.answer (from_of net p)
+  own_part = part_of_transition can.answer (from_of net p)
 
   back_path : (ps : List PlaceId) → IsPathBetween net (to_of net p) ps (from_of net p) → IsPathBetween net (from_of net p) (p ∷ ps) (from_of net p)
   back_path ps path = (l, refl, path)
@@ -77,7 +77,7 @@ module _ (net : NetLists) (ok : IsNet net) (r : Fraction) (losses : List (Option
 
     -- the amounts of a round
     round_of : (ps : List PlaceId) → IsPathBetween net (to_of net p) ps (from_of net p)
-        → (loss.amount + loss_of losses ps) + loss.scale * (time_of net (p ∷ ps) * r.tokens) ≡ loss.scale * (r.time * tokens_of net (p ∷ ps))
+        → (loss.amount + loss_of_path losses ps) + loss.scale * (time_of net (p ∷ ps) * r.tokens) ≡ loss.scale * (r.time * tokens_of net (p ∷ ps))
     round_of ps path =
         let own = own_loss ps path in
         let same : own.loss ≡ loss = same_loss (loss_at losses p) own.loss loss own.told told in
@@ -85,7 +85,7 @@ module _ (net : NetLists) (ok : IsNet net) (r : Fraction) (losses : List (Option
         let round = round_is net ok can.answer can.certificate r losses can.lost own_part p ps (from_of net p) (round_inside ps path) (back_path ps path) in
         let amount : amount_in (loss_at losses p) ≡ loss.amount = ap amount_in told in
         let more = sum_by-cons (λ q. amount_in (loss_at losses q)) p ps in
-        let sum : loss_of losses (p ∷ ps) ≡ loss.amount + loss_of losses ps = more ∙ ap (λ (z : ℕ). z + loss_of losses ps) amount in
+        let sum : loss_of_path losses (p ∷ ps) ≡ loss.amount + loss_of_path losses ps = more ∙ ap (λ (z : ℕ). z + loss_of_path losses ps) amount in
         rw (sum, scale) at round
 
     pub some_scale : 1 ≤ loss.scale
@@ -115,7 +115,7 @@ module _ (net : NetLists) (ok : IsNet net) (r : Fraction) (losses : List (Option
     pub total_is : loss.amount + rest ≡ loss.scale * gap
     total_is =
         let round = round_of best best_path in
-        let sum : loss_of losses best ≡ rest = back.0.2 in
+        let sum : loss_of_path losses best ≡ rest = back.0.2 in
         let whole : loss.scale * (time_of net (p ∷ best) * r.tokens + gap) ≡ loss.scale * (r.time * tokens_of net (p ∷ best)) = ap (λ (z : ℕ). loss.scale * z) gap_is in
         let parts = spread loss.scale (time_of net (p ∷ best) * r.tokens) gap in
         omega arith
@@ -125,7 +125,7 @@ module _ (net : NetLists) (ok : IsNet net) (r : Fraction) (losses : List (Option
       attained = (best, best_path, gap_is);
       least = λ ps path.
           let round = round_of ps path in
-          let low : rest ≤ loss_of losses ps = back.1 ps (back_way ps path) in
+          let low : rest ≤ loss_of_path losses ps = back.1 ps (back_way ps path) in
           let is = total_is in
           let parts = spread loss.scale (time_of net (p ∷ ps) * r.tokens) gap in
           let some = some_scale in
@@ -141,11 +141,11 @@ module _ (net : NetLists) (ok : IsNet net) (r : Fraction) (losses : List (Option
         let rules : IsPlaceOf net (place_at net p) = ok.each_place p.index no_place l in
         let short : length s.0 < length net.transitions = straight_short net (length net.transitions) s.0 (to_of net p) (from_of net p) ends rules.from_in straight in
         let few = ok.few_transitions in
-        let each = sum_most (λ q. (place_at net q).tokens) most_tokens net (λ id m. (let own : IsPlaceOf net (place_at net id) = ok.each_place id.index no_place m in own.tokens_in)) (p ∷ s.0) (from_of net p) (from_of net p) (back_path s.0 straight.path) in
-        let long : length (p ∷ s.0) * most_tokens ≤ most_transitions * most_tokens = mul-le-mul_right {m = length (p ∷ s.0)} {n = most_transitions} most_tokens (omega arith) in
+        let each = sum_most (λ q. (place_at net q).tokens) most_place_tokens net (λ id m. (let own : IsPlaceOf net (place_at net id) = ok.each_place id.index no_place m in own.tokens_in)) (p ∷ s.0) (from_of net p) (from_of net p) (back_path s.0 straight.path) in
+        let long : length (p ∷ s.0) * most_place_tokens ≤ most_transitions * most_place_tokens = mul-le-mul_right {m = length (p ∷ s.0)} {n = most_transitions} most_place_tokens (omega arith) in
         let low = is_gap.least s.0 straight.path in
         let most : r.time * tokens_of net (p ∷ s.0) ≤ r.time * 400000 = mul-le-mul_left {m = tokens_of net (p ∷ s.0)} {n = 400000} r.time (omega arith) in
-        let small = can.small.time in
+        let small = can.small.time_in in
         omega arith
 
     pub leaves : LeavesGap (loss.amount + rest) loss.scale

@@ -1,7 +1,7 @@
 pub mod Slacks
 pub mod Gaps
-pub mod Laws
+pub mod SlackAndPaths
 pub mod Losses
-pub mod Endings
-pub mod Searches
+pub mod LossEndings
+pub mod LeastLosses
 pub mod Told

@@ -1,17 +1,17 @@
 -- Working definitions of what places lose against the greatest ratio, by the potentials of their parts (chapter 3).
-use Rattle.std.specs.Prelude.{ℕ, ℤ, pos, ◌+ℤ◌, ◌-ℤ◌, ◌+◌, ◌-◌, ◌*◌, ◌<◌, ◌≤◌, ◌≡◌, ◌≢◌, List, [], length, Option, Some, None, slice_index, slice_index_or}
+use Rattle.std.specs.Prelude.{ℕ, ℤ, pos, ◌+ℤ◌, ◌+◌, ◌-◌, ◌*◌, ◌<◌, ◌≤◌, ◌≡◌, ◌≢◌, List, [], length, Option, Some, None, slice_index, slice_index_or}
 use Rattle.teg_net.specs.declared.entries.PlaceId.{PlaceId}
 use Rattle.teg_net.specs.declared.entries.Place.{Place}
 use Rattle.teg_net.specs.declared.answers.Potential.{Potential}
 use Rattle.teg_net.specs.declared.answers.PartAnswer.{PartAnswer}
 use Rattle.teg_net.specs.declared.answers.PartAnswer.TheVariants.{NoCircuit, Best}
 use Rattle.teg_net.specs.declared.answers.CycleAnswer.{CycleAnswer}
-use Rattle.teg_net.specs.Limits.{greatest_potential}
+use Rattle.teg_net.specs.Limits.{greatest_checked_potential}
 use Rattle.teg_net.specs.Nets.{NetLists}
 use Rattle.teg_net.specs.Ratios.{Fraction}
 use Rattle.teg_net.specs.Circuits.{place_at, from_of}
 use Rattle.teg_net.specs.Parts.{to_of}
-use Rattle.teg_net.specs.ReducedTimes.{IsWithin}
+use Rattle.teg_net.specs.ReducedTimes.{IsMagnitudeWithin, reduced_time_of_place}
 use Rattle.teg_net.specs.Certificates.{potential_at}
 use Rattle.teg_critical.specs.declared.losses.Loss.{Loss}
 
@@ -23,10 +23,6 @@ most_lost = 3000000000000000000
 abbrev pub most_loss : ℕ
 most_loss = 10000000000000000000000000000000
 
--- what a place counts at a ratio: the ratio's tokens times its hold, less the ratio's time times its tokens
-abbrev pub count_of : Fraction → Place → ℤ
-count_of r p = pos (r.tokens * p.hold) -ℤ pos (r.time * p.tokens)
-
 -- by so much what is counted, from this potential on, stays below that potential
 abbrev pub IsLost : ℤ → ℤ → ℤ → ℕ → Type 0
 IsLost count start above lost = ((pos lost +ℤ count) +ℤ start) ≡ above
@@ -36,8 +32,8 @@ pub record CanLose (count start above : ℤ) : Type 0 where
   pub lost : ℕ
   pub is : IsLost count start above lost
   pub small : lost ≤ most_lost
-  pub start_in : IsWithin greatest_potential start
-  pub above_in : IsWithin greatest_potential above
+  pub start_in : IsMagnitudeWithin greatest_checked_potential start
+  pub above_in : IsMagnitudeWithin greatest_checked_potential above
 
 -- the same at the greatest ratio, times the tokens of the part's own ratio
 abbrev pub loss_at_best : Fraction → Fraction → ℕ → ℕ → ℕ
@@ -59,29 +55,29 @@ pub record IsLossOf (best own : Fraction) (start above : ℤ) (p : Place) (l : L
   pub some : 1 ≤ own.tokens
   pub below : own.time * best.tokens ≤ best.time * own.tokens
   pub lost : ℕ
-  pub is_lost : IsLost (count_of own p) start above lost
+  pub is_lost : IsLost (reduced_time_of_place own p) start above lost
   pub amount : l.amount ≡ loss_at_best best own lost p.tokens
   pub small : l.amount ≤ most_loss
 
 -- the answer of the part with this number
-abbrev pub part_at : CycleAnswer → ℕ → PartAnswer
-part_at answer k = slice_index_or answer.parts.items k NoCircuit
+abbrev pub answer_of_part : CycleAnswer → ℕ → PartAnswer
+answer_of_part answer k = slice_index_or answer.parts.items k NoCircuit
 
 -- the loss of a place whose ends lie in part k
 abbrev pub IsLossIn : NetLists → CycleAnswer → Fraction → ℕ → PlaceId → Option Loss → Type 0
 IsLossIn net answer best k p None = ⊥
 IsLossIn net answer best k p (Some l) =
-    let q = part_at answer k in
+    let q = answer_of_part answer k in
     IsLossOf best (ratio_of q) (potential_at (potentials_of q) (from_of net p)) (potential_at (potentials_of q) (to_of net p)) (place_at net p) l
 
 -- the number of the transition's part
-abbrev pub part_of : CycleAnswer → ℕ → ℕ
-part_of answer t = slice_index answer.part_of.items t
+abbrev pub part_of_transition : CycleAnswer → ℕ → ℕ
+part_of_transition answer t = slice_index answer.part_of.items t
 
 -- the loss of a place with both ends in one part, and none where they lie in two
 pub record IsPlaceLoss (net : NetLists) (answer : CycleAnswer) (best : Fraction) (p : PlaceId) (l : Option Loss) : Type 0 where
-  pub inside : part_of answer (from_of net p) ≡ part_of answer (to_of net p) → IsLossIn net answer best (part_of answer (from_of net p)) p l
-  pub apart : part_of answer (from_of net p) ≢ part_of answer (to_of net p) → l ≡ None
+  pub inside : part_of_transition answer (from_of net p) ≡ part_of_transition answer (to_of net p) → IsLossIn net answer best (part_of_transition answer (from_of net p)) p l
+  pub apart : part_of_transition answer (from_of net p) ≢ part_of_transition answer (to_of net p) → l ≡ None
 
 -- what is told of the place
 abbrev pub loss_at : List (Option Loss) → PlaceId → Option Loss

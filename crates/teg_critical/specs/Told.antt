@@ -4,33 +4,29 @@ use Rattle.teg_net.specs.declared.entries.PlaceId.{PlaceId}
 use Rattle.teg_net.specs.declared.entries.Place.{Place}
 use Rattle.teg_net.specs.declared.answers.Potential.{Potential}
 use Rattle.teg_net.specs.declared.answers.CycleAnswer.{CycleAnswer}
-use Rattle.teg_net.specs.Limits.{greatest_hold, greatest_ratio, most_tokens}
+use Rattle.teg_net.specs.Limits.{greatest_hold, most_place_tokens}
 use Rattle.teg_net.specs.Nets.{NetLists, IsNet}
-use Rattle.teg_net.specs.Ratios.{Fraction}
+use Rattle.teg_net.specs.Ratios.{Fraction, IsRatioWithin}
 use Rattle.teg_net.specs.Circuits.{IsLive}
 use Rattle.teg_net.specs.GreatestRatios.{IsGreatestRatio, IsAnyPlace}
 use Rattle.teg_net.specs.Certificates.{potential_at, IsCertificate}
+use Rattle.teg_net.specs.ReducedTimes.{reduced_time_of_place}
 use Rattle.teg_critical.specs.declared.endings.Ending.{Ending}
 use Rattle.teg_critical.specs.declared.losses.Loss.{Loss}
 use Rattle.teg_critical.specs.declared.slacks.Slack.{Slack}
 use Rattle.teg_critical.specs.declared.slacks.Slack.TheVariants.{NoCircuit, Critical, Rise}
 use Rattle.teg_critical.specs.Slacks.{IsSlackOf}
-use Rattle.teg_critical.specs.Losses.{count_of, CanLose, AreLosses}
-
--- time and tokens keep the limit of a ratio in an answer
-pub record IsSmallRatio (r : Fraction) : Type 0 where
-  pub time : r.time ≤ greatest_ratio
-  pub tokens : r.tokens ≤ greatest_ratio
+use Rattle.teg_critical.specs.Losses.{CanLose, AreLosses}
 
 -- a place loses in a part with this ratio, which is no greater, and these potentials, and all keep their limits
 pub record CanLoseBy (best own : Fraction) (potentials : List Potential) (p : Place) : Type 0 where
-  pub best_small : IsSmallRatio best
-  pub own_small : IsSmallRatio own
+  pub best_small : IsRatioWithin best
+  pub own_small : IsRatioWithin own
   pub some : 1 ≤ own.tokens
   pub below : own.time * best.tokens ≤ best.time * own.tokens
   pub hold : p.hold ≤ greatest_hold
-  pub tokens : p.tokens ≤ most_tokens
-  pub can_lose : CanLose (count_of own p) (potential_at potentials p.from.index) (potential_at potentials p.to.index)
+  pub tokens : p.tokens ≤ most_place_tokens
+  pub can_lose : CanLose (reduced_time_of_place own p) (potential_at potentials p.from.index) (potential_at potentials p.to.index)
 
 -- the slack that a gap tells, given the gap times the scale
 abbrev pub IsSlackOfGap : ℕ → ℕ → Fraction → Slack → Type 0
@@ -39,14 +35,14 @@ IsSlackOfGap total scale r Critical = total / scale ≡ 0
 IsSlackOfGap total scale r (Rise by) = (0 < total / scale) × (by ≡ total / scale / r.tokens)
 
 -- the losses are those of a certified answer, against the greatest ratio of a live net
-pub record CanTell (net : NetLists) (r : Fraction) (losses : List (Option Loss)) : Type 0 where
+pub record CanTellSlack (net : NetLists) (r : Fraction) (losses : List (Option Loss)) : Type 0 where
   pub answer : CycleAnswer
   pub certificate : IsCertificate net answer
   pub lost : AreLosses net answer r losses
   pub live : IsLive net
   pub greatest : IsGreatestRatio net IsAnyPlace r
   pub rules : IsNet net
-  pub small : IsSmallRatio r
+  pub small : IsRatioWithin r
 
 -- what is told of the place
 abbrev pub slack_at : List Slack → PlaceId → Slack

@@ -8,10 +8,10 @@ ghost use Rattle.teg_net.specs.Certificates.{IsCertificate};
 ghost use Rattle.teg_cycle.specs.BestRatios.{best_ratio_of};
 ghost use Rattle.teg_critical.specs.declared.slacks.Slack.TheVariants.{NoCircuit};
 ghost use Rattle.teg_critical.specs.Slacks.{IsSlackOf, AreSlacks};
-ghost use Rattle.teg_critical.specs.Endings.{IsEnding};
+ghost use Rattle.teg_critical.specs.LossEndings.{IsEnding};
 ghost use Rattle.teg_critical.specs.Losses.{LeavesGap};
-ghost use Rattle.teg_critical.specs.Searches.{AreSteps, AreToldBack, IsToldBack};
-ghost use Rattle.teg_critical.specs.Told.{IsSlackOfGap, CanTell, AreToldMore, AreUntold};
+ghost use Rattle.teg_critical.specs.LeastLosses.{AreSteps, AreToldBack, IsToldBack};
+ghost use Rattle.teg_critical.specs.Told.{IsSlackOfGap, CanTellSlack, AreToldMore, AreUntold};
 
 use crate::endings::{Ending, by_end, group_length};
 use crate::losses::{Loss, losses_of};
@@ -44,7 +44,7 @@ fn slack_from(
     back: &[Option<u128>],
     ending: Ending,
 ) -> Slack
-    requires can { CanTell net.now best losses.now }
+    requires can { CanTellSlack net.now best losses.now }
     requires ending { IsEnding net.now ending }
     requires count { length back.now ≡ length net.now.transitions }
     requires back { IsToldBack net.now losses.now back.now ending }
@@ -69,7 +69,7 @@ fn tell_places(
     back: &[Option<u128>],
     slacks: &mut [Slack],
 )
-    requires can { CanTell net.now best losses.now }
+    requires can { CanTellSlack net.now best losses.now }
     requires endings { All (IsEnding net.now) endings.now }
     requires back { AreToldBack net.now losses.now back.now endings.now }
     requires count { length slacks.old ≡ length net.now.places }
@@ -89,7 +89,7 @@ fn tell_all(
     steps: &[Steps],
     slacks: &mut [Slack],
 ) -> Result<(), AllocError>
-    requires can { CanTell net.now best losses.now }
+    requires can { CanTellSlack net.now best losses.now }
     requires steps { AreSteps net.now losses.now steps.now }
     requires untold { AreUntold net.now slacks.old }
     ensures { IfOk result (λ _. AreSlacks net.now best slacks.new) }

@@ -1,6 +1,6 @@
 //! The places that are told a loss, in the order in which they are told their slack.
 ghost use Rattle.std.specs.Prelude.{◌≡◌, ◌<◌, ◌≤◌, length, take, All, IfOk, slice_index_or};
-ghost use Rattle.teg_critical.specs.Endings.{AreEndings};
+ghost use Rattle.teg_critical.specs.LossEndings.{AreEndings};
 
 use crate::losses::Loss;
 use std::alloc::{AllocError, Global};

@@ -1,5 +1,5 @@
 //! The laws of slack. Each is a function that does nothing when it runs: its contract is the law.
-ghost use Rattle.teg_critical.specs.Laws.{GapsTellSlacks, SlacksAreOne, SlacksAreOfTheNet};
+ghost use Rattle.teg_critical.specs.SlackAndPaths.{GapsTellSlacks, SlacksAreOne, SlacksAreOfTheNet};
 
 /// A place is critical exactly where the best path back from its end to its start lacks nothing,
 /// with the place, to the greatest ratio; otherwise what it lacks, over the ratio's tokens and

@@ -1,11 +1,13 @@
 //! What places lose against the net's greatest ratio: by the potentials of the answer no place
 //! gains, so that the best path back is one that loses least (chapter 3).
 ghost use Rattle.std.specs.Prelude.{◌≡◌, ◌≤◌, ◌<◌, ◌*◌, length, IfOk, Some};
-ghost use Rattle.teg_net.specs.Limits.{greatest_hold, most_tokens};
+ghost use Rattle.teg_net.specs.Limits.{greatest_hold, most_place_tokens};
 ghost use Rattle.teg_net.specs.Certificates.{potential_at, IsCertificate};
+ghost use Rattle.teg_net.specs.ReducedTimes.{reduced_time_of_place};
+ghost use Rattle.teg_net.specs.Ratios.{IsRatioWithin};
 ghost use Rattle.teg_cycle.specs.BestRatios.{best_ratio_of};
-ghost use Rattle.teg_critical.specs.Losses.{most_lost, most_loss, count_of, IsLost, CanLose, loss_at_best, IsLossOf, IsPlaceLoss, AreLosses};
-ghost use Rattle.teg_critical.specs.Told.{IsSmallRatio, CanLoseBy};
+ghost use Rattle.teg_critical.specs.Losses.{most_lost, most_loss, IsLost, CanLose, loss_at_best, IsLossOf, IsPlaceLoss, AreLosses};
+ghost use Rattle.teg_critical.specs.Told.{CanLoseBy};
 
 use std::alloc::{AllocError, Global};
 use teg_net::{CycleAnswer, Net, PartAnswer, Place, PlaceId, Potential, Ratio, TransitionId};
@@ -29,13 +31,13 @@ fn potential_of(potentials: &[Potential], transition: TransitionId) -> i128
     0
 }
 
-// What a place counts at a ratio: the ratio's tokens times its hold, less the ratio's time times
-// its tokens.
+// The reduced time of a place at a ratio: the ratio's tokens times its hold, less the ratio's time
+// times its tokens.
 fn count_at(ratio: Ratio, place: &Place) -> i128
-    requires ratio { IsSmallRatio ratio }
+    requires ratio { IsRatioWithin ratio }
     requires hold { place.now.hold ≤ greatest_hold }
-    requires tokens { place.now.tokens ≤ most_tokens }
-    ensures { result ≡ count_of ratio place.now }
+    requires tokens { place.now.tokens ≤ most_place_tokens }
+    ensures { result ≡ reduced_time_of_place ratio place.now }
 {
     let gain = i128::from(ratio.tokens()) * i128::from(place.hold);
     let cost = i128::from(ratio.time()) * i128::from(place.tokens);
@@ -54,11 +56,11 @@ fn lost_between(count: i128, start: i128, end: i128) -> u128
 // What a place loses at the greatest ratio, times the tokens of its part's, where it loses so much
 // at that.
 fn loss_against(best: Ratio, own: Ratio, lost: u128, tokens: u32) -> u128
-    requires best { IsSmallRatio best }
-    requires own { IsSmallRatio own }
+    requires best { IsRatioWithin best }
+    requires own { IsRatioWithin own }
     requires below { own.time * best.tokens ≤ best.time * own.tokens }
     requires lost { lost ≤ most_lost }
-    requires tokens { tokens ≤ most_tokens }
+    requires tokens { tokens ≤ most_place_tokens }
     ensures amount { result ≡ loss_at_best best own lost tokens }
     ensures small { result ≤ most_loss }
 {

@@ -5,8 +5,8 @@ ghost use Rattle.std.specs.Prelude.{◌≡◌, ◌≤◌, ◌<◌, ◌+◌, ◌*
 ghost use Rattle.std.specs.BinaryHeap.{heap_items, heap_len};
 ghost use Rattle.teg_net.specs.Limits.{most_transitions};
 ghost use Rattle.teg_critical.specs.Losses.{most_loss, AreKeptSmall};
-ghost use Rattle.teg_critical.specs.Endings.{IsEndingAt};
-ghost use Rattle.teg_critical.specs.Searches.{IsStepOf, AreSteps, IsWithin, IsRelaxed, AreQueued, AreSettled, AreToldBack};
+ghost use Rattle.teg_critical.specs.LossEndings.{IsEndingAt};
+ghost use Rattle.teg_critical.specs.LeastLosses.{IsLossStepOf, AreSteps, IsToldWithin, IsRelaxed, AreQueued, AreSettled, AreToldBack};
 
 use crate::endings::Ending;
 use crate::losses::Loss;
@@ -18,7 +18,7 @@ use teg_net::{Net, Place};
 
 // A place as the search takes it: the transition at which it ends, and what it loses.
 #[derive(Clone, Copy, Debug, PartialEq, Eq)]
-pub(crate) struct Step {
+pub(crate) struct LossStep {
     pub(crate) to: usize,
     pub(crate) loss: u128,
 }
@@ -26,14 +26,14 @@ pub(crate) struct Step {
 // The steps from one transition. Contracts see the list.
 #[derive(Debug, Drop)]
 pub(crate) struct Steps {
-    steps: Vec<Step>,
+    steps: Vec<LossStep>,
 }
 
 impl Model for Steps {
     ghost use Rattle.std.specs.Prelude.{List};
-    ghost use Rattle.teg_critical.specs.declared.searches.Step.{Step};
+    ghost use Rattle.teg_critical.specs.declared.searches.LossStep.{LossStep};
 
-    ghost Value = { List Step };
+    ghost Value = { List LossStep };
 
     ghost view = { λ s. s.steps.items };
 }
@@ -49,14 +49,14 @@ impl Steps {
     }
 
     // The steps as a list.
-    fn as_slice(&self) -> &[Step]
+    fn as_slice(&self) -> &[LossStep]
         ensures { result.now ≡ self.now }
     {
         &self.steps
     }
 
     // Appends a step, or changes nothing.
-    fn push(&mut self, step: Step) -> Result<(), AllocError>
+    fn push(&mut self, step: LossStep) -> Result<(), AllocError>
         ensures { self.new ≡ (if is_ok result then self.old ++ step ∷ [] else self.old) }
     {
         self.steps.push(step)?;
@@ -76,12 +76,12 @@ fn no_steps(alloc: Global, count: usize) -> Result<Vec<Steps>, AllocError>
 }
 
 // The step that a place is, if it is told a loss.
-fn step_by(place: &Place, told: Option<Loss>) -> Option<Step>
+fn step_by(place: &Place, told: Option<Loss>) -> Option<LossStep>
     ensures none { IfNone result (told ≡ None) }
-    ensures step { IfSome result (IsStepOf place.now told place.now.from.index) }
+    ensures step { IfSome result (IsLossStepOf place.now told place.now.from.index) }
 {
     let loss = told?;
-    Some(Step {
+    Some(LossStep {
         to: place.to.index as usize,
         loss: loss.amount,
     })
@@ -109,7 +109,7 @@ pub(crate) fn all_steps(
 // Whether nothing is told yet, or more than is offered.
 fn is_less(offered: u128, told: Option<u128>) -> bool
     ensures less { IsTrue result → (d : ℕ) → told ≡ Some d → offered ≤ d }
-    ensures not_less { result ≡ false → IsWithin told offered }
+    ensures not_less { result ≡ false → IsToldWithin told offered }
 {
     match told {
         None => true,
@@ -119,7 +119,7 @@ fn is_less(offered: u128, told: Option<u128>) -> bool
 
 // Takes the steps from this loss on: what they offer is told where it is less, and queued.
 fn relax(
-    steps: &[Step],
+    steps: &[LossStep],
     base: u128,
     least: &mut [Option<u128>],
     queue: &mut BinaryHeap<Reverse<(u128, usize)>>,

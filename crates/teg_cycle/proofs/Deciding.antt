@@ -10,8 +10,8 @@ use Rattle.teg_net.specs.declared.entries.Place.{Place}
 use Rattle.teg_net.specs.declared.answers.Potential.{Potential}
 use Rattle.teg_net.specs.Nets.{NetLists}
 use Rattle.teg_net.specs.Circuits.{no_place, place_at}
-use Rattle.teg_net.specs.Limits.{greatest_potential}
-use Rattle.teg_net.specs.ReducedTimes.{IsWithin}
+use Rattle.teg_net.specs.Limits.{greatest_checked_potential}
+use Rattle.teg_net.specs.ReducedTimes.{IsMagnitudeWithin}
 use Rattle.teg_net.specs.Certificates.{potential_at}
 
 -- what stands past the end of a list of potentials
@@ -69,5 +69,5 @@ potential_missing (v ∷ vs) t d h =
     rw b (potential_missing vs t d (λ k m. h (suc k) (omega arith)))
 
 -- a potential within the limit is read as it is
-pub read_within : (z : ℤ) → IsWithin greatest_potential z → to_z w128 (of_z w128 z) ≡ z
+pub read_within : (z : ℤ) → IsMagnitudeWithin greatest_checked_potential z → to_z w128 (of_z w128 z) ≡ z
 read_within z h = let l = h.low in let k = h.high in let fits : SFits w128 z = omega (arith, ints) in to_z-of_z w128 z fits

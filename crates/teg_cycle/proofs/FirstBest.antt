@@ -8,8 +8,9 @@ use Rattle.teg_net.specs.declared.answers.PartAnswer.{PartAnswer}
 use Rattle.teg_net.specs.declared.answers.PartAnswer.TheVariants.{NoCircuit}
 use Rattle.teg_net.specs.GreatestRatios.{ratio_in, ratio_at, IsFirstGreatest}
 use Rattle.teg_cycle.specs.declared.best_parts.BestPart.{BestPart}
-use Rattle.teg_cycle.specs.BestParts.{IsFirstBelow, IsBestBelow, IsRatioAbove, HaveTokens}
+use Rattle.teg_cycle.specs.BestParts.{IsRatioAbove, HaveTokens}
 use Rattle.teg_howard.proofs.Ratios.{ratio_trans_less}
+use Rattle.teg_cycle.proofs.BestBelow.{IsFirstBelow, IsBestBelow}
 
 -- past the end no ratio is told
 pub told_in : (answers : List PartAnswer) (j : ℕ) (q : Fraction) → ratio_at answers j ≡ Some q → j < length answers

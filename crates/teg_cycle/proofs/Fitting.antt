@@ -14,7 +14,7 @@ use Rattle.teg_net.specs.GreatestRatios.{ratio_in}
 use Rattle.teg_net.specs.PartAnswers.{transitions_of}
 use Rattle.teg_net.specs.Certificates.{IsBestCertificate, IsPartCertificate, IsCertificate}
 use Rattle.teg_cycle.specs.BestParts.{HaveTokens}
-use Rattle.teg_cycle.specs.Checks.{IsTold, TellsMembers, FitsBest, ArePartCertificates, FitsLists}
+use Rattle.teg_cycle.specs.Checks.{HasPotentialTold, TellsMembers, FitsBest, ArePartCertificates, FitsLists}
 use Rattle.teg_cycle.proofs.Deciding.{none_told}
 use Rattle.teg_cycle.proofs.FirstBest.{told_in}
 
@@ -29,13 +29,13 @@ module _ (vs : List Potential) where
   read : (k d : ℕ) → k < length vs → get_or (transitions_of vs) k d ≡ number (get_or vs k none_told)
   read k d l = get_or-map number vs k none_told d l
 
-  contains_told : (t : ℕ) → IsTold vs t → Contains (transitions_of vs) t
+  contains_told : (t : ℕ) → HasPotentialTold vs t → Contains (transitions_of vs) t
   contains_told t h = (h.0, omega (arith, long, h.2), get_or-map number vs h.0 h.1 t h.2 ∙ (ap number h.3 ∙ h.4))
 
   itself : (k : ℕ) → k < length vs → get_or vs k (get_or vs k none_told) ≡ get_or vs k none_told
   itself k l = get_or_default vs k (get_or vs k none_told) none_told l
 
-  told_contained : (t : ℕ) → Contains (transitions_of vs) t → IsTold vs t
+  told_contained : (t : ℕ) → Contains (transitions_of vs) t → HasPotentialTold vs t
   told_contained t h =
       let l : h.0 < length vs = omega (arith, long, h.1) in
       (h.0, get_or vs h.0 none_told, l, itself h.0 l, sym (read h.0 t l) ∙ h.2)

@@ -9,8 +9,8 @@ use Rattle.teg_net.specs.GreatestRatios.{IsFirstGreatest}
 use Rattle.teg_net.specs.Nets.{NetLists}
 use Rattle.teg_net.specs.Certificates.{IsCertificate}
 use Rattle.teg_parts.specs.Partitions.{PartLists, AreParts}
-use Rattle.teg_howard.specs.Rounds.{IsPolicyRun}
-use Rattle.teg_howard.specs.Runs.{IsAnswerOfLast}
+use Rattle.teg_howard.specs.PolicyRounds.{IsPolicyRun}
+use Rattle.teg_howard.specs.PolicyRuns.{IsAnswerOfLast}
 use Rattle.teg_cycle.specs.Checks.{ArePartCertificates}
 use Rattle.teg_cycle.specs.LastRounds.{IsLastOfRun, IsRunOf, AreRunsFrom, some_run}
 

@@ -1,3 +1,4 @@
+pub mod BestBelow
 pub mod FirstBest
 pub mod Telling
 pub mod Certified

@@ -6,6 +6,7 @@ use Rattle.std.proofs.lemmas.List.Elements.{All-tail}
 use Rattle.teg_net.specs.declared.entries.PlaceId.{PlaceId}
 use Rattle.teg_net.specs.Nets.{NetLists, IsNet}
 use Rattle.teg_net.specs.Circuits.{no_place, place_at, from_of, IsCircuit, AreInRange, time_of, tokens_of}
+use Rattle.teg_net.specs.Limits.{greatest_circuit_time, greatest_hold, most_circuit_tokens}
 use Rattle.teg_net.proofs.PathLaws.{IsPathBetween-in_range}
 use Rattle.teg_howard.proofs.Search.{pigeons}
 
@@ -26,7 +27,7 @@ circuit_short net kept ps c =
     (λ (l : length ps ≤ length net.transitions). l)
     (cases_lt (length net.transitions) (length ps))
 
-sums_small : (net : NetLists) (kept : IsNet net) (ps : List PlaceId) → AreInRange net ps → (time_of net ps ≤ length ps * 1000000000) × (tokens_of net ps ≤ length ps * 1000)
+sums_small : (net : NetLists) (kept : IsNet net) (ps : List PlaceId) → AreInRange net ps → (time_of net ps ≤ length ps * greatest_hold) × (tokens_of net ps ≤ length ps * 1000)
 sums_small net kept [] h = (omega arith, omega arith)
 sums_small net kept (p ∷ ps) h =
     let rest = sums_small net kept ps (All-tail (λ q. q.index < length net.places) p ps h) in
@@ -37,7 +38,7 @@ sums_small net kept (p ∷ ps) h =
     let token = is.tokens_in in
     (omega (arith, rest.0), omega (arith, rest.1))
 
-pub circuit_sums : (net : NetLists) (kept : IsNet net) (ps : List PlaceId) → IsCircuit net ps → (time_of net ps ≤ 400000000000) × (tokens_of net ps ≤ 400000)
+pub circuit_sums : (net : NetLists) (kept : IsNet net) (ps : List PlaceId) → IsCircuit net ps → (time_of net ps ≤ greatest_circuit_time) × (tokens_of net ps ≤ most_circuit_tokens)
 circuit_sums net kept ps c =
     let s = sums_small net kept ps (circuit_range net ps c) in
     let l = circuit_short net kept ps c in

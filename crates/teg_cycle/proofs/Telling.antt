@@ -12,7 +12,7 @@ use Rattle.teg_net.specs.Nets.{NetLists}
 use Rattle.teg_net.specs.Ratios.{Fraction}
 use Rattle.teg_net.specs.Circuits.{from_of, IsPathBetween}
 use Rattle.teg_net.specs.Parts.{to_of, IsPlaceOfPart}
-use Rattle.teg_net.specs.ReducedTimes.{IsGreatestSum}
+use Rattle.teg_net.specs.ReducedTimes.{IsGreatestPathTime}
 use Rattle.teg_net.specs.GreatestRatios.{HasNoCircuit}
 use Rattle.teg_net.specs.PartAnswers.{first_transition_of, transitions_of, IsBestOfPart, IsPartAnswer}
 use Rattle.teg_net.specs.Certificates.{potential_at, ArePotentials, IsPartCertificate}
@@ -22,10 +22,10 @@ use Rattle.std.proofs.lemmas.List.{length_push, get_or_push, get_or_append_left}
 use Rattle.teg_net.specs.declared.rounds.Round.{Round}
 use Rattle.teg_net.specs.GreatestRatios.{ratio_in}
 use Rattle.teg_net.specs.PartAnswers.{ArePartAnswers}
-use Rattle.teg_howard.specs.Rounds.{IsPolicyRun}
+use Rattle.teg_howard.specs.PolicyRounds.{IsPolicyRun}
 use Rattle.teg_cycle.specs.BestParts.{HaveTokens}
 use Rattle.teg_cycle.proofs.FirstBest.{told_in}
-use Rattle.teg_howard.specs.Runs.{KeepsLimits, IsAnswerOfLast}
+use Rattle.teg_howard.specs.PolicyRuns.{KeepsLimits, IsAnswerOfLast}
 use Rattle.teg_howard.proofs.Sums.{weight-append}
 
 -- what holds of each potential told holds of that of each transition told of
@@ -51,7 +51,7 @@ sums_are_potentials net part_of part r c vs h p inside =
     let s : ℕ = first_transition_of net c in
     let a : ℕ = r.time in
     let b : ℕ = r.tokens in
-    let P : ℕ → ℤ → Type 0 = λ t z. IsGreatestSum net part_of part a b s t z in
+    let P : ℕ → ℤ → Type 0 = λ t z. IsGreatestPathTime net part_of part a b s t z in
     let from = told_at P vs (from_of net p) h.sums (h.members.all (from_of net p) inside.from_member) in
     let to = told_at P vs (to_of net p) h.sums (h.members.all (to_of net p) inside.to_member) in
     let ps : List PlaceId = from.attained.0 in

@@ -5,12 +5,12 @@ use Rattle.teg_net.specs.declared.entries.Place.{Place}
 use Rattle.teg_net.specs.declared.answers.Potential.{Potential}
 use Rattle.teg_net.specs.declared.answers.PartAnswer.{PartAnswer}
 use Rattle.teg_net.specs.declared.answers.PartAnswer.TheVariants.{NoCircuit}
-use Rattle.teg_net.specs.Limits.{greatest_ratio, greatest_potential}
+use Rattle.teg_net.specs.Limits.{greatest_checked_potential}
 use Rattle.teg_net.specs.Nets.{NetLists}
-use Rattle.teg_net.specs.Ratios.{Fraction}
+use Rattle.teg_net.specs.Ratios.{Fraction, IsRatioWithin}
 use Rattle.teg_net.specs.Circuits.{IsCircuit, time_of, tokens_of}
 use Rattle.teg_net.specs.Parts.{IsMember, IsPlaceOfPart}
-use Rattle.teg_net.specs.ReducedTimes.{IsWithin}
+use Rattle.teg_net.specs.ReducedTimes.{IsMagnitudeWithin}
 use Rattle.teg_net.specs.GreatestRatios.{IsFirstGreatest}
 use Rattle.teg_net.specs.Certificates.{potential_at, ArePotentials, IsPartCertificate}
 
@@ -20,11 +20,6 @@ pub record AreNumbersOf (net : NetLists) (part_of : List ℕ) (count : ℕ) : Ty
   pub below : All (λ k. k < count) part_of
   pub rises : All (λ p. slice_index part_of p.from.index ≤ slice_index part_of p.to.index) net.places
 
--- the ratio keeps the limits of an answer that is checked
-pub record IsRatioWithin (r : Fraction) : Type 0 where
-  pub time_in : r.time ≤ greatest_ratio
-  pub tokens_in : r.tokens ≤ greatest_ratio
-
 -- a circuit in the part that has the ratio
 pub record HasRatio (net : NetLists) (part_of : List ℕ) (part : ℕ) (r : Fraction) (c : List PlaceId) : Type 0 where
   pub circuit : IsCircuit net c
@@ -32,14 +27,14 @@ pub record HasRatio (net : NetLists) (part_of : List ℕ) (part : ℕ) (r : Frac
   pub attains : time_of net c * r.tokens ≡ r.time * tokens_of net c
 
 -- a potential is told of the transition
-abbrev pub IsTold : List Potential → ℕ → Type 0
-IsTold vs t = Any (λ v. v.transition.index ≡ t) vs
+abbrev pub HasPotentialTold : List Potential → ℕ → Type 0
+HasPotentialTold vs t = Any (λ v. v.transition.index ≡ t) vs
 
 -- a potential is told of each member of the part, in order of number, and of no other transition
 pub record TellsMembers (part_of : List ℕ) (part : ℕ) (vs : List Potential) : Type 0 where
   pub ordered : AllPairs (λ v w. v.transition.index < w.transition.index) vs
   pub only : All (λ v. IsMember part_of part v.transition.index) vs
-  pub all : (t : ℕ) → IsMember part_of part t → IsTold vs t
+  pub all : (t : ℕ) → IsMember part_of part t → HasPotentialTold vs t
 
 -- a place of the part does not lift its end above the potential there
 abbrev pub KeepsPotential : List ℕ → ℕ → Fraction → List Potential → Place → Type 0
@@ -50,7 +45,7 @@ KeepsPotential part_of part r vs p =
 -- potentials of the members, within limits, that no place of the part exceeds
 pub record FitsPotentials (net : NetLists) (part_of : List ℕ) (part : ℕ) (r : Fraction) (vs : List Potential) : Type 0 where
   pub members : TellsMembers part_of part vs
-  pub within : All (λ v. IsWithin greatest_potential v.value) vs
+  pub within : All (λ v. IsMagnitudeWithin greatest_checked_potential v.value) vs
   pub kept : ArePotentials net part_of part r vs
 
 -- the conditions of a certificate of a part with a circuit, as they are checked

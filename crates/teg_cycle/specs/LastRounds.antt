@@ -5,8 +5,8 @@ use Rattle.teg_net.specs.declared.rounds.Round.{Round}
 use Rattle.teg_net.specs.declared.answers.PartAnswer.{PartAnswer}
 use Rattle.teg_net.specs.declared.answers.PartAnswer.TheVariants.{NoCircuit, Best}
 use Rattle.teg_net.specs.Nets.{NetLists}
-use Rattle.teg_howard.specs.Rounds.{IsPolicyRun}
-use Rattle.teg_howard.specs.Runs.{IsAnswerOfLast}
+use Rattle.teg_howard.specs.PolicyRounds.{IsPolicyRun}
+use Rattle.teg_howard.specs.PolicyRuns.{IsAnswerOfLast}
 
 -- the answer is that of the last round of the part's policy run; a part without a circuit has no run
 abbrev pub IsLastOfRun : NetLists → List ℕ → ℕ → PartAnswer → Type 0
@@ -33,8 +33,8 @@ AreRunsFrom net part_of k (Best ratio circuit potentials ∷ answers) (rounds �
     IsPolicyRun net part_of k rounds × IsAnswerOfLast rounds (Best ratio circuit potentials) × AreRunsFrom net part_of (k + 1) answers runs
 
 -- rounds as the code holds them, a list for each part
-abbrev pub rounds_in : List (Vec Round) → List (List Round)
-rounds_in runs = map (λ run. run.items) runs
+abbrev pub rounds_of_runs : List (Vec Round) → List (List Round)
+rounds_of_runs runs = map (λ run. run.items) runs
 
 -- the rounds of one part, as a list of at most one run
 abbrev pub some_run : Option (List Round) → List (List Round)

@@ -1,5 +1,5 @@
 pub mod LastRounds
 pub mod BestParts
 pub mod BestRatios
-pub mod Laws
+pub mod CertifiedNets
 pub mod Checks

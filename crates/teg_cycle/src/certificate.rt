@@ -1,11 +1,12 @@
 //! Whether an answer is a certificate: a short check of the answer and the net alone.
 ghost use Rattle.std.specs.Prelude.{◌≡◌, ◌↔◌, ◌<◌, ◌≤◌, ◌*◌, All, IsTrue, length, slice_index};
-ghost use Rattle.teg_net.specs.Ratios.{IsLowestTerms};
+ghost use Rattle.teg_net.specs.Ratios.{IsLowestTerms, IsRatioWithin};
 ghost use Rattle.teg_net.specs.Circuits.{IsCircuit, time_of, tokens_of};
 ghost use Rattle.teg_net.specs.GreatestRatios.{IsFirstGreatest};
 ghost use Rattle.teg_net.specs.Certificates.{IsPartCertificate, IsCertificate};
+ghost use Rattle.teg_net.specs.Limits.{greatest_circuit_time, most_circuit_tokens};
 ghost use Rattle.teg_cycle.specs.BestParts.{HaveTokens};
-ghost use Rattle.teg_cycle.specs.Checks.{AreNumbersOf, IsRatioWithin, HasRatio, FitsBest, ArePartCertificates, FitsLists};
+ghost use Rattle.teg_cycle.specs.Checks.{AreNumbersOf, HasRatio, FitsBest, ArePartCertificates, FitsLists};
 
 use crate::best_parts::best_part;
 use crate::inner_places::{all_inner, has_no_place};
@@ -65,8 +66,8 @@ fn is_within(ratio: Ratio) -> bool
 // Whether the time and the tokens have the ratio.
 fn is_ratio_of(ratio: Ratio, time: u128, tokens: u128) -> bool
     requires limits { IsRatioWithin ratio }
-    requires time { time ≤ 400000000000 }
-    requires tokens { tokens ≤ 400000 }
+    requires time { time ≤ greatest_circuit_time }
+    requires tokens { tokens ≤ most_circuit_tokens }
     ensures { IsTrue result ↔ (time * ratio.tokens ≡ ratio.time * tokens) }
 {
     time * u128::from(ratio.tokens()) == u128::from(ratio.time()) * tokens

@@ -9,7 +9,7 @@ ghost use Rattle.teg_check.specs.Ranks.{IsRanking};
 ghost use Rattle.teg_parts.specs.Partitions.{AreParts};
 ghost use Rattle.std.specs.Option.{option_map};
 ghost use Rattle.teg_cycle.specs.Checks.{ArePartCertificates};
-ghost use Rattle.teg_cycle.specs.LastRounds.{IsLastOfRun, AreLastOfRuns, IsRunOf, AreRunsFrom, rounds_in, some_run};
+ghost use Rattle.teg_cycle.specs.LastRounds.{IsLastOfRun, AreLastOfRuns, IsRunOf, AreRunsFrom, rounds_of_runs, some_run};
 
 use crate::best_parts::best_number;
 use std::alloc::{AllocError, Global};
@@ -73,7 +73,7 @@ fn keep(answers: &mut Vec<PartAnswer>, answer: PartAnswer) -> Result<(), AllocEr
 
 // Puts the rounds of a part, if it has some, at the end of the list.
 fn keep_run(runs: &mut Vec<Vec<Round>>, rounds: Option<Vec<Round>>) -> Result<(), AllocError>
-    ensures { OnOk result (rounds_in runs.new.items ≡ rounds_in runs.old.items ++ some_run
+    ensures { OnOk result (rounds_of_runs runs.new.items ≡ rounds_of_runs runs.old.items ++ some_run
         (option_map (λ r. r.items) rounds)) }
 {
     if let Some(rounds) = rounds {
@@ -170,7 +170,7 @@ pub fn cycle_with_runs(
     ensures net { IfOk result (λ w. IsCycleTime net.now w.0.parts.items w.0.best) }
     ensures certificate { IfOk result (λ w. IsCertificate net.now w.0) }
     ensures runs { IfOk result (λ w. AreRunsFrom net.now parts.now.part_of 0 w.0.parts.items
-        (rounds_in w.1.items)) }
+        (rounds_of_runs w.1.items)) }
 {
     let _count = net.transitions().len();
     let part_of = parts.numbers()?;

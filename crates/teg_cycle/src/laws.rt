@@ -1,6 +1,6 @@
 //! What a certificate shows, and what potentials bound, as laws. Each is a function that does nothing
 //! when it runs: its contract is the law.
-ghost use Rattle.teg_cycle.specs.Laws.{CertificatesTellOfNets, CertificatesTellOfParts, PotentialsBoundRatios};
+ghost use Rattle.teg_cycle.specs.CertifiedNets.{CertificatesTellOfNets, CertificatesTellOfParts, PotentialsBoundRatios};
 
 /// In a live net, where an answer is a certificate, the ratio of the best part is the greatest over
 /// all circuits of the net, and that of each part the greatest over its circuits; no part is named

@@ -1,10 +1,11 @@
 //! Whether the potentials of a part are those of a certificate.
 ghost use Rattle.std.specs.Prelude.{◌≡◌, ◌↔◌, ◌<◌, ◌≤◌, ◌*◌, ◌+ℤ◌, ◌-ℤ◌, ◌≤ℤ◌, ℕ, ℤ, pos, All, AllPairs, IsTrue, length};
-ghost use Rattle.teg_net.specs.Limits.{greatest_hold, most_tokens, greatest_potential};
+ghost use Rattle.teg_net.specs.Limits.{greatest_hold, most_place_tokens, greatest_checked_potential};
 ghost use Rattle.teg_net.specs.Parts.{IsMember};
-ghost use Rattle.teg_net.specs.ReducedTimes.{IsWithin};
+ghost use Rattle.teg_net.specs.ReducedTimes.{IsMagnitudeWithin};
 ghost use Rattle.teg_net.specs.Certificates.{potential_at, ArePotentials};
-ghost use Rattle.teg_cycle.specs.Checks.{IsRatioWithin, IsTold, TellsMembers, KeepsPotential, FitsPotentials};
+ghost use Rattle.teg_net.specs.Ratios.{IsRatioWithin};
+ghost use Rattle.teg_cycle.specs.Checks.{HasPotentialTold, TellsMembers, KeepsPotential, FitsPotentials};
 
 use crate::inner_places::is_inner;
 use teg_net::{Net, Place, Potential, Ratio};
@@ -51,7 +52,7 @@ fn only_members(part_of: &[u32], part: usize, potentials: &[Potential]) -> bool
 
 // Whether a potential is told of the transition.
 fn is_told(potentials: &[Potential], transition: usize) -> bool
-    ensures { IsTrue result ↔ IsTold potentials.now transition }
+    ensures { IsTrue result ↔ HasPotentialTold potentials.now transition }
 {
     potentials
         .iter()
@@ -61,7 +62,7 @@ fn is_told(potentials: &[Potential], transition: usize) -> bool
 // Whether a potential is told of the transition, if that is a member of the part.
 fn is_told_member(part_of: &[u32], part: usize, potentials: &[Potential], transition: usize) -> bool
     ensures { IsTrue result ↔ (IsMember part_of.now part transition
-        → IsTold potentials.now transition) }
+        → HasPotentialTold potentials.now transition) }
 {
     if !is_member(part_of, part, transition) {
         return true;
@@ -71,7 +72,8 @@ fn is_told_member(part_of: &[u32], part: usize, potentials: &[Potential], transi
 
 // Whether a potential is told of each member of the part.
 fn all_members(part_of: &[u32], part: usize, potentials: &[Potential]) -> bool
-    ensures { IsTrue result ↔ ((t : ℕ) → IsMember part_of.now part t → IsTold potentials.now t) }
+    ensures { IsTrue result ↔ ((t : ℕ) → IsMember part_of.now part t → HasPotentialTold
+        potentials.now t) }
 {
     for transition in 0..part_of.len() {
         if !is_told_member(part_of, part, potentials, transition) {
@@ -92,7 +94,8 @@ fn tells_members(part_of: &[u32], part: usize, potentials: &[Potential]) -> bool
 
 // Whether the potentials keep their limit.
 fn all_within(potentials: &[Potential]) -> bool
-    ensures { IsTrue result ↔ All (λ v. IsWithin greatest_potential v.value) potentials.now }
+    ensures { IsTrue result ↔ All (λ v. IsMagnitudeWithin greatest_checked_potential v.value)
+        potentials.now }
 {
     potentials.iter().all(|told| {
         told.value >= -1_000_000_000_000_000_000 && told.value <= 1_000_000_000_000_000_000
@@ -101,9 +104,9 @@ fn all_within(potentials: &[Potential]) -> bool
 
 // The potential of a transition, 0 where none is told.
 fn potential_of(potentials: &[Potential], transition: u32) -> i128
-    requires { All (λ v. IsWithin greatest_potential v.value) potentials.now }
+    requires { All (λ v. IsMagnitudeWithin greatest_checked_potential v.value) potentials.now }
     ensures value { result ≡ potential_at potentials.now transition }
-    ensures within { IsWithin greatest_potential result }
+    ensures within { IsMagnitudeWithin greatest_checked_potential result }
 {
     for told in potentials {
         if told.transition.index == transition {
@@ -117,8 +120,8 @@ fn potential_of(potentials: &[Potential], transition: u32) -> i128
 fn lifted(ratio: Ratio, place: &Place, potential: i128) -> i128
     requires limits { IsRatioWithin ratio }
     requires hold { place.now.hold ≤ greatest_hold }
-    requires tokens { place.now.tokens ≤ most_tokens }
-    requires within { IsWithin greatest_potential potential }
+    requires tokens { place.now.tokens ≤ most_place_tokens }
+    requires within { IsMagnitudeWithin greatest_checked_potential potential }
     ensures { result ≡ ((pos (ratio.tokens * place.now.hold) -ℤ pos (ratio.time * place.now.tokens))
         +ℤ potential) }
 {
@@ -146,8 +149,9 @@ fn keeps_potential(
     requires to_in { place.now.to.index < length part_of.now }
     requires limits { IsRatioWithin ratio }
     requires hold { place.now.hold ≤ greatest_hold }
-    requires tokens { place.now.tokens ≤ most_tokens }
-    requires within { All (λ v. IsWithin greatest_potential v.value) potentials.now }
+    requires tokens { place.now.tokens ≤ most_place_tokens }
+    requires within { All (λ v. IsMagnitudeWithin greatest_checked_potential v.value)
+        potentials.now }
     ensures { IsTrue result ↔ KeepsPotential part_of.now part ratio potentials.now place.now }
 {
     if !is_inner(part_of, part, place) {
@@ -168,7 +172,8 @@ fn all_keep_potentials(
 ) -> bool
     requires count { length part_of.now ≡ length net.now.transitions }
     requires limits { IsRatioWithin ratio }
-    requires within { All (λ v. IsWithin greatest_potential v.value) potentials.now }
+    requires within { All (λ v. IsMagnitudeWithin greatest_checked_potential v.value)
+        potentials.now }
     ensures { IsTrue result ↔ ArePotentials net.now part_of.now part ratio potentials.now }
 {
     for place in net.places() {

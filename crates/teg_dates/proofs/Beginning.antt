@@ -5,8 +5,9 @@ use Rattle.std.proofs.lemmas.List.{length-set, get_or-set_same, get_or-set_other
 use Rattle.dioid.specs.declared.dates.Date.{Date}
 use Rattle.dioid.specs.declared.dates.Date.TheVariants.{Early}
 use Rattle.dioid.specs.Dates.{later_of}
-use Rattle.teg_model.specs.Systems.{Dating, InitialDates, available_in}
+use Rattle.teg_model.specs.Systems.{available_in}
 use Rattle.teg_model.specs.Datings.{implicit_place}
+use Rattle.teg_model.proofs.DateFunctions.{Dating, InitialDates}
 use Rattle.teg_dates.specs.Passes.{seen_at}
 
 -- the dates of number k up to transition i

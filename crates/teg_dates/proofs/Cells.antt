@@ -1,7 +1,7 @@
 -- Where the dates of firings stand in a list with one row a number.
 use Rattle.std.proofs.Common.{ℕ, ◌+◌, ◌-◌, ◌*◌, ◌<◌, ◌≤◌, ◌≡◌, min, sym, ap, ◌∙◌, arith, ⊎_elim}
 use Rattle.std.proofs.lemmas.Bool.{cases_lt}
-use Rattle.teg_dates.specs.Tables.{cell_of}
+use Rattle.teg_dates.specs.DateTables.{firing_position}
 
 -- the rows before k are k - 1
 pub rows_before : (w k : ℕ) → 1 ≤ k → k * w ≡ (k - 1) * w + w
@@ -21,11 +21,11 @@ rows_below w j k l =
     omega (arith, product)
 
 -- a cell of number k stands in the first k rows
-pub cell_within : (w t k : ℕ) → t < w → 1 ≤ k → cell_of w t k < k * w
+pub cell_within : (w t k : ℕ) → t < w → 1 ≤ k → firing_position w t k < k * w
 cell_within w t k l o = omega (arith, rows_before w k o)
 
 -- and a cell of a number before k in the first k - 1
-pub cell_before : (w t j k : ℕ) → t < w → 1 ≤ j → j < k → cell_of w t j < (k - 1) * w
+pub cell_before : (w t j k : ℕ) → t < w → 1 ≤ j → j < k → firing_position w t j < (k - 1) * w
 cell_before w t j k l o m = omega (arith, cell_within w t j l o, rows_below w j (k - 1) (omega arith))
 
 -- with one row more there is one row more of the last `reach`

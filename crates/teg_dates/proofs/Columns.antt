@@ -4,9 +4,9 @@ use Rattle.std.specs.List.{CopiedTo, SameBelow, SameFrom}
 use Rattle.std.proofs.lemmas.Bool.{cases_eq, cases_lt}
 use Rattle.std.proofs.lemmas.List.{length-set, get_or-set_same, get_or-set_other, get_or-map}
 use Rattle.dioid.specs.declared.dates.Date.TheVariants.{Early}
-use Rattle.teg_dates.specs.DateCells.{date_of}
+use Rattle.teg_dates.specs.DateCells.{date_of_cell}
 use Rattle.teg_dates.specs.Passes.{HaveNext}
-use Rattle.teg_dates.specs.Windows.{WindowCells, IsWindow, HaveRowAdded, column_at, window_rows}
+use Rattle.teg_dates.specs.LastColumns.{WindowCells, AreLastColumns, HaveRowAdded, column_at, window_rows}
 use Rattle.teg_dates.proofs.Cells.{rows_below, rows_more}
 
 -- a column ends before each later one
@@ -74,18 +74,18 @@ column_moved width reach room old now new u start dest less in' full h d s copie
 }
 
 -- the dates of a row
-dates_at : (row : List ℕ) (t : ℕ) → t < length row → get_or (map date_of row) t Early ≡ date_of (get_or row t 0)
-dates_at row t l = get_or-map date_of row t 0 Early l
+dates_at : (row : List ℕ) (t : ℕ) → t < length row → get_or (map date_of_cell row) t Early ≡ date_of_cell (get_or row t 0)
+dates_at row t l = get_or-map date_of_cell row t 0 Early l
 
 -- so the window has the row behind the others
-pub window_has_next : (w : WindowCells) (new row : List ℕ) (next : ℕ) → IsWindow w → length row ≡ w.width → HaveRowAdded w.reach w.room w.at w.cells new row next
-    → HaveNext (window_rows w) (window_rows (record { width = w.width; reach = w.reach; room = w.room; at = next; number = w.number + 1; cells = new })) (map date_of row)
+pub window_has_next : (w : WindowCells) (new row : List ℕ) (next : ℕ) → AreLastColumns w → length row ≡ w.width → HaveRowAdded w.reach w.room w.at w.cells new row next
+    → HaveNext (window_rows w) (window_rows (record { width = w.width; reach = w.reach; room = w.room; at = next; number = w.number + 1; cells = new })) (map date_of_cell row)
 window_has_next w new row next h full added = record {
   width = refl;
   reach = refl;
   number = refl;
   there = omega (arith, h.kept, added.enough);
   kept = added.few;
-  last = λ t l o. let in' : t < length row = omega (arith, full) in rw (dates_at row t in') (ap date_of (added.last t in' o));
-  before = λ t b l o m. ap date_of (added.before t b (omega (arith, full)) o m);
+  last = λ t l o. let in' : t < length row = omega (arith, full) in rw (dates_at row t in') (ap date_of_cell (added.last t in' o));
+  before = λ t b l o m. ap date_of_cell (added.before t b (omega (arith, full)) o m);
 }

@@ -11,30 +11,31 @@ use Rattle.dioid.proofs.DateOrder.{at_most_refl, at_most_trans, same_by_at_most,
 use Rattle.teg_net.specs.declared.entries.Place.{Place}
 use Rattle.teg_net.specs.Nets.{NetLists, IsNet}
 use Rattle.teg_net.specs.Circuits.{no_place, place_at}
-use Rattle.teg_model.specs.Systems.{Dating, InitialDates, available_in, IsLeastIn}
+use Rattle.teg_model.specs.Systems.{available_in, IsLeastIn}
 use Rattle.teg_model.specs.Datings.{implicit_place, system_with}
 use Rattle.teg_model.proofs.LeastOver.{tight_in}
 use Rattle.teg_model.proofs.OfNet.{all_extended, extended_has, implicit_is, ranks_extended}
 use Rattle.teg_model.proofs.Tokens.{available_same}
 use Rattle.teg_check.specs.Ranks.{IsRanking}
-use Rattle.teg_dates.specs.declared.order.Turn.{Turn}
-use Rattle.teg_dates.specs.Order.{IsRankedPlace, IsOrder, turn_of, turn_at}
+use Rattle.teg_model.proofs.DateFunctions.{Dating, InitialDates}
+use Rattle.teg_dates.specs.declared.order.OrderedPlace.{OrderedPlace}
+use Rattle.teg_dates.specs.PlaceOrder.{IsRankedPlace, IsPlaceOrder, order_key, turn_at}
 use Rattle.teg_dates.specs.Passes.{seen_at, KeptRows, AreRowsBack, ReachesBack, HasBegun, IsRowOf}
 use Rattle.teg_dates.proofs.Ranking.{rank_of, ranks_of}
 use Rattle.teg_dates.proofs.Seeing.{seen_before, seen_here}
 
 -- the row when the pass has come to place i: its dates are not too late, and not before what the places so far need
-pub record FilledTo (net : NetLists) (init : InitialDates) (rel : Dating) (x : Dating) (k : ℕ) (order : List Turn) (row : List Date) (i : ℕ) : Type 0 where
+pub record FilledTo (net : NetLists) (init : InitialDates) (rel : Dating) (x : Dating) (k : ℕ) (order : List OrderedPlace) (row : List Date) (i : ℕ) : Type 0 where
   pub full : length row ≡ length net.transitions
   pub below : (t : ℕ) → t < length net.transitions → IsAtMostDate (get_or row t Early) (x t k)
   pub released : (t : ℕ) → t < length net.transitions → IsAtMostDate (rel t k) (get_or row t Early)
   pub own : (t : ℕ) → t < length net.transitions → IsAtMostDate (available_in init x (implicit_place t) k) (get_or row t Early)
-  pub done : (j : ℕ) (d : Turn) → j < length order → j < i
+  pub done : (j : ℕ) (d : OrderedPlace) → j < length order → j < i
       → IsAtMostDate (available_in init x (place_at net (get_or order j d).place) k) (get_or row (place_at net (get_or order j d).place).to.index Early)
 
 -- where each place that leads to t is done, the date at t is the least
 final :
-    (net : NetLists) (init : InitialDates) (rel : Dating) (ranks : List ℕ) (x : Dating) (k : ℕ) (order : List Turn) (row : List Date) (i : ℕ)
+    (net : NetLists) (init : InitialDates) (rel : Dating) (ranks : List ℕ) (x : Dating) (k : ℕ) (order : List OrderedPlace) (row : List Date) (i : ℕ)
     → IsNet net → IsRanking net ranks → IsLeastIn (system_with net init rel) x → 1 ≤ k → FilledTo net init rel x k order row i
     → (t : ℕ) → t < length net.transitions
     → ((q : ℕ) → q < length net.places → (get_or net.places q no_place).to.index ≡ t → IsAtMostDate (available_in init x (get_or net.places q no_place) k) (get_or row t Early))
@@ -49,31 +50,31 @@ final net init rel ranks x k order row i ok r h o s t l all =
     (s.released t l))
 
 -- a turn is at most the rank of the downstream transition, and just that where there is no token
-turn_most : (ranks : List ℕ) (p : Place) → turn_of ranks p ≤ get_or ranks p.to.index 0
+turn_most : (ranks : List ℕ) (p : Place) → order_key ranks p ≤ get_or ranks p.to.index 0
 turn_most ranks p =
     ⊎_elim
     (λ (z : p.tokens ≡ 0). rw z (omega arith))
     (λ (z : p.tokens ≢ 0). let test : nat_eq p.tokens 0 ≡ false = grind (arith, nat_tests) in rw test (omega arith))
     (cases_eq p.tokens 0)
 
-turn_free : (ranks : List ℕ) (p : Place) → p.tokens ≡ 0 → turn_of ranks p ≡ get_or ranks p.to.index 0
+turn_free : (ranks : List ℕ) (p : Place) → p.tokens ≡ 0 → order_key ranks p ≡ get_or ranks p.to.index 0
 turn_free ranks p z = rw z refl
 
 -- the places that lead to where a token-free place begins are done before it
 done_before :
-    (net : NetLists) (init : InitialDates) (rel : Dating) (ranks : List ℕ) (x : Dating) (k : ℕ) (order : List Turn) (row : List Date) (i : ℕ)
-    → IsOrder net ranks order → FilledTo net init rel x k order row i → (t : ℕ)
-    → (i < length order → (d : Turn) → get_or ranks t 0 < (get_or order i d).turn)
+    (net : NetLists) (init : InitialDates) (rel : Dating) (ranks : List ℕ) (x : Dating) (k : ℕ) (order : List OrderedPlace) (row : List Date) (i : ℕ)
+    → IsPlaceOrder net ranks order → FilledTo net init rel x k order row i → (t : ℕ)
+    → (i < length order → (d : OrderedPlace) → get_or ranks t 0 < (get_or order i d).turn)
     → (q : ℕ) → q < length net.places → (get_or net.places q no_place).to.index ≡ t
     → IsAtMostDate (available_in init x (get_or net.places q no_place) k) (get_or row t Early)
 done_before net init rel ranks x k order row i ord s t low q m e =
-    let o : Turn = turn_at net ranks q in
+    let o : OrderedPlace = turn_at net ranks q in
     let c : Contains order o = ord.all q m in
     let early : c.0 < i =
     ⊎_elim (λ (l : c.0 < i). l)
     (λ (l : i ≤ c.0).
     let up = ord.sorted i c.0 o l c.1 in
-    let turn_is : (get_or order c.0 o).turn ≡ turn_of ranks (get_or net.places q no_place) = ap (λ z. z.turn) c.2 in
+    let turn_is : (get_or order c.0 o).turn ≡ order_key ranks (get_or net.places q no_place) = ap (λ z. z.turn) c.2 in
     let most = turn_most ranks (get_or net.places q no_place) in
     let rank_is : get_or ranks (get_or net.places q no_place).to.index 0 ≡ get_or ranks t 0 = ap (λ z. get_or ranks z 0) e in
     let under = low (omega (arith, c.1)) o in
@@ -83,9 +84,9 @@ done_before net init rel ranks x k order row i ord s t low q m e =
 
 -- the date that a place takes is there when the pass comes to it
 pub source_is :
-    (net : NetLists) (init : InitialDates) (rel : Dating) (ranks : List ℕ) (x : Dating) (k : ℕ) (rows : KeptRows) (order : List Turn) (row : List Date) (i : ℕ) (p : Place)
-    → IsNet net → IsRanking net ranks → IsLeastIn (system_with net init rel) x → IsOrder net ranks order → 1 ≤ k → AreRowsBack net x k rows → FilledTo net init rel x k order row i
-    → p.from.index < length net.transitions → (p.tokens ≡ 0 → i < length order → (d : Turn) → get_or ranks p.from.index 0 < (get_or order i d).turn)
+    (net : NetLists) (init : InitialDates) (rel : Dating) (ranks : List ℕ) (x : Dating) (k : ℕ) (rows : KeptRows) (order : List OrderedPlace) (row : List Date) (i : ℕ) (p : Place)
+    → IsNet net → IsRanking net ranks → IsLeastIn (system_with net init rel) x → IsPlaceOrder net ranks order → 1 ≤ k → AreRowsBack net x k rows → FilledTo net init rel x k order row i
+    → p.from.index < length net.transitions → (p.tokens ≡ 0 → i < length order → (d : OrderedPlace) → get_or ranks p.from.index 0 < (get_or order i d).turn)
     → p.tokens < k → p.tokens ≤ rows.kept → seen_at rows.back row k p.from.index (k - p.tokens) ≡ x p.from.index (k - p.tokens)
 source_is net init rel ranks x k rows order row i p ok r h ord o past s from low l near =
     ⊎_elim
@@ -97,8 +98,8 @@ source_is net init rel ranks x k rows order row i p ok r h ord o past s from low
 
 -- the rank of where a token-free place begins is lower than that of the place
 pub lower_before :
-    (net : NetLists) (ranks : List ℕ) (order : List Turn) (i : ℕ) (e : Turn) → IsRanking net ranks → IsOrder net ranks order → i < length order
-    → (place_at net (get_or order i e).place).tokens ≡ 0 → i < length order → (d : Turn) → get_or ranks (place_at net (get_or order i e).place).from.index 0 < (get_or order i d).turn
+    (net : NetLists) (ranks : List ℕ) (order : List OrderedPlace) (i : ℕ) (e : OrderedPlace) → IsRanking net ranks → IsPlaceOrder net ranks order → i < length order
+    → (place_at net (get_or order i e).place).tokens ≡ 0 → i < length order → (d : OrderedPlace) → get_or ranks (place_at net (get_or order i e).place).from.index 0 < (get_or order i d).turn
 lower_before net ranks order i e r ord l z m d =
     let known : IsRankedPlace net ranks (get_or order i e) = ord.known i e l in
     let up = r.rises (get_or order i e).place.index no_place known.place.in_range z in
@@ -108,8 +109,8 @@ lower_before net ranks order i e r ord l z m d =
 
 -- one more place is done
 pub filled_more :
-    (net : NetLists) (init : InitialDates) (rel : Dating) (x : Dating) (k : ℕ) (order : List Turn) (row : List Date) (i : ℕ) (o : Turn) (to : ℕ) (date before : Date)
-    → IsLeastIn (system_with net init rel) x → 1 ≤ k → FilledTo net init rel x k order row i → i < length order → ((d : Turn) → get_or order i d ≡ o)
+    (net : NetLists) (init : InitialDates) (rel : Dating) (x : Dating) (k : ℕ) (order : List OrderedPlace) (row : List Date) (i : ℕ) (o : OrderedPlace) (to : ℕ) (date before : Date)
+    → IsLeastIn (system_with net init rel) x → 1 ≤ k → FilledTo net init rel x k order row i → i < length order → ((d : OrderedPlace) → get_or order i d ≡ o)
     → (place_at net o.place).to.index ≡ to → to < length net.transitions → o.place.index < length net.places
     → date ≡ available_in init x (place_at net o.place) k → before ≡ get_or row to Early
     → FilledTo net init rel x k order (set row to (later_of before date)) (i + 1)
@@ -143,7 +144,7 @@ filled_more net init rel x k order row i o to date before h one s in' at to_is t
 
 -- how the pass begins
 pub filled_begins :
-    (net : NetLists) (init : InitialDates) (rel : Dating) (x : Dating) (k : ℕ) (rows : KeptRows) (order : List Turn) (row : List Date)
+    (net : NetLists) (init : InitialDates) (rel : Dating) (x : Dating) (k : ℕ) (rows : KeptRows) (order : List OrderedPlace) (row : List Date)
     → IsLeastIn (system_with net init rel) x → 1 ≤ k → ReachesBack net k rows → AreRowsBack net x k rows → HasBegun net (system_with net init rel) rows.back k row
     → FilledTo net init rel x k order row 0
 filled_begins net init rel x k rows order row h o reach past s =
@@ -164,8 +165,8 @@ filled_begins net init rel x k rows order row h o reach past s =
 
 -- after the pass the row is that of number k
 pub filled_is :
-    (net : NetLists) (init : InitialDates) (rel : Dating) (ranks : List ℕ) (x : Dating) (k : ℕ) (order : List Turn) (row : List Date)
-    → IsNet net → IsRanking net ranks → IsLeastIn (system_with net init rel) x → IsOrder net ranks order → 1 ≤ k → FilledTo net init rel x k order row (length order)
+    (net : NetLists) (init : InitialDates) (rel : Dating) (ranks : List ℕ) (x : Dating) (k : ℕ) (order : List OrderedPlace) (row : List Date)
+    → IsNet net → IsRanking net ranks → IsLeastIn (system_with net init rel) x → IsPlaceOrder net ranks order → 1 ≤ k → FilledTo net init rel x k order row (length order)
     → IsRowOf net x k row
 filled_is net init rel ranks x k order row ok r h ord o s = record {
   full = s.full;

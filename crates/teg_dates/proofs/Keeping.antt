@@ -5,13 +5,14 @@ use Rattle.std.proofs.lemmas.List.{get_or_append_left, get_or-append_right}
 use Rattle.dioid.specs.declared.dates.Date.{Date}
 use Rattle.dioid.specs.declared.dates.Date.TheVariants.{Early}
 use Rattle.teg_net.specs.Nets.{NetLists}
-use Rattle.teg_model.specs.Systems.{Dating}
 use Rattle.teg_dates.specs.Passes.{KeptRows, HaveNext, AreRowsBack, IsRowOf}
-use Rattle.teg_model.specs.Datings.{listed}
+use Rattle.teg_model.specs.Datings.{listed_releases}
 use Rattle.teg_model.proofs.OfNet.{least_of_system}
-use Rattle.teg_dates.specs.declared.order.Turn.{Turn}
-use Rattle.teg_dates.specs.Streams.{GoesOn, IsLeastRow, LastDates, AreLastDates, rows_kept, date_back, last_rows, with_row}
+use Rattle.teg_model.proofs.DateFunctions.{Dating}
+use Rattle.teg_dates.specs.declared.order.OrderedPlace.{OrderedPlace}
+use Rattle.teg_dates.specs.Streams.{CanMakeNextRow, IsLeastRow, LastDates, AreLastDates, rows_kept, date_back, last_rows}
 use Rattle.teg_dates.proofs.Cells.{rows_below, rows_more, rows_of_more}
+use Rattle.teg_dates.proofs.MoreRows.{with_row}
 
 -- the dates are those of as many rows as are kept
 pub full_with_row : (last : LastDates) (row : List Date) → AreLastDates last → length row ≡ last.width → length (with_row last row).dates ≡ rows_kept (with_row last row) * last.width
@@ -87,7 +88,7 @@ rows_with_row net x old new row k h w past is = record {
 }
 
 -- so where a row of the least dating is made of what is kept, and kept, the next can be made
-pub next_goes_on : (net : NetLists) (turns : List Turn) (old new : KeptRows) (row : List Date) → GoesOn net turns old → HaveNext old new row → IsLeastRow net (old.number + 1) row → GoesOn net turns new
+pub next_goes_on : (net : NetLists) (turns : List OrderedPlace) (old new : KeptRows) (row : List Date) → CanMakeNextRow net turns old → HaveNext old new row → IsLeastRow net (old.number + 1) row → CanMakeNextRow net turns new
 next_goes_on net turns old new row h next is = record {
   rules = h.rules;
   order = h.order;
@@ -98,5 +99,5 @@ next_goes_on net turns old new row h next is = record {
   there = next.there;
   least = λ x least.
       subst (λ n. AreRowsBack net x (n + 1) new) (sym next.number)
-      (rows_with_row net x old new row (old.number + 1) next h.width (h.least x least) (is.same x (least_of_system net (listed net) x least)));
+      (rows_with_row net x old new row (old.number + 1) next h.width (h.least x least) (is.same x (least_of_system net (listed_releases net) x least)));
 }

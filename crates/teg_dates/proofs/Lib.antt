@@ -1,3 +1,4 @@
+pub mod MoreRows
 mod Sorting
 pub mod Ranking
 pub mod Cells

@@ -3,7 +3,7 @@ use Rattle.std.proofs.Common.{ℕ, ◌<◌, ◌≤◌, List, length, get_or, ari
 use Rattle.std.proofs.lemmas.Bool.{cases_lt}
 use Rattle.std.proofs.lemmas.List.{get_or_past}
 use Rattle.teg_net.specs.Nets.{NetLists, IsNet}
-use Rattle.teg_model.specs.Ranks.{AreRanks}
+use Rattle.teg_model.specs.LiveRanks.{AreRanks}
 use Rattle.teg_check.specs.Ranks.{IsRanking}
 
 abbrev pub rank_of : List ℕ → ℕ → ℕ

@@ -3,30 +3,30 @@ use Rattle.std.proofs.Common.{ℕ, ◌+◌, ◌-◌, ◌<◌, ◌≤◌, ◌≡�
 use Rattle.std.proofs.lemmas.List.{append-nil, append_assoc, get_or-map, map-append, length-map, get_or_append_left, get_or-append_right, take_more}
 use Rattle.dioid.specs.declared.dates.Date.{Date}
 use Rattle.dioid.specs.declared.dates.Date.TheVariants.{Early}
-use Rattle.teg_dates.specs.DateCells.{short_date}
+use Rattle.teg_dates.specs.DateCells.{date_of_early_cell}
 
 -- one short date more, where there are no others
-pub short_more : (short : List ℕ) (rest : List Date) (cell : ℕ) (date : Date) → rest ≡ [] → short_date cell ≡ date
-    → map short_date (short ++ cell ∷ []) ++ rest ≡ (map short_date short ++ rest) ++ date ∷ []
+pub short_more : (short : List ℕ) (rest : List Date) (cell : ℕ) (date : Date) → rest ≡ [] → date_of_early_cell cell ≡ date
+    → map date_of_early_cell (short ++ cell ∷ []) ++ rest ≡ (map date_of_early_cell short ++ rest) ++ date ∷ []
 short_more short rest cell date e is =
-    let all : map short_date (short ++ cell ∷ []) ++ [] ≡ map short_date short ++ short_date cell ∷ [] = append-nil (map short_date (short ++ cell ∷ [])) ∙ map-append short_date short (cell ∷ []) in
-    let none : map short_date short ++ [] ≡ map short_date short = append-nil (map short_date short) in
-    rw e (all ∙ (ap (λ d. map short_date short ++ d ∷ []) is ∙ ap (λ ds. ds ++ date ∷ []) (sym none)))
+    let all : map date_of_early_cell (short ++ cell ∷ []) ++ [] ≡ map date_of_early_cell short ++ date_of_early_cell cell ∷ [] = append-nil (map date_of_early_cell (short ++ cell ∷ [])) ∙ map-append date_of_early_cell short (cell ∷ []) in
+    let none : map date_of_early_cell short ++ [] ≡ map date_of_early_cell short = append-nil (map date_of_early_cell short) in
+    rw e (all ∙ (ap (λ d. map date_of_early_cell short ++ d ∷ []) is ∙ ap (λ ds. ds ++ date ∷ []) (sym none)))
 
 -- one date more behind the rest
-pub rest_more : (short : List ℕ) (rest : List Date) (date : Date) → map short_date short ++ (rest ++ date ∷ []) ≡ (map short_date short ++ rest) ++ date ∷ []
-rest_more short rest date = sym (append_assoc (map short_date short) rest (date ∷ []))
+pub rest_more : (short : List ℕ) (rest : List Date) (date : Date) → map date_of_early_cell short ++ (rest ++ date ∷ []) ≡ (map date_of_early_cell short ++ rest) ++ date ∷ []
+rest_more short rest date = sym (append_assoc (map date_of_early_cell short) rest (date ∷ []))
 
 -- where each stands
-pub short_at : (short : List ℕ) (rest : List Date) (i d : ℕ) → i < length short → short_date (get_or short i d) ≡ get_or (map short_date short ++ rest) i Early
+pub short_at : (short : List ℕ) (rest : List Date) (i d : ℕ) → i < length short → date_of_early_cell (get_or short i d) ≡ get_or (map date_of_early_cell short ++ rest) i Early
 short_at short rest i d l =
-    let in' : i < length (map short_date short) = omega (arith, length-map short short_date) in
-    sym (get_or_append_left (map short_date short) rest Early i in' ∙ get_or-map short_date short i d Early l)
+    let in' : i < length (map date_of_early_cell short) = omega (arith, length-map short date_of_early_cell) in
+    sym (get_or_append_left (map date_of_early_cell short) rest Early i in' ∙ get_or-map date_of_early_cell short i d Early l)
 
-pub rest_at : (short : List ℕ) (rest : List Date) (i : ℕ) → length short ≤ i → get_or rest (i - length short) Early ≡ get_or (map short_date short ++ rest) i Early
+pub rest_at : (short : List ℕ) (rest : List Date) (i : ℕ) → length short ≤ i → get_or rest (i - length short) Early ≡ get_or (map date_of_early_cell short ++ rest) i Early
 rest_at short rest i l =
-    let long = length-map short short_date in
-    sym (get_or-append_right (map short_date short) rest (length short) i Early long l)
+    let long = length-map short date_of_early_cell in
+    sym (get_or-append_right (map date_of_early_cell short) rest (length short) i Early long l)
 
 -- one date more of those that come behind the others
 pub extended_more : (old now dates : List Date) (i : ℕ) (d : Date) → i < length dates → now ≡ old ++ take i dates → now ++ get_or dates i d ∷ [] ≡ old ++ take (i + 1) dates

@@ -1,8 +1,8 @@
-pub mod Tables
+pub mod DateTables
 pub mod DateCells
-pub mod Windows
-pub mod Order
-pub mod Rows
+pub mod LastColumns
+pub mod PlaceOrder
+pub mod KeptRows
 pub mod Sources
 pub mod Passes
 pub mod Streams

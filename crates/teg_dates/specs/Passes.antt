@@ -6,7 +6,7 @@ use Rattle.dioid.specs.Dates.{later_of}
 use Rattle.teg_net.specs.declared.entries.Place.{Place}
 use Rattle.teg_net.specs.Nets.{NetLists}
 use Rattle.teg_model.specs.Systems.{System, available_in, IsLeastIn}
-use Rattle.teg_model.specs.Bounds.{IsWithin}
+use Rattle.teg_model.specs.DateBounds.{IsDateWithin}
 use Rattle.teg_model.specs.Datings.{implicit_place}
 
 -- the dates that a pass sees at number k: those of earlier numbers by how many rows back they stand, and those of number k in its row
@@ -53,7 +53,7 @@ pub record HasBegun (net : NetLists) (s : System) (back : ℕ → ℕ → Date) 
 
 -- where an earlier firing gives the token that the place has for number k, the date of that firing is at most so much
 abbrev pub IsSourceWithin : ℕ → (ℕ → ℕ → Date) → List Date → ℕ → Place → Type 0
-IsSourceWithin most back row k p = p.tokens < k → IsWithin most (seen_at back row k p.from.index (k - p.tokens))
+IsSourceWithin most back row k p = p.tokens < k → IsDateWithin most (seen_at back row k p.from.index (k - p.tokens))
 
 -- the dates that x gives to number k of each transition
 pub record IsRowOf (net : NetLists) (x : ℕ → ℕ → Date) (k : ℕ) (row : List Date) : Type 0 where

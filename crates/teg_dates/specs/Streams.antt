@@ -1,15 +1,14 @@
 -- Rows of the least dating of a net, one after another, of which only the last are kept.
-use Rattle.std.specs.Prelude.{ℕ, ◌+◌, ◌-◌, ◌*◌, ◌++◌, ◌≤◌, ◌≡◌, List, length, min, All, slice_index_or}
-use Rattle.circular_buffer.specs.Buffer.{keep_last}
+use Rattle.std.specs.Prelude.{ℕ, ◌+◌, ◌-◌, ◌*◌, ◌≤◌, ◌≡◌, List, length, min, All, slice_index_or}
 use Rattle.dioid.specs.declared.dates.Date.{Date}
 use Rattle.dioid.specs.declared.dates.Date.TheVariants.{Early}
 use Rattle.teg_net.specs.Nets.{NetLists, IsNet}
-use Rattle.teg_net.specs.Limits.{most_transitions, most_tokens, greatest_number}
-use Rattle.teg_model.specs.Datings.{IsLeastDating, listed, system_of}
-use Rattle.teg_dates.specs.declared.order.Turn.{Turn}
-use Rattle.teg_dates.specs.Order.{OrdersPlaces}
+use Rattle.teg_net.specs.Limits.{most_transitions, most_place_tokens, greatest_firing_number}
+use Rattle.teg_model.specs.Datings.{IsLeastDating, listed_releases, system_of}
+use Rattle.teg_dates.specs.declared.order.OrderedPlace.{OrderedPlace}
+use Rattle.teg_dates.specs.PlaceOrder.{OrdersPlaces}
 use Rattle.teg_dates.specs.Passes.{KeptRows, AreLeastRowsBack, IsRowOf}
-use Rattle.teg_dates.specs.Windows.{WindowCells, window_rows}
+use Rattle.teg_dates.specs.LastColumns.{WindowCells, window_rows}
 
 -- how many transitions there are, how many rows are kept, how many were given, and the dates of the last of these
 pub record LastDates : Type 0 where
@@ -17,10 +16,6 @@ pub record LastDates : Type 0 where
   pub reach : ℕ
   pub number : ℕ
   pub dates : List Date
-
--- with one row more: where the room is full, the first row goes
-abbrev pub with_row : LastDates → List Date → LastDates
-with_row last row = record { width = last.width; reach = last.reach; number = last.number + 1; dates = keep_last (last.reach * last.width) (last.dates ++ row) }
 
 -- how many rows are there
 abbrev pub rows_kept : LastDates → ℕ
@@ -37,12 +32,12 @@ last_rows last = record { width = last.width; reach = last.reach; number = last.
 -- there is a date for each transition and row, within the limits
 pub record AreLastDates (last : LastDates) : Type 0 where
   pub width_in : last.width ≤ most_transitions
-  pub reach_in : last.reach ≤ most_tokens
-  pub number_in : last.number ≤ greatest_number
+  pub reach_in : last.reach ≤ most_place_tokens
+  pub number_in : last.number ≤ greatest_firing_number
   pub full : length last.dates ≡ rows_kept last * last.width
 
 -- the places in this order and the rows that are kept stand for the net, which keeps its rules: the next row of its least dating can be made of them; the reach is the greatest number of tokens of a place, and at least 1
-pub record GoesOn (net : NetLists) (turns : List Turn) (rows : KeptRows) : Type 0 where
+pub record CanMakeNextRow (net : NetLists) (turns : List OrderedPlace) (rows : KeptRows) : Type 0 where
   pub rules : IsNet net
   pub order : OrdersPlaces net turns
   pub width : rows.width ≡ length net.transitions
@@ -50,11 +45,11 @@ pub record GoesOn (net : NetLists) (turns : List Turn) (rows : KeptRows) : Type 
   pub reach : All (λ p. p.tokens ≤ rows.reach) net.places
   pub few : (n : ℕ) → 1 ≤ n → All (λ p. p.tokens ≤ n) net.places → rows.reach ≤ n
   pub there : min rows.number rows.reach ≤ rows.kept
-  pub least : AreLeastRowsBack net (system_of net (listed net)) (rows.number + 1) rows
+  pub least : AreLeastRowsBack net (system_of net (listed_releases net)) (rows.number + 1) rows
 
 -- the places in the order of their turns, and the last rows
 pub record StreamLists : Type 0 where
-  pub order : List Turn
+  pub order : List OrderedPlace
   pub last : LastDates
 
 -- how many rows the stream has given
@@ -63,11 +58,11 @@ rows_given stream = stream.last.number
 
 -- the stream stands for the net
 abbrev pub IsStreamOf : NetLists → StreamLists → Type 0
-IsStreamOf net stream = GoesOn net stream.order (last_rows stream.last)
+IsStreamOf net stream = CanMakeNextRow net stream.order (last_rows stream.last)
 
 -- the same with the last rows in a window
 pub record FirstLists : Type 0 where
-  pub order : List Turn
+  pub order : List OrderedPlace
   pub window : WindowCells
 
 -- how many of them were given
@@ -76,7 +71,7 @@ first_rows_given rows = rows.window.number
 
 -- these rows stand for the net
 abbrev pub AreFirstRowsOf : NetLists → FirstLists → Type 0
-AreFirstRowsOf net rows = GoesOn net rows.order (window_rows rows.window)
+AreFirstRowsOf net rows = CanMakeNextRow net rows.order (window_rows rows.window)
 
 -- the net has a least dating
 abbrev pub HasLeast : NetLists → Type 0

@@ -2,7 +2,7 @@
 ghost use Rattle.std.specs.Prelude.{◌≡◌, ◌≤◌};
 ghost use Rattle.dioid.specs.declared.dates.Date.TheVariants.{Early};
 ghost use Rattle.dioid.specs.Dates.{delayed, later_of};
-ghost use Rattle.teg_model.specs.Bounds.{IsWithin};
+ghost use Rattle.teg_model.specs.DateBounds.{IsDateWithin};
 ghost use Rattle.teg_net.specs.Limits.{greatest_hold};
 
 use dioid::Date;
@@ -25,7 +25,7 @@ pub trait DateCell: Copy {
     /// The cell of a date.
     fn of(date: Date) -> Self
         requires early { date ≡ Early → early }
-        requires within { IsWithin most date }
+        requires within { IsDateWithin most date }
         ensures { held result ≡ date };
 
     /// The date of the cell.
@@ -38,7 +38,7 @@ pub trait DateCell: Copy {
 
     /// The cell so many units later.
     fn delayed(self, hold: u64) -> Self
-        requires within { IsWithin most (held self) }
+        requires within { IsDateWithin most (held self) }
         requires hold { hold ≤ greatest_hold }
         ensures { held result ≡ delayed hold (held self) };
 }
@@ -76,9 +76,9 @@ impl DateCell for Date {
 /// A number from 0 on in eight bytes, of which the greatest stands for `Never`.
 impl DateCell for u64 {
     ghost use Rattle.std.specs.Prelude.{◌^◌};
-    ghost use Rattle.teg_dates.specs.DateCells.{date_of};
+    ghost use Rattle.teg_dates.specs.DateCells.{date_of_cell};
 
-    ghost held = { date_of };
+    ghost held = { date_of_cell };
 
     ghost early = { ⊥ };
 
@@ -110,7 +110,7 @@ impl DateCell for u64 {
 
 // The later of a cell and a date.
 pub(crate) fn later_date<C: DateCell>(cell: C, date: Date) -> C
-    requires { IsWithin C.most date }
+    requires { IsDateWithin C.most date }
     ensures { C.held result ≡ later_of (C.held cell) date }
 {
     match date {

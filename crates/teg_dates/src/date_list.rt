@@ -1,7 +1,7 @@
 //! Dates one after another, in eight bytes each as long as they fit.
 ghost use Rattle.std.specs.Prelude.{◌≡◌, ◌<◌, ◌++◌, ◌∷◌, [], length, slice_index_or, IfOk, IfSome};
 ghost use Rattle.dioid.specs.declared.dates.Date.TheVariants.{Early};
-ghost use Rattle.teg_dates.specs.DateCells.{short_date};
+ghost use Rattle.teg_dates.specs.DateCells.{date_of_early_cell};
 
 use dioid::Date;
 use std::alloc::{AllocError, Global};
@@ -15,7 +15,7 @@ const EARLY: u64 = u64::MAX - 1;
 
 // The date in eight bytes, if it fits.
 fn shortened(date: Date) -> Option<u64>
-    ensures { IfSome result (λ cell. short_date cell ≡ date) }
+    ensures { IfSome result (λ cell. date_of_early_cell cell ≡ date) }
 {
     match date {
         Date::Early => Some(EARLY),
@@ -31,7 +31,7 @@ fn shortened(date: Date) -> Option<u64>
 
 // The date that a number of eight bytes stands for.
 fn long_date(cell: u64) -> Date
-    ensures { result ≡ short_date cell }
+    ensures { result ≡ date_of_early_cell cell }
 {
     if cell == NEVER {
         Date::Never
@@ -45,27 +45,27 @@ fn long_date(cell: u64) -> Date
 // Dates one after another: in eight bytes each, and from the first that does not fit on as they are.
 // Contracts see the list of them.
 #[derive(Debug, Drop)]
-pub(crate) struct DateList {
+pub(crate) struct PackedDates {
     short: Vec<u64>,
     rest: Vec<Date>,
 }
 
-impl Model for DateList {
+impl Model for PackedDates {
     ghost use Rattle.std.specs.Prelude.{List, map, ◌++◌};
     ghost use Rattle.dioid.specs.declared.dates.Date.{Date};
-    ghost use Rattle.teg_dates.specs.DateCells.{short_date};
+    ghost use Rattle.teg_dates.specs.DateCells.{date_of_early_cell};
 
     ghost Value = { List Date };
 
-    ghost view = { λ a. map short_date a.short.items ++ a.rest.items };
+    ghost view = { λ a. map date_of_early_cell a.short.items ++ a.rest.items };
 }
 
-impl DateList {
+impl PackedDates {
     // No dates.
-    pub(crate) fn new(alloc: Global) -> DateList
+    pub(crate) fn new(alloc: Global) -> PackedDates
         ensures { result ≡ [] }
     {
-        DateList {
+        PackedDates {
             short: Vec::new(alloc),
             rest: Vec::new(alloc),
         }

@@ -1,7 +1,7 @@
 //! The dates of the first firings.
 ghost use Rattle.std.specs.Prelude.{◌≡◌, ◌≤◌, length, IfOk};
 ghost use Rattle.teg_check.specs.Ranks.{IsRanking};
-ghost use Rattle.teg_dates.specs.Tables.{most_numbers, HasLeastDates, HasDatesOfWalks};
+ghost use Rattle.teg_dates.specs.DateTables.{most_numbers, HasLeastDates, HasDatesOfWalks};
 
 use crate::order::PlaceOrder;
 use crate::rows::Rows;

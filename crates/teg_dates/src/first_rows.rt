@@ -1,9 +1,9 @@
 //! The rows of the first numbers, one after another, in memory that does not grow.
 ghost use Rattle.std.specs.Prelude.{◌≡◌, ◌+◌, ◌<◌, ◌≤◌, length, map, IfOk};
-ghost use Rattle.teg_net.specs.Limits.{greatest_number};
+ghost use Rattle.teg_net.specs.Limits.{greatest_firing_number};
 ghost use Rattle.teg_check.specs.Ranks.{IsRanking};
-ghost use Rattle.teg_dates.specs.DateCells.{date_of};
-ghost use Rattle.teg_dates.specs.Tables.{most_numbers};
+ghost use Rattle.teg_dates.specs.DateCells.{date_of_cell};
+ghost use Rattle.teg_dates.specs.DateTables.{most_numbers};
 ghost use Rattle.teg_dates.specs.Streams.{AreFirstRowsOf, HasLeast, IsLeastRow, first_rows_given};
 
 use crate::next::{most_tokens_of, next_row};
@@ -51,7 +51,7 @@ impl FirstRows {
     /// How many rows were given so far. It takes no memory.
     pub fn number(&self) -> u64
         ensures value { result ≡ first_rows_given self.now }
-        ensures few { result ≤ greatest_number }
+        ensures few { result ≤ greatest_firing_number }
     {
         self.window.number()
     }
@@ -65,7 +65,8 @@ impl FirstRows {
         requires stands { AreFirstRowsOf net.now self.old }
         requires few { first_rows_given self.old < most_numbers }
         requires full { length row.old ≡ length net.now.transitions }
-        ensures row { IsLeastRow net.now (first_rows_given self.old + 1) (map date_of row.new) }
+        ensures row { IsLeastRow net.now (first_rows_given self.old + 1) (map date_of_cell
+            row.new) }
         ensures number { first_rows_given self.new ≡ first_rows_given self.old + 1 }
         ensures stands { AreFirstRowsOf net.now self.new }
     {

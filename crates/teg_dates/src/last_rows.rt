@@ -1,6 +1,6 @@
 //! The last rows of dates, in a ring.
 ghost use Rattle.std.specs.Prelude.{◌≡◌, ◌<◌, ◌≤◌, [], length, IfOk};
-ghost use Rattle.teg_net.specs.Limits.{most_transitions, most_tokens, greatest_number};
+ghost use Rattle.teg_net.specs.Limits.{most_transitions, most_place_tokens, greatest_firing_number};
 
 use crate::past::Past;
 use circular_buffer::HeapCircularBuffer;
@@ -36,7 +36,7 @@ impl LastRows {
     // No rows, and room for as many as `reach`.
     pub(crate) fn new(alloc: Global, width: usize, reach: u64) -> Result<LastRows, AllocError>
         requires width { width ≤ most_transitions }
-        requires reach { reach ≤ most_tokens }
+        requires reach { reach ≤ most_place_tokens }
         ensures { IfOk result (λ last. last ≡ record { width = width; reach = reach; number = 0; dates = [] }) }
     {
         let cells = HeapCircularBuffer::with_capacity(alloc, reach as usize * width)?;
@@ -51,14 +51,14 @@ impl LastRows {
     // How many rows were given. It takes no memory.
     pub(crate) fn number(&self) -> u64
         ensures value { result ≡ self.now.number }
-        ensures few { result ≤ greatest_number }
+        ensures few { result ≤ greatest_firing_number }
     {
         self.number
     }
 
     // Adds a row behind the others. Where the room is full, the first row goes. It takes no memory.
     pub(crate) fn push(&mut self, row: &[Date])
-        requires few { self.old.number < greatest_number }
+        requires few { self.old.number < greatest_firing_number }
         requires full { length row.now ≡ self.old.width }
         ensures { HaveNext (last_rows self.old) (last_rows self.new) row.now }
     {

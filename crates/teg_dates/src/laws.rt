@@ -1,6 +1,6 @@
 //! The law of the rows of a net. It is a function that does nothing when it runs: its contract is the
 //! law.
-ghost use Rattle.teg_dates.specs.Rows.{NetsKeepBounds};
+ghost use Rattle.teg_dates.specs.KeptRows.{NetsKeepBounds};
 
 /// The ready dates and the input lists of each net keep the bounds that
 /// [`Rows::with_next`](crate::Rows::with_next) asks of a source: so rows can be made by

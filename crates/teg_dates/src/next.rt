@@ -1,12 +1,12 @@
 //! The next row of the least dating of a net, by the rows that are kept.
 ghost use Rattle.std.specs.Prelude.{ℕ, ◌≡◌, ◌+◌, ◌≤◌, length, map, All};
-ghost use Rattle.teg_net.specs.Limits.{most_tokens, greatest_number};
-ghost use Rattle.teg_model.specs.Datings.{listed, system_of};
-ghost use Rattle.teg_dates.specs.Rows.{StaysWithin};
-ghost use Rattle.teg_dates.specs.Streams.{GoesOn, IsLeastRow};
+ghost use Rattle.teg_net.specs.Limits.{most_place_tokens, greatest_firing_number};
+ghost use Rattle.teg_model.specs.Datings.{listed_releases, system_of};
+ghost use Rattle.teg_dates.specs.KeptRows.{StaysWithin};
+ghost use Rattle.teg_dates.specs.Streams.{CanMakeNextRow, IsLeastRow};
 
 use crate::date_cell::DateCell;
-use crate::order::Turn;
+use crate::order::OrderedPlace;
 use crate::passes::fill_row;
 use crate::past::Past;
 use crate::sources::NetInputs;
@@ -16,7 +16,7 @@ use teg_net::Net;
 // The greatest number of tokens of a place, and at least 1.
 pub(crate) fn most_tokens_of(net: &Net) -> u32
     ensures one { 1 ≤ result }
-    ensures most { result ≤ most_tokens }
+    ensures most { result ≤ most_place_tokens }
     ensures all { All (λ p. p.tokens ≤ result) net.now.places }
     ensures few { (n : ℕ) → 1 ≤ n → All (λ p. p.tokens ≤ n) net.now.places → result ≤ n }
 {
@@ -30,15 +30,15 @@ pub(crate) fn most_tokens_of(net: &Net) -> u32
 // Writes the next row of the net's least dating, of number `number`. It takes no memory.
 pub(crate) fn next_row<C: DateCell, P: Past<C>>(
     net: &Net,
-    order: &[Turn],
+    order: &[OrderedPlace],
     past: &P,
     row: &mut [C],
     number: u64,
 )
-    requires stands { GoesOn net.now order.now (P.rows past.now) }
+    requires stands { CanMakeNextRow net.now order.now (P.rows past.now) }
     requires next { number ≡ (P.rows past.now).number + 1 }
-    requires few { number ≤ greatest_number }
-    requires bounded { StaysWithin C.most number (system_of net.now (listed net.now)) }
+    requires few { number ≤ greatest_firing_number }
+    requires bounded { StaysWithin C.most number (system_of net.now (listed_releases net.now)) }
     requires full { length row.old ≡ length net.now.transitions }
     ensures row { IsLeastRow net.now number (map C.held row.new) }
     ensures full { length row.new ≡ length net.now.transitions }

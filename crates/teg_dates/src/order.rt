@@ -1,7 +1,7 @@
 //! The places in the order in which one pass over them settles a number.
 ghost use Rattle.std.specs.Prelude.{◌≡◌, ◌<◌, length, IfOk};
 ghost use Rattle.teg_check.specs.Ranks.{IsRanking};
-ghost use Rattle.teg_dates.specs.Order.{IsOrder, OrdersPlaces, turn_of};
+ghost use Rattle.teg_dates.specs.PlaceOrder.{IsPlaceOrder, OrdersPlaces, order_key};
 
 use std::alloc::{AllocError, Global};
 use std::marker::Model;
@@ -11,7 +11,7 @@ use teg_net::{Net, OutOfMemory, Place, PlaceId, TransitionId};
 // What a pass reads of a place, and when the place has its turn. A pass goes over thousands of these
 // for each number, so they are small.
 #[derive(Clone, Copy, Debug, Drop)]
-pub(crate) struct Turn {
+pub(crate) struct OrderedPlace {
     pub(crate) turn: u32,
     pub(crate) place: PlaceId,
     pub(crate) from: TransitionId,
@@ -25,14 +25,14 @@ pub(crate) struct Turn {
 /// a list; it stands for each net of which it orders all places (`OrdersPlaces`).
 #[derive(Debug, Drop)]
 pub struct PlaceOrder {
-    turns: Vec<Turn>,
+    turns: Vec<OrderedPlace>,
 }
 
 impl Model for PlaceOrder {
     ghost use Rattle.std.specs.Prelude.{List};
-    ghost use Rattle.teg_dates.specs.declared.order.Turn.{Turn};
+    ghost use Rattle.teg_dates.specs.declared.order.OrderedPlace.{OrderedPlace};
 
-    ghost Value = { List Turn };
+    ghost Value = { List OrderedPlace };
 
     ghost view = { λ a. a.turns.items };
 }
@@ -49,7 +49,7 @@ impl PlaceOrder {
     }
 
     // The places with their turns.
-    pub(crate) fn turns(&self) -> &[Turn]
+    pub(crate) fn turns(&self) -> &[OrderedPlace]
         ensures { result.now ≡ self.now }
     {
         &self.turns
@@ -59,7 +59,7 @@ impl PlaceOrder {
 // When the turn of a place comes.
 fn turn_of(live: &Live, place: &Place) -> u32
     requires { place.now.to.index < length live.now }
-    ensures { result ≡ turn_of live.now place.now }
+    ensures { result ≡ order_key live.now place.now }
 {
     if place.tokens == 0 {
         live.rank(place.to)
@@ -69,13 +69,13 @@ fn turn_of(live: &Live, place: &Place) -> u32
 }
 
 // The places in the order of their turns.
-fn by_turn(alloc: Global, net: &Net, live: &Live) -> Result<Vec<Turn>, AllocError>
+fn by_turn(alloc: Global, net: &Net, live: &Live) -> Result<Vec<OrderedPlace>, AllocError>
     requires { IsRanking net.now live.now }
-    ensures { IfOk result (λ order. IsOrder net.now live.now order.items) }
+    ensures { IfOk result (λ order. IsPlaceOrder net.now live.now order.items) }
 {
     let mut order = Vec::new(alloc);
     for (index, place) in net.places().iter().enumerate() {
-        order.push(Turn {
+        order.push(OrderedPlace {
             turn: turn_of(live, place),
             place: PlaceId {
                 index: index as u32,

@@ -6,16 +6,16 @@ ghost use Rattle.dioid.specs.declared.dates.Date.TheVariants.{Early};
 ghost use Rattle.dioid.specs.Dates.{later_of};
 ghost use Rattle.teg_net.specs.Circuits.{place_at};
 ghost use Rattle.teg_net.specs.Nets.{IsNet};
-ghost use Rattle.teg_net.specs.Limits.{greatest_number};
+ghost use Rattle.teg_net.specs.Limits.{greatest_firing_number};
 ghost use Rattle.teg_model.specs.Systems.{available_in};
 ghost use Rattle.teg_model.specs.Datings.{implicit_place};
-ghost use Rattle.teg_dates.specs.Order.{IsTurnOf, OrdersPlaces};
+ghost use Rattle.teg_dates.specs.PlaceOrder.{IsOrderedPlaceOf, OrdersPlaces};
 ghost use Rattle.teg_dates.specs.Sources.{system_by};
-ghost use Rattle.teg_dates.specs.Rows.{StaysWithin, HasLeastDating};
+ghost use Rattle.teg_dates.specs.KeptRows.{StaysWithin, HasLeastDating};
 ghost use Rattle.teg_dates.specs.Passes.{seen_at, ReachesBack, AreLeastRowsBack, HasBegun, IsSourceWithin, IsRowOfLeast};
 
 use crate::date_cell::{DateCell, later_date};
-use crate::order::Turn;
+use crate::order::OrderedPlace;
 use crate::past::Past;
 use crate::sources::Source;
 use teg_net::{Net, TransitionId};
@@ -25,16 +25,16 @@ use teg_net::{Net, TransitionId};
 fn raised<C: DateCell, P: Past<C>, S: Source>(
     net: &Net,
     source: &S,
-    place: Turn,
+    place: OrderedPlace,
     past: &P,
     row: &[C],
     number: u64,
 ) -> C
     requires rules { IsNet net.now }
-    requires place { IsTurnOf net.now place }
+    requires place { IsOrderedPlaceOf net.now place }
     requires bounded { StaysWithin C.most number (system_by S.Source source.now net.now) }
     requires number { 1 ≤ number }
-    requires few { number ≤ greatest_number }
+    requires few { number ≤ greatest_firing_number }
     requires full { length row.now ≡ length net.now.transitions }
     requires reach { ReachesBack net.now number (P.rows past.now) }
     requires within { IsSourceWithin C.most (P.rows past.now).back (map C.held row.now) number
@@ -88,7 +88,7 @@ fn begin_row<C: DateCell, P: Past<C>, S: Source>(
     requires early { (t : ℕ) → S.initial source.now (implicit_place t) 1 ≡ Early → C.early }
     requires bounded { StaysWithin C.most number (system_by S.Source source.now net.now) }
     requires number { 1 ≤ number }
-    requires few { number ≤ greatest_number }
+    requires few { number ≤ greatest_firing_number }
     requires full { length row.old ≡ length net.now.transitions }
     requires reach { ReachesBack net.now number (P.rows past.now) }
     ensures { HasBegun net.now (system_by S.Source source.now net.now) (P.rows past.now).back number
@@ -107,7 +107,7 @@ fn begin_row<C: DateCell, P: Past<C>, S: Source>(
 // Raises the dates of the number to the least, by one pass over the places in the order of their turns.
 fn raise_row<C: DateCell, P: Past<C>, S: Source>(
     net: &Net,
-    order: &[Turn],
+    order: &[OrderedPlace],
     source: &S,
     past: &P,
     row: &mut [C],
@@ -117,7 +117,7 @@ fn raise_row<C: DateCell, P: Past<C>, S: Source>(
     requires order { OrdersPlaces net.now order.now }
     requires bounded { StaysWithin C.most number (system_by S.Source source.now net.now) }
     requires number { 1 ≤ number }
-    requires few { number ≤ greatest_number }
+    requires few { number ≤ greatest_firing_number }
     requires reach { ReachesBack net.now number (P.rows past.now) }
     requires past { AreLeastRowsBack net.now (system_by S.Source source.now net.now) number
         (P.rows past.now) }
@@ -137,7 +137,7 @@ fn raise_row<C: DateCell, P: Past<C>, S: Source>(
 // transitions and p places, and what the source takes.
 pub(crate) fn fill_row<C: DateCell, P: Past<C>, S: Source>(
     net: &Net,
-    order: &[Turn],
+    order: &[OrderedPlace],
     source: &S,
     past: &P,
     row: &mut [C],
@@ -149,7 +149,7 @@ pub(crate) fn fill_row<C: DateCell, P: Past<C>, S: Source>(
     requires early { (t : ℕ) → S.initial source.now (implicit_place t) 1 ≡ Early → C.early }
     requires bounded { StaysWithin C.most number (system_by S.Source source.now net.now) }
     requires number { 1 ≤ number }
-    requires few { number ≤ greatest_number }
+    requires few { number ≤ greatest_firing_number }
     requires full { length row.old ≡ length net.now.transitions }
     requires reach { ReachesBack net.now number (P.rows past.now) }
     requires past { AreLeastRowsBack net.now (system_by S.Source source.now net.now) number

@@ -1,11 +1,10 @@
 //! What is kept of the rows before one.
 ghost use Rattle.std.specs.Prelude.{◌≡◌, ◌+◌, ◌*◌, ◌<◌, ◌≤◌, length};
-ghost use Rattle.teg_net.specs.Limits.{most_transitions};
-ghost use Rattle.teg_dates.specs.Tables.{cell_of};
-ghost use Rattle.teg_dates.specs.Rows.{most_rows};
+ghost use Rattle.teg_net.specs.Limits.{most_transitions, most_rows};
+ghost use Rattle.teg_dates.specs.DateTables.{firing_position};
 
 use crate::date_cell::DateCell;
-use crate::date_list::DateList;
+use crate::date_list::PackedDates;
 use dioid::Date;
 use teg_net::TransitionId;
 
@@ -30,7 +29,7 @@ pub(crate) fn cell_of(width: usize, transition: TransitionId, number: u64) -> us
     requires transition { transition.index < width }
     requires number { 1 ≤ number }
     requires few { number ≤ most_rows }
-    ensures value { result ≡ cell_of width transition.index number }
+    ensures value { result ≡ firing_position width transition.index number }
     ensures within { result < number * width }
 {
     (number as usize - 1) * width + transition.index as usize
@@ -41,7 +40,7 @@ pub(crate) fn cell_of(width: usize, transition: TransitionId, number: u64) -> us
 pub(crate) struct AllRows<'a> {
     pub(crate) width: usize,
     pub(crate) count: u64,
-    pub(crate) dates: &'a DateList,
+    pub(crate) dates: &'a PackedDates,
     ghost width_in: { width ≤ most_transitions },
     ghost count_in: { count ≤ most_rows },
     ghost full: { length dates.now ≡ count * width },
@@ -49,9 +48,9 @@ pub(crate) struct AllRows<'a> {
 
 impl Past<Date> for AllRows<'_> {
     ghost use Rattle.std.specs.Prelude.{◌+◌, ◌-◌};
-    ghost use Rattle.teg_dates.specs.Tables.{date_in};
+    ghost use Rattle.teg_dates.specs.DateTables.{date_in_list};
 
-    ghost rows = { λ p. record { width = p.width; reach = p.count; number = p.count; kept = p.count; back = λ t b. date_in p.width p.dates.now t (p.count + 1 - b) } };
+    ghost rows = { λ p. record { width = p.width; reach = p.count; number = p.count; kept = p.count; back = λ t b. date_in_list p.width p.dates.now t (p.count + 1 - b) } };
 
     fn back(&self, transition: TransitionId, behind: u64) -> Date {
         self.dates

@@ -1,13 +1,14 @@
 //! The rows of the least dating of a system, as many as a caller asks for.
 ghost use Rattle.std.specs.Prelude.{◌≡◌, ◌+◌, ◌-◌, ◌*◌, ◌<◌, ◌≤◌, ◌++◌, length, [], IfOk};
 ghost use Rattle.teg_net.specs.Nets.{IsNet};
-ghost use Rattle.teg_dates.specs.Tables.{date_at};
-ghost use Rattle.teg_dates.specs.Order.{OrdersPlaces};
+ghost use Rattle.teg_net.specs.Limits.{most_rows};
+ghost use Rattle.teg_dates.specs.DateTables.{date_at};
+ghost use Rattle.teg_dates.specs.PlaceOrder.{OrdersPlaces};
 ghost use Rattle.teg_dates.specs.Sources.{system_by};
-ghost use Rattle.teg_dates.specs.Rows.{most_rows, KeepsBounds, AreFirstLeast, AreLeastRows, HasLeastDating};
+ghost use Rattle.teg_dates.specs.KeptRows.{KeepsBounds, AreFirstLeast, AreLeastRows, HasLeastDating};
 
-use crate::date_list::DateList;
-use crate::order::{PlaceOrder, Turn};
+use crate::date_list::PackedDates;
+use crate::order::{PlaceOrder, OrderedPlace};
 use crate::passes::fill_row;
 use crate::past::{AllRows, cell_of};
 use crate::sources::Source;
@@ -19,9 +20,9 @@ use teg_net::{Net, OutOfMemory, TransitionId};
 // Writes the row of the number behind the dates of the numbers before it.
 fn fill_next<S: Source>(
     net: &Net,
-    order: &[Turn],
+    order: &[OrderedPlace],
     source: &S,
-    dates: &DateList,
+    dates: &PackedDates,
     row: &mut [Date],
     number: u64,
 )
@@ -53,13 +54,13 @@ fn fill_next<S: Source>(
 pub struct Rows {
     width: usize,
     count: u64,
-    dates: DateList,
+    dates: PackedDates,
     next: Vec<Date>,
 }
 
 impl Model for Rows {
-    ghost use Rattle.teg_dates.specs.Tables.{TableDates};
-    ghost use Rattle.teg_dates.specs.Rows.{IsRows};
+    ghost use Rattle.teg_dates.specs.DateTables.{TableDates};
+    ghost use Rattle.teg_dates.specs.KeptRows.{IsRows};
 
     ghost Value = { TableDates };
 
@@ -69,7 +70,7 @@ impl Model for Rows {
 }
 
 impl Rows {
-    ghost use Rattle.teg_dates.specs.Rows.{IsRows};
+    ghost use Rattle.teg_dates.specs.KeptRows.{IsRows};
 
     /// No rows of this net. It takes no memory.
     pub fn new(alloc: Global, net: &Net) -> Rows
@@ -80,7 +81,7 @@ impl Rows {
         Rows {
             width: net.transitions().len(),
             count: 0,
-            dates: DateList::new(alloc),
+            dates: PackedDates::new(alloc),
             next: Vec::new(alloc),
         }
     }

@@ -3,7 +3,7 @@
 ghost use Rattle.std.specs.Prelude.{◌≡◌, ◌<◌, ◌≤◌, length};
 ghost use Rattle.teg_net.specs.Circuits.{place_at};
 ghost use Rattle.teg_model.specs.Datings.{implicit_place};
-ghost use Rattle.teg_net.specs.Limits.{greatest_number};
+ghost use Rattle.teg_net.specs.Limits.{greatest_firing_number};
 
 use dioid::Date;
 use teg_net::{Net, PlaceId, Role, TransitionId};
@@ -38,7 +38,7 @@ pub trait Source {
     fn release(&self, net: &Net, transition: TransitionId, number: u64) -> Date
         requires transition { transition.index < length net.now.transitions }
         requires first { 1 ≤ number }
-        requires last { number ≤ greatest_number }
+        requires last { number ≤ greatest_firing_number }
         ensures { result ≡ release self.now net.now transition.index number };
 }
 
@@ -48,11 +48,11 @@ pub struct NetInputs;
 
 impl Source for NetInputs {
     ghost use Rattle.dioid.specs.declared.dates.Date.TheVariants.{Early};
-    ghost use Rattle.teg_model.specs.Datings.{initial_date, at_input, listed};
+    ghost use Rattle.teg_model.specs.Datings.{initial_date, at_input, listed_releases};
 
     ghost initial = { λ s. initial_date };
 
-    ghost release = { λ s net t k. at_input net t (listed net t k) Early };
+    ghost release = { λ s net t k. at_input net t (listed_releases net t k) Early };
 
     fn initial(&self, net: &Net, place: PlaceId, token: u32) -> Date {
         Date::At(i128::from(net.ready(place, token)))

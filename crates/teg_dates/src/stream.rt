@@ -1,9 +1,9 @@
 //! Rows of dates, one after another, in memory that does not grow.
 ghost use Rattle.std.specs.Prelude.{◌≡◌, ◌+◌, ◌<◌, ◌≤◌, length, IfOk};
-ghost use Rattle.teg_net.specs.Limits.{greatest_number};
+ghost use Rattle.teg_net.specs.Limits.{greatest_firing_number};
 ghost use Rattle.teg_net.specs.Circuits.{IsLive};
 ghost use Rattle.teg_check.specs.Ranks.{IsRanking};
-ghost use Rattle.teg_form.specs.Forms.{IsFormOf};
+ghost use Rattle.teg_form.specs.StandardForms.{IsStandardFormOf};
 ghost use Rattle.teg_dates.specs.Streams.{HasLeast, IsLeastRow, IsStreamOf, rows_given};
 
 use crate::last_rows::LastRows;
@@ -57,7 +57,7 @@ impl Stream {
     /// transitions and p places.
     pub fn new(alloc: Global, net: &Net, form: &Form) -> Result<Stream, OutOfMemory>
         requires live { IsLive net.now }
-        requires stands { IsFormOf net.now form.now }
+        requires stands { IsStandardFormOf net.now form.now }
         ensures stands { IfOk result (IsStreamOf net.now) }
         ensures number { IfOk result (λ stream. rows_given stream ≡ 0) }
         ensures exists { IfOk result (λ _. HasLeast net.now) }
@@ -72,7 +72,7 @@ impl Stream {
     /// How many rows were given so far. It takes no memory.
     pub fn number(&self) -> u64
         ensures value { result ≡ rows_given self.now }
-        ensures few { result ≤ greatest_number }
+        ensures few { result ≤ greatest_firing_number }
     {
         self.last.number()
     }
@@ -82,9 +82,9 @@ impl Stream {
     /// of a list. The row has one cell for each transition, and fewer than 10^18 rows were given. It
     /// takes no memory, and time of order `n + p` for n transitions and p places.
     pub fn next_row(&mut self, net: &Net, form: &Form, row: &mut [Date])
-        requires form { IsFormOf net.now form.now }
+        requires form { IsStandardFormOf net.now form.now }
         requires stands { IsStreamOf net.now self.old }
-        requires few { rows_given self.old < greatest_number }
+        requires few { rows_given self.old < greatest_firing_number }
         requires full { length row.old ≡ length net.now.transitions }
         ensures row { IsLeastRow net.now (rows_given self.old + 1) row.new }
         ensures number { rows_given self.new ≡ rows_given self.old + 1 }

@@ -1,6 +1,6 @@
 //! The table of dates.
 ghost use Rattle.std.specs.Prelude.{◌≡◌, ◌<◌, ◌≤◌};
-ghost use Rattle.teg_dates.specs.Tables.{date_at};
+ghost use Rattle.teg_dates.specs.DateTables.{date_at};
 
 use crate::rows::Rows;
 use dioid::Date;
@@ -15,21 +15,21 @@ pub struct Table {
 }
 
 impl Model for Table {
-    ghost use Rattle.teg_dates.specs.Tables.{TableDates, IsTable};
+    ghost use Rattle.teg_dates.specs.DateTables.{TableDates, IsDateTable};
 
     ghost Value = { TableDates };
 
     ghost view = { λ a. a.rows };
 
-    ghost invariant = { λ a. IsTable a.rows };
+    ghost invariant = { λ a. IsDateTable a.rows };
 }
 
 impl Table {
-    ghost use Rattle.teg_dates.specs.Tables.{TableDates, IsTable};
+    ghost use Rattle.teg_dates.specs.DateTables.{TableDates, IsDateTable};
 
     // The table of these rows. It takes no memory.
     pub(crate) fn new(rows: Rows) -> Table
-        requires { IsTable rows }
+        requires { IsDateTable rows }
         ensures { result ≡ rows }
     {
         Table { rows }
@@ -38,7 +38,7 @@ impl Table {
     /// How many numbers the table has. It takes no memory.
     pub fn count(&self) -> u32
         ensures value { result ≡ self.now.count }
-        ensures limits { IsTable self.now }
+        ensures limits { IsDateTable self.now }
     {
         self.rows.count() as u32
     }

@@ -1,7 +1,7 @@
 //! The last dates of each transition in eight bytes each, one transition after another.
 ghost use Rattle.std.specs.Prelude.{◌≡◌, ◌+◌, ◌-◌, ◌*◌, ◌<◌, ◌≤◌, length, map, IfOk};
-ghost use Rattle.teg_net.specs.Limits.{most_transitions, most_tokens, greatest_number};
-ghost use Rattle.teg_dates.specs.Windows.{AreMoved, HasColumnSet, HaveRowAdded, IsWindow, most_room};
+ghost use Rattle.teg_net.specs.Limits.{most_transitions, most_place_tokens, greatest_firing_number};
+ghost use Rattle.teg_dates.specs.LastColumns.{AreMoved, HasColumnSet, HaveRowAdded, AreLastColumns, most_room};
 
 use crate::past::Past;
 use std::alloc::{AllocError, Global};
@@ -26,13 +26,13 @@ pub(crate) struct Window {
 }
 
 impl Model for Window {
-    ghost use Rattle.teg_dates.specs.Windows.{WindowCells, IsWindow};
+    ghost use Rattle.teg_dates.specs.LastColumns.{WindowCells, AreLastColumns};
 
     ghost Value = { WindowCells };
 
     ghost view = { λ a. record { width = a.width; reach = a.reach; room = a.room; at = a.at; number = a.number; cells = a.cells.items } };
 
-    ghost invariant = { λ a. IsWindow (record { width = a.width; reach = a.reach; room = a.room; at = a.at; number = a.number; cells = a.cells.items }) };
+    ghost invariant = { λ a. AreLastColumns (record { width = a.width; reach = a.reach; room = a.room; at = a.at; number = a.number; cells = a.cells.items }) };
 }
 
 // Where a date of a transition stands.
@@ -93,15 +93,15 @@ fn add_row(reach: usize, room: usize, at: usize, cells: &mut [u64], row: &[u64])
 }
 
 impl Window {
-    ghost use Rattle.teg_dates.specs.DateCells.{date_of};
+    ghost use Rattle.teg_dates.specs.DateCells.{date_of_cell};
     ghost use Rattle.teg_dates.specs.Passes.{HaveNext};
-    ghost use Rattle.teg_dates.specs.Windows.{WindowCells, opened, window_rows};
+    ghost use Rattle.teg_dates.specs.LastColumns.{WindowCells, opened_window, window_rows};
 
     // No rows, and room for at least as many as `reach`.
     pub(crate) fn new(alloc: Global, width: usize, reach: usize) -> Result<Window, AllocError>
         requires width { width ≤ most_transitions }
-        requires reach { reach ≤ most_tokens }
-        ensures { IfOk result (λ window. window ≡ opened width reach) }
+        requires reach { reach ≤ most_place_tokens }
+        ensures { IfOk result (λ window. window ≡ opened_window width reach) }
     {
         let room = reach + ROOM_BESIDE;
         let cells = vec![in alloc; 0u64; width * room]?;
@@ -118,7 +118,7 @@ impl Window {
     // How many rows were given. It takes no memory.
     pub(crate) fn number(&self) -> u64
         ensures value { result ≡ self.now.number }
-        ensures few { result ≤ greatest_number }
+        ensures few { result ≤ greatest_firing_number }
     {
         self.number
     }
@@ -139,9 +139,10 @@ impl Window {
 
     // Adds a row behind the others. It takes no memory.
     pub(crate) fn push(&mut self, row: &[u64])
-        requires few { self.old.number < greatest_number }
+        requires few { self.old.number < greatest_firing_number }
         requires full { length row.now ≡ self.old.width }
-        ensures { HaveNext (window_rows self.old) (window_rows self.new) (map date_of row.now) }
+        ensures { HaveNext (window_rows self.old) (window_rows self.new) (map date_of_cell
+            row.now) }
     {
         self.at = add_row(self.reach, self.room, self.at, &mut self.cells, row);
         self.number += 1;
@@ -157,11 +158,11 @@ pub(crate) struct Columns<'a> {
     at: usize,
     number: u64,
     cells: &'a [u64],
-    ghost within: { IsWindow (record { width = width; reach = reach; room = room; at = at; number = number; cells = cells.now }) },
+    ghost within: { AreLastColumns (record { width = width; reach = reach; room = room; at = at; number = number; cells = cells.now }) },
 }
 
 impl Past<u64> for Columns<'_> {
-    ghost use Rattle.teg_dates.specs.Windows.{window_rows};
+    ghost use Rattle.teg_dates.specs.LastColumns.{window_rows};
 
     ghost rows = { λ c. window_rows (record { width = c.width; reach = c.reach; room = c.room; at = c.at; number = c.number; cells = c.cells.now }) };
 

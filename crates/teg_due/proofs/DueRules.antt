@@ -7,19 +7,19 @@ use Rattle.std.specs.Str.Parse.{digits_value}
 use Rattle.std.proofs.lemmas.Bool.{cases_Bool}
 use Rattle.std.proofs.lemmas.Bool.Decides.{nat_tests}
 use Rattle.std.proofs.lemmas.List.Quantifiers.{position-Some}
-use Rattle.csv_records.specs.Numbers.{is_number}
+use Rattle.csv_records.specs.NumberFields.{is_number}
 use Rattle.csv_records.specs.Records.{records_of}
 use Rattle.csv_records.proofs.RowLaws.{differ_in_one, each_row, rows_once}
-use Rattle.teg_net.specs.Limits.{greatest_date}
+use Rattle.teg_net.specs.Limits.{greatest_input_date}
 use Rattle.teg_net.specs.Nets.{NetLists, IsInput}
 use Rattle.teg_net.specs.declared.entries.Role.TheVariants.{Input}
 use Rattle.teg_net.specs.declared.entries.Transition.{Transition}
 use Rattle.teg_due.specs.declared.rows.DueRow.{DueRow}
 use Rattle.teg_due.specs.declared.rows.LogRow.{LogRow}
-use Rattle.teg_due.specs.Dues.{due_numbered, due_of, due_placed, due_row, greatest_due_number, has_due, in_due_limits, is_due_header}
+use Rattle.teg_due.specs.DueFileRows.{due_numbered, due_of, due_placed, due_row, greatest_due_number, has_due, in_due_limits, is_due_header}
 use Rattle.teg_due.specs.Logs.{greatest_log_date, is_log_header, log_of, log_placed, log_row}
-use Rattle.teg_due.specs.Names.{number_named, is_input, is_input_role}
-use Rattle.teg_due.specs.Rules.{IsDueOf, IsDueRow, IsLogOf, IsLogRow}
+use Rattle.teg_due.specs.RowNames.{number_named, is_input, is_input_role}
+use Rattle.teg_due.specs.RowRules.{IsDueOf, IsDueRow, IsLogOf, IsLogRow}
 
 -- a row that is accepted is a firing that may be due, and is not among those before it
 pub record IsNewRow (net : NetLists) (rows : List DueRow) (r : DueRow) : Type 0 where
@@ -68,7 +68,7 @@ numbered_new net rows k t n date r lt role e = elim (cases_Bool (has_due rows t 
     high : in_due_limits n date ≡ true → n ≤ greatest_due_number
     high h = grind (arith, nat_tests)
 
-    early : in_due_limits n date ≡ true → date ≤ greatest_date
+    early : in_due_limits n date ≡ true → date ≤ greatest_input_date
     early h = grind (arith, nat_tests)
 
 placed_new : (net : NetLists) (rows : List DueRow) (k n date : ℕ) (name : List ℕ) (o : Option ℕ) (r : DueRow) → number_named net name ≡ o → due_placed net rows k o n date ≡ Ok r → IsNewRow net rows r

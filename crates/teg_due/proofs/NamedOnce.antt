@@ -12,7 +12,7 @@ use Rattle.teg_net.specs.declared.entries.Transition.{Transition}
 use Rattle.teg_net.specs.declared.entries.TransitionId.{TransitionId}
 use Rattle.teg_net.specs.declared.entries.Role.TheVariants.{Internal}
 use Rattle.std.proofs.lemmas.List.{get_or_default}
-use Rattle.teg_due.specs.Names.{number_named}
+use Rattle.teg_due.specs.RowNames.{number_named}
 use Rattle.teg_net.specs.Nets.{NetLists}
 
 abbrev no_transition : Transition

@@ -1,5 +1,5 @@
-pub mod Names
-pub mod Dues
+pub mod RowNames
+pub mod DueFileRows
 pub mod Logs
-pub mod Rules
+pub mod RowRules
 pub mod DueFiles

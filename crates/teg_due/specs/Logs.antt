@@ -2,14 +2,14 @@
 use Rattle.std.specs.Prelude.{ℕ, Bool, false, ◌&&◌, List, [], ◌∷◌, Option, Some, None, Result, Ok, Err, nat_le, codes, if◌then◌else◌}
 use Rattle.std.specs.Str.{bytes_eq}
 use Rattle.std.specs.Str.Parse.{digits_value}
-use Rattle.csv_records.specs.Numbers.{is_number}
+use Rattle.csv_records.specs.NumberFields.{is_number}
 use Rattle.csv_records.specs.Records.{records_of}
-use Rattle.csv_records.specs.Rows.{rows_of}
+use Rattle.csv_records.specs.RowsOfRecords.{rows_of}
 use Rattle.teg_net.specs.Nets.{NetLists}
 use Rattle.teg_due.specs.declared.rows.LogRow.{LogRow}
 use Rattle.teg_due.specs.declared.rows.LogRefusal.{LogRefusal}
 use Rattle.teg_due.specs.declared.rows.LogRefusal.TheVariants.{BadRow, UnknownTransition, OutOfRange}
-use Rattle.teg_due.specs.Names.{number_named}
+use Rattle.teg_due.specs.RowNames.{number_named}
 
 -- the greatest date of a recorded firing
 abbrev pub greatest_log_date : ℕ

@@ -1,10 +1,10 @@
 //! Due files: dates by which firings are due.
 ghost use Rattle.std.specs.Prelude.{◌≡◌, ◌≢◌, ◌≤◌, Ok, Err, true, false, length, IfOk, IfErr};
 ghost use Rattle.std.specs.Str.Parse.{digits_value};
-ghost use Rattle.csv_records.specs.Numbers.{is_number};
+ghost use Rattle.csv_records.specs.NumberFields.{is_number};
 ghost use Rattle.csv_records.specs.Records.{most_file_bytes};
-ghost use Rattle.teg_due.specs.Dues.{due_numbered, due_of, greatest_due_number};
-ghost use Rattle.teg_due.specs.Rules.{IsDueOf};
+ghost use Rattle.teg_due.specs.DueFileRows.{due_numbered, due_of, greatest_due_number};
+ghost use Rattle.teg_due.specs.RowRules.{IsDueOf};
 
 use crate::names::{is_input, transition_named};
 use crate::rows::{Due, DueRefusal, DueRow};
@@ -61,7 +61,7 @@ fn numbered_row(
 
 impl RowFile for DueFile<'_> {
     ghost use Rattle.teg_due.specs.declared.rows.DueRefusal.TheVariants.{OutOfMemory};
-    ghost use Rattle.teg_due.specs.Dues.{due_row, is_due_header};
+    ghost use Rattle.teg_due.specs.DueFileRows.{due_row, is_due_header};
     ghost use Rattle.teg_due.specs.DueFiles.{HasDues};
 
     type Row = DueRow;

@@ -2,7 +2,7 @@
 ghost use Rattle.std.specs.Prelude.{◌≡◌, ◌≢◌, ◌≤◌, Ok, Err, false, length, IfOk, IfErr};
 ghost use Rattle.csv_records.specs.Records.{most_file_bytes};
 ghost use Rattle.teg_due.specs.Logs.{log_of};
-ghost use Rattle.teg_due.specs.Rules.{IsLogOf};
+ghost use Rattle.teg_due.specs.RowRules.{IsLogOf};
 
 use crate::names::transition_named;
 use crate::rows::{LogRefusal, LogRow};

@@ -1,7 +1,7 @@
 //! The transition that a row names, and whether it is an input.
 ghost use Rattle.std.specs.Prelude.{◌≡◌, ◌<◌, length, IfSome, option_map};
 ghost use Rattle.std.specs.Bool.{OnFalse, OnTrue};
-ghost use Rattle.teg_due.specs.Names.{is_input, number_named};
+ghost use Rattle.teg_due.specs.RowNames.{is_input, number_named};
 ghost use Rattle.teg_net.specs.Nets.{IsInput};
 
 use teg_net::{NameOrder, Net, Role, TransitionId};

@@ -6,12 +6,12 @@ use Rattle.std.proofs.Math.Seq.{get_or-append_seam}
 use Rattle.std.proofs.lemmas.Bool.{cases_lt}
 use Rattle.std.proofs.lemmas.List.{length-append}
 use Rattle.std.proofs.lemmas.List.Elements.{All-append, All-cons, All-nil, All-take}
-use Rattle.dioid.specs.Answer.{Answers}
+use Rattle.dioid.specs.ElementAnswers.{Answers}
 use Rattle.dioid.specs.declared.algebra.Refused.{Refused}
 use Rattle.dioid.specs.declared.algebra.Refused.TheVariants.{Range, OutOfMemory as NoRoom}
 use Rattle.dioid_matrix.specs.Residuals.{RowFits}
 use Rattle.dioid_matrix.proofs.Meets.{meet_more, row_fits}
-use Rattle.series_laws.specs.Forms.{Form}
+use Rattle.series_laws.specs.SeriesForms.{Form}
 use Rattle.series_ops.specs.declared.gains.Gain.{Gain}
 use Rattle.series_ops.specs.Gains.{gain_left, gain_meet, LeftFits, MeetFits}
 use Rattle.periodic_laws.specs.Equations.{gains}
@@ -22,8 +22,8 @@ use Rattle.teg_net.specs.Nets.{NetLists, IsNet, IsInput}
 use Rattle.teg_net.specs.Circuits.{IsLive}
 use Rattle.teg_model.specs.Datings.{as_date}
 use Rattle.forever_laws.specs.declared.rows.EndlessRow.{EndlessRow}
-use Rattle.forever_laws.specs.Rows.{IsEndlessOf, again_of}
-use Rattle.forever_laws.specs.Columns.{AreColumns, IsDueSeries, IsWalkSeries, due_date_at, gain_residuals, residual_over}
+use Rattle.forever_laws.specs.EndlessRows.{IsEndlessOf, again_of_row}
+use Rattle.forever_laws.specs.SeriesColumns.{AreSeriesColumns, IsDueSeries, IsWalkSeries, due_date_at, gain_residuals, residual_over}
 use Rattle.forever_laws.specs.ColumnLaws.{ColumnsExist}
 use Rattle.forever_laws.proofs.OneColumn.{one_due, one_walk}
 use Rattle.forever_laws.proofs.Residuals.{GotRow, got_row}
@@ -31,17 +31,17 @@ use Rattle.teg_forever.specs.declared.divisions.Divided.{Divided}
 use Rattle.teg_forever.specs.declared.divisions.Divisions.{Divisions}
 use Rattle.teg_forever.specs.declared.releases.ForeverRefusal.{ForeverRefusal}
 use Rattle.teg_forever.specs.declared.releases.ForeverRefusal.TheVariants.{Late, TooLong, TooWide, OutOfMemory}
-use Rattle.teg_forever.specs.Columns.{IsStopped}
-use Rattle.teg_forever.specs.Divisions.{AreAlike, AreDivisions, AreFirstsTo, IsAlikeAt, IsDivided, IsKeptIn, IsMeetOver, IsMeetTo, IsMisfit, IsPlaceOf, IsRefusedAt, IsResidualOf, refusal_at}
-use Rattle.teg_forever.specs.Releases.{SettlesWithin}
+use Rattle.teg_forever.specs.InputAnswers.{IsStopped}
+use Rattle.teg_forever.specs.Divisions.{AreAlike, AreDivisions, AreFirstsTo, IsAlikeAt, IsDivided, IsKeptIn, IsMeetOver, IsMeetTo, IsMisfit, IsDividedAt, IsRefusedAt, IsResidualOf, refusal_at}
+use Rattle.teg_forever.specs.LatestReleases.{WalkTimesSettleSoon}
 use Rattle.teg_forever.proofs.Series.{behind, got_is, got_within, some_is}
 
 -- ---- rows that ask the same dates
 
 same_dates : (r s : EndlessRow) → AreAlike r s → (k : ℕ) → due_date_at r k ≡ due_date_at s k
 same_dates r s h k =
-    let again : again_of r ≡ again_of s = λ i. record { every = h.every i; gap = h.gap i } in
-    ap (λ (l : List ℕ). as_date (list_date l (Some (again_of r)) (k + 1))) h.dates ∙ ap (λ (a : Again). as_date (list_date s.dates (Some a) (k + 1))) again
+    let again : again_of_row r ≡ again_of_row s = λ i. record { every = h.every i; gap = h.gap i } in
+    ap (λ (l : List ℕ). as_date (list_date l (Some (again_of_row r)) (k + 1))) h.dates ∙ ap (λ (a : Again). as_date (list_date s.dates (Some a) (k + 1))) again
 
 -- have the same due series
 pub alike_due : (r s : EndlessRow) → AreAlike r s → (f : Form) → IsDueSeries r f → IsDueSeries s f
@@ -112,7 +112,7 @@ divisions_kept rows old new x (Ok place) h same right kept = record {
 divisions_kept rows old new x (Err e) h same right kept = tt
 
 -- it stands where it was put
-pub kept_place : (old new : List Divided) (x : Divided) (place : ℕ) → IsKeptIn old x new place → IsPlaceOf new x.due x.walk place
+pub kept_place : (old new : List Divided) (x : Divided) (place : ℕ) → IsKeptIn old x new place → IsDividedAt new x.due x.walk place
 kept_place old new x place kept = record {
   divided = x;
   stands = subst (λ (l : List Divided). slice_get l place ≡ Some x) (sym kept.list_is) (subst (λ (n : ℕ). slice_get (take kept.count old ++ x ∷ []) n ≡ Some x) (sym kept.place_is) (behind (take kept.count old) x));
@@ -127,14 +127,14 @@ kept_at rows list place x here all = subst (IsDivided rows) (got_is list place x
 
 module _ (net : NetLists) (rows : List EndlessRow) (u : ℕ) (i first : ℕ) (r : EndlessRow) (at : slice_get rows i ≡ Some r) (alike : IsAlikeAt rows i first) (walk : Gain) (is : IsWalkSeries net u r.transition.index walk.series) where
   -- the due series of the row is that of the first alike
-  due_of_first : (walks dues : ℕ → Gain) → AreColumns net u rows walks dues → (s : EndlessRow) → slice_get rows first ≡ Some s → IsDueSeries s (dues i).series
+  due_of_first : (walks dues : ℕ → Gain) → AreSeriesColumns net u rows walks dues → (s : EndlessRow) → slice_get rows first ≡ Some s → IsDueSeries s (dues i).series
   due_of_first walks dues columns s here = alike_due r s (alike.alike r s at here) (dues i).series (columns.due_series i r at)
 
-  walk_of_row : (walks dues : ℕ → Gain) → AreColumns net u rows walks dues → walk ≡ walks i
+  walk_of_row : (walks dues : ℕ → Gain) → AreSeriesColumns net u rows walks dues → walk ≡ walks i
   walk_of_row walks dues columns = one_walk net u r.transition.index walk (walks i) is (columns.walk_series i r at)
 
   -- the residual that stands at the place is that of the row
-  pub residual_found : (list : List Divided) (place : ℕ) → All (IsDivided rows) list → IsPlaceOf list first walk place → IsResidualOf net rows u i list place
+  pub residual_found : (list : List Divided) (place : ℕ) → All (IsDivided rows) list → IsDividedAt list first walk place → IsResidualOf net rows u i list place
   residual_found list place all found = record {
     divided = found.divided;
     stands = found.stands;
@@ -160,7 +160,7 @@ module _ (net : NetLists) (rows : List EndlessRow) (u : ℕ) (i first : ℕ) (r 
       row_is = refl;
       misfits = λ walks dues columns fits.
           (let g : GotRow rows first = got_row rows first alike.within in
-          let c : AreColumns net u rows walks dues = subst (λ (v : ℕ). AreColumns net v rows walks dues) e columns in
+          let c : AreSeriesColumns net u rows walks dues = subst (λ (v : ℕ). AreSeriesColumns net v rows walks dues) e columns in
           h g.row (dues i) g.got (due_of_first walks dues c g.row g.got) (subst (λ (w : Gain). LeftFits w (dues i)) (sym (walk_of_row walks dues c)) fits.0));
     },
   )
@@ -211,8 +211,8 @@ refused_meet net rows id i r list place q m NoRoom some at before h stands other
 -- ---- why an input has no release
 
 -- the first row that does not fit stops the search for the release of the input
-pub stopped_at : (net : NetLists) (rows : List EndlessRow) (id : TransitionId) (i : ℕ) → ColumnsExist → IsNet net → IsLive net → IsEndlessOf net rows → IsInput net id.index → SettlesWithin net id.index → i < length rows
-    → ((walks dues : ℕ → Gain) → AreColumns net id.index rows walks dues → (j : ℕ) → j < i → RowFits gains gain_residuals walks dues j) → (why : ForeverRefusal) → IsRefusedAt net rows id i why → IsStopped net rows id why
+pub stopped_at : (net : NetLists) (rows : List EndlessRow) (id : TransitionId) (i : ℕ) → ColumnsExist → IsNet net → IsLive net → IsEndlessOf net rows → IsInput net id.index → WalkTimesSettleSoon net id.index → i < length rows
+    → ((walks dues : ℕ → Gain) → AreSeriesColumns net id.index rows walks dues → (j : ℕ) → j < i → RowFits gains gain_residuals walks dues j) → (why : ForeverRefusal) → IsRefusedAt net rows id i why → IsStopped net rows id why
 stopped_at net rows id i exist ok live ends input settles l fit (Late t k due least) h = absurd h
 stopped_at net rows id i exist ok live ends input settles l fit (TooLong v) h = absurd h
 stopped_at net rows id i exist ok live ends input settles l fit (TooWide v row) h =

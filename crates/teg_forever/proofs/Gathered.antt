@@ -4,16 +4,16 @@ use Rattle.std.proofs.lemmas.Bool.{cases_lt}
 use Rattle.std.proofs.lemmas.List.{length-append}
 use Rattle.teg_net.specs.Nets.{NetLists, IsNet, IsInput}
 use Rattle.teg_net.specs.Circuits.{IsLive}
-use Rattle.teg_due.specs.Names.{is_input}
-use Rattle.due_laws.specs.Dues.{InputsMeet, inputs_at_zero}
+use Rattle.teg_due.specs.RowNames.{is_input}
+use Rattle.due_laws.specs.MeetingDueDates.{InputsMeet, inputs_at_zero}
 use Rattle.due_laws.specs.LatestDates.{IsLatestDate}
 use Rattle.forever_laws.specs.declared.rows.EndlessRow.{EndlessRow}
-use Rattle.forever_laws.specs.Rows.{due_on}
-use Rattle.forever_laws.specs.Laws.{LatestAtInputsAreLatest}
+use Rattle.forever_laws.specs.EndlessRows.{due_on}
+use Rattle.forever_laws.specs.EndlessDues.{LatestAtInputsAreLatest}
 use Rattle.teg_forever.specs.declared.releases.Release.{Release}
 use Rattle.teg_forever.specs.declared.releases.Release.TheVariants.{Free, Latest}
-use Rattle.teg_forever.specs.Releases.{AreBeside, AreReleases, IsFine, IsReleaseOf, inputs_below, inputs_of, release_date, released, release_in}
-use Rattle.teg_forever.specs.Columns.{AreReleasesBelow}
+use Rattle.teg_forever.specs.LatestReleases.{AreBeside, AreEndlessReleases, IsFine, IsReleaseOf, inputs_below, inputs_of, release_date, released, release_in}
+use Rattle.teg_forever.specs.InputAnswers.{AreReleasesBelow}
 use Rattle.teg_forever.proofs.InputLists.{inputs_more, input_test, input_within, input_in, beside_more, beside_in}
 
 module _ (net : NetLists) (rows : List EndlessRow) (n : ℕ) (releases : List Release) (h : AreReleasesBelow net rows n releases) where
@@ -40,7 +40,7 @@ latest_is net rows u k (Latest s) one h = (h.1 k one).0
 
 -- the releases of all inputs
 pub all_releases : (net : NetLists) (rows : List EndlessRow) (releases : List Release) → LatestAtInputsAreLatest → IsNet net → IsLive net → InputsMeet net (due_on rows) inputs_at_zero
-    → AreReleasesBelow net rows (length net.transitions) releases → AreReleases net rows releases
+    → AreReleasesBelow net rows (length net.transitions) releases → AreEndlessReleases net rows releases
 all_releases net rows releases law ok live meet h = record {
   meet = meet;
   fine = λ u i. h.fine u (input_within net u i) i;

@@ -9,9 +9,9 @@ use Rattle.number_laws.proofs.Numbers.{same_number}
 use Rattle.teg_net.specs.declared.entries.Transition.{Transition}
 use Rattle.teg_net.specs.declared.entries.Role.TheVariants.{Input}
 use Rattle.teg_net.specs.Nets.{NetLists, IsInput}
-use Rattle.teg_due.specs.Names.{is_input, is_input_role}
+use Rattle.teg_due.specs.RowNames.{is_input, is_input_role}
 use Rattle.teg_forever.specs.declared.releases.Release.{Release}
-use Rattle.teg_forever.specs.Releases.{AreBeside, inputs_below, release_in}
+use Rattle.teg_forever.specs.LatestReleases.{AreBeside, inputs_below, release_in}
 use Rattle.teg_forever.proofs.Series.{got_within}
 
 plus_one : (net : NetLists) (n : ℕ) → inputs_below net (n + 1) ≡ inputs_below net n ++ (if is_input net n then n ∷ [] else [])

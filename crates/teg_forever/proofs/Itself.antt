@@ -8,12 +8,12 @@ use Rattle.dioid.specs.declared.dates.Date.TheVariants.{Early, At, Never}
 use Rattle.dioid.proofs.DateOrder.{earlier_either}
 use Rattle.series_laws.specs.declared.plans.Slopes.{Slopes}
 use Rattle.series_laws.specs.declared.plans.Slopes.TheVariants.{Equal}
-use Rattle.series_laws.specs.Forms.{Form, size_of, start_of, value_at}
+use Rattle.series_laws.specs.SeriesForms.{Form, size_of, repeat_start, value_at}
 use Rattle.series_laws.specs.Needs.{by_sign, common, fall_of, form_least, least_plan, least_plan_by, need_of, rise_of, slopes_by, slopes_of, tail_of}
 use Rattle.series_laws.proofs.Canonical.{one_canonical}
 use Rattle.series_laws.proofs.FormValues.{first_found}
 use Rattle.series_laws.proofs.Sums.{form_least_is, form_least_values}
-use Rattle.series_form.specs.Bounds.{HasSmallNumbers, IsSeries}
+use Rattle.series_form.specs.NumberBounds.{HasSmallNumbers, IsSeries}
 use Rattle.series_ops.specs.declared.gains.Gain.{Gain}
 use Rattle.series_ops.specs.Gains.{gain_meet, gain_of, MeetFits}
 
@@ -34,7 +34,7 @@ no_gap z = omega (arith, ints)
 need_itself : (f : Form) → f.period ≤ length f.values → need_of (least_plan f f) ≡ size_of f
 need_itself f fits =
     let slopes : slopes_of f f ≡ Equal = no_gain (tail_of f) (rise_of f f -ℤ fall_of f f) (no_gap (rise_of f f)) in
-    let latest : max (start_of f) (start_of f) ≡ start_of f = omega arith in
+    let latest : max (repeat_start f) (repeat_start f) ≡ repeat_start f = omega arith in
     ap (λ (s : Slopes). need_of (least_plan_by s f f)) slopes ∙ (ap₂ (λ (p n : ℕ). p + n) latest (common_itself f.period) ∙ (omega arith))
 
 least_itself : (f : Form) → IsSeries f → form_least f f ≡ f

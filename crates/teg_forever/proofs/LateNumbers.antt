@@ -4,9 +4,9 @@ use Rattle.std.proofs.lemmas.Bool.{cases_lt}
 use Rattle.dioid.specs.declared.dates.Date.{Date}
 use Rattle.dioid.specs.declared.dates.Date.TheVariants.{At}
 use Rattle.forever_laws.specs.declared.rows.EndlessRow.{EndlessRow}
-use Rattle.forever_laws.specs.Rows.{row_due}
+use Rattle.forever_laws.specs.EndlessRows.{row_due}
 use Rattle.forever_laws.specs.Late.{IsLateAt, NoneLateTo, NoneLate, IsLeastLate}
-use Rattle.forever_laws.specs.Searches.{IsSoonest, turns_to}
+use Rattle.forever_laws.specs.LateSearches.{IsSoonest, turns_to}
 
 module _ (x : ℕ → ℕ → Date) (r : EndlessRow) where
   same_due : (k d e : ℕ) → row_due r k ≡ Some d → row_due r k ≡ Some e → d ≡ e

@@ -8,19 +8,19 @@ use Rattle.dioid.specs.Dates.{move}
 use Rattle.dioid.proofs.Moves.{at_inj}
 use Rattle.teg_net.specs.Nets.{NetLists, IsNet, without_inputs}
 use Rattle.teg_net.specs.Circuits.{IsLive}
-use Rattle.teg_model.specs.Bounds.{IsWithin, greatest_least_date}
-use Rattle.settled_laws.specs.Forms.{SettledForm, IsSettledFormOf, date_of, step_of}
+use Rattle.teg_model.specs.DateBounds.{IsDateWithin, greatest_least_date}
+use Rattle.settled_laws.specs.SettledForms.{SettledForm, IsSettledFormOf, settled_date, step_of_form}
 use Rattle.settled_laws.proofs.Telling.{form_tells}
-use Rattle.teg_settle.specs.Kept.{IsKept}
+use Rattle.teg_settle.specs.KeptForms.{IsFormKept}
 use Rattle.forever_laws.specs.declared.rows.EndlessRow.{EndlessRow}
-use Rattle.due_laws.specs.Dues.{InputsMeet, inputs_at_zero}
-use Rattle.forever_laws.specs.Rows.{IsEndlessRow, IsEndlessOf, due_on}
+use Rattle.due_laws.specs.MeetingDueDates.{InputsMeet, inputs_at_zero}
+use Rattle.forever_laws.specs.EndlessRows.{IsEndlessRow, IsEndlessOf, due_on}
 use Rattle.forever_laws.specs.Late.{NoneLateTo, NoneLate, IsLeastLate}
-use Rattle.forever_laws.specs.Searches.{IsTurnOf, IsSoonest, turns_to}
-use Rattle.forever_laws.specs.Laws.{TurnsTellLate, LateIsSoon, StepsAreFromZero, ZeroInputsAreNoLists, ZeroMeetsWhereNoneLate}
+use Rattle.forever_laws.specs.LateSearches.{IsCommonPeriodOf, IsSoonest, turns_to}
+use Rattle.forever_laws.specs.EndlessDues.{TurnsTellLate, LateIsSoon, StepsAreFromZero, ZeroInputsAreNoLists, ZeroMeetsWhereNoneLate}
 use Rattle.forever_laws.proofs.Zeros.{date_is, least_number}
-use Rattle.teg_forever.specs.Searches.{GoesOnBySteps, IsZeroForm, IsClimbing, IsSoonLate}
-use Rattle.teg_forever.specs.Releases.{IsLateAnswer}
+use Rattle.teg_forever.specs.LateFirings.{GoesOnBySteps, IsZeroForm, IsClimbing, IsSoonLate}
+use Rattle.teg_forever.specs.LatestReleases.{IsLateAnswer}
 use Rattle.teg_forever.proofs.Series.{got_within, got_is}
 use Rattle.teg_forever.proofs.LateNumbers.{none_to_as, none_as, least_as, soonest_as}
 
@@ -29,17 +29,17 @@ pub zero_form : (net : NetLists) (f : SettledForm) → ZeroInputsAreNoLists → 
 zero_form net f law h = record { dating = h.0; least = (law net h.0).0 h.1; stands = h.2.stands }
 
 module _ (net : NetLists) (ok : IsNet net) (live : IsLive net) (f : SettledForm) (form : IsZeroForm net f) where
-  pub tells : (t k : ℕ) → t < length net.transitions → 1 ≤ k → date_of f t k ≡ form.dating t k
+  pub tells : (t k : ℕ) → t < length net.transitions → 1 ≤ k → settled_date f t k ≡ form.dating t k
   tells t k lt one = form_tells (length net.transitions) f form.dating form.stands t k lt one
 
-  number : (t k : ℕ) → t < length net.transitions → 1 ≤ k → date_of f t k ≡ At (pos (least_number net ok live form.dating form.least t k))
+  number : (t k : ℕ) → t < length net.transitions → 1 ≤ k → settled_date f t k ≡ At (pos (least_number net ok live form.dating form.least t k))
   number t k lt one = tells t k lt one ∙ date_is net ok live form.dating form.least t k lt one
 
-  low_number : (t k m : ℕ) → IsWithin greatest_least_date (date_of f t k) → date_of f t k ≡ At (pos m) → m ≤ greatest_least_date
-  low_number t k m h e = let w = subst (IsWithin greatest_least_date) e h in omega (arith, ints, w.1)
+  low_number : (t k m : ℕ) → IsDateWithin greatest_least_date (settled_date f t k) → settled_date f t k ≡ At (pos m) → m ≤ greatest_least_date
+  low_number t k m h e = let w = subst (IsDateWithin greatest_least_date) e h in omega (arith, ints, w.1)
 
   -- the dates of each transition are numbers, and its step is one and not great
-  pub climbing : StepsAreFromZero → IsKept f → (t : ℕ) → t < length net.transitions → IsClimbing f t
+  pub climbing : StepsAreFromZero → IsFormKept f → (t : ℕ) → t < length net.transitions → IsClimbing f t
   climbing law kept t lt =
       let s = law net ok live form.dating form.least f form.stands t lt in
       let rows : length f.rows ≡ length net.transitions = form.stands.sizes.rows_are in
@@ -48,9 +48,9 @@ module _ (net : NetLists) (ok : IsNet net) (live : IsLive net) (f : SettledForm)
       let k : ℕ = f.after + 1 in
       let a : ℕ = least_number net ok live form.dating form.least t k in
       let b : ℕ = least_number net ok live form.dating form.least t (k + f.period) in
-      let ea : date_of f t k ≡ At (pos a) = number t k lt (omega arith) in
-      let eb : date_of f t (k + f.period) ≡ At (pos b) = number t (k + f.period) lt (omega arith) in
-      let again : form.dating t (k + f.period) ≡ move (step_of f t) (form.dating t k) = form.stands.repeats.again t k lt (omega arith) in
+      let ea : settled_date f t k ≡ At (pos a) = number t k lt (omega arith) in
+      let eb : settled_date f t (k + f.period) ≡ At (pos b) = number t (k + f.period) lt (omega arith) in
+      let again : form.dating t (k + f.period) ≡ move (step_of_form f t) (form.dating t k) = form.stands.repeats.again t k lt (omega arith) in
       let chain : At (pos b) ≡ move (pos s.0) (At (pos a)) =
       sym (date_is net ok live form.dating form.least t (k + f.period) lt (omega arith)) ∙ again
       ∙ ap (λ (z : ℤ). move z (form.dating t k)) s.1 ∙ ap (move (pos s.0)) (date_is net ok live form.dating form.least t k lt (omega arith)) in
@@ -67,18 +67,18 @@ module _ (net : NetLists) (ok : IsNet net) (live : IsLive net) (f : SettledForm)
   -- past the settling number they go on by it
   pub goes_on : (t : ℕ) → t < length net.transitions → GoesOnBySteps f t
   goes_on t lt = record {
-    again = λ j l. tells t (j + f.period) lt (omega arith) ∙ (form.stands.repeats.again t j lt l ∙ ap (move (step_of f t)) (sym (tells t j lt (omega arith))));
+    again = λ j l. tells t (j + f.period) lt (omega arith) ∙ (form.stands.repeats.again t j lt l ∙ ap (move (step_of_form f t)) (sym (tells t j lt (omega arith))));
   }
 
   module _ (r : EndlessRow) (rule : IsEndlessRow net r) where
-    same : (k : ℕ) → 1 ≤ k → date_of f r.transition.index k ≡ form.dating r.transition.index k
+    same : (k : ℕ) → 1 ≤ k → settled_date f r.transition.index k ≡ form.dating r.transition.index k
     same k one = tells r.transition.index k rule.in_range one
 
-    back : (k : ℕ) → 1 ≤ k → form.dating r.transition.index k ≡ date_of f r.transition.index k
+    back : (k : ℕ) → 1 ≤ k → form.dating r.transition.index k ≡ settled_date f r.transition.index k
     back k one = sym (same k one)
 
     -- the same turn of the dating that the form stands for
-    turn_as : (past turn rise fall : ℕ) → IsTurnOf (date_of f) r past turn rise fall → IsTurnOf form.dating r past turn rise fall
+    turn_as : (past turn rise fall : ℕ) → IsCommonPeriodOf (settled_date f) r past turn rise fall → IsCommonPeriodOf form.dating r past turn rise fall
     turn_as past turn rise fall is = record {
       some = is.some;
       dates_rise = λ k l. back (k + turn) (omega arith) ∙ (is.dates_rise k l ∙ ap (move (pos rise)) (same k (omega arith)));
@@ -89,29 +89,29 @@ module _ (net : NetLists) (ok : IsNet net) (live : IsLive net) (f : SettledForm)
     }
 
     -- the least late number is not great
-    pub soon : LateIsSoon → (k due least : ℕ) → IsLeastLate (date_of f) r k due least → IsSoonLate f r k due least
+    pub soon : LateIsSoon → (k due least : ℕ) → IsLeastLate (settled_date f) r k due least → IsSoonLate f r k due least
     soon law k due least h =
-        let low = law net ok live form.dating form.least r rule k due least (least_as (date_of f) form.dating r same k due least h) in
+        let low = law net ok live form.dating form.least r rule k due least (least_as (settled_date f) form.dating r same k due least h) in
         record { is = h; number_in = omega (arith, low.0); due_in = omega (arith, low.1); least_in = omega (arith, low.2) }
 
     -- where the due dates rise no less, none is late
-    pub none_at_all : TurnsTellLate → (past turn rise fall : ℕ) → IsTurnOf (date_of f) r past turn rise fall → NoneLateTo (date_of f) r (past + turn) → rise ≤ fall → NoneLate (date_of f) r
+    pub none_at_all : TurnsTellLate → (past turn rise fall : ℕ) → IsCommonPeriodOf (settled_date f) r past turn rise fall → NoneLateTo (settled_date f) r (past + turn) → rise ≤ fall → NoneLate (settled_date f) r
     none_at_all law past turn rise fall is none flat =
-        none_as form.dating (date_of f) r back
-        ((law net ok live form.dating form.least r rule past turn rise fall (turn_as past turn rise fall is) (none_to_as (date_of f) form.dating r same (past + turn) none)).0 flat)
+        none_as form.dating (settled_date f) r back
+        ((law net ok live form.dating form.least r rule past turn rise fall (turn_as past turn rise fall is) (none_to_as (settled_date f) form.dating r same (past + turn) none)).0 flat)
 
     -- and otherwise the least late number is that which is late after the fewest turns
-    pub soon_by_turns : TurnsTellLate → LateIsSoon → (past turn rise fall gain base due date : ℕ) → IsTurnOf (date_of f) r past turn rise fall → NoneLateTo (date_of f) r (past + turn) → 0 < gain → rise ≡ fall + gain
-        → IsSoonest (date_of f) r past (past + turn) gain base due date → IsSoonLate f r (base + turns_to due date gain * turn) (due + turns_to due date gain * fall) (date + turns_to due date gain * rise)
+    pub soon_by_turns : TurnsTellLate → LateIsSoon → (past turn rise fall gain base due date : ℕ) → IsCommonPeriodOf (settled_date f) r past turn rise fall → NoneLateTo (settled_date f) r (past + turn) → 0 < gain → rise ≡ fall + gain
+        → IsSoonest (settled_date f) r past (past + turn) gain base due date → IsSoonLate f r (base + turns_to due date gain * turn) (due + turns_to due date gain * fall) (date + turns_to due date gain * rise)
     soon_by_turns law low past turn rise fall gain base due date is none some steep soonest =
         soon low (base + turns_to due date gain * turn) (due + turns_to due date gain * fall) (date + turns_to due date gain * rise)
-        (least_as form.dating (date_of f) r back _ _ _
-        ((law net ok live form.dating form.least r rule past turn rise fall (turn_as past turn rise fall is) (none_to_as (date_of f) form.dating r same (past + turn) none)).1 gain base due date some steep
-        (soonest_as (date_of f) form.dating r same past (past + turn) gain base due date soonest)))
+        (least_as form.dating (settled_date f) r back _ _ _
+        ((law net ok live form.dating form.least r rule past turn rise fall (turn_as past turn rise fall is) (none_to_as (settled_date f) form.dating r same (past + turn) none)).1 gain base due date some steep
+        (soonest_as (settled_date f) form.dating r same past (past + turn) gain base due date soonest)))
 
 -- the first row that is late, with its least late number
 pub late_answer : (net : NetLists) (ok : IsNet net) (live : IsLive net) (f : SettledForm) (form : IsZeroForm net f) (rows : List EndlessRow) → IsEndlessOf net rows → (i : ℕ) (r : EndlessRow) → slice_get rows i ≡ Some r
-    → All (NoneLate (date_of f)) (take i rows) → (k due least : ℕ) → IsSoonLate f r k due least → IsLateAnswer net rows r.transition.index k due least
+    → All (NoneLate (settled_date f)) (take i rows) → (k due least : ℕ) → IsSoonLate f r k due least → IsLateAnswer net rows r.transition.index k due least
 late_answer net ok live f form rows ends i r at none k due least h =
     let lt : i < length rows = got_within rows i r at in
     let rule : IsEndlessRow net r = subst (IsEndlessRow net) (got_is rows i r r at) (ends.each i r lt) in
@@ -127,8 +127,8 @@ late_answer net ok live f form rows ends i r at none k due least h =
             let low : j < i = omega (arith, w, short) in
             let range = (ends.each j d (omega (arith, low, lt))).in_range in
             let same : get_or (take i rows) j d ≡ get_or rows j d = get_or-take i rows j d low in
-            none_as (date_of f) form.dating (get_or (take i rows) j d) (λ m o. tells net ok live f form (get_or (take i rows) j d).transition.index m (subst (λ (q : EndlessRow). q.transition.index < length net.transitions) (sym same) range) o) (none j d w);
-        least_late = least_as (date_of f) form.dating r (λ m o. tells net ok live f form r.transition.index m rule.in_range o) k due least h.is;
+            none_as (settled_date f) form.dating (get_or (take i rows) j d) (λ m o. tells net ok live f form (get_or (take i rows) j d).transition.index m (subst (λ (q : EndlessRow). q.transition.index < length net.transitions) (sym same) range) o) (none j d w);
+        least_late = least_as (settled_date f) form.dating r (λ m o. tells net ok live f form r.transition.index m rule.in_range o) k due least h.is;
       };
       transition = refl;
       number_in = h.number_in;
@@ -137,8 +137,8 @@ late_answer net ok live f form rows ends i r at none k due least h =
     }
 
 -- where no row is late the inputs at 0 meet the due dates
-pub all_meet : (net : NetLists) (ok : IsNet net) (live : IsLive net) (f : SettledForm) (form : IsZeroForm net f) (rows : List EndlessRow) → IsEndlessOf net rows → ZeroMeetsWhereNoneLate → All (NoneLate (date_of f)) rows
+pub all_meet : (net : NetLists) (ok : IsNet net) (live : IsLive net) (f : SettledForm) (form : IsZeroForm net f) (rows : List EndlessRow) → IsEndlessOf net rows → ZeroMeetsWhereNoneLate → All (NoneLate (settled_date f)) rows
     → InputsMeet net (due_on rows) inputs_at_zero
 all_meet net ok live f form rows ends law none =
     (law net ok live rows ends form.dating form.least).1
-    (λ j d w. none_as (date_of f) form.dating (get_or rows j d) (λ m o. tells net ok live f form (get_or rows j d).transition.index m (ends.each j d w).in_range o) (none j d w))
+    (λ j d w. none_as (settled_date f) form.dating (get_or rows j d) (λ m o. tells net ok live f form (get_or rows j d).transition.index m (ends.each j d w).in_range o) (none j d w))

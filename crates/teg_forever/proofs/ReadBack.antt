@@ -8,17 +8,17 @@ use Rattle.std.proofs.lemmas.Bool.Decides.{nat_tests}
 use Rattle.std.proofs.lemmas.List.{get_or_default, length-append}
 use Rattle.dioid.specs.declared.dates.Date.{Date}
 use Rattle.dioid.specs.declared.dates.Date.TheVariants.{Early, At, Never}
-use Rattle.series_laws.specs.Forms.{Form}
-use Rattle.series_form.specs.Bounds.{IsSeries, IsSmallDate}
+use Rattle.series_laws.specs.SeriesForms.{Form}
+use Rattle.series_form.specs.NumberBounds.{IsSeries, IsSmallDate}
 use Rattle.teg_net.specs.Nets.{NetLists, IsNet}
 use Rattle.teg_text.specs.Lines.{is_word, is_line, are_lines}
-use Rattle.teg_text.specs.Names.{name_of_transition, transition_in}
-use Rattle.teg_text.specs.Reading.{lines_in, line_at, word, stands_at, number_in, signed_in, date_in}
-use Rattle.teg_text.specs.Words.{IsDate, date_word}
+use Rattle.teg_text.specs.WordsOfNames.{name_of_transition, transition_in}
+use Rattle.teg_text.specs.WordReading.{lines_in, line_at, word, stands_at, number_in, signed_in, date_of_word}
+use Rattle.teg_text.specs.ValueWords.{IsDate, date_word}
 use Rattle.teg_text.proofs.Back.{number_back, word32_back, word64_back, signed_back, date_back}
 use Rattle.teg_text.proofs.NamesRead.{transition_back, transition_is_word}
 use Rattle.teg_text.proofs.Reading.{written_read}
-use Rattle.teg_text.proofs.Rows.{before_back, behind_back, map_back, map_passes}
+use Rattle.teg_text.proofs.LineBlocks.{before_back, behind_back, map_back, map_passes}
 use Rattle.teg_text.proofs.Words.{all_append, decimal_is_word, date_is_word, signed_is_word}
 use Rattle.teg_forever.specs.declared.rows.EndlessRefusal.{EndlessRefusal}
 use Rattle.teg_forever.specs.declared.rows.EndlessRefusal.TheVariants.{BadRow, UnknownTransition, NotDue, RepeatedDue, OutOfRange, Falls, OutOfMemory as NoRowRoom}
@@ -26,9 +26,9 @@ use Rattle.teg_forever.specs.declared.releases.Release.{Release}
 use Rattle.teg_forever.specs.declared.releases.Release.TheVariants.{Free, Latest}
 use Rattle.teg_forever.specs.declared.releases.ForeverRefusal.{ForeverRefusal}
 use Rattle.teg_forever.specs.declared.releases.ForeverRefusal.TheVariants.{Late, TooLong, TooWide, OutOfMemory}
-use Rattle.teg_forever.specs.Releases.{inputs_of}
+use Rattle.teg_forever.specs.LatestReleases.{inputs_of}
 use Rattle.teg_forever.proofs.InputLists.{all_low}
-use Rattle.teg_forever.specs.Texts.{EndlessAnswer, LongFile, UnreadFile, Faulty, Answered, answer_lines, release_line, lines_of, series_words, IsReleaseTold, IsToldOf, TextsOfEndlessDiffer}
+use Rattle.teg_forever.specs.EndlessTexts.{EndlessAnswer, LongFile, UnreadFile, Faulty, Answered, answer_lines, release_line, endless_lines_of, series_words, IsReleaseTold, IsEndlessTold, TextsOfEndlessDiffer}
 
 -- ---- what is read
 
@@ -49,7 +49,7 @@ refusal_in net line =
 
 abbrev series_in : List (List ℕ) → Form
 series_in line = record {
-  values = map date_in (take (length line - 6) (drop 2 line));
+  values = map date_of_word (take (length line - 6) (drop 2 line));
   period = number_in (word (length line - 3) line);
   step = signed_in (word (length line - 1) line);
 }
@@ -93,9 +93,9 @@ series_back name f h =
     let first : length (told_line name f) - 6 ≡ length (told_values f) = omega (arith, n) in
     let third : length (told_line name f) - 3 ≡ suc (suc (length (told_values f) + 1)) = omega (arith, n) in
     let last : length (told_line name f) - 1 ≡ suc (suc (length (told_values f) + 3)) = omega (arith, n) in
-    let values : map date_in (take (length (told_line name f) - 6) (told_values f ++ told_numbers f)) ≡ f.values =
-    ap (λ (k : ℕ). map date_in (take k (told_values f ++ told_numbers f))) first
-    ∙ (ap (map date_in) (before_back (told_values f) (told_numbers f)) ∙ map_back IsDate date_word date_in date_back f.values dates) in
+    let values : map date_of_word (take (length (told_line name f) - 6) (told_values f ++ told_numbers f)) ≡ f.values =
+    ap (λ (k : ℕ). map date_of_word (take k (told_values f ++ told_numbers f))) first
+    ∙ (ap (map date_of_word) (before_back (told_values f) (told_numbers f)) ∙ map_back IsDate date_word date_of_word date_back f.values dates) in
     let period : number_in (get_or (told_line name f) (length (told_line name f) - 3) []) ≡ f.period =
     ap (λ (k : ℕ). number_in (get_or (told_line name f) k [])) third
     ∙ (ap number_in (behind_back (told_values f) (told_numbers f) 1 []) ∙ word64_back f.period (omega (arith, h.canonical.form.period_fits, h.short))) in
@@ -122,18 +122,18 @@ release_passes net u (Latest f) rules h =
 at_first : (releases : List Release) (r : Release) → All IsReleaseTold (r ∷ releases) → IsReleaseTold r × All IsReleaseTold releases
 at_first releases r h = (h 0 r (omega arith), λ k d w. h (suc k) d (omega (arith, w)))
 
-releases_back : (net : NetLists) (ts : List ℕ) (releases : List Release) → length releases ≡ length ts → All IsReleaseTold releases → map release_read (lines_of net ts releases) ≡ releases
+releases_back : (net : NetLists) (ts : List ℕ) (releases : List Release) → length releases ≡ length ts → All IsReleaseTold releases → map release_read (endless_lines_of net ts releases) ≡ releases
 releases_back net [] [] e h = refl
 releases_back net [] (r ∷ releases) e h = absurd (omega arith)
 releases_back net (t ∷ ts) [] e h = absurd (omega arith)
 releases_back net (t ∷ ts) (r ∷ releases) e h =
     let parts = at_first releases r h in
-    ap (λ (x : Release). x ∷ map release_read (lines_of net ts releases)) (release_back net t r parts.0) ∙ ap (λ (l : List Release). r ∷ l) (releases_back net ts releases (omega arith) parts.1)
+    ap (λ (x : Release). x ∷ map release_read (endless_lines_of net ts releases)) (release_back net t r parts.0) ∙ ap (λ (l : List Release). r ∷ l) (releases_back net ts releases (omega arith) parts.1)
 
 first_low : (n : ℕ) (ts : List ℕ) (t : ℕ) → All (λ u. u < n) (t ∷ ts) → (t < n) × All (λ u. u < n) ts
 first_low n ts t h = (h 0 t (omega arith), λ k d w. h (suc k) d (omega (arith, w)))
 
-lines_pass : (net : NetLists) → IsNet net → (ts : List ℕ) (releases : List Release) → All (λ u. u < length net.transitions) ts → list_all is_line (lines_of net ts releases) ≡ true
+lines_pass : (net : NetLists) → IsNet net → (ts : List ℕ) (releases : List Release) → All (λ u. u < length net.transitions) ts → list_all is_line (endless_lines_of net ts releases) ≡ true
 lines_pass net rules [] releases h = refl
 lines_pass net rules (t ∷ ts) [] h = refl
 lines_pass net rules (t ∷ ts) (r ∷ releases) h =
@@ -146,7 +146,7 @@ record IsRead (net : NetLists) (a : EndlessAnswer) : Type 0 where
   words : are_lines (answer_lines net a) ≡ true
   back : answer_in net (answer_lines net a) ≡ a
 
-is_read : (net : NetLists) → IsNet net → All (λ u. u < length net.transitions) (inputs_of net) → (a : EndlessAnswer) → IsToldOf net a → IsRead net a
+is_read : (net : NetLists) → IsNet net → All (λ u. u < length net.transitions) (inputs_of net) → (a : EndlessAnswer) → IsEndlessTold net a → IsRead net a
 is_read net rules low LongFile h = record { words = refl; back = refl }
 is_read net rules low UnreadFile h = record { words = refl; back = refl }
 is_read net rules low (Faulty (BadRow row)) h = record { words = rw (decimal_is_word row) refl; back = rw (word32_back row h) refl }

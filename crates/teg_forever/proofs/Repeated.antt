@@ -3,17 +3,17 @@ use Rattle.std.proofs.Common.{ℕ, ◌+◌, ◌-◌, ◌<◌, ◌≡◌, List, S
 use Rattle.std.specs.Prelude.{IsTrue, slice_get}
 use Rattle.dioid_matrix.specs.Residuals.{RowFits}
 use Rattle.dioid_matrix.proofs.Meets.{meet_more, row_fits}
-use Rattle.series_laws.specs.Forms.{Form, form_with, value_at}
+use Rattle.series_laws.specs.SeriesForms.{Form, form_with, value_at}
 use Rattle.series_laws.proofs.Canonical.{one_canonical}
 use Rattle.series_ops.specs.declared.gains.Gain.{Gain}
 use Rattle.series_ops.specs.Gains.{gain_left, gain_meet, gain_of, MeetFits}
-use Rattle.series_form.specs.Bounds.{IsSeries}
+use Rattle.series_form.specs.NumberBounds.{IsSeries}
 use Rattle.periodic_laws.specs.Equations.{gains}
 use Rattle.teg_net.specs.Nets.{NetLists, IsNet}
-use Rattle.settled_laws.specs.Forms.{SettledForm}
+use Rattle.settled_laws.specs.SettledForms.{SettledForm}
 use Rattle.teg_settle.specs.Transfers.{IsTransferOf}
 use Rattle.forever_laws.specs.declared.rows.EndlessRow.{EndlessRow}
-use Rattle.forever_laws.specs.Columns.{AreColumns, IsDueSeries, IsWalkSeries, gain_residuals}
+use Rattle.forever_laws.specs.SeriesColumns.{AreSeriesColumns, IsDueSeries, IsWalkSeries, gain_residuals}
 use Rattle.forever_laws.proofs.OneColumn.{one_due, one_time}
 use Rattle.forever_laws.proofs.Residuals.{GotRow, got_row}
 use Rattle.forever_laws.proofs.Series.{transfers_are_series}
@@ -63,7 +63,7 @@ stays_second after q h e = let both = meet_itself after q h e in record { value 
 
 -- a residual that is kept is that of its row
 left_of : (net : NetLists) (rows : List EndlessRow) (u i : ℕ) (list : List Divided) (place : ℕ) (q : Gain) → IsResidualOf net rows u i list place → StandsAt list place q
-    → (walks dues : ℕ → Gain) → AreColumns net u rows walks dues → q ≡ gain_left (walks i) (dues i)
+    → (walks dues : ℕ → Gain) → AreSeriesColumns net u rows walks dues → q ≡ gain_left (walks i) (dues i)
 left_of net rows u i list place q h stands walks dues columns = stands h.divided h.stands ∙ (h.is walks dues columns).0
 
 -- the meet over one row

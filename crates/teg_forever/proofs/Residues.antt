@@ -1,35 +1,35 @@
 -- What the meet of the residuals over the rows tells of an input.
 use Rattle.std.proofs.Common.{ℕ, ◌+◌, ◌-◌, ◌≤◌, ◌≡◌, ◌==◌, true, List, [], ◌∷◌, Option, Some, None, Result, Ok, Err, length, refl, sym, subst, ap, ◌∙◌, arith}
 use Rattle.std.specs.Prelude.{IfNone, IfOk, OnOk, slice_get}
-use Rattle.series_laws.specs.Forms.{Form, value_at}
-use Rattle.series_form.specs.Bounds.{IsSeries}
+use Rattle.series_laws.specs.SeriesForms.{Form, value_at}
+use Rattle.series_form.specs.NumberBounds.{IsSeries}
 use Rattle.series_ops.specs.declared.gains.Gain.{Gain}
 use Rattle.series_ops.specs.Gains.{gain_zero}
 use Rattle.teg_net.specs.declared.entries.TransitionId.{TransitionId}
 use Rattle.teg_net.specs.Nets.{NetLists, IsNet, IsInput}
 use Rattle.teg_net.specs.Circuits.{IsLive}
-use Rattle.settled_laws.specs.Forms.{SettledForm, settled_length}
+use Rattle.settled_laws.specs.SettledForms.{SettledForm, settled_length}
 use Rattle.teg_settle.specs.Transfers.{IsTransferOf}
-use Rattle.due_laws.specs.Dues.{InputsMeet, inputs_at_zero}
+use Rattle.due_laws.specs.MeetingDueDates.{InputsMeet, inputs_at_zero}
 use Rattle.due_laws.specs.LatestDates.{IsLatestDate}
 use Rattle.forever_laws.specs.declared.rows.EndlessRow.{EndlessRow}
-use Rattle.forever_laws.specs.Rows.{IsEndlessOf, due_on}
-use Rattle.forever_laws.specs.Columns.{AreColumns, residual_over}
+use Rattle.forever_laws.specs.EndlessRows.{IsEndlessOf, due_on}
+use Rattle.forever_laws.specs.SeriesColumns.{AreSeriesColumns, residual_over}
 use Rattle.forever_laws.specs.ColumnLaws.{ColumnsExist}
-use Rattle.forever_laws.specs.Laws.{ResidualsAreLatestDates, ResidualsAreFreeOrNumbers}
+use Rattle.forever_laws.specs.EndlessDues.{ResidualsAreLatestDates, ResidualsAreFreeOrNumbers}
 use Rattle.teg_forever.specs.declared.releases.Release.{Release}
 use Rattle.teg_forever.specs.declared.releases.Release.TheVariants.{Free, Latest}
 use Rattle.teg_forever.specs.declared.releases.ForeverRefusal.{ForeverRefusal}
 use Rattle.teg_forever.specs.declared.releases.ForeverRefusal.TheVariants.{Late, TooLong, TooWide, OutOfMemory}
-use Rattle.teg_forever.specs.Releases.{IsFine, IsReleaseOf, ForeverRefused, SettlesWithin, longest_form}
-use Rattle.teg_forever.specs.Columns.{IsReleaseBy, IsStopped, AreReleasesBelow}
+use Rattle.teg_forever.specs.LatestReleases.{IsFine, IsReleaseOf, ForeverRefused, WalkTimesSettleSoon, longest_form}
+use Rattle.teg_forever.specs.InputAnswers.{IsReleaseBy, IsStopped, AreReleasesBelow}
 use Rattle.teg_forever.specs.Divisions.{IsMeetOver}
 use Rattle.teg_forever.proofs.InputLists.{input_within}
 use Rattle.number_laws.proofs.Numbers.{same_number}
 
 module _ (net : NetLists) (rows : List EndlessRow) (u : ℕ) (ok : IsNet net) (live : IsLive net) (ends : IsEndlessOf net rows) (input : IsInput net u) (exist : ColumnsExist) (m : Gain) (meet : IsMeetOver net rows u (length rows) m) where
   -- an input whose walk times settle is fine where each row fits
-  pub fine : SettlesWithin net u → IsFine net rows u
+  pub fine : WalkTimesSettleSoon net u → IsFine net rows u
   fine settles = let c = exist net ok live rows ends u input in record { settles = settles; walks = c.0; dues = c.1; columns = c.2; fit = (meet c.0 c.1 c.2).fit }
 
   -- and the meet has its latest dates
@@ -39,7 +39,7 @@ module _ (net : NetLists) (rows : List EndlessRow) (u : ℕ) (ok : IsNet net) (l
       let value : m ≡ residual_over (length rows) c.0 c.1 = (meet c.0 c.1 c.2).value in
       by_meet c.0 c.1 c.2 release (subst (λ (g : Gain). IsReleaseBy g.series release) value h)
     where
-      by_meet : (walks dues : ℕ → Gain) → AreColumns net u rows walks dues → (release : Release) → IsReleaseBy (residual_over (length rows) walks dues).series release → IsReleaseOf net rows u release
+      by_meet : (walks dues : ℕ → Gain) → AreSeriesColumns net u rows walks dues → (release : Release) → IsReleaseBy (residual_over (length rows) walks dues).series release → IsReleaseOf net rows u release
       by_meet walks dues columns Free h = ((numbers net ok live rows ends some zero u (input_within net u input) walks dues columns).0 h).1
       by_meet walks dues columns (Latest s) h = (
         subst (λ (z : Form). IsSeries z) (sym h.1) h.2,

@@ -7,16 +7,16 @@ use Rattle.std.specs.Str.Parse.{digits_value}
 use Rattle.std.proofs.lemmas.Bool.{cases_Bool, and_parts}
 use Rattle.std.proofs.lemmas.List.Folds.{list_all_at}
 use Rattle.std.proofs.lemmas.List.Sorted.{IsNonDecreasingBy-from_default}
-use Rattle.csv_records.specs.Numbers.{is_number}
+use Rattle.csv_records.specs.NumberFields.{is_number}
 use Rattle.csv_records.specs.Records.{records_of}
 use Rattle.csv_records.proofs.RowLaws.{differ, each_row, rows_once}
-use Rattle.teg_net.specs.Limits.{greatest_date, most_every}
+use Rattle.teg_net.specs.Limits.{greatest_input_date, greatest_every}
 use Rattle.teg_net.specs.Nets.{NetLists}
-use Rattle.teg_due.specs.Names.{number_named, is_input}
+use Rattle.teg_due.specs.RowNames.{number_named, is_input}
 use Rattle.teg_due.proofs.DueRules.{named_in, no_input}
 use Rattle.forever_laws.specs.declared.rows.EndlessRow.{EndlessRow}
-use Rattle.forever_laws.specs.Rows.{IsEndlessRow, IsEndlessOf, most_endless_dates}
-use Rattle.teg_forever.specs.Rows.{has_row, in_endless_limits, rises_from, goes_on, endless_numbered, endless_of, endless_placed, endless_row, is_endless_header}
+use Rattle.forever_laws.specs.EndlessRows.{IsEndlessRow, IsEndlessOf, most_endless_dates}
+use Rattle.teg_forever.specs.EndlessFiles.{has_row, in_endless_limits, rises_from, goes_on, endless_numbered, endless_of, endless_placed, endless_row, is_endless_header}
 
 -- ---- dates
 
@@ -39,10 +39,10 @@ in_order before (date ∷ dates) h (suc i) (suc j) w v = in_order date dates (an
 never_fall : (dates : List ℕ) → rises_from 0 dates ≡ true → IsNonDecreasing dates
 never_fall dates h = IsNonDecreasingBy-from_default (λ x. x) dates 0 (in_order 0 dates h)
 
-all_low : (dates : List ℕ) → list_all (λ d. nat_le d greatest_date) dates ≡ true → All (λ d. d ≤ greatest_date) dates
-all_low dates h k d lt = elim (cases_Bool (nat_le (get_or dates k d) greatest_date)) [
-  | inl low ↦ leb-true (get_or dates k d) greatest_date low
-  | inr high ↦ cc (h, list_all_at (λ z. nat_le z greatest_date) dates k d lt high)
+all_low : (dates : List ℕ) → list_all (λ d. nat_le d greatest_input_date) dates ≡ true → All (λ d. d ≤ greatest_input_date) dates
+all_low dates h k d lt = elim (cases_Bool (nat_le (get_or dates k d) greatest_input_date)) [
+  | inl low ↦ leb-true (get_or dates k d) greatest_input_date low
+  | inr high ↦ cc (h, list_all_at (λ z. nat_le z greatest_input_date) dates k d lt high)
 ]
 
 -- ---- a row
@@ -55,10 +55,10 @@ pub record IsNewRow (net : NetLists) (rows : List EndlessRow) (r : EndlessRow) :
 kept_rule : (net : NetLists) (k t every gap : ℕ) (dates : List ℕ) → t < length net.transitions → is_input net t ≡ false → in_endless_limits every gap dates ≡ true → goes_on every gap dates ≡ true
     → IsEndlessRow net (record { row = k; transition = record { index = t }; every = every; gap = gap; dates = dates })
 kept_rule net k t every gap dates lt role low on =
-    let one = and_parts (nat_le 1 every) (nat_le every most_every && (nat_le gap greatest_date && (nat_le (length dates) most_endless_dates && list_all (λ d. nat_le d greatest_date) dates))) low in
-    let two = and_parts (nat_le every most_every) (nat_le gap greatest_date && (nat_le (length dates) most_endless_dates && list_all (λ d. nat_le d greatest_date) dates)) one.1 in
-    let three = and_parts (nat_le gap greatest_date) (nat_le (length dates) most_endless_dates && list_all (λ d. nat_le d greatest_date) dates) two.1 in
-    let four = and_parts (nat_le (length dates) most_endless_dates) (list_all (λ d. nat_le d greatest_date) dates) three.1 in
+    let one = and_parts (nat_le 1 every) (nat_le every greatest_every && (nat_le gap greatest_input_date && (nat_le (length dates) most_endless_dates && list_all (λ d. nat_le d greatest_input_date) dates))) low in
+    let two = and_parts (nat_le every greatest_every) (nat_le gap greatest_input_date && (nat_le (length dates) most_endless_dates && list_all (λ d. nat_le d greatest_input_date) dates)) one.1 in
+    let three = and_parts (nat_le gap greatest_input_date) (nat_le (length dates) most_endless_dates && list_all (λ d. nat_le d greatest_input_date) dates) two.1 in
+    let four = and_parts (nat_le (length dates) most_endless_dates) (list_all (λ d. nat_le d greatest_input_date) dates) three.1 in
     let five = and_parts (rises_from 0 dates) (nat_le every (length dates) && nat_le (slice_index dates (length dates - 1)) (slice_index dates (length dates - every) + gap)) on in
     let six = and_parts (nat_le every (length dates)) (nat_le (slice_index dates (length dates - 1)) (slice_index dates (length dates - every) + gap)) five.1 in
     record {
@@ -69,8 +69,8 @@ kept_rule net k t every gap dates lt role low on =
       never_falls = never_fall dates five.0;
       goes_on = record {
         some = leb-true 1 every one.0;
-        every_in = leb-true every most_every two.0;
-        gap_in = leb-true gap greatest_date three.0;
+        every_in = leb-true every greatest_every two.0;
+        gap_in = leb-true gap greatest_input_date three.0;
         enough = leb-true every (length dates) six.0;
         joins = leb-true (slice_index dates (length dates - 1)) (slice_index dates (length dates - every) + gap) six.1;
       };

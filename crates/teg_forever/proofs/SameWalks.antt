@@ -7,26 +7,26 @@ use Rattle.std.proofs.lemmas.List.Sums.{sum_by-cons}
 use Rattle.dioid.specs.declared.dates.Date.{Date}
 use Rattle.dioid.specs.declared.dates.Date.TheVariants.{At}
 use Rattle.dioid.specs.Dates.{IsAtMostDate, delayed, move}
-use Rattle.series_laws.specs.Forms.{value_at}
+use Rattle.series_laws.specs.SeriesForms.{value_at}
 use Rattle.teg_net.specs.declared.entries.PlaceId.{PlaceId}
 use Rattle.teg_net.specs.declared.walks.Step.{Step}
 use Rattle.teg_net.specs.declared.walks.Step.TheVariants.{By, Next}
 use Rattle.teg_net.specs.Nets.{NetLists, IsNet, IsInput}
 use Rattle.teg_net.specs.Circuits.{IsLive, no_place, place_at}
 use Rattle.teg_net.specs.Walks.{Walks, step_time, walk_time}
-use Rattle.settled_laws.specs.Forms.{RepeatsAfter, SettledForm, settled_length, step_of}
-use Rattle.teg_settle.specs.Laws.{WalkTimesSettle}
+use Rattle.settled_laws.specs.SettledForms.{RepeatsAfter, SettledForm, settled_length, step_of_form}
+use Rattle.teg_settle.specs.WalkTimes.{WalkTimesSettle}
 use Rattle.teg_settle.specs.Transfers.{AreWalkTimes, IsGreatestWalkTime}
-use Rattle.teg_due.specs.Names.{is_input}
+use Rattle.teg_due.specs.RowNames.{is_input}
 use Rattle.due_laws.specs.LatestDates.{IsDateToDue}
 use Rattle.forever_laws.specs.declared.rows.EndlessRow.{EndlessRow}
-use Rattle.forever_laws.specs.Rows.{IsEndlessOf, IsEndlessRow, due_on}
-use Rattle.forever_laws.specs.Columns.{IsWalkSeries}
+use Rattle.forever_laws.specs.EndlessRows.{IsEndlessOf, IsEndlessRow, due_on}
+use Rattle.forever_laws.specs.SeriesColumns.{IsWalkSeries}
 use Rattle.forever_laws.proofs.Meeting.{has_row}
 use Rattle.forever_laws.proofs.OneColumn.{one_time}
 use Rattle.teg_forever.specs.declared.releases.Release.{Release}
 use Rattle.teg_forever.specs.declared.releases.Release.TheVariants.{Free, Latest}
-use Rattle.teg_forever.specs.Releases.{AreBeside, IsFine, IsReleaseOf, SettlesWithin, inputs_below, longest_form}
+use Rattle.teg_forever.specs.LatestReleases.{AreBeside, IsFine, IsReleaseOf, WalkTimesSettleSoon, inputs_below, longest_form}
 use Rattle.teg_forever.specs.Twins.{AreTwins, HasTwinPlace, IsTwinPlace, LeadsAlike}
 use Rattle.teg_forever.proofs.InputLists.{input_within, inputs_more}
 use Rattle.teg_forever.proofs.Series.{behind, got_is, got_within, some_is}
@@ -144,13 +144,13 @@ module _ (net : NetLists) (ok : IsNet net) (u v : ℕ) (first : IsInput net u) (
       again = λ t k l past. sym (same t (k + period) l (omega arith)) ∙ (h.again (other t) k (other_in t l) past ∙ ap (move (step (other t))) (same t k l (omega arith)));
     }
 
-  pub twin_settles : WalkTimesSettle → IsLive net → SettlesWithin net u → SettlesWithin net v
+  pub twin_settles : WalkTimesSettle → IsLive net → WalkTimesSettleSoon net u → WalkTimesSettleSoon net v
   twin_settles settle live h =
       let f : SettledForm = h.0 in
       let g = settle net ok live v second in
-      let again = repeats h.1.0 g.1.0 h.1.1 g.1.1 f.after f.period (step_of f) h.1.2.stands.repeats in
-      let period : g.0.period ≤ f.period = g.1.2.least_period f.after f.period (λ t. step_of f (other t)) again in
-      let after : g.0.after ≤ f.after = g.1.2.least_after f.after f.period (λ t. step_of f (other t)) again in
+      let again = repeats h.1.0 g.1.0 h.1.1 g.1.1 f.after f.period (step_of_form f) h.1.2.stands.repeats in
+      let period : g.0.period ≤ f.period = g.1.2.least_period f.after f.period (λ t. step_of_form f (other t)) again in
+      let after : g.0.after ≤ f.after = g.1.2.least_after f.after f.period (λ t. step_of_form f (other t)) again in
       let short : settled_length f ≤ longest_form = h.2 in
       (g.0, g.1, omega arith)
 

@@ -2,20 +2,20 @@
 use Rattle.std.proofs.Common.{ℕ, inl, inr, ◌≡◌, ◌+◌, ◌<◌, ◌≤◌, List, [], ◌∷◌, ◌++◌, Option, Some, None, Result, Ok, Err, length, get_or, refl, sym, subst, ap, ◌∙◌, arith}
 use Rattle.std.specs.Prelude.{IfOk, slice_get}
 use Rattle.dioid.specs.declared.dates.Date.{Date}
-use Rattle.series_laws.specs.Forms.{Form, value_at, HasValues, IsCanonical}
+use Rattle.series_laws.specs.SeriesForms.{Form, value_at, HasValues, IsCanonical}
 use Rattle.series_form.specs.declared.forms.SeriesRefused.{SeriesRefused}
 use Rattle.series_form.specs.declared.forms.SeriesRefused.TheVariants.{TooLong, TooGreat, OutOfMemory}
-use Rattle.series_form.specs.Bounds.{IsSeries}
+use Rattle.series_form.specs.NumberBounds.{IsSeries}
 use Rattle.series_form.proofs.Great.{no_great}
-use Rattle.series_form.specs.Answer.{AnswersOf}
+use Rattle.series_form.specs.SeriesAnswers.{AnswersOf}
 use Rattle.series_ops.specs.declared.gains.Gain.{Gain}
 use Rattle.teg_net.specs.Nets.{NetLists}
 use Rattle.forever_laws.specs.declared.rows.EndlessRow.{EndlessRow}
-use Rattle.forever_laws.specs.Columns.{IsDueSeries, IsWalkSeries, due_date_at}
+use Rattle.forever_laws.specs.SeriesColumns.{IsDueSeries, IsWalkSeries, due_date_at}
 use Rattle.teg_settle.specs.Transfers.{IsGreatestWalkTime}
 use Rattle.std.proofs.lemmas.List.{get_or_default}
 use Rattle.std.proofs.lemmas.Option.{slice_get_cases}
-use Rattle.teg_forever.specs.Columns.{FitsIfMade}
+use Rattle.teg_forever.specs.InputAnswers.{FitsIfMade}
 
 -- the gain of a series that was made
 made_gain : {E : Type 0} (s : ℕ → Date) (n : ℕ) (made : Result Form SeriesRefused) (result : Result Gain E) (P : Gain → Type 0) → AnswersOf (λ f. HasValues f s) n n made

@@ -3,12 +3,12 @@ use Rattle.std.specs.Prelude.{ℕ, ◌≤◌, List}
 use Rattle.teg_check.specs.Ranks.{IsRanking}
 use Rattle.teg_net.specs.Circuits.{IsLive}
 use Rattle.teg_net.specs.Nets.{NetLists, IsNet, IsInput}
-use Rattle.settled_laws.specs.Forms.{SettledForm, settled_length}
+use Rattle.settled_laws.specs.SettledForms.{SettledForm, settled_length}
 use Rattle.teg_settle.specs.Transfers.{IsTransferOf}
-use Rattle.due_laws.specs.Dues.{InputsMeet, inputs_at_zero}
+use Rattle.due_laws.specs.MeetingDueDates.{InputsMeet, inputs_at_zero}
 use Rattle.forever_laws.specs.declared.rows.EndlessRow.{EndlessRow}
-use Rattle.forever_laws.specs.Rows.{IsEndlessOf, due_on}
-use Rattle.teg_forever.specs.Releases.{longest_form}
+use Rattle.forever_laws.specs.EndlessRows.{IsEndlessOf, due_on}
+use Rattle.teg_forever.specs.LatestReleases.{longest_form}
 
 -- a live net with its ranks, and endless due dates that inputs at 0 meet
 pub record CanMeet (net : NetLists) (ranks : List ℕ) (rows : List EndlessRow) : Type 0 where

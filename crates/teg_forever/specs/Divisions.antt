@@ -9,7 +9,7 @@ use Rattle.periodic_laws.specs.Equations.{gains}
 use Rattle.teg_net.specs.declared.entries.TransitionId.{TransitionId}
 use Rattle.teg_net.specs.Nets.{NetLists}
 use Rattle.forever_laws.specs.declared.rows.EndlessRow.{EndlessRow}
-use Rattle.forever_laws.specs.Columns.{AreColumns, IsDueSeries, gain_residuals, residual_over}
+use Rattle.forever_laws.specs.SeriesColumns.{AreSeriesColumns, IsDueSeries, gain_residuals, residual_over}
 use Rattle.teg_forever.specs.declared.divisions.Divided.{Divided}
 use Rattle.teg_forever.specs.declared.divisions.Divisions.{Divisions}
 use Rattle.teg_forever.specs.declared.residuals.Meet.{Meet}
@@ -50,7 +50,7 @@ pub record AreDivisions (rows : List EndlessRow) (d : Divisions) : Type 0 where
   pub each : All (IsDivided rows) d.list.items
 
 -- at the place stands the residual of the due series of the row at `due` by the walk series
-pub record IsPlaceOf (list : List Divided) (due : ℕ) (walk : Gain) (place : ℕ) : Type 0 where
+pub record IsDividedAt (list : List Divided) (due : ℕ) (walk : Gain) (place : ℕ) : Type 0 where
   pub divided : Divided
   pub stands : slice_get list place ≡ Some divided
   pub due_is : divided.due ≡ due
@@ -81,7 +81,7 @@ IsMisfit rows due walk NoRoom = ⊤
 pub record IsResidualOf (net : NetLists) (rows : List EndlessRow) (u i : ℕ) (list : List Divided) (place : ℕ) : Type 0 where
   pub divided : Divided
   pub stands : slice_get list place ≡ Some divided
-  pub is : (walks dues : ℕ → Gain) → AreColumns net u rows walks dues → (divided.residual ≡ gain_left (walks i) (dues i)) × LeftFits (walks i) (dues i)
+  pub is : (walks dues : ℕ → Gain) → AreSeriesColumns net u rows walks dues → (divided.residual ≡ gain_left (walks i) (dues i)) × LeftFits (walks i) (dues i)
 
 -- the meet over so many rows, each of which fits
 pub record IsMeetTo (walks dues : ℕ → Gain) (count : ℕ) (meet : Gain) : Type 0 where
@@ -90,7 +90,7 @@ pub record IsMeetTo (walks dues : ℕ → Gain) (count : ℕ) (meet : Gain) : Ty
 
 -- the same of the columns of the input
 abbrev pub IsMeetOver : NetLists → List EndlessRow → ℕ → ℕ → Gain → Type 0
-IsMeetOver net rows u count meet = (walks dues : ℕ → Gain) → AreColumns net u rows walks dues → IsMeetTo walks dues count meet
+IsMeetOver net rows u count meet = (walks dues : ℕ → Gain) → AreSeriesColumns net u rows walks dues → IsMeetTo walks dues count meet
 
 -- the meet of two series, which fits
 pub record AreMet (first second meet : Gain) : Type 0 where
@@ -99,7 +99,7 @@ pub record AreMet (first second meet : Gain) : Type 0 where
 
 -- the meet stays where it meets once more the residual of the last of so many rows
 abbrev pub StaysOver : NetLists → List EndlessRow → ℕ → ℕ → Gain → Type 0
-StaysOver net rows u count meet = (walks dues : ℕ → Gain) → AreColumns net u rows walks dues → AreMet meet (gain_left (walks (count - 1)) (dues (count - 1))) meet
+StaysOver net rows u count meet = (walks dues : ℕ → Gain) → AreSeriesColumns net u rows walks dues → AreMet meet (gain_left (walks (count - 1)) (dues (count - 1))) meet
 
 -- the meet over so many rows, and where it tells so, it stays
 pub record IsMeetSoFar (net : NetLists) (rows : List EndlessRow) (u count : ℕ) (m : Meet) : Type 0 where
@@ -108,14 +108,14 @@ pub record IsMeetSoFar (net : NetLists) (rows : List EndlessRow) (u count : ℕ)
 
 -- the row at this place has the walk series and the due series of the row before
 abbrev pub IsAsBefore : NetLists → List EndlessRow → ℕ → ℕ → Type 0
-IsAsBefore net rows u i = (walks dues : ℕ → Gain) → AreColumns net u rows walks dues → (walks i ≡ walks (i - 1)) × (dues i ≡ dues (i - 1))
+IsAsBefore net rows u i = (walks dues : ℕ → Gain) → AreSeriesColumns net u rows walks dues → (walks i ≡ walks (i - 1)) × (dues i ≡ dues (i - 1))
 
 -- the row at place i does not fit, and has this number in the file
 pub record MisfitsAt (net : NetLists) (rows : List EndlessRow) (u i row : ℕ) : Type 0 where
   pub stopped : EndlessRow
   pub is_row : slice_get rows i ≡ Some stopped
   pub row_is : row ≡ stopped.row
-  pub misfits : (walks dues : ℕ → Gain) → AreColumns net u rows walks dues → ¬ RowFits gains gain_residuals walks dues i
+  pub misfits : (walks dues : ℕ → Gain) → AreSeriesColumns net u rows walks dues → ¬ RowFits gains gain_residuals walks dues i
 
 -- why the row at place i stops the search for the release of the input
 abbrev pub IsRefusedAt : NetLists → List EndlessRow → TransitionId → ℕ → ForeverRefusal → Type 0

@@ -1,9 +1,9 @@
-pub mod Rows
-pub mod Releases
-pub mod Columns
+pub mod EndlessFiles
+pub mod LatestReleases
+pub mod InputAnswers
 pub mod Asked
 pub mod Alike
 pub mod Divisions
-pub mod Searches
-pub mod Texts
+pub mod LateFirings
+pub mod EndlessTexts
 pub mod Twins

@@ -4,7 +4,7 @@ use Rattle.teg_net.specs.declared.entries.Place.{Place}
 use Rattle.teg_net.specs.declared.entries.PlaceId.{PlaceId}
 use Rattle.teg_net.specs.Circuits.{place_at}
 use Rattle.teg_net.specs.Nets.{NetLists, IsInput}
-use Rattle.teg_forever.specs.Releases.{inputs_below}
+use Rattle.teg_forever.specs.LatestReleases.{inputs_below}
 
 -- place q leaves transition v, and has the end, the holding time and the tokens of place p
 pub record IsTwinPlace (v : ℕ) (p q : Place) : Type 0 where

@@ -2,7 +2,7 @@
 ghost use Rattle.std.specs.Prelude.{◌≡◌, ◌<◌, length, IsTrue};
 ghost use Rattle.teg_net.specs.Nets.{IsNet};
 ghost use Rattle.teg_settle.specs.Transfers.{IsTransferOf};
-ghost use Rattle.forever_laws.specs.Rows.{IsEndlessOf};
+ghost use Rattle.forever_laws.specs.EndlessRows.{IsEndlessOf};
 ghost use Rattle.teg_forever.specs.Alike.{HaveSameWalks};
 ghost use Rattle.teg_forever.specs.Divisions.{AreDivisions, IsAsBefore};
 

@@ -1,14 +1,14 @@
 //! The latest releases of the inputs under endless due dates.
 ghost use Rattle.std.specs.Prelude.{◌<◌, ℕ, length, All, IfOk, IfErr};
-ghost use Rattle.due_laws.specs.Dues.{InputsMeet, inputs_at_zero};
+ghost use Rattle.due_laws.specs.MeetingDueDates.{InputsMeet, inputs_at_zero};
 ghost use Rattle.teg_check.specs.Ranks.{IsRanking};
 ghost use Rattle.teg_net.specs.Circuits.{IsLive};
 ghost use Rattle.teg_net.specs.Nets.{IsNet};
-ghost use Rattle.settled_laws.specs.Forms.{date_of};
+ghost use Rattle.settled_laws.specs.SettledForms.{settled_date};
 ghost use Rattle.forever_laws.specs.Late.{NoneLate};
-ghost use Rattle.forever_laws.specs.Rows.{IsEndlessOf, due_on};
-ghost use Rattle.teg_forever.specs.Releases.{AreReleases, ForeverRefused};
-ghost use Rattle.teg_forever.specs.Searches.{IsClimbing, IsZeroForm};
+ghost use Rattle.forever_laws.specs.EndlessRows.{IsEndlessOf, due_on};
+ghost use Rattle.teg_forever.specs.LatestReleases.{AreEndlessReleases, ForeverRefused};
+ghost use Rattle.teg_forever.specs.LateFirings.{IsClimbing, IsZeroForm};
 
 use crate::inputs::releases_of;
 use crate::late::late_in_row;
@@ -46,7 +46,7 @@ fn keep_rows(net: &Net, settled: &Settled, rows: &[EndlessRow]) -> Result<(), Fo
     requires form { IsZeroForm net.now settled.now }
     requires climbing { (t : ℕ) → t < length net.now.transitions → IsClimbing settled.now t }
     requires rows { IsEndlessOf net.now rows.now }
-    ensures kept { IfOk result (λ _. All (NoneLate (date_of settled.now)) rows.now) }
+    ensures kept { IfOk result (λ _. All (NoneLate (settled_date settled.now)) rows.now) }
     ensures late { IfErr result (ForeverRefused net.now rows.now) }
 {
     for row in rows {
@@ -108,7 +108,8 @@ pub fn forever(
 ) -> Result<Vec<Release>, ForeverRefusal>
     requires stands { IsRanking net.now live.now }
     requires rows { IsEndlessOf net.now rows.now }
-    ensures releases { IfOk result (λ releases. AreReleases net.now rows.now releases.items) }
+    ensures releases { IfOk result (λ releases. AreEndlessReleases net.now rows.now
+        releases.items) }
     ensures refused { IfErr result (ForeverRefused net.now rows.now) }
 {
     net.transitions();

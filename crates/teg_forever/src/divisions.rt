@@ -1,8 +1,8 @@
 //! Residuals of due series by walk series: each pair is divided once, as long as there is room to
 //! keep what came of it.
 ghost use Rattle.std.specs.Prelude.{◌≡◌, ◌<◌, ◌≤◌, get_or, length, IfErr, IfOk, IfSome, IsTrue, OnOk};
-ghost use Rattle.forever_laws.specs.Rows.{IsEndlessOf};
-ghost use Rattle.teg_forever.specs.Divisions.{AreAlike, AreDivisions, AreFirstsTo, IsAlikeAt, IsFirstPart, IsKeptIn, IsMisfit, IsPlaceOf, StandsAt};
+ghost use Rattle.forever_laws.specs.EndlessRows.{IsEndlessOf};
+ghost use Rattle.teg_forever.specs.Divisions.{AreAlike, AreDivisions, AreFirstsTo, IsAlikeAt, IsFirstPart, IsKeptIn, IsMisfit, IsDividedAt, StandsAt};
 
 use crate::gains::due_gain;
 use dioid::{Dioid, Refused, Residuated};
@@ -108,7 +108,7 @@ impl Divisions {
     // The place of the residual of this due series by this walk series, where it is kept. The last are
     // looked at first: rows of one input ask for them.
     fn place_of(&self, due: usize, walk: &Gain) -> Option<usize>
-        ensures { IfSome result (IsPlaceOf self.now.list.items due walk.now) }
+        ensures { IfSome result (IsDividedAt self.now.list.items due walk.now) }
     {
         let count = self.list.len();
         for back in 0..count {
@@ -160,7 +160,7 @@ impl Divisions {
         requires due { due < length rows.now }
         requires divisions { AreDivisions rows.now self.old }
         ensures divisions { OnOk result (AreDivisions rows.now self.new) }
-        ensures place { IfOk result (IsPlaceOf self.new.list.items due walk) }
+        ensures place { IfOk result (IsDividedAt self.new.list.items due walk) }
         ensures misfit { IfErr result (IsMisfit rows.now due walk) }
     {
         if let Some(place) = self.place_of(due, &walk) {

@@ -3,16 +3,16 @@ ghost use Rattle.std.specs.Prelude.{◌≡◌, ◌<◌, ◌≤◌, Ok, length, m
 ghost use Rattle.dioid.specs.declared.dates.Date.TheVariants.{At};
 ghost use Rattle.teg_net.specs.Circuits.{IsLive};
 ghost use Rattle.teg_net.specs.Nets.{IsInput, IsNet};
-ghost use Rattle.series_form.specs.Answer.{AnswersOf};
-ghost use Rattle.series_laws.specs.Forms.{HasValues, value_at};
+ghost use Rattle.series_form.specs.SeriesAnswers.{AnswersOf};
+ghost use Rattle.series_laws.specs.SeriesForms.{HasValues, value_at};
 ghost use Rattle.series_laws.specs.Periodic.{Rising};
-ghost use Rattle.settled_laws.specs.Forms.{row_of, settled_length};
+ghost use Rattle.settled_laws.specs.SettledForms.{row_of, settled_length};
 ghost use Rattle.teg_settle.specs.Transfers.{IsTransferOf};
-ghost use Rattle.forever_laws.specs.Columns.{IsDueSeries, IsWalkSeries};
-ghost use Rattle.forever_laws.specs.Rows.{IsEndlessRow};
+ghost use Rattle.forever_laws.specs.SeriesColumns.{IsDueSeries, IsWalkSeries};
+ghost use Rattle.forever_laws.specs.EndlessRows.{IsEndlessRow};
 ghost use Rattle.teg_forever.specs.Alike.{told_form};
-ghost use Rattle.teg_forever.specs.Columns.{FitsIfMade};
-ghost use Rattle.teg_forever.specs.Releases.{longest_form};
+ghost use Rattle.teg_forever.specs.InputAnswers.{FitsIfMade};
+ghost use Rattle.teg_forever.specs.LatestReleases.{longest_form};
 
 use dioid::Date;
 use forever_laws::{EndlessRow, forms_are_series, series_fit};

@@ -1,12 +1,12 @@
 //! The latest releases of the inputs, one by one.
 ghost use Rattle.std.specs.Prelude.{◌≡◌, ◌<◌, ◌≤◌, ◌+◌, Some, length, slice_get, IfOk, IfErr, OnOk};
-ghost use Rattle.due_laws.specs.Dues.{InputsMeet, inputs_at_zero};
+ghost use Rattle.due_laws.specs.MeetingDueDates.{InputsMeet, inputs_at_zero};
 ghost use Rattle.teg_net.specs.Nets.{IsInput};
-ghost use Rattle.forever_laws.specs.Rows.{due_on};
+ghost use Rattle.forever_laws.specs.EndlessRows.{due_on};
 ghost use Rattle.teg_forever.specs.Asked.{CanMeet, IsAsked};
-ghost use Rattle.teg_forever.specs.Columns.{AreReleasesBelow, IsReleaseBy, IsStopped};
+ghost use Rattle.teg_forever.specs.InputAnswers.{AreReleasesBelow, IsReleaseBy, IsStopped};
 ghost use Rattle.teg_forever.specs.Divisions.{AreDivisions};
-ghost use Rattle.teg_forever.specs.Releases.{ForeverRefused, IsFine, IsReleaseOf};
+ghost use Rattle.teg_forever.specs.LatestReleases.{ForeverRefused, IsFine, IsReleaseOf};
 
 use crate::divisions::Divisions;
 use crate::releases::{ForeverRefusal, Release};

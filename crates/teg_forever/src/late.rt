@@ -3,11 +3,12 @@ ghost use Rattle.std.specs.Prelude.{◌≡◌, ◌<◌, ◌≤◌, ◌+◌, ◌*
 ghost use Rattle.dioid.specs.declared.dates.Date.TheVariants.{At};
 ghost use Rattle.teg_net.specs.Circuits.{IsLive};
 ghost use Rattle.teg_net.specs.Nets.{IsNet};
-ghost use Rattle.settled_laws.specs.Forms.{date_of};
-ghost use Rattle.forever_laws.specs.Rows.{IsEndlessRow, row_due};
+ghost use Rattle.teg_net.specs.Limits.{greatest_firing_number, greatest_input_date};
+ghost use Rattle.settled_laws.specs.SettledForms.{settled_date};
+ghost use Rattle.forever_laws.specs.EndlessRows.{IsEndlessRow, row_due};
 ghost use Rattle.forever_laws.specs.Late.{IsLeastLate, NoneLate, NoneLateTo};
-ghost use Rattle.forever_laws.specs.Searches.{IsSoonest, IsTurnOf, turns_to};
-ghost use Rattle.teg_forever.specs.Searches.{GoesOnBySteps, IsClimbing, IsGoingRow, IsLateAfter, IsSoonLate, IsZeroForm, RisesIn};
+ghost use Rattle.forever_laws.specs.LateSearches.{IsSoonest, IsCommonPeriodOf, turns_to};
+ghost use Rattle.teg_forever.specs.LateFirings.{GoesOnBySteps, IsClimbing, IsGoingRow, IsLateAfter, IsSoonLate, IsZeroForm, RisesIn};
 
 use dioid::Date;
 use forever_laws::{EndlessRow, late_is_soon, turns_tell_late};
@@ -34,7 +35,7 @@ struct Cycle {
 
 // Past number `past` each turn of firings adds `rise` to the least dates and `fall` to the due dates.
 #[derive(Clone, Copy)]
-struct Turn {
+struct CommonPeriod {
     past: u64,
     firings: u64,
     rise: u128,
@@ -54,9 +55,9 @@ struct Soonest {
 fn due_at(row: &EndlessRow, number: u64) -> u128
     requires row { IsGoingRow row.now }
     requires first { 1 ≤ number }
-    requires last { number ≤ 1000000000000000000 }
+    requires last { number ≤ greatest_firing_number }
     ensures due { row_due row.now number ≡ Some result }
-    ensures low { result ≤ 1000000000000 * (number + 1) }
+    ensures low { result ≤ greatest_input_date * (number + 1) }
 {
     let dates = row.dates.as_slice();
     let listed = dates.len() as u64;
@@ -73,8 +74,8 @@ fn due_at(row: &EndlessRow, number: u64) -> u128
 fn least_at(settled: &Settled, transition: TransitionId, number: u64) -> u128
     requires climbing { IsClimbing settled.now transition.index }
     requires first { 1 ≤ number }
-    requires last { number ≤ 1000000000000000000 }
-    ensures least { date_of settled.now transition.index number ≡ At (pos result) }
+    requires last { number ≤ greatest_firing_number }
+    ensures least { settled_date settled.now transition.index number ≡ At (pos result) }
     ensures low { result ≤ 2000000000000000000000000000000 }
 {
     settled.after();
@@ -88,9 +89,9 @@ fn least_at(settled: &Settled, transition: TransitionId, number: u64) -> u128
 fn late_listed(settled: &Settled, row: &EndlessRow, last: u64) -> Option<LateFiring>
     requires climbing { IsClimbing settled.now row.now.transition.index }
     requires row { IsGoingRow row.now }
-    requires last { last ≤ 1000000000000000000 }
-    ensures none { IfNone result (NoneLateTo (date_of settled.now) row.now last) }
-    ensures some { IfSome result (λ l. IsLeastLate (date_of settled.now) row.now l.number l.due
+    requires last { last ≤ greatest_firing_number }
+    ensures none { IfNone result (NoneLateTo (settled_date settled.now) row.now last) }
+    ensures some { IfSome result (λ l. IsLeastLate (settled_date settled.now) row.now l.number l.due
         l.least) }
 {
     for number in 1..last + 1 {
@@ -112,12 +113,13 @@ fn turns_at(settled: &Settled, row: &EndlessRow, number: u64, gain: u128) -> Soo
     requires climbing { IsClimbing settled.now row.now.transition.index }
     requires row { IsGoingRow row.now }
     requires first { 1 ≤ number }
-    requires last { number ≤ 1000000000000000000 }
+    requires last { number ≤ greatest_firing_number }
     requires gain { 0 < gain }
-    requires in_time { NoneLateTo (date_of settled.now) row.now number }
+    requires in_time { NoneLateTo (settled_date settled.now) row.now number }
     ensures number { result.number ≡ number }
     ensures due { row_due row.now number ≡ Some result.due }
-    ensures least { date_of settled.now row.now.transition.index number ≡ At (pos result.least) }
+    ensures least { settled_date settled.now row.now.transition.index number ≡ At (pos
+        result.least) }
     ensures turns { result.turns ≡ turns_to result.due result.least gain }
 {
     let due = due_at(row, number);
@@ -149,10 +151,11 @@ fn fewest_turns(settled: &Settled, row: &EndlessRow, past: u64, last: u64, gain:
     requires climbing { IsClimbing settled.now row.now.transition.index }
     requires row { IsGoingRow row.now }
     requires some { past < last }
-    requires last { last ≤ 1000000000000000000 }
+    requires last { last ≤ greatest_firing_number }
     requires gain { 0 < gain }
-    requires in_time { NoneLateTo (date_of settled.now) row.now last }
-    ensures is { IsSoonest (date_of settled.now) row.now past last gain result.number result.due
+    requires in_time { NoneLateTo (settled_date settled.now) row.now last }
+    ensures is { IsSoonest (settled_date settled.now) row.now past last gain result.number
+        result.due
         result.least }
     ensures turns { result.turns ≡ turns_to result.due result.least gain }
 {
@@ -243,21 +246,22 @@ fn greater(first: u64, second: u64) -> u64
 
 // From which number on, and after how many firings, the dates of the row's transition and its due
 // dates repeat together.
-fn turn_of(settled: &Settled, row: &EndlessRow) -> Turn
+fn turn_of(settled: &Settled, row: &EndlessRow) -> CommonPeriod
     requires climbing { IsClimbing settled.now row.now.transition.index }
     requires steps { GoesOnBySteps settled.now row.now.transition.index }
     requires row { IsGoingRow row.now }
-    ensures turn { IsTurnOf (date_of settled.now) row.now result.past result.firings result.rise
+    ensures turn { IsCommonPeriodOf (settled_date settled.now) row.now result.past result.firings
+        result.rise
         result.fall }
     ensures past { result.past ≤ 1000000000010000 }
-    ensures firings { result.firings ≤ 1000000000000000000 }
+    ensures firings { result.firings ≤ greatest_firing_number }
 {
     let every = row.every as u64;
     let past_list = row.dates.as_slice().len() as u64 - every;
     let cycle = own_cycle(settled, row.transition);
     let cycles = common_cycles(cycle.firings, every);
     let firings = cycles * cycle.firings;
-    Turn {
+    CommonPeriod {
         past: greater(settled.after(), past_list),
         firings,
         rise: cycles as u128 * cycle.rise,
@@ -267,17 +271,18 @@ fn turn_of(settled: &Settled, row: &EndlessRow) -> Turn
 
 // Of the numbers past which dates repeat that which is late after the fewest turns, where each turn
 // gains on the due dates: so many turns on stands the least late number.
-fn soonest_late(net: &Net, settled: &Settled, row: &EndlessRow, turn: Turn) -> Soonest
+fn soonest_late(net: &Net, settled: &Settled, row: &EndlessRow, turn: CommonPeriod) -> Soonest
     requires rules { IsNet net.now }
     requires live { IsLive net.now }
     requires form { IsZeroForm net.now settled.now }
     requires climbing { IsClimbing settled.now row.now.transition.index }
     requires row { IsEndlessRow net.now row.now }
-    requires turn { IsTurnOf (date_of settled.now) row.now turn.past turn.firings turn.rise
+    requires turn { IsCommonPeriodOf (settled_date settled.now) row.now turn.past turn.firings
+        turn.rise
         turn.fall }
-    requires last { turn.past + turn.firings ≤ 1000000000000000000 }
+    requires last { turn.past + turn.firings ≤ greatest_firing_number }
     requires steep { turn.fall < turn.rise }
-    requires in_time { NoneLateTo (date_of settled.now) row.now (turn.past + turn.firings) }
+    requires in_time { NoneLateTo (settled_date settled.now) row.now (turn.past + turn.firings) }
     ensures { IsLateAfter settled.now row.now turn result }
 {
     turns_tell_late();
@@ -287,17 +292,18 @@ fn soonest_late(net: &Net, settled: &Settled, row: &EndlessRow, turn: Turn) -> S
 }
 
 // The late number that the search by turns finds.
-fn late_by_turns(net: &Net, settled: &Settled, row: &EndlessRow, turn: Turn) -> LateFiring
+fn late_by_turns(net: &Net, settled: &Settled, row: &EndlessRow, turn: CommonPeriod) -> LateFiring
     requires rules { IsNet net.now }
     requires live { IsLive net.now }
     requires form { IsZeroForm net.now settled.now }
     requires climbing { IsClimbing settled.now row.now.transition.index }
     requires row { IsEndlessRow net.now row.now }
-    requires turn { IsTurnOf (date_of settled.now) row.now turn.past turn.firings turn.rise
+    requires turn { IsCommonPeriodOf (settled_date settled.now) row.now turn.past turn.firings
+        turn.rise
         turn.fall }
-    requires last { turn.past + turn.firings ≤ 1000000000000000000 }
+    requires last { turn.past + turn.firings ≤ greatest_firing_number }
     requires steep { turn.fall < turn.rise }
-    requires in_time { NoneLateTo (date_of settled.now) row.now (turn.past + turn.firings) }
+    requires in_time { NoneLateTo (settled_date settled.now) row.now (turn.past + turn.firings) }
     ensures { IsSoonLate settled.now row.now result.number result.due result.least }
 {
     let best = soonest_late(net, settled, row, turn);
@@ -320,7 +326,7 @@ pub(crate) fn late_in_row(
     requires form { IsZeroForm net.now settled.now }
     requires climbing { IsClimbing settled.now row.now.transition.index }
     requires row { IsEndlessRow net.now row.now }
-    ensures none { IfOk result (λ late. IfNone late (NoneLate (date_of settled.now) row.now)) }
+    ensures none { IfOk result (λ late. IfNone late (NoneLate (settled_date settled.now) row.now)) }
     ensures some { IfOk result (λ late. IfSome late (λ l. IsSoonLate settled.now row.now l.number
         l.due l.least)) }
 {

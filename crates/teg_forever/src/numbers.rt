@@ -2,8 +2,9 @@
 ghost use Rattle.std.specs.Prelude.{◌≡◌, ◌≤◌, ◌<◌, [], true, IfOk, length, get_or, option_map, nat_le};
 ghost use Rattle.std.specs.List.{list_all};
 ghost use Rattle.csv.specs.Records.{fields_of};
-ghost use Rattle.csv_records.specs.Numbers.{is_number, number_up_to};
-ghost use Rattle.teg_forever.specs.Rows.{has_numbers, IsLimited, AreDatesOf, goes_on, rises_from};
+ghost use Rattle.csv_records.specs.NumberFields.{is_number, number_up_to};
+ghost use Rattle.teg_net.specs.Limits.{greatest_firing_number, greatest_input_date};
+ghost use Rattle.teg_forever.specs.EndlessFiles.{has_numbers, IsLimited, AreDatesOfFields, goes_on, rises_from};
 
 use csv_records::{ByteRecord, is_number, number_up_to};
 use std::alloc::Global;
@@ -56,7 +57,7 @@ pub(crate) fn has_numbers(record: &ByteRecord) -> bool
 fn number_at(record: &ByteRecord, index: usize, most: u64) -> Option<u64>
     requires there { index < length (fields_of «record».now) }
     requires number { is_number (get_or (fields_of «record».now) index []) ≡ true }
-    requires small { most ≤ 1000000000000000000 }
+    requires small { most ≤ greatest_firing_number }
     ensures { result ≡ number_up_to most (get_or (fields_of «record».now) index []) }
 {
     number_up_to(field_at(record, index), most)
@@ -65,7 +66,7 @@ fn number_at(record: &ByteRecord, index: usize, most: u64) -> Option<u64>
 // The dates of a record, from its fourth field on, if each keeps its limit.
 fn dates_of(alloc: Global, record: &ByteRecord) -> Result<Option<Vec<u64>>, OutOfMemory>
     requires { has_numbers (fields_of «record».now) ≡ true }
-    ensures { IfOk result (λ dates. AreDatesOf (fields_of «record».now)
+    ensures { IfOk result (λ dates. AreDatesOfFields (fields_of «record».now)
         (option_map (λ d. d.items) dates)) }
 {
     let mut dates = Vec::new(alloc);
@@ -121,8 +122,8 @@ fn rises(dates: &[u64]) -> bool
 // Whether dates never fall, within the list or past it.
 pub(crate) fn goes_on(every: u32, gap: u64, dates: &[u64]) -> bool
     requires some { 1 ≤ every }
-    requires gap { gap ≤ 1000000000000 }
-    requires dates { list_all (λ d. nat_le d 1000000000000) dates.now ≡ true }
+    requires gap { gap ≤ greatest_input_date }
+    requires dates { list_all (λ d. nat_le d greatest_input_date) dates.now ≡ true }
     ensures { result ≡ goes_on every gap dates.now }
 {
     let every = every as usize;

@@ -2,8 +2,8 @@
 ghost use Rattle.std.specs.Prelude.{◌≡◌, ◌≢◌, ◌≤◌, Ok, Err, true, false, length, IfOk, IfErr};
 ghost use Rattle.csv.specs.Records.{fields_of};
 ghost use Rattle.csv_records.specs.Records.{most_file_bytes};
-ghost use Rattle.forever_laws.specs.Rows.{IsEndlessOf};
-ghost use Rattle.teg_forever.specs.Rows.{dates_in, endless_numbered, endless_of, every_in, gap_in, has_numbers, has_row};
+ghost use Rattle.forever_laws.specs.EndlessRows.{IsEndlessOf};
+ghost use Rattle.teg_forever.specs.EndlessFiles.{dates_of_fields, endless_numbered, endless_of, every_in, gap_in, has_numbers, has_row};
 
 use crate::numbers::{field_at, goes_on, has_numbers, limited_numbers};
 use crate::rows::EndlessRefusal;
@@ -40,9 +40,10 @@ fn numbered_row(
     requires { has_numbers (fields_of «record».now) ≡ true }
     ensures read { IfOk result (λ r. endless_numbered rows.now row transition.index
         (every_in (fields_of «record».now)) (gap_in (fields_of «record».now))
-        (dates_in (fields_of «record».now)) ≡ Ok r) }
+        (dates_of_fields (fields_of «record».now)) ≡ Ok r) }
     ensures refused { IfErr result (λ e. e ≢ EndlessRefusal.OutOfMemory →
-        endless_numbered rows.now row transition.index (every_in (fields_of «record».now)) (gap_in (fields_of «record».now)) (dates_in (fields_of «record».now)) ≡ Err e) }
+        endless_numbered rows.now row transition.index (every_in (fields_of «record».now)) (gap_in
+        (fields_of «record».now)) (dates_of_fields (fields_of «record».now)) ≡ Err e) }
 {
     if has_row(rows, transition) {
         return Err(EndlessRefusal::RepeatedDue { row });
@@ -65,7 +66,7 @@ fn numbered_row(
 impl RowFile for EndlessFile<'_> {
     ghost use Rattle.std.specs.Prelude.{◌≡◌};
     ghost use Rattle.teg_forever.specs.declared.rows.EndlessRefusal.TheVariants.{OutOfMemory};
-    ghost use Rattle.teg_forever.specs.Rows.{endless_row, is_endless_header};
+    ghost use Rattle.teg_forever.specs.EndlessFiles.{endless_row, is_endless_header};
 
     type Row = EndlessRow;
 

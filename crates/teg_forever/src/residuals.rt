@@ -1,9 +1,9 @@
 //! The meet over the rows of the residuals of their due series by the walk series of an input.
 ghost use Rattle.std.specs.Prelude.{◌≡◌, ◌<◌, ◌≤◌, ◌+◌, Err, length, true, IfErr, IfOk, IsTrue, OnOk};
-ghost use Rattle.dioid.specs.Answer.{Answers};
+ghost use Rattle.dioid.specs.ElementAnswers.{Answers};
 ghost use Rattle.series_ops.specs.Gains.{gain_meet, MeetFits};
 ghost use Rattle.teg_forever.specs.Asked.{IsAsked};
-ghost use Rattle.teg_forever.specs.Columns.{IsStopped};
+ghost use Rattle.teg_forever.specs.InputAnswers.{IsStopped};
 ghost use Rattle.teg_forever.specs.Divisions.{AreDivisions, AreMet, IsMeetOver, IsMeetSoFar, IsRefusedAt, IsResidualOf, refusal_at};
 
 use crate::alike::is_as_before;

@@ -1,10 +1,10 @@
 //! The texts of the answers about endless due dates.
 ghost use Rattle.std.specs.Prelude.{◌≡◌, ◌≢◌, ◌<◌, ◌++◌, [], Ok, Err, Some, All, get_or, length, map, slice_get, IfOk, string_bytes};
-ghost use Rattle.series_form.specs.Bounds.{IsSeries};
+ghost use Rattle.series_form.specs.NumberBounds.{IsSeries};
 ghost use Rattle.teg_net.specs.Nets.{NetLists};
 ghost use Rattle.teg_text.specs.Lines.{further_then, line_then, written};
-ghost use Rattle.teg_forever.specs.Releases.{inputs_of};
-ghost use Rattle.teg_forever.specs.Texts.{IsFaultTold, IsRefusalIn, IsReleaseTold, IsToldOf, TextsOfEndlessDiffer, Faulty, Answered, answer_lines, endless_line, forever_line, lines_of, release_line, series_words};
+ghost use Rattle.teg_forever.specs.LatestReleases.{inputs_of};
+ghost use Rattle.teg_forever.specs.EndlessTexts.{IsFaultTold, IsRefusalIn, IsReleaseTold, IsEndlessTold, TextsOfEndlessDiffer, Faulty, Answered, answer_lines, endless_line, forever_line, endless_lines_of, release_line, series_words};
 
 use crate::releases::{ForeverRefusal, Release};
 use crate::rows::EndlessRefusal;
@@ -83,7 +83,7 @@ fn push_releases(
     requires within { All (λ t. t.index < length net.now.transitions) inputs.now }
     requires each_input { length releases.now ≡ length inputs.now }
     ensures text { IfOk result (λ _. string_bytes text.new
-        ≡ string_bytes text.old ++ written (lines_of net.now (map (λ t. t.index) inputs.now)
+        ≡ string_bytes text.old ++ written (endless_lines_of net.now (map (λ t. t.index) inputs.now)
         releases.now)) }
     ensures told { IfOk result (λ _. All IsReleaseTold releases.now) }
 {
@@ -100,7 +100,7 @@ pub fn releases_text(alloc: Global, net: &Net, releases: &[Release]) -> Result<S
     requires { length releases.now ≡ length (inputs_of net.now) }
     ensures text { IfOk result (λ text. string_bytes text
         ≡ written (answer_lines net.now (Answered (Ok releases.now)))) }
-    ensures told { IfOk result (λ _. IsToldOf net.now (Answered (Ok releases.now))) }
+    ensures told { IfOk result (λ _. IsEndlessTold net.now (Answered (Ok releases.now))) }
 {
     let inputs = inputs_of(alloc, net)?;
     let mut text = String::from_str(alloc, "latest inputs forever\n")?;
@@ -161,7 +161,7 @@ pub fn forever_refusal_text(
     requires { IsRefusalIn net.now refusal.now }
     ensures text { IfOk result (λ text. string_bytes text
         ≡ written (answer_lines net.now (Answered (Err refusal.now)))) }
-    ensures told { IfOk result (λ _. IsToldOf net.now (Answered (Err refusal.now))) }
+    ensures told { IfOk result (λ _. IsEndlessTold net.now (Answered (Err refusal.now))) }
 {
     match refusal {
         ForeverRefusal::Late {
@@ -210,7 +210,7 @@ pub fn endless_refusal_text(alloc: Global, refusal: &EndlessRefusal) -> Result<S
     requires { refusal.now ≢ EndlessRefusal.OutOfMemory }
     ensures text { IfOk result (λ text. (net : NetLists) → string_bytes text
         ≡ written (answer_lines net (Faulty refusal.now))) }
-    ensures told { IfOk result (λ _. (net : NetLists) → IsToldOf net (Faulty refusal.now)) }
+    ensures told { IfOk result (λ _. (net : NetLists) → IsEndlessTold net (Faulty refusal.now)) }
 {
     Ok(fault_text(alloc, refusal)?)
 }

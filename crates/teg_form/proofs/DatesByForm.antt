@@ -14,17 +14,18 @@ use Rattle.teg_net.specs.declared.entries.Place.{Place}
 use Rattle.teg_net.specs.Nets.{NetLists, IsInput}
 use Rattle.teg_net.specs.Circuits.{no_place, place_at, time_of, tokens_of}
 use Rattle.teg_net.specs.ReadyDates.{start_date}
-use Rattle.teg_model.specs.Systems.{Dating, System}
-use Rattle.teg_model.specs.Ranks.{AreRanks}
-use Rattle.teg_model.specs.Starts.{start_of}
+use Rattle.teg_model.specs.Systems.{System}
+use Rattle.teg_model.specs.LiveRanks.{AreRanks}
+use Rattle.teg_model.specs.Starts.{start_of_firing}
 use Rattle.teg_model.specs.Datings.{implicit_place, extended_places, initial_date, available_at, at_input, system_of, IsLeastUnder}
 use Rattle.teg_model.proofs.OfNet.{all_extended_in, extended_has, at_input_is, feasible_in, tight_of_least}
 use Rattle.teg_model.proofs.Tokens.{available_after, available_first, implicit_gives, dates_climb}
 use Rattle.teg_model.proofs.WalkSteps.{feasible_keeps_in}
 use Rattle.teg_model.proofs.GreatestWalks.{start_not_before, start_below}
+use Rattle.teg_model.proofs.DateFunctions.{Dating}
 use Rattle.teg_form.specs.declared.form.StarEntry.{StarEntry}
 use Rattle.teg_form.specs.declared.form.Entry.{Entry}
-use Rattle.teg_form.specs.Forms.{FormLists, IsTimeOfFreePath, IsTimeOfMarkedPath, IsStarEntry, IsEntry, IsFormOf}
+use Rattle.teg_form.specs.StandardForms.{FormLists, IsTimeOfFreePath, IsTimeOfMarkedPath, IsStarEntry, IsEntry, IsStandardFormOf}
 use Rattle.teg_form.specs.FormDates.{IsNotBeforeForm, AreDatesByForm}
 use Rattle.teg_form.proofs.FreePaths.{one_place}
 use Rattle.teg_form.proofs.PathDates.{delayed_more, path_keeps}
@@ -42,11 +43,11 @@ marked_place net id l = record {
 }
 
 -- a start is not before 0
-pub first_from_zero : (net : NetLists) (u : Dating) (t k : ℕ) → IsAtMostDate (At (pos 0)) (start_of net u t k)
+pub first_from_zero : (net : NetLists) (u : Dating) (t k : ℕ) → IsAtMostDate (At (pos 0)) (start_of_firing net u t k)
 first_from_zero net u t k =
-    at_most_trans (At (pos 0)) (At (pos (start_date net t k))) (start_of net u t k) (omega (arith, ints)) (later_left (At (pos (start_date net t k))) (at_input net t (u t k) Early))
+    at_most_trans (At (pos 0)) (At (pos (start_date net t k))) (start_of_firing net u t k) (omega (arith, ints)) (later_left (At (pos (start_date net t k))) (at_input net t (u t k) Early))
 
-module _ (net : NetLists) (form : FormLists) (h : IsFormOf net form) (u x : Dating) (t k : ℕ) (z : Date) (o : 1 ≤ k) (n : IsNotBeforeForm net form u x t k z) where
+module _ (net : NetLists) (form : FormLists) (h : IsStandardFormOf net form) (u x : Dating) (t k : ℕ) (z : Date) (o : 1 ≤ k) (n : IsNotBeforeForm net form u x t k z) where
   -- a place without tokens leads to no more than its star
   by_star : (id : PlaceId) → id.index < length net.places → (place_at net id).tokens ≡ 0 → (place_at net id).to.index ≢ (place_at net id).from.index → (place_at net id).to.index ≡ t
       → IsAtMostDate (delayed (place_at net id).hold (x (place_at net id).from.index k)) z
@@ -106,8 +107,8 @@ module _ (net : NetLists) (form : FormLists) (h : IsFormOf net form) (u x : Dati
       (λ (few : k ≤ p.tokens).
       let first = available_first initial_date x p k few in
       let low = (start_not_before net u t k).tokens in
-      let own = extended_has net (λ y. y.to.index ≡ t → k ≤ y.tokens → IsAtMostDate (initial_date y k) (start_of net u t k)) (λ j m. low j no_place m) i l q few in
-      subst (λ d. IsAtMostDate d z) (sym first) (at_most_trans (initial_date p k) (start_of net u t k) z own n.start))
+      let own = extended_has net (λ y. y.to.index ≡ t → k ≤ y.tokens → IsAtMostDate (initial_date y k) (start_of_firing net u t k)) (λ j m. low j no_place m) i l q few in
+      subst (λ d. IsAtMostDate d z) (sym first) (at_most_trans (initial_date p k) (start_of_firing net u t k) z own n.start))
       (cases_lt p.tokens k)
 
   -- the firing before
@@ -121,9 +122,9 @@ module _ (net : NetLists) (form : FormLists) (h : IsFormOf net form) (u x : Dati
       (λ (first : k ≤ 1).
       let is = available_first initial_date x (implicit_place t) k first in
       let one : k ≡ 1 = omega arith in
-      let zero_first : IsAtMostDate (At (pos 0)) (start_of net u t k) = first_from_zero net u t k in
+      let zero_first : IsAtMostDate (At (pos 0)) (start_of_firing net u t k) = first_from_zero net u t k in
       let date : initial_date (implicit_place t) k ≡ At (pos 0) = ap (initial_date (implicit_place t)) one in
-      subst (λ d. IsAtMostDate d z) (sym (is ∙ date)) (at_most_trans (At (pos 0)) (start_of net u t k) z zero_first n.start))
+      subst (λ d. IsAtMostDate d z) (sym (is ∙ date)) (at_most_trans (At (pos 0)) (start_of_firing net u t k) z zero_first n.start))
       (cases_lt 1 k)
 
   pub waits : (bound : ℕ) (r : ℕ → ℕ) → AreRanks net.places bound r → All (λ p. p.to.index ≡ t → IsAtMostDate (available_at x p k) z) (extended_places net)
@@ -137,10 +138,10 @@ module _ (net : NetLists) (form : FormLists) (h : IsFormOf net form) (u x : Dati
   released e =
       let low = (start_not_before net u t k).released in
       let is = at_input_is net t (u t k) Early e in
-      at_most_trans (u t k) (start_of net u t k) z (subst (λ d. IsAtMostDate d (start_of net u t k)) is low) n.start
+      at_most_trans (u t k) (start_of_firing net u t k) z (subst (λ d. IsAtMostDate d (start_of_firing net u t k)) is low) n.start
 
 -- the least dates are those by the form
-pub least_by_form : (net : NetLists) (form : FormLists) (u x : Dating) (bound : ℕ) (r : ℕ → ℕ) → AreRanks net.places bound r → IsFormOf net form → IsLeastUnder net u x → AreDatesByForm net form u x
+pub least_by_form : (net : NetLists) (form : FormLists) (u x : Dating) (bound : ℕ) (r : ℕ → ℕ) → AreRanks net.places bound r → IsStandardFormOf net form → IsLeastUnder net u x → AreDatesByForm net form u x
 least_by_form net form u x bound r rr h least t k l o =
     let f = least.feasible in
     let s : System = system_of net u in

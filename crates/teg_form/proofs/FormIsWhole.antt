@@ -17,17 +17,18 @@ use Rattle.teg_net.specs.Nets.{NetLists, IsInput}
 use Rattle.teg_net.specs.Circuits.{no_place, place_at, IsPathBetween, time_of, tokens_of}
 use Rattle.teg_net.specs.ReadyDates.{ready_date, start_date}
 use Rattle.teg_net.proofs.StartDates.{IsStartDate-start_date}
-use Rattle.teg_model.specs.Systems.{Dating, System}
-use Rattle.teg_model.specs.Ranks.{AreRanks, HasEndsInRange}
+use Rattle.teg_model.specs.Systems.{System}
+use Rattle.teg_model.specs.LiveRanks.{AreRanks, HasEndsInRange}
 use Rattle.teg_model.specs.Datings.{implicit_place, extended_places, initial_date, available_at, at_input, system_of, IsFeasibleUnder, IsLeastUnder}
-use Rattle.teg_model.specs.Laws.{IsTight}
+use Rattle.teg_model.specs.LeastDatings.{IsTight}
 use Rattle.teg_model.proofs.OfNet.{all_extended_in, extended_has, implicit_is, release_below, feasible_in}
 use Rattle.teg_model.proofs.Tokens.{available_first, implicit_gives}
 use Rattle.teg_model.proofs.WalkSteps.{Keeps, feasible_keeps_in}
 use Rattle.teg_model.proofs.TightLeast.{tight_is_least}
+use Rattle.teg_model.proofs.DateFunctions.{Dating}
 use Rattle.teg_form.specs.declared.form.StarEntry.{StarEntry}
 use Rattle.teg_form.specs.declared.form.Entry.{Entry}
-use Rattle.teg_form.specs.Forms.{FormLists, IsStarEntry, IsEntry, IsFormOf}
+use Rattle.teg_form.specs.StandardForms.{FormLists, IsStarEntry, IsEntry, IsStandardFormOf}
 use Rattle.teg_form.specs.FormDates.{IsNotBeforeForm, AreDatesByForm}
 use Rattle.teg_form.proofs.PathDates.{WaitsForPlaces, path_waits}
 use Rattle.teg_form.proofs.DatesByForm.{first_from_zero, own_place, own_before, released}
@@ -46,7 +47,7 @@ star_waits : (net : NetLists) (x : Dating) → Keeps net x → (t k : ℕ) (z : 
 star_waits net x c t k z w o [] a apart h none = absurd (apart (sym h))
 star_waits net x c t k z w o (p ∷ ps) a apart h none = path_waits net x c t k z w p ps a k o (omega (arith, none)) h
 
-module _ (net : NetLists) (form : FormLists) (h : IsFormOf net form) (u x : Dating) (bound : ℕ) (r : ℕ → ℕ) (ends : HasEndsInRange net) (rr : AreRanks net.places bound r) (d : AreDatesByForm net form u x) where
+module _ (net : NetLists) (form : FormLists) (h : IsStandardFormOf net form) (u x : Dating) (bound : ℕ) (r : ℕ → ℕ) (ends : HasEndsInRange net) (rr : AreRanks net.places bound r) (d : AreDatesByForm net form u x) where
   feasible : IsFeasibleUnder net u x
   feasible = record {
     places = λ k o. all_extended_in net (λ p. IsAtMostDate (available_at x p k) (x p.to.index k))

@@ -12,10 +12,10 @@ use Rattle.teg_net.specs.Nets.{NetLists, IsNet}
 use Rattle.teg_net.specs.Circuits.{no_place, place_at, time_of}
 use Rattle.teg_form.specs.declared.form.Entry.{Entry}
 use Rattle.teg_form.specs.declared.order.Marked.{Marked}
-use Rattle.teg_form.specs.Forms.{IsTimeOfMarkedPath, IsGreatestTime, IsEntryBefore, AreEntries}
+use Rattle.teg_form.specs.StandardForms.{IsTimeOfMarkedPath, IsGreatestTime, IsEntryBefore, AreEntries}
 use Rattle.teg_form.specs.Times.{IsTimeFrom, IsFirstPlaceOf}
-use Rattle.teg_form.specs.Order.{IsOrder, IsMarkedPlace, marked_at}
-use Rattle.teg_form.specs.Adding.{IsOfKind, no_entry, last_of, IsBehind, IsMerged, IsAdded}
+use Rattle.teg_form.specs.KeyOrder.{IsKeyOrder, IsMarkedPlace, marked_at}
+use Rattle.teg_form.specs.Adding.{IsOfKind, no_entry, last_entry, IsBehind, IsMerged, IsAdded}
 use Rattle.teg_form.proofs.Cells.{earlier_cell, one_cell}
 use Rattle.teg_form.proofs.StarEntries.{any_more, end_in}
 
@@ -68,7 +68,7 @@ before_of net order turn e f h k l = ⊎_elim
     (cases_lt e.to.index f.to.index)
 
 -- an entry of an earlier turn does not stand after one of this turn
-pub not_after : (net : NetLists) (order : List Marked) (turn : ℕ) (e f : Entry) → IsOrder net order → IsFromTurn net order turn e → (k : IsFromTurn net order (turn + 1) f) → f.to.index * length order + k.pos ≡ turn → code e ≤ code f
+pub not_after : (net : NetLists) (order : List Marked) (turn : ℕ) (e f : Entry) → IsKeyOrder net order → IsFromTurn net order turn e → (k : IsFromTurn net order (turn + 1) f) → f.to.index * length order + k.pos ≡ turn → code e ≤ code f
 not_after net order turn e f ord h k at = ⊎_elim
     (λ s. omega (arith, s, h.few_from, h.few_tokens, k.few_from, k.few_tokens))
     (λ s. let keys : (mark_at order h.pos).key ≤ (mark_at order k.pos).key = ord.sorted h.pos k.pos no_mark (omega (arith, s.1)) k.in_order in omega (arith, s.0, keys, h.key, k.key))
@@ -121,8 +121,8 @@ covers_here net order turn to pos time e k q p w = record {
 kind_of : (e f : Entry) → e.from.index < 400 → e.tokens ≤ 1000 → f.from.index < 400 → f.tokens ≤ 1000 → code e ≡ code f → IsOfKind e f
 kind_of e f a b c d q = (omega (arith, a, b, c, d, q), omega (arith, a, b, c, d, q), omega (arith, a, b, c, d, q))
 
-pub entries_behind : (net : NetLists) (order : List Marked) (entries : List Entry) (turn : ℕ) (e : Entry) → IsOrder net order → 0 < length order → EntriesUpTo net order entries turn
-    → IsOfTurn net order turn e → (0 < length entries → IsOfKind (last_of entries) e → ⊥) → EntriesUpTo net order (entries ++ e ∷ []) (turn + 1)
+pub entries_behind : (net : NetLists) (order : List Marked) (entries : List Entry) (turn : ℕ) (e : Entry) → IsKeyOrder net order → 0 < length order → EntriesUpTo net order entries turn
+    → IsOfTurn net order turn e → (0 < length entries → IsOfKind (last_entry entries) e → ⊥) → EntriesUpTo net order (entries ++ e ∷ []) (turn + 1)
 entries_behind net order entries turn e ord some h k other = record {
   known = All-push (IsFromTurn net order (turn + 1)) entries e (λ i d l. later_turn net order turn (get_or entries i d) (h.known i d l)) k.from;
   covers = λ to pos time l m w. ⊎_elim
@@ -133,16 +133,16 @@ entries_behind net order entries turn e ord some h k other = record {
       let n : ℕ = length entries - 1 in
       let ln : n < length entries = omega arith in
       let last = h.known n no_entry ln in
-      let below : code (last_of entries) ≤ code e = not_after net order turn (last_of entries) e ord last k.from (turn_is net order turn e k) in
-      let strict : code (last_of entries) < code e = ⊎_elim
+      let below : code (last_entry entries) ≤ code e = not_after net order turn (last_entry entries) e ord last k.from (turn_is net order turn e k) in
+      let strict : code (last_entry entries) < code e = ⊎_elim
       (λ s. s)
-      (λ (s : code e ≤ code (last_of entries)).
-      let same : code (last_of entries) ≡ code e = omega (arith, below, s) in
-      absurd (other (omega arith) (kind_of (last_of entries) e last.few_from last.few_tokens k.from.few_from k.from.few_tokens same)))
-      (cases_lt (code (last_of entries)) (code e)) in
+      (λ (s : code e ≤ code (last_entry entries)).
+      let same : code (last_entry entries) ≡ code e = omega (arith, below, s) in
+      absurd (other (omega arith) (kind_of (last_entry entries) e last.few_from last.few_tokens k.from.few_from k.from.few_tokens same)))
+      (cases_lt (code (last_entry entries)) (code e)) in
       let base : get_or entries i d ≡ get_or entries i no_entry = get_or_default entries i d no_entry l in
       ⊎_elim
-      (λ (q : i < n). let step : code (get_or entries i no_entry) < code (last_of entries) = h.sorted i n no_entry q ln in rw base (omega (arith, step, strict)))
+      (λ (q : i < n). let step : code (get_or entries i no_entry) < code (last_entry entries) = h.sorted i n no_entry q ln in rw base (omega (arith, step, strict)))
       (λ (q : n ≤ i). let is : i ≡ n = omega (arith, q, l) in rw (base, is) strict)
       (cases_lt i n));
 }
@@ -158,7 +158,7 @@ turned_kind : (e f : Entry) → IsOfKind e f → IsOfKind f e
 turned_kind e f k = (sym k.0, sym k.1, sym k.2)
 
 pub entries_kept : (net : NetLists) (order : List Marked) (entries : List Entry) (turn : ℕ) (e : Entry) → 0 < length order → EntriesUpTo net order entries turn
-    → IsOfTurn net order turn e → 0 < length entries → IsOfKind (last_of entries) e → e.time ≤ (last_of entries).time → EntriesUpTo net order entries (turn + 1)
+    → IsOfTurn net order turn e → 0 < length entries → IsOfKind (last_entry entries) e → e.time ≤ (last_entry entries).time → EntriesUpTo net order entries (turn + 1)
 entries_kept net order entries turn e some h k more kind less = record {
   known = λ i d l. later_turn net order turn (get_or entries i d) (h.known i d l);
   covers = λ to pos time l m w. ⊎_elim
@@ -167,14 +167,14 @@ entries_kept net order entries turn e some h k more kind less = record {
       let n : ℕ = length entries - 1 in
       let ln : n < length entries = omega arith in
       let here = covers_here net order turn to pos time e k q.0 q.1 w in
-      let enough : time ≤ (last_of entries).time = omega (arith, here.enough, less) in
-      (n, last_of entries, ln, get_or_default entries n (last_of entries) no_entry ln, covers_by net (mark_at order pos).place to time e (last_of entries) (turned_kind (last_of entries) e kind) here enough))
+      let enough : time ≤ (last_entry entries).time = omega (arith, here.enough, less) in
+      (n, last_entry entries, ln, get_or_default entries n (last_entry entries) no_entry ln, covers_by net (mark_at order pos).place to time e (last_entry entries) (turned_kind (last_entry entries) e kind) here enough))
       (at_turn (length order) to pos turn l some m);
   sorted = h.sorted;
 }
 
 pub entries_replaced : (net : NetLists) (order : List Marked) (entries : List Entry) (turn : ℕ) (e : Entry) → 0 < length order → EntriesUpTo net order entries turn
-    → IsOfTurn net order turn e → 0 < length entries → IsOfKind (last_of entries) e → (last_of entries).time ≤ e.time → EntriesUpTo net order (set entries (length entries - 1) e) (turn + 1)
+    → IsOfTurn net order turn e → 0 < length entries → IsOfKind (last_entry entries) e → (last_entry entries).time ≤ e.time → EntriesUpTo net order (set entries (length entries - 1) e) (turn + 1)
 entries_replaced net order entries turn e some h k more kind less =
     let n : ℕ = length entries - 1 in
     let ln : n < length entries = omega arith in
@@ -187,9 +187,9 @@ entries_replaced net order entries turn e some h k more kind less =
           let P : Entry → Type 0 = Covers net (mark_at order pos).place to time in
           ⊎_elim
           (λ (s : old.0 ≡ n).
-          let is : last_of entries ≡ old.1 = get_or_default entries n no_entry old.1 ln ∙ ap (λ x. get_or entries x old.1) (sym s) ∙ old.3 in
-          let was : P (last_of entries) = subst P (sym is) old.4 in
-          any-set P entries n e ln (covers_by net (mark_at order pos).place to time (last_of entries) e kind was (omega (arith, was.enough, less))))
+          let is : last_entry entries ≡ old.1 = get_or_default entries n no_entry old.1 ln ∙ ap (λ x. get_or entries x old.1) (sym s) ∙ old.3 in
+          let was : P (last_entry entries) = subst P (sym is) old.4 in
+          any-set P entries n e ln (covers_by net (mark_at order pos).place to time (last_entry entries) e kind was (omega (arith, was.enough, less))))
           (λ (s : old.0 ≢ n). (old.0, old.1, omega (arith, old.2, len), get_or-set_other entries n old.0 e old.1 s ∙ old.3, old.4))
           (cases_eq old.0 n))
           (λ q. any-set (Covers net (mark_at order pos).place to time) entries n e ln (covers_here net order turn to pos time e k q.0 q.1 w))
@@ -201,7 +201,7 @@ entries_replaced net order entries turn e some h k more kind less =
           (λ (s : j ≡ n).
           let high : get_or (set entries n e) j d ≡ e = ap (λ x. get_or (set entries n e) x d) s ∙ get_or-set_same entries n e d ln in
           let old : code (get_or entries i d) < code (get_or entries n d) = h.sorted i n d (omega (arith, s, l)) ln in
-          let same : code (get_or entries n d) ≡ code e = ap code (get_or_default entries n d no_entry ln) ∙ code_of (last_of entries) e kind in
+          let same : code (get_or entries n d) ≡ code e = ap code (get_or_default entries n d no_entry ln) ∙ code_of (last_entry entries) e kind in
           rw (low, high) (omega (arith, old, same)))
           (λ (s : j ≢ n).
           let high : get_or (set entries n e) j d ≡ get_or entries j d = get_or-set_other entries n j e d s in
@@ -209,7 +209,7 @@ entries_replaced net order entries turn e some h k more kind less =
           (cases_eq j n);
     }
 
-pub entries_added : (net : NetLists) (order : List Marked) (entries new : List Entry) (turn : ℕ) (e : Entry) → IsOrder net order → 0 < length order → EntriesUpTo net order entries turn
+pub entries_added : (net : NetLists) (order : List Marked) (entries new : List Entry) (turn : ℕ) (e : Entry) → IsKeyOrder net order → 0 < length order → EntriesUpTo net order entries turn
     → IsOfTurn net order turn e → IsAdded entries e new → EntriesUpTo net order new (turn + 1)
 entries_added net order entries new turn e ord some h k added = ⊎_elim
     (λ (b : IsBehind entries e new). subst (λ x. EntriesUpTo net order x (turn + 1)) (sym b.is) (entries_behind net order entries turn e ord some h k b.other_kind))
@@ -219,7 +219,7 @@ entries_added net order entries new turn e ord some h k added = ⊎_elim
     b.is)
     added
 
-pub of_turn : (net : NetLists) (order : List Marked) (turn : ℕ) (e : Entry) → IsNet net → IsOrder net order → 0 < length order → e.to.index ≡ turn / length order
+pub of_turn : (net : NetLists) (order : List Marked) (turn : ℕ) (e : Entry) → IsNet net → IsKeyOrder net order → 0 < length order → e.to.index ≡ turn / length order
     → IsFirstPlaceOf net (mark_at order (turn % length order)).place e → IsGreatestTime (IsTimeFrom net (mark_at order (turn % length order)).place (turn / length order)) e.time → IsOfTurn net order turn e
 of_turn net order turn e ok ord some to place time =
     let pos : ℕ = turn % length order in
@@ -248,7 +248,7 @@ of_turn net order turn e ok ord some to place time =
 abbrev pub IsAbove : ℕ → ℕ → ℕ → ℕ → Entry → Type 0
 IsAbove a b tokens time f = (f.to.index ≡ b) × (f.from.index ≡ a) × (f.tokens ≡ tokens) × (time ≤ f.time)
 
-module _ (net : NetLists) (order : List Marked) (entries : List Entry) (ok : IsNet net) (ord : IsOrder net order) (h : EntriesUpTo net order entries (length net.transitions * length order)) where
+module _ (net : NetLists) (order : List Marked) (entries : List Entry) (ok : IsNet net) (ord : IsKeyOrder net order) (h : EntriesUpTo net order entries (length net.transitions * length order)) where
   above : (a b tokens time : ℕ) → 1 ≤ tokens → IsTimeOfMarkedPath net a b tokens time → Any (IsAbove a b tokens time) entries
   above a b tokens time some w =
       let id : PlaceId = w.first in

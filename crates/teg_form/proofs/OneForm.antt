@@ -4,7 +4,7 @@ use Rattle.std.specs.Prelude.{Contains}
 use Rattle.teg_net.specs.Nets.{NetLists}
 use Rattle.teg_form.specs.declared.form.StarEntry.{StarEntry}
 use Rattle.teg_form.specs.declared.form.Entry.{Entry}
-use Rattle.teg_form.specs.Forms.{FormLists, IsTimeOfFreePath, IsTimeOfMarkedPath, IsGreatestTime, IsStarEntry, IsStarBefore, AreStars, IsEntry, IsEntryBefore, AreEntries, IsFormOf}
+use Rattle.teg_form.specs.StandardForms.{FormLists, IsTimeOfFreePath, IsTimeOfMarkedPath, IsGreatestTime, IsStarEntry, IsStarBefore, AreStars, IsEntry, IsEntryBefore, AreEntries, IsStandardFormOf}
 use Rattle.teg_form.proofs.SortedSame.{of_contained, sorted_same}
 
 -- two greatest times of one kind are one
@@ -64,7 +64,7 @@ entry_joined e f g h k =
         (λ (from : a.from.index < b.from.index). ⊎_elim (λ (from' : b.from.index < c.from.index). inl (omega (arith, from, from'))) (λ (same : _). inl (omega (arith, from, same.0))) q)
         (λ (here : _). ⊎_elim (λ (from' : b.from.index < c.from.index). inl (omega (arith, here.0, from'))) (λ (same : _). inr (here.0 ∙ same.0, omega (arith, here.1, same.1))) q) p
 
-pub one_form : (net : NetLists) (form other : FormLists) → IsFormOf net form → IsFormOf net other → other ≡ form
+pub one_form : (net : NetLists) (form other : FormLists) → IsStandardFormOf net form → IsStandardFormOf net other → other ≡ form
 one_form net form other h k =
     let stars : other.stars ≡ form.stars = sorted_same IsStarBefore star_strict star_joined other.stars form.stars k.stars.sorted h.stars.sorted
     (star_in_other net other.stars form.stars k.stars h.stars) (star_in_other net form.stars other.stars h.stars k.stars) in

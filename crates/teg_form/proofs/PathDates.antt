@@ -10,11 +10,11 @@ use Rattle.teg_net.specs.declared.entries.PlaceId.{PlaceId}
 use Rattle.teg_net.specs.declared.entries.Place.{Place}
 use Rattle.teg_net.specs.Nets.{NetLists}
 use Rattle.teg_net.specs.Circuits.{place_at, IsPathBetween, time_of, tokens_of}
-use Rattle.teg_model.specs.Systems.{Dating}
 use Rattle.teg_model.specs.Datings.{initial_date, available_at}
 use Rattle.teg_model.proofs.Delays.{delayed_twice, delayed_not}
 use Rattle.teg_model.proofs.Tokens.{available_after}
 use Rattle.teg_model.proofs.WalkSteps.{Keeps}
+use Rattle.teg_model.proofs.DateFunctions.{Dating}
 
 -- more hold, a later date
 pub delayed_more : (m n : ℕ) (d : Date) → m ≤ n → IsAtMostDate (delayed m d) (delayed n d)

@@ -10,11 +10,12 @@ use Rattle.dioid.specs.declared.algebra.Dioid.{Ghosts as DioidOf}
 use Rattle.dioid.specs.declared.algebra.Kleene.{Ghosts as KleeneOf}
 use Rattle.dioid.specs.Dates.{later_of, date_product, date_star, DateProductFits}
 use Rattle.dioid.proofs.DateOrder.{later_either}
-use Rattle.dioid_matrix.specs.Stars.{steps_of}
+use Rattle.dioid_matrix.specs.MatrixStars.{steps_of}
 use Rattle.dioid_matrix.specs.Turns.{EntryFits, LastFits}
 use Rattle.teg_net.specs.Nets.{NetLists, IsNet}
+use Rattle.teg_net.specs.Limits.{greatest_circuit_time}
 use Rattle.teg_check.specs.Ranks.{IsRanking}
-use Rattle.teg_form.specs.Forms.{IsTimeOfFreePath}
+use Rattle.teg_form.specs.StandardForms.{IsTimeOfFreePath}
 use Rattle.teg_form.proofs.FreePaths.{joined, time_below}
 
 -- these are the operations of dates
@@ -38,7 +39,7 @@ IsWay net ranks a b Never = ⊥
 -- none, or a time within the limit
 abbrev pub IsSmall : Date → Type 0
 IsSmall Early = ⊤
-IsSmall (At x) = (time : ℕ) × (x ≡ pos time) × (time ≤ 400000000000)
+IsSmall (At x) = (time : ℕ) × (x ≡ pos time) × (time ≤ greatest_circuit_time)
 IsSmall Never = ⊥
 
 pub small_fits : (x y : Date) → IsSmall x → IsSmall y → DateProductFits x y

@@ -4,7 +4,7 @@ use Rattle.std.specs.Prelude.{All, Contains}
 use Rattle.teg_net.specs.Nets.{NetLists}
 use Rattle.teg_net.specs.Circuits.{no_place}
 use Rattle.teg_form.specs.declared.order.Marked.{Marked}
-use Rattle.teg_form.specs.Order.{IsMarkedPlace, marked_at}
+use Rattle.teg_form.specs.KeyOrder.{IsMarkedPlace, marked_at}
 
 pub record OrderUpTo (net : NetLists) (order : List Marked) (i : ℕ) : Type 0 where
   pub few : length order ≤ i

@@ -17,8 +17,9 @@ use Rattle.teg_net.specs.declared.entries.PlaceId.{PlaceId}
 use Rattle.std.proofs.lemmas.List.{get_or_read}
 use Rattle.teg_net.specs.Nets.{NetLists, IsNet}
 use Rattle.teg_net.specs.Circuits.{no_place, place_at, IsPathBetween}
+use Rattle.teg_net.specs.Limits.{greatest_circuit_time}
 use Rattle.teg_form.specs.declared.form.StarEntry.{StarEntry}
-use Rattle.teg_form.specs.Forms.{IsTimeOfFreePath, IsGreatestTime, IsStarEntry, IsStarBefore, AreStars}
+use Rattle.teg_form.specs.StandardForms.{IsTimeOfFreePath, IsGreatestTime, IsStarEntry, IsStarBefore, AreStars}
 use Rattle.teg_form.specs.Times.{cell, IsTimeBetween, AreFreeTimes, IsTimeFrom}
 use Rattle.teg_form.proofs.Cells.{cell_in, earlier_cell, one_cell}
 
@@ -26,7 +27,7 @@ use Rattle.teg_form.proofs.Cells.{cell_in, earlier_cell, one_cell}
 pub record IsTimeHeld (net : NetLists) (a b : ℕ) (x : ℤ) : Type 0 where
   pub time : ℕ
   pub is : x ≡ pos time
-  pub few : time ≤ 400000000000
+  pub few : time ≤ greatest_circuit_time
   pub greatest : IsGreatestTime (IsTimeOfFreePath net a b) time
 
 pub time_held : (net : NetLists) (times : Table Date) (a b : ℕ) (x : ℤ) → AreFreeTimes net times → a < length net.transitions → b < length net.transitions

@@ -7,7 +7,7 @@ use Rattle.dioid.specs.declared.dates.Date.TheVariants.{Early, At, Never}
 use Rattle.dioid.specs.declared.algebra.Dioid.{Ghosts as DioidOf}
 use Rattle.dioid.specs.declared.algebra.Kleene.{Ghosts as KleeneOf}
 use Rattle.dioid.specs.Dates.{IsAtMostDate, later_of}
-use Rattle.dioid_matrix.specs.Stars.{steps_of, star_of}
+use Rattle.dioid_matrix.specs.MatrixStars.{steps_of, star_of}
 use Rattle.dioid_matrix.specs.Tables.{Table, table_of, entry_of}
 use Rattle.dioid_matrix.specs.Turns.{IsStar, StarRefused}
 use Rattle.dioid_matrix.specs.declared.refusals.MatrixRefused.TheVariants.{Range}
@@ -15,7 +15,7 @@ use Rattle.dioid_matrix.proofs.Least.{is_itself}
 use Rattle.teg_net.specs.Nets.{NetLists, IsNet}
 use Rattle.teg_net.specs.Circuits.{no_place, place_at, time_of}
 use Rattle.teg_check.specs.Ranks.{IsRanking}
-use Rattle.teg_form.specs.Forms.{IsTimeOfFreePath}
+use Rattle.teg_form.specs.StandardForms.{IsTimeOfFreePath}
 use Rattle.teg_form.specs.Times.{cell, IsHoldBetween, AreFreeHolds, IsTimeBetween, AreFreeTimes}
 use Rattle.teg_form.proofs.FreePaths.{one_place, time_below}
 use Rattle.teg_form.proofs.Recursion.{AreOfDates, IsWay, steps_way, steps_fit, last_fits, no_way_back}

@@ -10,8 +10,8 @@ use Rattle.dioid.specs.declared.algebra.Dioid.{Ghosts as DioidOf}
 use Rattle.dioid.specs.declared.algebra.Kleene.{Ghosts as KleeneOf}
 use Rattle.dioid.specs.Dates.{IsAtMostDate, later_of, date_product}
 use Rattle.dioid.proofs.DateOrder.{at_most_trans, later_left, later_right}
-use Rattle.dioid_matrix.specs.Sums.{total, dot}
-use Rattle.dioid_matrix.specs.Stars.{IsLeastSolution}
+use Rattle.dioid_matrix.specs.Sums.{total_of_first, dot}
+use Rattle.dioid_matrix.specs.MatrixStars.{IsLeastSolution}
 use Rattle.teg_net.specs.declared.entries.PlaceId.{PlaceId}
 use Rattle.teg_net.specs.Nets.{NetLists, IsNet}
 use Rattle.teg_net.specs.Circuits.{no_place, place_at, IsPathBetween, time_of, tokens_of}
@@ -55,11 +55,11 @@ product_rises m n Never (At y) h l = tt
 product_rises m n Never Never h l = tt
 
 module _ (d : DioidOf Date) (s : KleeneOf Date) (is : AreOfDates d s) where
-  term_at_most : (f : ℕ → Date) (n j : ℕ) → j < n → IsAtMostDate (f j) (total d f n)
+  term_at_most : (f : ℕ → Date) (n j : ℕ) → j < n → IsAtMostDate (f j) (total_of_first d f n)
   term_at_most f zero j h = absurd (omega arith)
-  term_at_most f (suc n) j h = subst (IsAtMostDate (f j)) (sym (is.sum_is (total d f n) (f n))) (⊎_elim
-      (λ (q : j ≡ n). subst (λ m. IsAtMostDate (f m) (later_of (total d f n) (f n))) (sym q) (later_right (total d f n) (f n)))
-      (λ (m : j < n). at_most_trans (f j) (total d f n) (later_of (total d f n) (f n)) (term_at_most f n j m) (later_left (total d f n) (f n)))
+  term_at_most f (suc n) j h = subst (IsAtMostDate (f j)) (sym (is.sum_is (total_of_first d f n) (f n))) (⊎_elim
+      (λ (q : j ≡ n). subst (λ m. IsAtMostDate (f m) (later_of (total_of_first d f n) (f n))) (sym q) (later_right (total_of_first d f n) (f n)))
+      (λ (m : j < n). at_most_trans (f j) (total_of_first d f n) (later_of (total_of_first d f n) (f n)) (term_at_most f n j m) (later_left (total_of_first d f n) (f n)))
       (eq-or-lt_of_le {n = j} {m = n} (omega arith)))
 
   module _ (row : ℕ → Date) (c : ℕ) where

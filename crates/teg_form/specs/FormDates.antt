@@ -5,15 +5,15 @@ use Rattle.dioid.specs.declared.dates.Date.{Date}
 use Rattle.dioid.specs.Dates.{IsAtMostDate, delayed}
 use Rattle.teg_net.specs.Nets.{NetLists}
 use Rattle.teg_net.specs.Circuits.{IsLive}
-use Rattle.teg_model.specs.Ranks.{HasEndsInRange}
-use Rattle.teg_model.specs.Starts.{start_of}
+use Rattle.teg_model.specs.LiveRanks.{HasEndsInRange}
+use Rattle.teg_model.specs.Starts.{start_of_firing}
 use Rattle.teg_model.specs.Datings.{IsLeastUnder}
-use Rattle.teg_form.specs.Forms.{FormLists, IsFormOf}
+use Rattle.teg_form.specs.StandardForms.{FormLists, IsStandardFormOf}
 
 -- not before the start of firing k of transition t, which is the latest of 0, the ready dates of the initial tokens that it
 -- takes and, for an input, its release; not before the firing before; nor before what stars and entries lead to
 pub record IsNotBeforeForm (net : NetLists) (form : FormLists) (u x : ℕ → ℕ → Date) (t k : ℕ) (z : Date) : Type 0 where
-  pub start : IsAtMostDate (start_of net u t k) z
+  pub start : IsAtMostDate (start_of_firing net u t k) z
   pub before : 1 < k → IsAtMostDate (x t (k - 1)) z
   pub stars : All (λ e. e.to.index ≡ t → IsAtMostDate (delayed e.time (x e.from.index k)) z) form.stars
   pub entries : All (λ e. e.to.index ≡ t → e.tokens < k → IsAtMostDate (delayed e.time (x e.from.index (k - e.tokens))) z) form.entries
@@ -29,10 +29,10 @@ AreDatesByForm net form u x = (t k : ℕ) → t < length net.transitions → 1 �
 
 -- the least dates of a live net are those by its form, under any releases
 abbrev pub LeastDatesAreByForm : Type 0
-LeastDatesAreByForm = (net : NetLists) → HasEndsInRange net → IsLive net → (form : FormLists) → IsFormOf net form
+LeastDatesAreByForm = (net : NetLists) → HasEndsInRange net → IsLive net → (form : FormLists) → IsStandardFormOf net form
     → (u x : ℕ → ℕ → Date) → IsLeastUnder net u x → AreDatesByForm net form u x
 
 -- and no other dates are: the form says the whole of the net
 abbrev pub DatesByFormAreLeast : Type 0
-DatesByFormAreLeast = (net : NetLists) → HasEndsInRange net → IsLive net → (form : FormLists) → IsFormOf net form
+DatesByFormAreLeast = (net : NetLists) → HasEndsInRange net → IsLive net → (form : FormLists) → IsStandardFormOf net form
     → (u x : ℕ → ℕ → Date) → AreDatesByForm net form u x → IsLeastUnder net u x

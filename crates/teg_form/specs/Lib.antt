@@ -1,5 +1,5 @@
-pub mod Forms
+pub mod StandardForms
 pub mod Times
-pub mod Order
+pub mod KeyOrder
 pub mod Adding
 pub mod FormDates

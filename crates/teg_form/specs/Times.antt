@@ -7,8 +7,9 @@ use Rattle.dioid_matrix.specs.Tables.{Table}
 use Rattle.teg_net.specs.declared.entries.PlaceId.{PlaceId}
 use Rattle.teg_net.specs.Nets.{NetLists}
 use Rattle.teg_net.specs.Circuits.{place_at}
+use Rattle.teg_net.specs.Limits.{greatest_circuit_time}
 use Rattle.teg_form.specs.declared.form.Entry.{Entry}
-use Rattle.teg_form.specs.Forms.{IsTimeOfFreePath}
+use Rattle.teg_form.specs.StandardForms.{IsTimeOfFreePath}
 
 -- the date in this row and column of a list of rows
 abbrev pub cell : List Date → ℕ → ℕ → ℕ → Date
@@ -37,7 +38,7 @@ pub record AreFreeHolds (net : NetLists) (holds : List Date) : Type 0 where
 -- a date is none, or the time of a path without tokens from a to b that keeps a limit
 abbrev pub IsTimeBetween : NetLists → ℕ → ℕ → Date → Type 0
 IsTimeBetween net a b Early = ⊤
-IsTimeBetween net a b (At x) = (time : ℕ) × IsTimeOfFreePath net a b time × (x ≡ pos time) × (time ≤ 400000000000)
+IsTimeBetween net a b (At x) = (time : ℕ) × IsTimeOfFreePath net a b time × (x ≡ pos time) × (time ≤ greatest_circuit_time)
 IsTimeBetween net a b Never = ⊥
 
 -- for each two transitions the greatest time of a path without tokens from the one to the other, the empty one too

@@ -1,7 +1,7 @@
 //! The entries, by the transitions to which their paths lead, and the places with tokens.
 ghost use Rattle.std.specs.Prelude.{ℕ, ◌≡◌, ◌<◌, IfOk, IfNone, IfSome, IsTrue, IsFalse, length};
-ghost use Rattle.teg_form.specs.Adding.{IsOfKind, last_of, IsAdded};
-ghost use Rattle.teg_form.specs.Forms.{AreEntries, IsGreatestTime};
+ghost use Rattle.teg_form.specs.Adding.{IsOfKind, last_entry, IsAdded};
+ghost use Rattle.teg_form.specs.StandardForms.{AreEntries, IsGreatestTime};
 ghost use Rattle.teg_form.specs.Times.{AreFreeTimes, IsTimeFrom, IsFirstPlaceOf};
 
 use crate::form::Entry;
@@ -14,9 +14,9 @@ use teg_net::{Net, OutOfMemory, PlaceId, TransitionId};
 // Whether the last entry is of the same kind: of the same ends and tokens.
 fn ends_in_kind(entries: &[Entry], entry: &Entry) -> bool
     ensures some { IsTrue result → 0 < length entries.now }
-    ensures kind { IsTrue result → IsOfKind (last_of entries.now) entry.now }
+    ensures kind { IsTrue result → IsOfKind (last_entry entries.now) entry.now }
     ensures other { IsFalse result → 0 < length entries.now
-        → IsOfKind (last_of entries.now) entry.now → ⊥ }
+        → IsOfKind (last_entry entries.now) entry.now → ⊥ }
 {
     let count = entries.len();
     0 < count

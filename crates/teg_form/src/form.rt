@@ -1,7 +1,7 @@
 //! The form and its two lists.
 ghost use Rattle.std.specs.Prelude.{◌≡◌, IfOk};
 ghost use Rattle.teg_check.specs.Ranks.{IsRanking};
-ghost use Rattle.teg_form.specs.Forms.{FormLists, IsFormOf};
+ghost use Rattle.teg_form.specs.StandardForms.{FormLists, IsStandardFormOf};
 
 use crate::entries::entries_of;
 use crate::matrix::free_times;
@@ -39,7 +39,7 @@ pub struct Form {
 }
 
 impl Model for Form {
-    ghost use Rattle.teg_form.specs.Forms.{FormLists};
+    ghost use Rattle.teg_form.specs.StandardForms.{FormLists};
 
     ghost Value = { FormLists };
 
@@ -72,9 +72,9 @@ impl Form {
 /// transitions and p places.
 pub fn standard_form(alloc: Global, net: &Net, live: &Live) -> Result<Form, OutOfMemory>
     requires stands { IsRanking net.now live.now }
-    ensures form { IfOk result (λ form. IsFormOf net.now form) }
+    ensures form { IfOk result (λ form. IsStandardFormOf net.now form) }
     // A net has no other standard form.
-    ensures one { IfOk result (λ form. (other : FormLists) → IsFormOf net.now other → other
+    ensures one { IfOk result (λ form. (other : FormLists) → IsStandardFormOf net.now other → other
         ≡ form) }
 {
     let times = free_times(alloc, net, live)?;

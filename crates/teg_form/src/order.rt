@@ -1,6 +1,6 @@
 //! The places with tokens in the order in which their entries stand.
 ghost use Rattle.std.specs.Prelude.{IfOk};
-ghost use Rattle.teg_form.specs.Order.{IsOrder};
+ghost use Rattle.teg_form.specs.KeyOrder.{IsKeyOrder};
 
 use std::alloc::{AllocError, Global};
 use teg_net::{Net, PlaceId};
@@ -15,7 +15,7 @@ pub(crate) struct Marked {
 
 // The places with tokens, in the order of their upstream transitions and then of their tokens.
 pub(crate) fn by_source(alloc: Global, net: &Net) -> Result<Vec<Marked>, AllocError>
-    ensures { IfOk result (λ order. IsOrder net.now order.items) }
+    ensures { IfOk result (λ order. IsKeyOrder net.now order.items) }
 {
     let mut order = Vec::new(alloc);
     for (index, place) in net.places().iter().enumerate() {

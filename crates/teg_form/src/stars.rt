@@ -1,6 +1,6 @@
 //! The star entries, by pairs of transitions.
 ghost use Rattle.std.specs.Prelude.{ℕ, ◌≡◌, ◌≢◌, ◌<◌, length, IfOk, IfNone, IfSome};
-ghost use Rattle.teg_form.specs.Forms.{AreStars, IsStarEntry, IsTimeOfFreePath};
+ghost use Rattle.teg_form.specs.StandardForms.{AreStars, IsStarEntry, IsTimeOfFreePath};
 ghost use Rattle.teg_form.specs.Times.{AreFreeTimes};
 
 use crate::form::StarEntry;

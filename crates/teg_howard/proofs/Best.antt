@@ -9,7 +9,9 @@ use Rattle.teg_howard.specs.declared.policy_circuits.FoundCircuit.{FoundCircuit}
 use Rattle.teg_net.specs.Parts.{IsMember, IsPlaceOfPart, to_of}
 use Rattle.teg_howard.specs.Policies.{Policy, IsPolicy, IsPolicyCircuit, step_back, first_id}
 use Rattle.teg_net.specs.PartAnswers.{first_transition_of}
-use Rattle.teg_howard.specs.FoundCircuits.{IsFoundAt, IsMarked, IsAbove, IsBestFound}
+use Rattle.teg_net.specs.Limits.{greatest_circuit_time, most_circuit_tokens}
+use Rattle.teg_parts.specs.Components.{IsMarked}
+use Rattle.teg_howard.specs.FoundCircuits.{IsFoundAt, IsAbove, IsBestFound}
 use Rattle.teg_howard.specs.CircuitStarts.{IsLowestOnCircuit, AreStarts}
 use Rattle.teg_howard.proofs.Back.{trail_inside, get_or-trail}
 use Rattle.teg_howard.proofs.Sums.{own_trail}
@@ -35,8 +37,8 @@ pub record BestBelow (net : NetLists) (parts : List ℕ) (part : ℕ) (π : Poli
   pub through : Passes net marked f.places.items
   pub time : f.time ≡ time_of net f.places.items
   pub tokens : f.tokens ≡ tokens_of net f.places.items
-  pub time_in : f.time ≤ 400000000000
-  pub tokens_in : f.tokens ≤ 400000
+  pub time_in : f.time ≤ greatest_circuit_time
+  pub tokens_in : f.tokens ≤ most_circuit_tokens
   pub before : first_transition_of net f.places.items < i
   pub greatest : (d : List PlaceId) → IsPolicyCircuit net parts part π d → Counts net marked d → first_transition_of net d < i → time_of net d * f.tokens ≤ f.time * tokens_of net d
   pub lowest : (d : List PlaceId) → IsPolicyCircuit net parts part π d → Counts net marked d → first_transition_of net d < i → time_of net d * f.tokens ≡ f.time * tokens_of net d → first_transition_of net f.places.items ≤ first_transition_of net d

@@ -7,10 +7,10 @@ use Rattle.std.proofs.lemmas.List.Elements.{All-push}
 use Rattle.teg_net.specs.declared.rounds.Choice.{Choice}
 use Rattle.teg_net.specs.Parts.{IsMember}
 use Rattle.teg_howard.specs.Policies.{Policy}
-use Rattle.teg_howard.specs.Rounds.{choice_in}
-use Rattle.teg_howard.specs.FoundCircuits.{value_of, value_or_zero}
+use Rattle.teg_howard.specs.PolicyRounds.{choice_of_member}
+use Rattle.teg_howard.specs.FoundCircuits.{value_held, value_or_zero}
 
-pub push_some : (cs : List Choice) (c x : Choice) (t : ℕ) → choice_in cs t ≡ Some x → choice_in (cs ++ c ∷ []) t ≡ Some x
+pub push_some : (cs : List Choice) (c x : Choice) (t : ℕ) → choice_of_member cs t ≡ Some x → choice_of_member (cs ++ c ∷ []) t ≡ Some x
 push_some [] c x t e = cc
 push_some (d ∷ cs) c x t e =
     ⊎_elim
@@ -18,7 +18,7 @@ push_some (d ∷ cs) c x t e =
     (λ (b : eqb d.transition.index t ≡ false). rw b (push_some cs c x t (rw b at e)))
     (cases_Bool (eqb d.transition.index t))
 
-pub push_none : (cs : List Choice) (c : Choice) (t : ℕ) → choice_in cs t ≡ None → choice_in (cs ++ c ∷ []) t ≡ choice_in (c ∷ []) t
+pub push_none : (cs : List Choice) (c : Choice) (t : ℕ) → choice_of_member cs t ≡ None → choice_of_member (cs ++ c ∷ []) t ≡ choice_of_member (c ∷ []) t
 push_none [] c t e = refl
 push_none (d ∷ cs) c t e =
     ⊎_elim
@@ -27,19 +27,19 @@ push_none (d ∷ cs) c t e =
     (cases_Bool (eqb d.transition.index t))
 
 abbrev pub choice_for : Policy → List (Option ℤ) → ℕ → Choice
-choice_for π vs t = record { transition = record { index = t }; place = π t; value = value_or_zero (value_of vs t) }
+choice_for π vs t = record { transition = record { index = t }; place = π t; value = value_or_zero (value_held vs t) }
 
 pub record Listed (parts : List ℕ) (part : ℕ) (π : Policy) (vs : List (Option ℤ)) (cs : List Choice) (i : ℕ) : Type 0 where
   pub only : All (λ c. IsMember parts part c.transition.index) cs
   pub below : All (λ c. c.transition.index < i) cs
   pub order : AllPairs (λ c d. c.transition.index < d.transition.index) cs
-  pub inside : (t : ℕ) → t < i → IsMember parts part t → choice_in cs t ≡ Some (choice_for π vs t)
-  pub outside : (t : ℕ) → (t < i → IsMember parts part t → ⊥) → choice_in cs t ≡ None
+  pub inside : (t : ℕ) → t < i → IsMember parts part t → choice_of_member cs t ≡ Some (choice_for π vs t)
+  pub outside : (t : ℕ) → (t < i → IsMember parts part t → ⊥) → choice_of_member cs t ≡ None
 
 pub listed_more : (parts : List ℕ) (part : ℕ) (π : Policy) (vs : List (Option ℤ)) (cs : List Choice) (i : ℕ) → Listed parts part π vs cs i → IsMember parts part i → Listed parts part π vs (cs ++ choice_for π vs i ∷ []) (i + 1)
 listed_more parts part π vs cs i h m =
     let c : Choice = choice_for π vs i in
-    let fresh : choice_in cs i ≡ None = h.outside i (λ l k. absurd (omega arith)) in
+    let fresh : choice_of_member cs i ≡ None = h.outside i (λ l k. absurd (omega arith)) in
     record {
       only = All-push (λ d. IsMember parts part d.transition.index) cs c h.only m;
       below = All-push (λ d. d.transition.index < i + 1) cs c (λ k d l. let b = h.below k d l in omega arith) (let r : i < i + 1 = omega arith in r);
@@ -49,7 +49,7 @@ listed_more parts part π vs cs i h m =
           (λ (q : t < i). push_some cs c (choice_for π vs t) t (h.inside t q k))
           (λ (q : i ≤ t).
           let is : i ≡ t = omega arith in
-          subst (λ x. choice_in (cs ++ c ∷ []) x ≡ Some (choice_for π vs x)) is (push_none cs c i fresh ∙ (let b : eqb i i ≡ true = eq-eqb i i refl in rw b refl)))
+          subst (λ x. choice_of_member (cs ++ c ∷ []) x ≡ Some (choice_for π vs x)) is (push_none cs c i fresh ∙ (let b : eqb i i ≡ true = eq-eqb i i refl in rw b refl)))
           (cases_lt t i);
       outside = λ t n.
           let ne : i ≢ t = λ (q : i ≡ t). n (omega arith) (subst (IsMember parts part) q m) in

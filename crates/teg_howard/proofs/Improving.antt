@@ -10,8 +10,9 @@ use Rattle.teg_net.specs.Nets.{NetLists}
 use Rattle.teg_net.specs.Ratios.{Fraction}
 use Rattle.teg_net.specs.Parts.{IsPlaceOfPart, to_of}
 use Rattle.teg_howard.specs.Policies.{Policy, Enters, first_id, offer_of, Improves}
-use Rattle.teg_howard.specs.FoundCircuits.{policy_of, potentials, IsMarked, IsBar, IsBetter}
+use Rattle.teg_howard.specs.FoundCircuits.{policy_of, potentials, IsBar, IsBetterPolicy}
 use Rattle.teg_net.proofs.Reading.{same_id}
+use Rattle.teg_parts.specs.Components.{IsMarked}
 
 -- the greatest offer to t so far, which the policy has taken
 pub record Greatest (net : NetLists) (parts : List ℕ) (part a b : ℕ) (v : ℕ → ℤ) (t : ℕ) (p : PlaceId) (z : ℤ) (i : ℕ) : Type 0 where
@@ -178,7 +179,7 @@ module _ (net : NetLists) (parts : List ℕ) (part a b : ℕ) (v : ℕ → ℤ) 
       }
 
 pub improving_all : (net : NetLists) (parts : List ℕ) (part : ℕ) (r : Fraction) (values : List (Option ℤ)) (policy ps : List PlaceId) (gs : List ℤ) (cs : List Bool) (n : ℕ) → length net.places ≤ n → Improving net parts part r.time r.tokens (potentials values) (policy_of policy) ps gs cs n
-    → IsBetter net parts part r values policy ps cs
+    → IsBetterPolicy net parts part r values policy ps cs
 improving_all net parts part r values policy ps gs cs n long h =
     let in_all = λ (t : ℕ) (q : PlaceId) (e : Enters net parts part t q). let k = e.inside.in_range in let l : q.index < n = omega arith in l in
     let none = λ (t : ℕ) (m : IsMarked cs t → ⊥) (p : PlaceId) (i : Improves net parts part r.time r.tokens (potentials values) t p).

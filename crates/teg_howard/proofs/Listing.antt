@@ -13,8 +13,8 @@ use Rattle.teg_net.specs.Circuits.{from_of, BeginsLowest}
 use Rattle.teg_net.specs.Parts.{IsMember, ListsMembers}
 use Rattle.teg_net.specs.PartAnswers.{first_transition_of, transitions_of}
 use Rattle.teg_net.specs.Limits.{most_transitions}
-use Rattle.teg_howard.specs.Rounds.{choice_in, chosen, chosen_for, place_in, potential, value_in}
-use Rattle.teg_howard.specs.Runs.{sum_below, PairRises, potential_of}
+use Rattle.teg_howard.specs.PolicyRounds.{choice_of_member, chosen, chosen_for, chosen_place, potential, value_in}
+use Rattle.teg_howard.specs.PolicyRuns.{sum_below, PairRises, potential_of}
 use Rattle.teg_howard.specs.FoundCircuits.{ListsChoices}
 use Rattle.teg_howard.specs.RoundStates.{RisesEach, Rises}
 
@@ -29,7 +29,7 @@ abbrev no_choice_at : Choice
 no_choice_at = record { transition = record { index = 0 }; place = record { index = 0 }; value = pos 0 }
 
 -- a transition that has a choice is one of the list
-chosen_contains : (cs : List Choice) (t : ℕ) → choice_in cs t ≢ None → Contains (chosen_for cs) t
+chosen_contains : (cs : List Choice) (t : ℕ) → choice_of_member cs t ≢ None → Contains (chosen_for cs) t
 chosen_contains [] t n = absurd (n refl)
 chosen_contains (c ∷ cs) t n =
     ⊎_elim
@@ -60,7 +60,7 @@ same_transitions [] = refl
 same_transitions (c ∷ cs) = ap (λ ts. c.transition.index ∷ ts) (same_transitions cs)
 
 -- a choice is the one for its transition
-pub own_choice : (cs : List Choice) → AllPairs (λ c d. c.transition.index < d.transition.index) cs → (i : ℕ) (d : Choice) → i < length cs → choice_in cs (get_or cs i d).transition.index ≡ Some (get_or cs i d)
+pub own_choice : (cs : List Choice) → AllPairs (λ c d. c.transition.index < d.transition.index) cs → (i : ℕ) (d : Choice) → i < length cs → choice_of_member cs (get_or cs i d).transition.index ≡ Some (get_or cs i d)
 own_choice [] h i d l = absurd (omega arith)
 own_choice (c ∷ cs) h zero d l = let b : eqb c.transition.index c.transition.index ≡ true = eq-eqb c.transition.index c.transition.index refl in rw b refl
 own_choice (c ∷ cs) h (suc i) d l =
@@ -116,7 +116,7 @@ choices_by_member parts part r h =
     (λ i l.
     let c : Choice = get_or cs i no_choice_at in
     let own = own_choice cs order i no_choice_at l in
-    let place : chosen r c.transition.index ≡ c.place = ap place_in own in
+    let place : chosen r c.transition.index ≡ c.place = ap chosen_place own in
     let value : potential r c.transition.index ≡ c.value = ap value_in own in
     let given : c ≡ given_by r c.transition.index = λ j. record { transition = c.transition; place = sym place j; value = sym value j } in
     given

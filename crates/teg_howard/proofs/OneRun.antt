@@ -11,7 +11,7 @@ use Rattle.teg_net.specs.declared.rounds.Round.{Round}
 use Rattle.teg_net.specs.Parts.{IsMember, IsPlaceOfPart, to_of}
 use Rattle.teg_howard.specs.Policies.{Policy, IsPolicy, IsBestCircuit, LeadsBack, IsRouted, Joins, IsRouting, AreSums, IsImprovement, IsChanged, Improves}
 use Rattle.teg_net.specs.PartAnswers.{first_transition_of}
-use Rattle.teg_howard.specs.Rounds.{chosen, potential, place_in, value_in, choice_in, IsRound, IsRoundOf, IsFirstRound, KeepsCircuit, Follows, IsRunTo, IsPolicyRun}
+use Rattle.teg_howard.specs.PolicyRounds.{chosen, potential, chosen_place, value_in, choice_of_member, IsRound, IsRoundOf, IsFirstRound, KeepsCircuit, FollowsRound, IsRunTo, IsPolicyRun}
 use Rattle.teg_net.specs.Ratios.{IsRatioOf}
 use Rattle.teg_howard.proofs.Turns.{cases_member, better_is_policy, still_back_to_root}
 use Rattle.teg_net.proofs.Reading.{same_id}
@@ -30,7 +30,7 @@ pub record Equal (r q : Round) : Type 0 where
   pub tokens : r.ratio.tokens ≡ q.ratio.tokens
 
 module _ (net : NetLists) (parts : List ℕ) (part : ℕ) where
-  no_choice : (cs : List Choice) (t : ℕ) → All (λ c. IsMember parts part c.transition.index) cs → (IsMember parts part t → ⊥) → choice_in cs t ≡ None
+  no_choice : (cs : List Choice) (t : ℕ) → All (λ c. IsMember parts part c.transition.index) cs → (IsMember parts part t → ⊥) → choice_of_member cs t ≡ None
   no_choice [] t h o = refl
   no_choice (c ∷ cs) t h o =
       ⊎_elim
@@ -88,7 +88,7 @@ module _ (net : NetLists) (parts : List ℕ) (part : ℕ) where
         choices = same_functions (chosen r) (chosen q) (λ t.
             ⊎_elim
             (λ (i : IsMember parts part t). same t i)
-            (λ (o : IsMember parts part t → ⊥). ap place_in (no_choice r.choices.items t (only_members parts part r.choices.items h.members) o) ∙ sym (ap place_in (no_choice q.choices.items t (only_members parts part q.choices.items k.members) o)))
+            (λ (o : IsMember parts part t → ⊥). ap chosen_place (no_choice r.choices.items t (only_members parts part r.choices.items h.members) o) ∙ sym (ap chosen_place (no_choice q.choices.items t (only_members parts part q.choices.items k.members) o)))
             (cases_member parts part t));
         values = same_functions (potential r) (potential q) (λ t.
             ⊎_elim
@@ -132,7 +132,7 @@ module _ (net : NetLists) (parts : List ℕ) (part : ℕ) where
       let inside : IsPlaceOfPart net parts part w.1 = subst (IsPlaceOfPart net parts part) w.3 (h w.0 w.1 w.2) in
       (w.0, w.1, w.2, w.3, k (to_of net w.1) inside.to_member w.4)
 
-  pub one_next : (live : IsLive net) (kept : IsNet net) (r r' s q : Round) → Equal r r' → IsRound net parts part r → ((t : ℕ) → IsMember parts part t → LeadsBack net (chosen r) t (first_transition_of net r.circuit.places.items)) → Follows net parts part r s → Follows net parts part r' q
+  pub one_next : (live : IsLive net) (kept : IsNet net) (r r' s q : Round) → Equal r r' → IsRound net parts part r → ((t : ℕ) → IsMember parts part t → LeadsBack net (chosen r) t (first_transition_of net r.circuit.places.items)) → FollowsRound net parts part r s → FollowsRound net parts part r' q
       → Equal s q × ((t : ℕ) → IsMember parts part t → LeadsBack net (chosen s) t (first_transition_of net s.circuit.places.items))
   one_next live kept r r' s q e hr home h k =
       let a : ℕ = r.ratio.time in
@@ -179,8 +179,8 @@ module _ (net : NetLists) (parts : List ℕ) (part : ℕ) where
   runs_agree live kept rs qs d h j (suc k) l m =
       let before = runs_agree live kept rs qs d h j k (omega arith) (omega arith) in
       let e : k + 1 ≡ suc k = omega arith in
-      let f : Follows net parts part (get_or rs k d) (get_or rs (suc k) d) = subst (λ n. Follows net parts part (get_or rs k d) (get_or rs n d)) e (h.next k d (omega arith)) in
-      let g : Follows net parts part (get_or qs k d) (get_or qs (suc k) d) = subst (λ n. Follows net parts part (get_or qs k d) (get_or qs n d)) e (j.next k d (omega arith)) in
+      let f : FollowsRound net parts part (get_or rs k d) (get_or rs (suc k) d) = subst (λ n. FollowsRound net parts part (get_or rs k d) (get_or rs n d)) e (h.next k d (omega arith)) in
+      let g : FollowsRound net parts part (get_or qs k d) (get_or qs (suc k) d) = subst (λ n. FollowsRound net parts part (get_or qs k d) (get_or qs n d)) e (j.next k d (omega arith)) in
       let x = one_next live kept (get_or rs k d) (get_or qs k d) (get_or rs (suc k) d) (get_or qs (suc k) d) before.0 before.2 before.1 f g in
       (x.0, x.1, f.round)
 

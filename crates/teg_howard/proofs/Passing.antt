@@ -7,9 +7,9 @@ use Rattle.std.proofs.lemmas.List.Sums.{sum_by-set, count_by-le-length}
 use Rattle.teg_net.specs.Nets.{NetLists}
 use Rattle.teg_net.specs.Circuits.{from_of}
 use Rattle.teg_net.specs.Parts.{IsMember}
+use Rattle.teg_parts.specs.Components.{IsMarked}
 use Rattle.teg_howard.specs.Policies.{Policy, IsPolicy, step_back, LeadsBack}
-use Rattle.teg_howard.specs.FoundCircuits.{IsMarked}
-use Rattle.teg_howard.specs.CircuitStarts.{IsLowestOnCircuit, IsLowestBack, walk_at, IsPassed, AreStarts}
+use Rattle.teg_howard.specs.CircuitStarts.{IsLowestOnCircuit, IsLowestBack, walk_at, HasWalkPassed, AreStarts}
 use Rattle.teg_howard.proofs.Back.{back_add, back_member}
 use Rattle.teg_parts.proofs.Ordering.{cases_number}
 
@@ -21,7 +21,7 @@ abbrev pub left_over : List (Option ℕ) → ℕ
 left_over passed = count_by is_none passed
 
 -- a walk from a member ends at one
-pub end_member : (net : NetLists) (π : Policy) (parts : List ℕ) (part start : ℕ) (old new : List (Option ℕ)) (end : ℕ) → IsPolicy net parts part π → IsMember parts part start → IsPassed net π start old new end → IsMember parts part end
+pub end_member : (net : NetLists) (π : Policy) (parts : List ℕ) (part start : ℕ) (old new : List (Option ℕ)) (end : ℕ) → IsPolicy net parts part π → IsMember parts part start → HasWalkPassed net π start old new end → IsMember parts part end
 end_member net π parts part start old new end ok member e = subst (IsMember parts part) e.leads.1 (back_member net parts part π ok e.leads.0 start member)
 
 module _ (net : NetLists) (π : Policy) where
@@ -96,7 +96,7 @@ module _ (net : NetLists) (π : Policy) where
             (cases_eq t at);
       }
 
-  pub passing_done : (start : ℕ) (old now : List (Option ℕ)) (at : ℕ) → Passing start old now at → walk_at now at ≢ None → IsPassed net π start old now at
+  pub passing_done : (start : ℕ) (old now : List (Option ℕ)) (at : ℕ) → Passing start old now at → walk_at now at ≢ None → HasWalkPassed net π start old now at
   passing_done start old now at h some =
       let m : ℕ = h.steps in
       record {
@@ -261,7 +261,7 @@ module _ (net : NetLists) (π : Policy) where
     closed_far passed closed zero t n = n
     closed_far passed closed (suc m) t n = closed (step_back net π m t) (closed_far passed closed m t n)
 
-    module _ (starts : List Bool) (passed new : List (Option ℕ)) (i end : ℕ) (h : Started starts passed i) (w : IsPassed net π i passed new end) where
+    module _ (starts : List Bool) (passed new : List (Option ℕ)) (i end : ℕ) (h : Started starts passed i) (w : HasWalkPassed net π i passed new end) where
       was : (t : ℕ) → (walk_at passed t ≡ None) ⊎ (walk_at passed t ≢ None)
       was t = ⊎_elim (λ (e : walk_at passed t ≡ None). inl e) (λ (e : (z : ℕ) × (walk_at passed t ≡ Some z)). inr (some_not_none (walk_at passed t) e.0 e.1)) (cases_number (walk_at passed t))
 

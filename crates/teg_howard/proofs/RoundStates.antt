@@ -12,9 +12,9 @@ use Rattle.teg_howard.specs.declared.policy_circuits.FoundCircuit.{FoundCircuit}
 use Rattle.teg_net.specs.Parts.{IsMember, IsPlaceOfPart, to_of}
 use Rattle.teg_howard.specs.Policies.{Policy, IsPolicy, Enters, IsPolicyCircuit, IsBestCircuit, LeadsBack, IsRouting, AreSums, Improves, IsImprovement, IsChanged, first_id, offer_of}
 use Rattle.teg_net.specs.PartAnswers.{first_transition_of}
-use Rattle.teg_howard.specs.Rounds.{chosen, potential, place_in, value_in, IsRound, IsRoundOf, IsFirstRound}
-use Rattle.teg_howard.specs.FoundCircuits.{policy_of, potentials, value_or_zero, IsSmallRatio, AreLowest, CanSettle, IsSettled, IsBestFound, IsMarked, IsBetter}
-use Rattle.teg_howard.specs.RoundStates.{IsRoundState, HasCircuit, GoesOn, IsLast}
+use Rattle.teg_howard.specs.PolicyRounds.{chosen, potential, chosen_place, value_in, IsRound, IsRoundOf, IsFirstRound}
+use Rattle.teg_howard.specs.FoundCircuits.{policy_of, potentials, value_or_zero, IsCircuitRatio, AreLowest, CanSettle, IsSettled, IsBestFound, IsBetterPolicy}
+use Rattle.teg_howard.specs.RoundStates.{IsRoundState, HasCircuit, IsNextRoundState, IsLastRound}
 use Rattle.teg_howard.proofs.Turns.{cases_member, everywhere, better_is_policy, greater_ratio, still_back_to_root, still_circuit, rises, rises_more}
 use Rattle.teg_howard.proofs.Routing.{all_home, routed_is_policy, circuit_kept}
 use Rattle.teg_howard.proofs.Improving.{cases_marked}
@@ -22,6 +22,7 @@ use Rattle.teg_howard.proofs.Listing.{lists_members, begins_lowest}
 use Rattle.teg_howard.proofs.First.{best_lowest}
 use Rattle.teg_howard.proofs.Optimum.{some_token}
 use Rattle.std.proofs.Math.Nat.{mul-le-mul_right}
+use Rattle.teg_parts.specs.Components.{IsMarked}
 
 pub same_functions : {A B : Type 0} (f g : A → B) → ((x : A) → f x ≡ g x) → f ≡ g
 same_functions f g e = λ i. λ x. e x i
@@ -53,8 +54,8 @@ module _ (net : NetLists) (parts : List ℕ) (part : ℕ) where
         members = h.made.lists;
         chosen_is = λ t.
             ⊎_elim
-            (λ (m : IsMember parts part t). ap place_in (h.made.inside t m))
-            (λ (o : IsMember parts part t → ⊥). ap place_in (h.made.outside t o) ∙ sym (outside t o))
+            (λ (m : IsMember parts part t). ap chosen_place (h.made.inside t m))
+            (λ (o : IsMember parts part t → ⊥). ap chosen_place (h.made.outside t o) ∙ sym (outside t o))
             (cases_member parts part t);
         potential_is = λ t.
             ⊎_elim
@@ -68,7 +69,7 @@ module _ (net : NetLists) (parts : List ℕ) (part : ℕ) where
         sums = subst (λ x. AreSums net parts part x.time x.tokens (policy_of routed) (first_transition_of net st.round.circuit.places.items) (potentials st.values.items)) (sym h.ratio)
             (subst (λ x. AreSums net parts part r.time r.tokens (policy_of routed) x (potentials st.values.items)) root h.sums);
         home = λ t m. subst (λ x. LeadsBack net (policy_of routed) t x) root (all_home net parts part (policy_of policy) can.is_policy s joins (policy_of routed) routing t m);
-        small = subst IsSmallRatio (sym h.ratio) can.small;
+        small = subst IsCircuitRatio (sym h.ratio) can.small;
         count = count;
         count_values = h.count;
         in_range = h.in_range;
@@ -124,7 +125,7 @@ module _ (net : NetLists) (parts : List ℕ) (part : ℕ) where
 
   -- ---- the step
   module _ (policy better : List PlaceId) (st : RoundState) (marked : List Bool) (state : IsRoundState net parts part policy st)
-      (up : IsBetter net parts part st.round.ratio st.values.items policy better marked) where
+      (up : IsBetterPolicy net parts part st.round.ratio st.values.items policy better marked) where
     pub step_policy : IsPolicy net parts part (policy_of better)
     step_policy = better_is_policy net parts part (policy_of policy) state.is_policy st.round.ratio.time st.round.ratio.tokens st.round.circuit.places.items state.circuit state.ratio.same (potentials st.values.items) state.sums (policy_of better) up.improves
 
@@ -159,12 +160,12 @@ module _ (net : NetLists) (parts : List ℕ) (part : ℕ) where
     improvable t y = (t, policy_of better t, subst (λ x. Improves net parts part st.round.ratio.time st.round.ratio.tokens x t (policy_of better t)) (sym potential_to) (up.marks t y))
 
     -- no member is marked: the round is the last
-    pub none_marked : ((t : ℕ) → IsMarked marked t → ⊥) → IsLast net parts part st.round
+    pub none_marked : ((t : ℕ) → IsMarked marked t → ⊥) → IsLastRound net parts part st.round
     none_marked none t p i = up.none t (none t) p (subst (λ x. Improves net parts part st.round.ratio.time st.round.ratio.tokens x t p) potential_to i)
 
     -- the better policy has a circuit through a marked member
     pub step_new : (routed : List PlaceId) (r : Fraction) (f : FoundCircuit) (next : RoundState) (live : IsLive net) → IsBestFound net parts part (policy_of better) marked f → IsRatioOf (time_of net f.places.items) (tokens_of net f.places.items) r
-        → IsRoundState net parts part routed next → IsSettled net parts part better routed r f.places.items next → GoesOn net parts part routed st next
+        → IsRoundState net parts part routed next → IsSettled net parts part better routed r f.places.items next → IsNextRoundState net parts part routed st next
     step_new routed r f next live best ratio standing h =
         let c : List PlaceId = f.places.items in
         let through : Any (λ p. IsMarked marked (to_of net p)) c = best.best.through in
@@ -196,7 +197,7 @@ module _ (net : NetLists) (parts : List ℕ) (part : ℕ) where
       leads_back = still_back_to_root net parts part (policy_of policy) state.is_policy st.round.ratio.time st.round.ratio.tokens st.round.circuit.places.items state.circuit state.ratio.same (potentials st.values.items) state.sums (policy_of better) up.improves state.home none_new
 
       pub step_same : (routed : List PlaceId) (next : RoundState) (kept : IsNet net) (count : length parts ≡ length net.transitions) (t : ℕ) → IsMarked marked t
-          → IsRoundState net parts part routed next → IsSettled net parts part better routed st.round.ratio st.round.circuit.places.items next → GoesOn net parts part routed st next
+          → IsRoundState net parts part routed next → IsSettled net parts part better routed st.round.ratio st.round.circuit.places.items next → IsNextRoundState net parts part routed st next
       step_same routed next kept count t y standing h =
           let a : ℕ = st.round.ratio.time in
           let b : ℕ = st.round.ratio.tokens in
@@ -274,28 +275,28 @@ can_settle net parts part ps r f marked h count ok in_range best ratio time toke
       small = record { time_in = omega arith; tokens_in = omega arith };
     }
 
-better_outside : (net : NetLists) (parts : List ℕ) (part : ℕ) (policy better : List PlaceId) (st : RoundState) (marked : List Bool) → IsRoundState net parts part policy st → IsBetter net parts part st.round.ratio st.values.items policy better marked → (t : ℕ) → (IsMember parts part t → ⊥) → policy_of better t ≡ first_id
+better_outside : (net : NetLists) (parts : List ℕ) (part : ℕ) (policy better : List PlaceId) (st : RoundState) (marked : List Bool) → IsRoundState net parts part policy st → IsBetterPolicy net parts part st.round.ratio st.values.items policy better marked → (t : ℕ) → (IsMember parts part t → ⊥) → policy_of better t ≡ first_id
 better_outside net parts part policy better st marked state up t o =
     up.rest t (λ y. let e = (up.marks t y).enters in o (subst (IsMember parts part) e.ends e.inside.to_member)) ∙ state.outside t o
 
 pub ready_new :
     (net : NetLists) (parts : List ℕ) (part : ℕ) (policy better : List PlaceId) (st : RoundState) (marked : List Bool) (r : Fraction) (f : FoundCircuit) → HasCircuit net parts part → IsRoundState net parts part policy st
-    → IsBetter net parts part st.round.ratio st.values.items policy better marked → length better ≡ length parts → IsBestFound net parts part (policy_of better) marked f → IsRatioOf f.time f.tokens r → r.time ≤ f.time → r.tokens ≤ f.tokens
+    → IsBetterPolicy net parts part st.round.ratio st.values.items policy better marked → length better ≡ length parts → IsBestFound net parts part (policy_of better) marked f → IsRatioOf f.time f.tokens r → r.time ≤ f.time → r.tokens ≤ f.tokens
     → CanSettle net parts part better r f.places.items
 ready_new net parts part policy better st marked r f h state up count best ratio time tokens =
     can_settle net parts part better r f marked h count (step_policy net parts part policy better st marked state up) up.in_range best ratio time tokens
 
 pub goes_new :
     (net : NetLists) (parts : List ℕ) (part : ℕ) (policy better routed : List PlaceId) (st next : RoundState) (marked : List Bool) (r : Fraction) (f : FoundCircuit) → HasCircuit net parts part → IsRoundState net parts part policy st
-    → IsBetter net parts part st.round.ratio st.values.items policy better marked → IsBestFound net parts part (policy_of better) marked f → IsRatioOf f.time f.tokens r
-    → CanSettle net parts part better r f.places.items → length routed ≡ length parts → IsSettled net parts part better routed r f.places.items next → GoesOn net parts part routed st next
+    → IsBetterPolicy net parts part st.round.ratio st.values.items policy better marked → IsBestFound net parts part (policy_of better) marked f → IsRatioOf f.time f.tokens r
+    → CanSettle net parts part better r f.places.items → length routed ≡ length parts → IsSettled net parts part better routed r f.places.items next → IsNextRoundState net parts part routed st next
 goes_new net parts part policy better routed st next marked r f h state up best ratio can count done =
     step_new net parts part policy better st marked state up routed r f next h.live best (ratio_to net f r best.time best.tokens ratio)
     (settled_stands net parts part better routed r f.places.items next can (better_outside net parts part policy better st marked state up) count done) done
 
 pub ready_same :
     (net : NetLists) (parts : List ℕ) (part : ℕ) (policy better : List PlaceId) (st : RoundState) (marked : List Bool) → HasCircuit net parts part → IsRoundState net parts part policy st
-    → IsBetter net parts part st.round.ratio st.values.items policy better marked → length better ≡ length parts → ((d : List PlaceId) → IsPolicyCircuit net parts part (policy_of better) d → Any (λ p. IsMarked marked (to_of net p)) d → ⊥)
+    → IsBetterPolicy net parts part st.round.ratio st.values.items policy better marked → length better ≡ length parts → ((d : List PlaceId) → IsPolicyCircuit net parts part (policy_of better) d → Any (λ p. IsMarked marked (to_of net p)) d → ⊥)
     → CanSettle net parts part better st.round.ratio st.round.circuit.places.items
 ready_same net parts part policy better st marked h state up count none = record {
   kept = h.kept;
@@ -311,8 +312,8 @@ ready_same net parts part policy better st marked h state up count none = record
 
 pub goes_same :
     (net : NetLists) (parts : List ℕ) (part : ℕ) (policy better routed : List PlaceId) (st next : RoundState) (marked : List Bool) → HasCircuit net parts part → IsRoundState net parts part policy st
-    → IsBetter net parts part st.round.ratio st.values.items policy better marked → ((d : List PlaceId) → IsPolicyCircuit net parts part (policy_of better) d → Any (λ p. IsMarked marked (to_of net p)) d → ⊥) → (t : ℕ) → IsMarked marked t
-    → CanSettle net parts part better st.round.ratio st.round.circuit.places.items → length routed ≡ length parts → IsSettled net parts part better routed st.round.ratio st.round.circuit.places.items next → GoesOn net parts part routed st next
+    → IsBetterPolicy net parts part st.round.ratio st.values.items policy better marked → ((d : List PlaceId) → IsPolicyCircuit net parts part (policy_of better) d → Any (λ p. IsMarked marked (to_of net p)) d → ⊥) → (t : ℕ) → IsMarked marked t
+    → CanSettle net parts part better st.round.ratio st.round.circuit.places.items → length routed ≡ length parts → IsSettled net parts part better routed st.round.ratio st.round.circuit.places.items next → IsNextRoundState net parts part routed st next
 goes_same net parts part policy better routed st next marked h state up none t y can count done =
     step_same net parts part policy better st marked state up none routed next h.kept h.parts_.count t y
     (settled_stands net parts part better routed st.round.ratio st.round.circuit.places.items next can (better_outside net parts part policy better st marked state up) count done) done

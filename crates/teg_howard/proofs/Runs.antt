@@ -11,18 +11,19 @@ use Rattle.teg_net.specs.declared.rounds.Round.{Round}
 use Rattle.teg_net.specs.Parts.{IsMember, IsPlaceOfPart, Reaches, to_of}
 use Rattle.teg_howard.specs.Policies.{Enters, IsPolicy, Improves, first_id}
 use Rattle.teg_net.specs.PartAnswers.{first_transition_of}
-use Rattle.teg_howard.specs.Rounds.{IsFirstRound, Follows, IsRunTo, IsPolicyRun, last_of, potential}
+use Rattle.teg_howard.specs.PolicyRounds.{IsFirstRound, FollowsRound, IsRunTo, IsPolicyRun, last_policy_round, potential}
 use Rattle.teg_howard.specs.FoundCircuits.{policy_of, potentials, AreLowest}
-use Rattle.teg_howard.specs.RoundStates.{IsRoundState, HasCircuit, IsLast, Rises}
-use Rattle.teg_howard.specs.Runs.{AllRise, IsAnswerOf, KeepsLimits, greatest_scaled_potential, potential_of}
+use Rattle.teg_howard.specs.RoundStates.{IsRoundState, HasCircuit, IsLastRound, Rises}
+use Rattle.teg_howard.specs.PolicyRuns.{AllRise, IsAnswerOf, KeepsLimits, potential_of}
 use Rattle.std.specs.Prelude.{map}
 use Rattle.teg_net.specs.Ratios.{Fraction}
 use Rattle.teg_net.specs.declared.answers.Potential.{Potential}
 use Rattle.teg_net.specs.declared.answers.PartAnswer.{PartAnswer}
 use Rattle.teg_net.specs.declared.answers.PartAnswer.TheVariants.{NoCircuit, Best}
 use Rattle.teg_net.specs.Parts.{ListsMembers}
-use Rattle.teg_net.specs.ReducedTimes.{IsGreatestSum, IsWithin}
+use Rattle.teg_net.specs.ReducedTimes.{IsGreatestPathTime, IsMagnitudeWithin}
 use Rattle.teg_net.specs.PartAnswers.{IsBestOfPart, IsPartAnswer}
+use Rattle.teg_net.specs.Limits.{greatest_scaled_potential}
 use Rattle.teg_howard.proofs.Listing.{lists_members, begins_lowest, same_transitions, told_potentials, pair_rises}
 use Rattle.teg_howard.proofs.Values.{path_inside}
 use Rattle.teg_howard.proofs.Turns.{cases_member}
@@ -34,7 +35,7 @@ module _ (net : NetLists) (parts : List ℕ) (part : ℕ) where
   pub run_one : (r : Round) → IsFirstRound net parts part r → IsRunTo net parts part ([] ++ r ∷ [])
   run_one r h = record { some = omega arith; first = λ d. h; next = λ k d l. absurd (omega arith) }
 
-  pub run_more : (rs : List Round) (r s : Round) → IsRunTo net parts part (rs ++ r ∷ []) → Follows net parts part r s → IsRunTo net parts part ((rs ++ r ∷ []) ++ s ∷ [])
+  pub run_more : (rs : List Round) (r s : Round) → IsRunTo net parts part (rs ++ r ∷ []) → FollowsRound net parts part r s → IsRunTo net parts part ((rs ++ r ∷ []) ++ s ∷ [])
   run_more rs r s h f =
       let old : List Round = rs ++ r ∷ [] in
       let long : length (old ++ s ∷ []) ≡ length old + 1 = length_push old s in
@@ -52,7 +53,7 @@ module _ (net : NetLists) (parts : List ℕ) (part : ℕ) where
             (cases_lt (k + 1) (length old));
       }
 
-  pub run_all : (rs : List Round) (r : Round) → IsRunTo net parts part (rs ++ r ∷ []) → IsLast net parts part r → IsPolicyRun net parts part (rs ++ r ∷ [])
+  pub run_all : (rs : List Round) (r : Round) → IsRunTo net parts part (rs ++ r ∷ []) → IsLastRound net parts part r → IsPolicyRun net parts part (rs ++ r ∷ [])
   run_all rs r h l = record {
     run = h;
     last = λ d.
@@ -112,7 +113,7 @@ module _ (net : NetLists) (parts : List ℕ) (part : ℕ) where
 
 -- the last round's answer tells the greatest ratio of the part, a circuit that has it, and the greatest sums
 pub last_answers :
-    (net : NetLists) (parts : List ℕ) (part : ℕ) (policy : List PlaceId) (st : RoundState) (answer : PartAnswer) → IsRoundState net parts part policy st → IsLast net parts part st.round → IsAnswerOf st.round answer
+    (net : NetLists) (parts : List ℕ) (part : ℕ) (policy : List PlaceId) (st : RoundState) (answer : PartAnswer) → IsRoundState net parts part policy st → IsLastRound net parts part st.round → IsAnswerOf st.round answer
     → IsPartAnswer net parts part answer
 last_answers net parts part policy st NoCircuit h last is = absurd is
 last_answers net parts part policy st (Best ratio circuit told) h last is =
@@ -135,7 +136,7 @@ last_answers net parts part policy st (Best ratio circuit told) h last is =
       attains = h.ratio.same;
       lowest_first = begins_lowest net c h.lowest_first;
       members = subst (ListsMembers parts part) (sym (same_transitions st.round.choices.items)) (lists_members parts part st.round.choices.items h.members);
-      sums = told_potentials (IsGreatestSum net parts part a b (first_transition_of net c)) st.round parts part h.members
+      sums = told_potentials (IsGreatestPathTime net parts part a b (first_transition_of net c)) st.round parts part h.members
           (λ t m. rw (h.potential_is t) (record {
             attained = sum_attained net parts part (policy_of policy) h.is_policy a b (first_transition_of net c) v h.sums t m (h.home t m);
             greatest = λ ps l i. no_greater_sum net parts part a b v none ps (first_transition_of net c) t h.sums.start l i;
@@ -155,12 +156,12 @@ last_keeps net parts part policy st (Best ratio circuit told) h is =
     let tokens : ratio.tokens ≡ st.round.ratio.tokens = ap (λ x. x.tokens) is.0 in (
       omega arith,
       omega arith,
-      subst (All (λ (v : Potential). IsWithin greatest_scaled_potential v.value)) (sym is.2)
-          (told_potentials (λ t z. IsWithin greatest_scaled_potential z) st.round parts part h.members
+      subst (All (λ (v : Potential). IsMagnitudeWithin greatest_scaled_potential v.value)) (sym is.2)
+          (told_potentials (λ t z. IsMagnitudeWithin greatest_scaled_potential z) st.round parts part h.members
           (λ t m. rw (h.potential_is t) (h.within t))),
     )
 
-pub last_pushed : (net : NetLists) (parts : List ℕ) (part : ℕ) (P : Round → Type 0) (rs : List Round) (r d : Round) → P r → P (last_of (rs ++ r ∷ []) d)
+pub last_pushed : (net : NetLists) (parts : List ℕ) (part : ℕ) (P : Round → Type 0) (rs : List Round) (r d : Round) → P r → P (last_policy_round (rs ++ r ∷ []) d)
 last_pushed net parts part P rs r d h =
     let at : length rs ≡ length (rs ++ r ∷ []) - 1 = omega (arith, length_push rs r) in
     subst P (sym (get_or_push rs r d (length (rs ++ r ∷ []) - 1) at)) h

@@ -18,8 +18,9 @@ use Rattle.teg_net.specs.Ratios.{Fraction}
 use Rattle.teg_parts.specs.Partitions.{AreStrong}
 use Rattle.teg_net.specs.Parts.{IsMember, IsPlaceOfPart, Reaches, to_of}
 use Rattle.teg_howard.specs.Policies.{Policy, IsPolicy, step_back, LeadsBack, first_id, IsRouted, Joins, JoinsNext, IsRouting, AreSums, offer_of}
-use Rattle.teg_net.specs.ReducedTimes.{reduced_time, IsWithin}
-use Rattle.teg_howard.specs.FoundCircuits.{policy_of, value_or_zero, value_of, potentials, IsSmallRatio, IsFollower, IsJoin, IsNextJoin}
+use Rattle.teg_net.specs.ReducedTimes.{reduced_time, IsMagnitudeWithin}
+use Rattle.teg_net.specs.Limits.{greatest_scaled_potential, greatest_circuit_time, greatest_hold, most_circuit_tokens}
+use Rattle.teg_howard.specs.FoundCircuits.{policy_of, value_or_zero, value_held, potentials, IsCircuitRatio, IsFollower, IsJoin, IsNextJoin}
 use Rattle.teg_howard.specs.Following.{step_bound, filled, Valued, Followed}
 use Rattle.teg_howard.proofs.Back.{back_add}
 
@@ -34,20 +35,20 @@ some_of (Some z) n = search rules
 pub some_apart : (o : Option ℤ) (z : ℤ) → o ≡ Some z → o ≢ None
 some_apart o z e n = cc
 
-pub count_small : (net : NetLists) (r : Fraction) (p : PlaceId) → IsNet net → IsSmallRatio r → p.index < length net.places → IsWithin step_bound (reduced_time net r.time r.tokens p)
+pub count_small : (net : NetLists) (r : Fraction) (p : PlaceId) → IsNet net → IsCircuitRatio r → p.index < length net.places → IsMagnitudeWithin step_bound (reduced_time net r.time r.tokens p)
 count_small net r p kept small l =
     let is : IsPlaceOf net (place_at net p) = kept.each_place p.index no_place l in
-    let up = mul-le r.tokens (place_at net p).hold 400000 1000000000 small.tokens_in is.hold_in in
-    let down = mul-le r.time (place_at net p).tokens 400000000000 1000 small.time_in is.tokens_in in
+    let up = mul-le r.tokens (place_at net p).hold most_circuit_tokens greatest_hold small.tokens_in is.hold_in in
+    let down = mul-le r.time (place_at net p).tokens greatest_circuit_time 1000 small.time_in is.tokens_in in
     record { low = omega (arith, ints, up, down); high = omega (arith, ints, up, down) }
 
-filled_more : (vs : List (Option ℤ)) (t : ℕ) (z : ℤ) → t < length vs → value_of vs t ≡ None → filled (set vs t (Some z)) ≡ filled vs + 1
+filled_more : (vs : List (Option ℤ)) (t : ℕ) (z : ℤ) → t < length vs → value_held vs t ≡ None → filled (set vs t (Some z)) ≡ filled vs + 1
 filled_more vs t z l e =
     let s = sum_by-set (λ (o : Option ℤ). cond (is_some o) 1 0) vs t (Some z) None l in
-    let n : cond (is_some (value_of vs t)) 1 0 ≡ 0 = ap (λ (o : Option ℤ). let r : ℕ = cond (is_some o) 1 0 in r) e in
+    let n : cond (is_some (value_held vs t)) 1 0 ≡ 0 = ap (λ (o : Option ℤ). let r : ℕ = cond (is_some o) 1 0 in r) e in
     omega (arith, s, n)
 
-pub within_sum : (k : ℕ) (x y : ℤ) → IsWithin step_bound x → IsWithin (k * step_bound) y → IsWithin ((k + 1) * step_bound) (x +ℤ y)
+pub within_sum : (k : ℕ) (x y : ℤ) → IsMagnitudeWithin step_bound x → IsMagnitudeWithin (k * step_bound) y → IsMagnitudeWithin ((k + 1) * step_bound) (x +ℤ y)
 within_sum k x y h g =
     let a = h.low in
     let b = h.high in
@@ -55,7 +56,7 @@ within_sum k x y h g =
     let d = g.high in
     record { low = omega (arith, ints); high = omega (arith, ints) }
 
-pub within_more : (k : ℕ) (y : ℤ) → IsWithin (k * step_bound) y → IsWithin ((k + 1) * step_bound) y
+pub within_more : (k : ℕ) (y : ℤ) → IsMagnitudeWithin (k * step_bound) y → IsMagnitudeWithin ((k + 1) * step_bound) y
 within_more k y g =
     let c = g.low in
     let d = g.high in
@@ -64,15 +65,15 @@ within_more k y g =
 -- a member gets the value that a place offers it
 pub valued_more :
     (net : NetLists) (parts : List ℕ) (part a b s : ℕ) (π σ : Policy) (vs : List (Option ℤ)) (t : ℕ) (p : PlaceId) (y : ℤ)
-    → Valued net parts part a b s π vs → IsMember parts part t → value_of vs t ≡ None → value_of vs (from_of net p) ≡ Some y → σ t ≡ p → ((u : ℕ) → u ≢ t → σ u ≡ π u)
-    → IsWithin step_bound (reduced_time net a b p) → Valued net parts part a b s σ (set vs t (Some (reduced_time net a b p +ℤ y)))
+    → Valued net parts part a b s π vs → IsMember parts part t → value_held vs t ≡ None → value_held vs (from_of net p) ≡ Some y → σ t ≡ p → ((u : ℕ) → u ≢ t → σ u ≡ π u)
+    → IsMagnitudeWithin step_bound (reduced_time net a b p) → Valued net parts part a b s σ (set vs t (Some (reduced_time net a b p +ℤ y)))
 valued_more net parts part a b s π σ vs t p y h m none starts mine same small =
     let new : ℤ = reduced_time net a b p +ℤ y in
     let t_in : t < length vs = let r = m.in_range in let k = h.count in omega arith in
     let more = filled_more vs t new t_in none in
-    let here : value_of (set vs t (Some new)) t ≡ Some new = get_or-set_same vs t (Some new) None t_in in
+    let here : value_held (set vs t (Some new)) t ≡ Some new = get_or-set_same vs t (Some new) None t_in in
     let there = λ (u : ℕ) (ne : u ≢ t). get_or-set_other vs t u (Some new) None ne in
-    let apart = λ (u : ℕ) (z : ℤ) (e : value_of vs u ≡ Some z). let r : u ≢ t = λ (q : u ≡ t). let w = ap (value_of vs) q in cc in r in
+    let apart = λ (u : ℕ) (z : ℤ) (e : value_held vs u ≡ Some z). let r : u ≢ t = λ (q : u ≡ t). let w = ap (value_held vs) q in cc in r in
     record {
       count = length-set vs t (Some new) ∙ h.count;
       start = there s (apart s (pos 0) h.start) ∙ h.start;
@@ -80,22 +81,22 @@ valued_more net parts part a b s π σ vs t p y h m none starts mine same small 
       sums = λ u z e ne.
           ⊎_elim
           (λ (q : u ≡ t).
-          let is : z ≡ new = let w = ap (value_of (set vs t (Some new))) q in cc in
+          let is : z ≡ new = let w = ap (value_held (set vs t (Some new))) q in cc in
           let place : σ u ≡ p = ap σ q ∙ mine in
           let from : from_of net (σ u) ≡ from_of net p = ap (from_of net) place in
-          (y, ap (value_of (set vs t (Some new))) from ∙ (there (from_of net p) (apart (from_of net p) y starts) ∙ starts), is ∙ ap (λ x. reduced_time net a b x +ℤ y) (sym place)))
+          (y, ap (value_held (set vs t (Some new))) from ∙ (there (from_of net p) (apart (from_of net p) y starts) ∙ starts), is ∙ ap (λ x. reduced_time net a b x +ℤ y) (sym place)))
           (λ (q : u ≢ t).
           let old = h.sums u z (sym (there u q) ∙ e) ne in
           let place : σ u ≡ π u = same u q in
           let from : from_of net (σ u) ≡ from_of net (π u) = ap (from_of net) place in
-          (old.0, ap (value_of (set vs t (Some new))) from ∙ (there (from_of net (π u)) (apart (from_of net (π u)) old.0 old.1) ∙ old.1), old.2 ∙ ap (λ x. reduced_time net a b x +ℤ old.0) (sym place)))
+          (old.0, ap (value_held (set vs t (Some new))) from ∙ (there (from_of net (π u)) (apart (from_of net (π u)) old.0 old.1) ∙ old.1), old.2 ∙ ap (λ x. reduced_time net a b x +ℤ old.0) (sym place)))
           (cases_eq u t);
       small = λ u z e.
           rw more
           (⊎_elim
           (λ (q : u ≡ t).
-          let is : z ≡ new = let w = ap (value_of (set vs t (Some new))) q in cc in
-          subst (IsWithin ((filled vs + 1) * step_bound)) (sym is) (within_sum (filled vs) (reduced_time net a b p) y small (h.small (from_of net p) y starts)))
+          let is : z ≡ new = let w = ap (value_held (set vs t (Some new))) q in cc in
+          subst (IsMagnitudeWithin ((filled vs + 1) * step_bound)) (sym is) (within_sum (filled vs) (reduced_time net a b p) y small (h.small (from_of net p) y starts)))
           (λ (q : u ≢ t). within_more (filled vs) z (h.small u z (sym (there u q) ∙ e)))
           (cases_eq u t));
     }
@@ -103,7 +104,7 @@ valued_more net parts part a b s π σ vs t p y h m none starts mine same small 
 -- ---- following the policy
 pub followed_more :
     (net : NetLists) (parts : List ℕ) (part a b s : ℕ) (π : Policy) (vs : List (Option ℤ)) (t : ℕ) (y : ℤ)
-    → Followed net parts part a b s π vs → IsFollower net parts part π vs t → value_of vs (from_of net (π t)) ≡ Some y → IsWithin step_bound (reduced_time net a b (π t))
+    → Followed net parts part a b s π vs → IsFollower net parts part π vs t → value_held vs (from_of net (π t)) ≡ Some y → IsMagnitudeWithin step_bound (reduced_time net a b (π t))
     → Followed net parts part a b s π (set vs t (Some (reduced_time net a b (π t) +ℤ y)))
 followed_more net parts part a b s π vs t y h f e small =
     let new : ℤ = reduced_time net a b (π t) +ℤ y in
@@ -120,8 +121,8 @@ followed_more net parts part a b s π vs t y h f e small =
 
 pub followed_all :
     (net : NetLists) (parts : List ℕ) (part a b s : ℕ) (π : Policy) (ok : IsPolicy net parts part π) (vs : List (Option ℤ)) → Followed net parts part a b s π vs
-    → ((t : ℕ) → IsFollower net parts part π vs t → ⊥) → (m t : ℕ) → IsMember parts part t → step_back net π m t ≡ s → value_of vs t ≢ None
-followed_all net parts part a b s π ok vs h none zero t i e n = let w = ap (value_of vs) e in let z = h.valued.start in cc
+    → ((t : ℕ) → IsFollower net parts part π vs t → ⊥) → (m t : ℕ) → IsMember parts part t → step_back net π m t ≡ s → value_held vs t ≢ None
+followed_all net parts part a b s π ok vs h none zero t i e n = let w = ap (value_held vs) e in let z = h.valued.start in cc
 followed_all net parts part a b s π ok vs h none (suc m) t i e n =
     let is : m + 1 ≡ suc m = omega arith in
     let shift : step_back net π m (from_of net (π t)) ≡ s = back_add net π m 1 t ∙ (ap (λ k. step_back net π k t) is ∙ e) in
@@ -131,8 +132,8 @@ followed_all net parts part a b s π ok vs h none (suc m) t i e n =
 pub record Routed (net : NetLists) (parts : List ℕ) (part a b s : ℕ) (first : Policy) (joins : List PlaceId) (π : Policy) (vs : List (Option ℤ)) : Type 0 where
   pub valued : Valued net parts part a b s π vs
   pub each : (k : ℕ) → k < length joins → JoinsNext net parts part first s (take k joins) (get_or joins k first_id)
-  pub has : (t : ℕ) → IsMember parts part t → IsRouted net first s joins t → value_of vs t ≢ None
-  pub had : (t : ℕ) (z : ℤ) → value_of vs t ≡ Some z → IsRouted net first s joins t
+  pub has : (t : ℕ) → IsMember parts part t → IsRouted net first s joins t → value_held vs t ≢ None
+  pub had : (t : ℕ) (z : ℤ) → value_held vs t ≡ Some z → IsRouted net first s joins t
   pub joined : All (λ p. π (to_of net p) ≡ p) joins
   pub kept : (t : ℕ) → LeadsBack net first t s → π t ≡ first t
   pub outside : (t : ℕ) → (IsMember parts part t → ⊥) → π t ≡ first t
@@ -163,7 +164,7 @@ take_whole xs ys = take-append-le (length xs) xs ys (omega arith) ∙ take-lengt
 pub routed_more :
     (net : NetLists) (parts : List ℕ) (part a b s : ℕ) (first : Policy) (joins : List PlaceId) (π σ : Policy) (vs : List (Option ℤ)) (p : PlaceId) (y : ℤ)
     → Routed net parts part a b s first joins π vs → IsJoin net parts part vs p → ((q : PlaceId) → IsJoin net parts part vs q → p.index ≤ q.index)
-    → value_of vs (from_of net p) ≡ Some y → IsWithin step_bound (reduced_time net a b p) → σ (to_of net p) ≡ p → ((u : ℕ) → u ≢ to_of net p → σ u ≡ π u)
+    → value_held vs (from_of net p) ≡ Some y → IsMagnitudeWithin step_bound (reduced_time net a b p) → σ (to_of net p) ≡ p → ((u : ℕ) → u ≢ to_of net p → σ u ≡ π u)
     → Routed net parts part a b s first (joins ++ p ∷ []) σ (set vs (to_of net p) (Some (reduced_time net a b p +ℤ y)))
 routed_more net parts part a b s first joins π σ vs p y h j low e small mine same =
     let t : ℕ = to_of net p in
@@ -176,13 +177,13 @@ routed_more net parts part a b s first joins π σ vs p y h j low e small mine s
     let r : IsJoin net parts part vs q = record {
       inside = w.inside;
       starts = h.has (from_of net q) w.inside.from_member w.from_routed;
-      without = ⊎_elim (λ (n : value_of vs (to_of net q) ≡ None). n) (λ (n : (z : ℤ) × (value_of vs (to_of net q) ≡ Some z)). absurd (w.to_unrouted (h.had (to_of net q) n.0 n.1))) (cases_option (value_of vs (to_of net q)));
+      without = ⊎_elim (λ (n : value_held vs (to_of net q) ≡ None). n) (λ (n : (z : ℤ) × (value_held vs (to_of net q) ≡ Some z)). absurd (w.to_unrouted (h.had (to_of net q) n.0 n.1))) (cases_option (value_held vs (to_of net q)));
     } in r in
     let next : JoinsNext net parts part first s joins p = record {
       joins_ = record { inside = j.inside; from_routed = h.had (from_of net p) y e; to_unrouted = not_routed };
       lowest = λ q w. low q (is_join q w);
     } in
-    let here : value_of (set vs t (Some new)) t ≡ Some new = get_or-set_same vs t (Some new) None t_in in
+    let here : value_held (set vs t (Some new)) t ≡ Some new = get_or-set_same vs t (Some new) None t_in in
     record {
       valued = valued_more net parts part a b s π σ vs t p y h.valued j.inside.to_member j.without e mine same small;
       each = λ k l.
@@ -199,9 +200,9 @@ routed_more net parts part a b s first joins π σ vs p y h j low e small mine s
           (cases_lt k (length joins));
       has = λ u i r n.
           ⊎_elim
-          (λ (q : u ≡ t). let w = ap (value_of (set vs t (Some new))) q in cc)
+          (λ (q : u ≡ t). let w = ap (value_held (set vs t (Some new))) q in cc)
           (λ (q : u ≢ t).
-          let old : value_of vs u ≡ None = sym (get_or-set_other vs t u (Some new) None q) ∙ n in
+          let old : value_held vs u ≡ None = sym (get_or-set_other vs t u (Some new) None q) ∙ n in
           ⊎_elim
           (λ (w : LeadsBack net first u s). h.has u i (inl w) old)
           (λ (w : Any (λ x. to_of net x ≡ u) longer).
@@ -257,39 +258,39 @@ path_inside net parts part kept strong (p ∷ ps) s t hs ht l =
     All-cons (IsPlaceOfPart net parts part) p ps (record { in_range = l.0; from_member = from; to_member = hu }) (path_inside net parts part kept strong ps u t hu ht l.2)
 
 pub spread :
-    (net : NetLists) (parts : List ℕ) (part : ℕ) (vs : List (Option ℤ)) → ((p : PlaceId) → IsJoin net parts part vs p → ⊥) → (ps : List PlaceId) (s t : ℕ) → IsPathBetween net s ps t → All (IsPlaceOfPart net parts part) ps → value_of vs s ≢ None → value_of vs t ≢ None
-spread net parts part vs none [] s t l h v = subst (λ x. value_of vs x ≢ None) l v
+    (net : NetLists) (parts : List ℕ) (part : ℕ) (vs : List (Option ℤ)) → ((p : PlaceId) → IsJoin net parts part vs p → ⊥) → (ps : List PlaceId) (s t : ℕ) → IsPathBetween net s ps t → All (IsPlaceOfPart net parts part) ps → value_held vs s ≢ None → value_held vs t ≢ None
+spread net parts part vs none [] s t l h v = subst (λ x. value_held vs x ≢ None) l v
 spread net parts part vs none (p ∷ ps) s t l h v =
-    let from : value_of vs (from_of net p) ≢ None = subst (λ x. value_of vs x ≢ None) (sym l.1) v in
+    let from : value_held vs (from_of net p) ≢ None = subst (λ x. value_held vs x ≢ None) (sym l.1) v in
     spread net parts part vs none ps (to_of net p) t l.2 (All-tail (IsPlaceOfPart net parts part) p ps h)
     (λ n. none p (record { inside = h 0 p (omega arith); starts = from; without = n }))
 
 pub all_valued :
-    (net : NetLists) (parts : List ℕ) (part : ℕ) → IsNet net → AreStrong net parts → (vs : List (Option ℤ)) (s : ℕ) → IsMember parts part s → value_of vs s ≢ None
-    → ((p : PlaceId) → IsJoin net parts part vs p → ⊥) → (t : ℕ) → IsMember parts part t → value_of vs t ≢ None
+    (net : NetLists) (parts : List ℕ) (part : ℕ) → IsNet net → AreStrong net parts → (vs : List (Option ℤ)) (s : ℕ) → IsMember parts part s → value_held vs s ≢ None
+    → ((p : PlaceId) → IsJoin net parts part vs p → ⊥) → (t : ℕ) → IsMember parts part t → value_held vs t ≢ None
 all_valued net parts part kept strong vs s hs v none t ht =
     let path : Reaches net s t = ((strong.strong s t hs.in_range ht.in_range).0 (hs.here ∙ sym ht.here)).0 in
     spread net parts part vs none path.0 s t path.1 (path_inside net parts part kept strong path.0 s t hs ht path.1) v
 
 -- the sums of a list of values are the potentials
-pub valued_sums : (net : NetLists) (parts : List ℕ) (part a b s : ℕ) (π : Policy) (vs : List (Option ℤ)) → Valued net parts part a b s π vs → ((t : ℕ) → IsMember parts part t → value_of vs t ≢ None)
-    → AreSums net parts part a b π s (λ t. value_or_zero (value_of vs t))
+pub valued_sums : (net : NetLists) (parts : List ℕ) (part a b s : ℕ) (π : Policy) (vs : List (Option ℤ)) → Valued net parts part a b s π vs → ((t : ℕ) → IsMember parts part t → value_held vs t ≢ None)
+    → AreSums net parts part a b π s (λ t. value_or_zero (value_held vs t))
 valued_sums net parts part a b s π vs h all = record {
   start = ap value_or_zero h.start;
   others = λ t i ne.
       ⊎_elim
-      (λ (n : value_of vs t ≡ None). absurd (all t i n))
-      (λ (w : (z : ℤ) × (value_of vs t ≡ Some z)).
+      (λ (n : value_held vs t ≡ None). absurd (all t i n))
+      (λ (w : (z : ℤ) × (value_held vs t ≡ Some z)).
       let e = h.sums t w.0 w.1 ne in
       ap value_or_zero w.1 ∙ (e.2 ∙ ap (λ x. reduced_time net a b (π t) +ℤ x) (sym (ap value_or_zero e.1))))
-      (cases_option (value_of vs t));
+      (cases_option (value_held vs t));
 }
 
-pub routed_routing : (net : NetLists) (parts : List ℕ) (part a b s : ℕ) (first : Policy) (joins : List PlaceId) (π : Policy) (vs : List (Option ℤ)) → Routed net parts part a b s first joins π vs → ((t : ℕ) → IsMember parts part t → value_of vs t ≢ None)
+pub routed_routing : (net : NetLists) (parts : List ℕ) (part a b s : ℕ) (first : Policy) (joins : List PlaceId) (π : Policy) (vs : List (Option ℤ)) → Routed net parts part a b s first joins π vs → ((t : ℕ) → IsMember parts part t → value_held vs t ≢ None)
     → IsRouting net parts part first s joins π
 routed_routing net parts part a b s first joins π vs h all = record {
   each = h.each;
-  all = λ t i. ⊎_elim (λ (n : value_of vs t ≡ None). absurd (all t i n)) (λ (w : (z : ℤ) × (value_of vs t ≡ Some z)). h.had t w.0 w.1) (cases_option (value_of vs t));
+  all = λ t i. ⊎_elim (λ (n : value_held vs t ≡ None). absurd (all t i n)) (λ (w : (z : ℤ) × (value_held vs t ≡ Some z)). h.had t w.0 w.1) (cases_option (value_held vs t));
   kept = λ t i w. h.kept t w;
   joined = h.joined;
 }
@@ -297,7 +298,7 @@ routed_routing net parts part a b s first joins π vs h all = record {
 filled_in : (vs : List (Option ℤ)) → length vs ≤ 400 → filled vs * step_bound ≤ 160000000000000000
 filled_in vs l = omega (arith, count_by-le-length is_some vs)
 
-pub all_within : (net : NetLists) (parts : List ℕ) (part a b s : ℕ) (π : Policy) (vs : List (Option ℤ)) → Valued net parts part a b s π vs → length vs ≤ 400 → (t : ℕ) (z : ℤ) → value_of vs t ≡ Some z → IsWithin 400000000000000000 z
+pub all_within : (net : NetLists) (parts : List ℕ) (part a b s : ℕ) (π : Policy) (vs : List (Option ℤ)) → Valued net parts part a b s π vs → length vs ≤ 400 → (t : ℕ) (z : ℤ) → value_held vs t ≡ Some z → IsMagnitudeWithin greatest_scaled_potential z
 all_within net parts part a b s π vs h l t z e =
     let w = h.small t z e in
     let low = w.low in
@@ -305,21 +306,21 @@ all_within net parts part a b s π vs h l t z e =
     let f = filled_in vs l in
     record { low = omega (arith, ints); high = omega (arith, ints) }
 
-pub held_within : (vs : List (Option ℤ)) (t : ℕ) → ((z : ℤ) → value_of vs t ≡ Some z → IsWithin 400000000000000000 z) → IsWithin 400000000000000000 (value_or_zero (value_of vs t))
+pub held_within : (vs : List (Option ℤ)) (t : ℕ) → ((z : ℤ) → value_held vs t ≡ Some z → IsMagnitudeWithin greatest_scaled_potential z) → IsMagnitudeWithin greatest_scaled_potential (value_or_zero (value_held vs t))
 held_within vs t h =
     ⊎_elim
-    (λ (n : value_of vs t ≡ None). subst (IsWithin 400000000000000000) (sym (ap value_or_zero n)) (record { low = omega (arith, ints); high = omega (arith, ints) }))
-    (λ (w : (z : ℤ) × (value_of vs t ≡ Some z)). subst (IsWithin 400000000000000000) (sym (ap value_or_zero w.1)) (h w.0 w.1))
-    (cases_option (value_of vs t))
+    (λ (n : value_held vs t ≡ None). subst (IsMagnitudeWithin greatest_scaled_potential) (sym (ap value_or_zero n)) (record { low = omega (arith, ints); high = omega (arith, ints) }))
+    (λ (w : (z : ℤ) × (value_held vs t ≡ Some z)). subst (IsMagnitudeWithin greatest_scaled_potential) (sym (ap value_or_zero w.1)) (h w.0 w.1))
+    (cases_option (value_held vs t))
 
 -- only the root has a value
 pub followed_start :
-    (net : NetLists) (parts : List ℕ) (part a b s : ℕ) (π : Policy) (vs : List (Option ℤ)) → IsMember parts part s → length vs ≡ length parts → ((t : ℕ) → value_of vs t ≡ None)
+    (net : NetLists) (parts : List ℕ) (part a b s : ℕ) (π : Policy) (vs : List (Option ℤ)) → IsMember parts part s → length vs ≡ length parts → ((t : ℕ) → value_held vs t ≡ None)
     → Followed net parts part a b s π (set vs s (Some (pos 0)))
 followed_start net parts part a b s π vs m long none =
     let s_in : s < length vs = let r = m.in_range in omega arith in
-    let here : value_of (set vs s (Some (pos 0))) s ≡ Some (pos 0) = get_or-set_same vs s (Some (pos 0)) None s_in in
-    let only = λ (t : ℕ) (z : ℤ) (e : value_of (set vs s (Some (pos 0))) t ≡ Some z).
+    let here : value_held (set vs s (Some (pos 0))) s ≡ Some (pos 0) = get_or-set_same vs s (Some (pos 0)) None s_in in
+    let only = λ (t : ℕ) (z : ℤ) (e : value_held (set vs s (Some (pos 0))) t ≡ Some z).
     let r : t ≡ s = ⊎_elim (λ (q : t ≡ s). q) (λ (q : t ≢ s). let o = get_or-set_other vs s t (Some (pos 0)) None q in let n = none t in cc) (cases_eq t s) in r in
     record {
       valued = record {
@@ -328,26 +329,26 @@ followed_start net parts part a b s π vs m long none =
         members = λ t z e. subst (IsMember parts part) (sym (only t z e)) m;
         sums = λ t z e ne. absurd (ne (only t z e));
         small = λ t z e.
-            let w = ap (value_of (set vs s (Some (pos 0)))) (only t z e) in
+            let w = ap (value_held (set vs s (Some (pos 0)))) (only t z e) in
             let zero_is : z ≡ pos 0 = cc in
             rw zero_is (record { low = omega (arith, ints); high = omega (arith, ints) });
       };
       home = λ t z e. (0, only t z e);
     }
 
-pub fits_within : (z : ℤ) → IsWithin 400000000000000000 z → SFits w128 z
+pub fits_within : (z : ℤ) → IsMagnitudeWithin greatest_scaled_potential z → SFits w128 z
 fits_within z h = let l = h.low in let k = h.high in omega (arith, ints)
 
 -- a value is what it counts as
-value_is : (vs : List (Option ℤ)) (t : ℕ) → value_of vs t ≢ None → value_of vs t ≡ Some (potentials vs t)
+value_is : (vs : List (Option ℤ)) (t : ℕ) → value_held vs t ≢ None → value_held vs t ≡ Some (potentials vs t)
 value_is vs t n =
     ⊎_elim
-    (λ (e : value_of vs t ≡ None). absurd (n e))
-    (λ (w : (z : ℤ) × (value_of vs t ≡ Some z)). w.1 ∙ ap (λ x. Some x) (sym (ap value_or_zero w.1)))
-    (cases_option (value_of vs t))
+    (λ (e : value_held vs t ≡ None). absurd (n e))
+    (λ (w : (z : ℤ) × (value_held vs t ≡ Some z)). w.1 ∙ ap (λ x. Some x) (sym (ap value_or_zero w.1)))
+    (cases_option (value_held vs t))
 
 pub follow_step :
-    (net : NetLists) (parts : List ℕ) (part s : ℕ) (r : Fraction) (π : Policy) (vs : List (Option ℤ)) (t : ℕ) (offered : ℤ) → IsNet net → IsSmallRatio r → IsPolicy net parts part π
+    (net : NetLists) (parts : List ℕ) (part s : ℕ) (r : Fraction) (π : Policy) (vs : List (Option ℤ)) (t : ℕ) (offered : ℤ) → IsNet net → IsCircuitRatio r → IsPolicy net parts part π
     → Followed net parts part r.time r.tokens s π vs → IsFollower net parts part π vs t → offered ≡ offer_of net r.time r.tokens (potentials vs) (π t)
     → Followed net parts part r.time r.tokens s π (set vs t (Some offered))
 follow_step net parts part s r π vs t offered kept small ok h f o =
@@ -356,7 +357,7 @@ follow_step net parts part s r π vs t offered kept small ok h f o =
     rw o (followed_more net parts part r.time r.tokens s π vs t (potentials vs x) h f (value_is vs x f.starts) (count_small net r (π t) kept small is))
 
 pub route_step :
-    (net : NetLists) (parts : List ℕ) (part s : ℕ) (r : Fraction) (first : Policy) (joins : List PlaceId) (ps : List PlaceId) (vs : List (Option ℤ)) (p : PlaceId) (offered : ℤ) → IsNet net → IsSmallRatio r → length ps ≡ length parts
+    (net : NetLists) (parts : List ℕ) (part s : ℕ) (r : Fraction) (first : Policy) (joins : List PlaceId) (ps : List PlaceId) (vs : List (Option ℤ)) (p : PlaceId) (offered : ℤ) → IsNet net → IsCircuitRatio r → length ps ≡ length parts
     → Routed net parts part r.time r.tokens s first joins (policy_of ps) vs → IsNextJoin net parts part vs p → offered ≡ offer_of net r.time r.tokens (potentials vs) p
     → Routed net parts part r.time r.tokens s first (joins ++ p ∷ []) (policy_of (set ps (to_of net p) p)) (set vs (to_of net p) (Some offered))
 route_step net parts part s r first joins ps vs p offered kept small count h n o =
@@ -368,8 +369,8 @@ route_step net parts part s r first joins ps vs p offered kept small count h n o
     (get_or-set_same ps t p first_id t_in) (λ u ne. get_or-set_other ps t u p first_id ne))
 
 -- each value keeps its bound
-pub held_at : (net : NetLists) (parts : List ℕ) (part a b s : ℕ) (π : Policy) (vs : List (Option ℤ)) → Valued net parts part a b s π vs → length parts ≤ 400 → (t : ℕ) → IsWithin 400000000000000000 (potentials vs t)
+pub held_at : (net : NetLists) (parts : List ℕ) (part a b s : ℕ) (π : Policy) (vs : List (Option ℤ)) → Valued net parts part a b s π vs → length parts ≤ 400 → (t : ℕ) → IsMagnitudeWithin greatest_scaled_potential (potentials vs t)
 held_at net parts part a b s π vs h l t = held_within vs t (λ z e. all_within net parts part a b s π vs h (let k = h.count in omega arith) t z e)
 
-pub only_members : (net : NetLists) (parts : List ℕ) (part a b s : ℕ) (π : Policy) (vs : List (Option ℤ)) → Valued net parts part a b s π vs → (t : ℕ) → (IsMember parts part t → ⊥) → value_of vs t ≡ None
-only_members net parts part a b s π vs h t out = ⊎_elim (λ (n : value_of vs t ≡ None). n) (λ (w : (z : ℤ) × (value_of vs t ≡ Some z)). absurd (out (h.members t w.0 w.1))) (cases_option (value_of vs t))
+pub only_members : (net : NetLists) (parts : List ℕ) (part a b s : ℕ) (π : Policy) (vs : List (Option ℤ)) → Valued net parts part a b s π vs → (t : ℕ) → (IsMember parts part t → ⊥) → value_held vs t ≡ None
+only_members net parts part a b s π vs h t out = ⊎_elim (λ (n : value_held vs t ≡ None). n) (λ (w : (z : ℤ) × (value_held vs t ≡ Some z)). absurd (out (h.members t w.0 w.1))) (cases_option (value_held vs t))

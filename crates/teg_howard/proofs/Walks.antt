@@ -11,6 +11,7 @@ use Rattle.teg_howard.specs.declared.policy_circuits.FoundCircuit.{FoundCircuit}
 use Rattle.teg_net.specs.Parts.{IsMember, to_of}
 use Rattle.teg_howard.specs.Policies.{Policy, IsPolicy, IsPolicyCircuit, step_back}
 use Rattle.teg_net.specs.PartAnswers.{first_transition_of}
+use Rattle.teg_net.specs.Limits.{greatest_circuit_time, greatest_hold, most_circuit_tokens}
 use Rattle.teg_howard.specs.FoundCircuits.{IsOnPolicy, IsFoundAt, GoesBelow}
 use Rattle.teg_howard.proofs.Search.{pigeons}
 use Rattle.teg_howard.proofs.Back.{trail, back_add, back_member, trail_circuit}
@@ -77,7 +78,7 @@ walked_below net π start m at backs time tokens n h low k some few e =
     (cases_lt m k)
 
 module _ (net : NetLists) (parts : List ℕ) (part : ℕ) (π : Policy) (ok : IsPolicy net parts part π) (kept : IsNet net) where
-  pub trail_sums : (m t : ℕ) → IsMember parts part t → (time_of net (trail net π m t) ≤ m * 1000000000) × (tokens_of net (trail net π m t) ≤ m * 1000)
+  pub trail_sums : (m t : ℕ) → IsMember parts part t → (time_of net (trail net π m t) ≤ m * greatest_hold) × (tokens_of net (trail net π m t) ≤ m * 1000)
   trail_sums zero t h = (omega arith, omega arith)
   trail_sums (suc m) t h =
       let rest = trail_sums m t h in
@@ -126,7 +127,7 @@ module _ (net : NetLists) (parts : List ℕ) (part : ℕ) (π : Policy) (ok : Is
       (λ (l : length c ≤ length parts). l)
       (cases_lt (length parts) (length c))
 
-pub found_sums_in : (m n time tokens : ℕ) → time ≤ m * 1000000000 → tokens ≤ m * 1000 → m ≤ n → n ≤ 400 → (time ≤ 400000000000) × (tokens ≤ 400000)
+pub found_sums_in : (m n time tokens : ℕ) → time ≤ m * greatest_hold → tokens ≤ m * 1000 → m ≤ n → n ≤ 400 → (time ≤ greatest_circuit_time) × (tokens ≤ most_circuit_tokens)
 found_sums_in m n time tokens a b l k = (omega arith, omega arith)
 
 -- the start has come again: a circuit is found

@@ -2,8 +2,8 @@
 use Rattle.std.specs.Prelude.{ℕ, ◌<◌, ◌≤◌, ◌≡◌, ◌≢◌, List, length, Bool, Option, Some, None, slice_index_or}
 use Rattle.teg_net.specs.Nets.{NetLists}
 use Rattle.teg_net.specs.Parts.{IsMember}
+use Rattle.teg_parts.specs.Components.{IsMarked}
 use Rattle.teg_howard.specs.Policies.{Policy, step_back, LeadsBack}
-use Rattle.teg_howard.specs.FoundCircuits.{IsMarked}
 
 -- the transition comes again by following the policy backwards, within so many steps
 pub record ComesAgain (net : NetLists) (policy : Policy) (n t : ℕ) : Type 0 where
@@ -29,7 +29,7 @@ abbrev pub walk_at : List (Option ℕ) → ℕ → Option ℕ
 walk_at passed t = slice_index_or passed t None
 
 -- what the walk from start has newly passed leads back to where it ends, at a transition that is passed
-pub record IsPassed (net : NetLists) (policy : Policy) (start : ℕ) (old new : List (Option ℕ)) (end : ℕ) : Type 0 where
+pub record HasWalkPassed (net : NetLists) (policy : Policy) (start : ℕ) (old new : List (Option ℕ)) (end : ℕ) : Type 0 where
   pub count : length new ≡ length old
   pub leads : LeadsBack net policy start end
   pub here : walk_at new start ≢ None

@@ -1,5 +1,5 @@
 -- Working definitions of what the searches of a round find: policies as lists, and circuits with their sums.
-use Rattle.std.specs.Prelude.{ℕ, ℤ, pos, ◌*◌, ◌<◌, ◌≤◌, ◌≡◌, ◌≢◌, ⊤, List, length, All, AllPairs, Option, Some, None, Bool, true, false, slice_index_or}
+use Rattle.std.specs.Prelude.{ℕ, ℤ, pos, ◌*◌, ◌<◌, ◌≤◌, ◌≡◌, ◌≢◌, ⊤, List, length, All, AllPairs, Option, Some, None, Bool, slice_index_or}
 use Rattle.teg_net.specs.declared.entries.PlaceId.{PlaceId}
 use Rattle.teg_net.specs.Nets.{NetLists, IsNet}
 use Rattle.teg_net.specs.Circuits.{IsCircuit, time_of, tokens_of, from_of}
@@ -10,10 +10,12 @@ use Rattle.teg_net.specs.declared.rounds.Choice.{Choice}
 use Rattle.teg_howard.specs.declared.settling.RoundState.{RoundState}
 use Rattle.teg_parts.specs.Partitions.{AreStrong}
 use Rattle.teg_net.specs.Parts.{IsMember, IsPlaceOfPart, to_of}
-use Rattle.teg_net.specs.ReducedTimes.{IsWithin}
+use Rattle.teg_net.specs.ReducedTimes.{IsMagnitudeWithin}
 use Rattle.teg_howard.specs.Policies.{Policy, IsPolicy, Enters, IsPolicyCircuit, IsBestCircuit, IsRouting, AreSums, Improves, IsImprovement, step_back, first_id}
 use Rattle.teg_net.specs.PartAnswers.{first_transition_of}
-use Rattle.teg_howard.specs.Rounds.{IsLowestInto, choice_in}
+use Rattle.teg_net.specs.Limits.{greatest_scaled_potential, greatest_circuit_time, most_circuit_tokens}
+use Rattle.teg_parts.specs.Components.{IsMarked}
+use Rattle.teg_howard.specs.PolicyRounds.{IsLowestInto, choice_of_member}
 
 -- the policy that a list gives by transition
 abbrev pub policy_of : List PlaceId → Policy
@@ -40,17 +42,13 @@ pub record IsFoundAt (net : NetLists) (policy : Policy) (start : ℕ) (f : Found
   pub begins : first_transition_of net f.places.items ≡ start
   pub time : f.time ≡ time_of net f.places.items
   pub tokens : f.tokens ≡ tokens_of net f.places.items
-  pub time_in : f.time ≤ 400000000000
-  pub tokens_in : f.tokens ≤ 400000
+  pub time_in : f.time ≤ greatest_circuit_time
+  pub tokens_in : f.tokens ≤ most_circuit_tokens
 
 -- following the policy backwards from start for up to n places comes below start before it comes back
 abbrev pub GoesBelow : NetLists → Policy → ℕ → ℕ → Type 0
 GoesBelow net policy start n =
     (k : ℕ) → 0 < k → k ≤ n → step_back net policy k start ≡ start → (j : ℕ) × (j < k) × (step_back net policy j start < start)
-
--- the transition is marked
-abbrev pub IsMarked : List Bool → ℕ → Type 0
-IsMarked marked t = slice_index_or marked t false ≡ true
 
 -- whether a circuit with these sums has a greater ratio than the best so far
 abbrev pub IsAbove : FoundCircuit → Option FoundCircuit → Type 0
@@ -58,42 +56,42 @@ IsAbove c None = ⊤
 IsAbove c (Some best) = best.time * c.tokens < c.time * best.tokens
 
 -- the time and the tokens of the circuit, where one was found, keep their bounds
-abbrev pub AreSmall : Option FoundCircuit → Type 0
-AreSmall None = ⊤
-AreSmall (Some f) = (f.time ≤ 400000000000) × (f.tokens ≤ 400000)
+abbrev pub IsFoundSmall : Option FoundCircuit → Type 0
+IsFoundSmall None = ⊤
+IsFoundSmall (Some f) = (f.time ≤ greatest_circuit_time) × (f.tokens ≤ most_circuit_tokens)
 
 -- the best circuit, with its sums
 pub record IsBestFound (net : NetLists) (parts : List ℕ) (part : ℕ) (policy : Policy) (marked : List Bool) (f : FoundCircuit) : Type 0 where
   pub best : IsBestCircuit net parts part policy (IsMarked marked) f.places.items
   pub time : f.time ≡ time_of net f.places.items
   pub tokens : f.tokens ≡ tokens_of net f.places.items
-  pub time_in : f.time ≤ 400000000000
-  pub tokens_in : f.tokens ≤ 400000
+  pub time_in : f.time ≤ greatest_circuit_time
+  pub tokens_in : f.tokens ≤ most_circuit_tokens
 
 -- the time and the tokens of a ratio keep the bounds of a circuit's
-pub record IsSmallRatio (r : Fraction) : Type 0 where
-  pub time_in : r.time ≤ 400000000000
-  pub tokens_in : r.tokens ≤ 400000
+pub record IsCircuitRatio (r : Fraction) : Type 0 where
+  pub time_in : r.time ≤ greatest_circuit_time
+  pub tokens_in : r.tokens ≤ most_circuit_tokens
 
 -- the value that the list gives a transition, if any
-abbrev pub value_of : List (Option ℤ) → ℕ → Option ℤ
-value_of values t = slice_index_or values t None
+abbrev pub value_held : List (Option ℤ) → ℕ → Option ℤ
+value_held values t = slice_index_or values t None
 
 -- a member without a value whose place starts at a transition with one
 pub record IsFollower (net : NetLists) (parts : List ℕ) (part : ℕ) (policy : Policy) (values : List (Option ℤ)) (t : ℕ) : Type 0 where
   pub member : IsMember parts part t
-  pub without : value_of values t ≡ None
-  pub starts : value_of values (from_of net (policy t)) ≢ None
+  pub without : value_held values t ≡ None
+  pub starts : value_held values (from_of net (policy t)) ≢ None
 
 -- a place from a transition with a value to one without
 abbrev pub LeadsOn : NetLists → List (Option ℤ) → PlaceId → Type 0
-LeadsOn net values p = (value_of values (from_of net p) ≢ None) × (value_of values (to_of net p) ≡ None)
+LeadsOn net values p = (value_held values (from_of net p) ≢ None) × (value_held values (to_of net p) ≡ None)
 
 -- such a place in the part
 pub record IsJoin (net : NetLists) (parts : List ℕ) (part : ℕ) (values : List (Option ℤ)) (p : PlaceId) : Type 0 where
   pub inside : IsPlaceOfPart net parts part p
-  pub starts : value_of values (from_of net p) ≢ None
-  pub without : value_of values (to_of net p) ≡ None
+  pub starts : value_held values (from_of net p) ≢ None
+  pub without : value_held values (to_of net p) ≡ None
 
 -- the lowest numbered of them
 pub record IsNextJoin (net : NetLists) (parts : List ℕ) (part : ℕ) (values : List (Option ℤ)) (p : PlaceId) : Type 0 where
@@ -109,13 +107,13 @@ value_or_zero (Some z) = z
 pub record ListsChoices (parts : List ℕ) (part : ℕ) (cs : List Choice) : Type 0 where
   pub only : All (λ c. IsMember parts part c.transition.index) cs
   pub order : AllPairs (λ c d. c.transition.index < d.transition.index) cs
-  pub all : (t : ℕ) → IsMember parts part t → choice_in cs t ≢ None
+  pub all : (t : ℕ) → IsMember parts part t → choice_of_member cs t ≢ None
 
 -- a round that has the places and the values of the members
-pub record IsMade (parts : List ℕ) (part : ℕ) (policy : Policy) (values : List (Option ℤ)) (r : Round) : Type 0 where
+pub record IsRoundMade (parts : List ℕ) (part : ℕ) (policy : Policy) (values : List (Option ℤ)) (r : Round) : Type 0 where
   pub lists : ListsChoices parts part r.choices.items
-  pub inside : (t : ℕ) → IsMember parts part t → choice_in r.choices.items t ≡ Some (record { transition = record { index = t }; place = policy t; value = value_or_zero (value_of values t) })
-  pub outside : (t : ℕ) → (IsMember parts part t → ⊥) → choice_in r.choices.items t ≡ None
+  pub inside : (t : ℕ) → IsMember parts part t → choice_of_member r.choices.items t ≡ Some (record { transition = record { index = t }; place = policy t; value = value_or_zero (value_held values t) })
+  pub outside : (t : ℕ) → (IsMember parts part t → ⊥) → choice_of_member r.choices.items t ≡ None
 
 -- what `settle` needs of a policy and one of its circuits
 pub record CanSettle (net : NetLists) (parts : List ℕ) (part : ℕ) (policy : List PlaceId) (r : Fraction) (c : List PlaceId) : Type 0 where
@@ -127,25 +125,25 @@ pub record CanSettle (net : NetLists) (parts : List ℕ) (part : ℕ) (policy : 
   pub circuit : IsPolicyCircuit net parts part (policy_of policy) c
   pub lowest_first : All (λ p. first_transition_of net c ≤ from_of net p) c
   pub ratio : IsRatioOf (time_of net c) (tokens_of net c) r
-  pub small : IsSmallRatio r
+  pub small : IsCircuitRatio r
 
 -- a round that stands: the policy routed to the circuit, with the potentials from it
 pub record IsSettled (net : NetLists) (parts : List ℕ) (part : ℕ) (policy routed : List PlaceId) (r : Fraction) (c : List PlaceId) (s : RoundState) : Type 0 where
   pub ratio : s.round.ratio ≡ r
   pub circuit : s.round.circuit.places.items ≡ c
   pub routing : (joins : List PlaceId) × IsRouting net parts part (policy_of policy) (first_transition_of net c) joins (policy_of routed)
-  pub sums : AreSums net parts part r.time r.tokens (policy_of routed) (first_transition_of net c) (λ t. value_or_zero (value_of s.values.items t))
-  pub made : IsMade parts part (policy_of routed) s.values.items s.round
+  pub sums : AreSums net parts part r.time r.tokens (policy_of routed) (first_transition_of net c) (λ t. value_or_zero (value_held s.values.items t))
+  pub made : IsRoundMade parts part (policy_of routed) s.values.items s.round
   pub outside : (t : ℕ) → (IsMember parts part t → ⊥) → policy_of routed t ≡ policy_of policy t
   pub in_range : All (λ p. p.index < length net.places) routed
   pub count : length s.values.items ≡ length parts
-  pub has : (t : ℕ) → IsMember parts part t → value_of s.values.items t ≢ None
-  pub only : (t : ℕ) → (IsMember parts part t → ⊥) → value_of s.values.items t ≡ None
-  pub within : (t : ℕ) → IsWithin 400000000000000000 (value_or_zero (value_of s.values.items t))
+  pub has : (t : ℕ) → IsMember parts part t → value_held s.values.items t ≢ None
+  pub only : (t : ℕ) → (IsMember parts part t → ⊥) → value_held s.values.items t ≡ None
+  pub within : (t : ℕ) → IsMagnitudeWithin greatest_scaled_potential (value_or_zero (value_held s.values.items t))
 
 -- the potentials that a list of values gives
 abbrev pub potentials : List (Option ℤ) → ℕ → ℤ
-potentials values t = value_or_zero (value_of values t)
+potentials values t = value_or_zero (value_held values t)
 
 -- what an offer to the transition has to exceed: the greatest so far, and before that its potential
 abbrev pub IsBar : (ℕ → ℤ) → List ℤ → List Bool → ℕ → ℤ → Type 0
@@ -156,13 +154,13 @@ pub record CanImprove (net : NetLists) (parts : List ℕ) (part : ℕ) (r : Frac
   pub parts_ : length parts ≡ length net.transitions
   pub count : length policy ≡ length parts
   pub count_values : length values ≡ length parts
-  pub has : (t : ℕ) → IsMember parts part t → value_of values t ≢ None
-  pub within : (t : ℕ) → IsWithin 400000000000000000 (value_or_zero (value_of values t))
-  pub small : IsSmallRatio r
+  pub has : (t : ℕ) → IsMember parts part t → value_held values t ≢ None
+  pub within : (t : ℕ) → IsMagnitudeWithin greatest_scaled_potential (value_or_zero (value_held values t))
+  pub small : IsCircuitRatio r
   pub in_range : All (λ p. p.index < length net.places) policy
 
 -- the better policy, with the members that a place improves marked
-pub record IsBetter (net : NetLists) (parts : List ℕ) (part : ℕ) (r : Fraction) (values : List (Option ℤ)) (policy better : List PlaceId) (marked : List Bool) : Type 0 where
+pub record IsBetterPolicy (net : NetLists) (parts : List ℕ) (part : ℕ) (r : Fraction) (values : List (Option ℤ)) (policy better : List PlaceId) (marked : List Bool) : Type 0 where
   pub improves : IsImprovement net parts part r.time r.tokens (policy_of policy) (potentials values) (policy_of better)
   pub marks : (t : ℕ) → IsMarked marked t → Improves net parts part r.time r.tokens (potentials values) t (policy_of better t)
   pub rest : (t : ℕ) → (IsMarked marked t → ⊥) → policy_of better t ≡ policy_of policy t

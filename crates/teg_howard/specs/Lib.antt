@@ -1,7 +1,7 @@
 pub mod Policies
-pub mod Rounds
-pub mod Runs
-pub mod Laws
+pub mod PolicyRounds
+pub mod PolicyRuns
+pub mod OnePolicyRun
 pub mod FoundCircuits
 pub mod RoundStates
 pub mod Following

@@ -8,11 +8,12 @@ use Rattle.teg_howard.specs.declared.settling.RoundState.{RoundState}
 use Rattle.teg_parts.specs.Partitions.{AreStrong}
 use Rattle.teg_net.specs.Parts.{IsMember, IsPlaceOfPart}
 use Rattle.teg_howard.specs.Policies.{IsPolicy, IsPolicyCircuit, LeadsBack, AreSums, Improves, first_id}
-use Rattle.teg_net.specs.ReducedTimes.{IsWithin}
+use Rattle.teg_net.specs.ReducedTimes.{IsMagnitudeWithin}
 use Rattle.teg_net.specs.PartAnswers.{first_transition_of}
-use Rattle.teg_howard.specs.Rounds.{chosen, potential, Follows}
+use Rattle.teg_howard.specs.PolicyRounds.{chosen, potential, FollowsRound}
 use Rattle.teg_net.specs.Ratios.{IsRatioOf}
-use Rattle.teg_howard.specs.FoundCircuits.{policy_of, potentials, value_of, value_or_zero, IsSmallRatio, ListsChoices}
+use Rattle.teg_net.specs.Limits.{greatest_scaled_potential}
+use Rattle.teg_howard.specs.FoundCircuits.{policy_of, potentials, value_held, value_or_zero, IsCircuitRatio, ListsChoices}
 
 -- a round stands on the policy that the list gives
 pub record IsRoundState (net : NetLists) (parts : List ℕ) (part : ℕ) (policy : List PlaceId) (st : RoundState) : Type 0 where
@@ -25,14 +26,14 @@ pub record IsRoundState (net : NetLists) (parts : List ℕ) (part : ℕ) (policy
   pub ratio : IsRatioOf (time_of net st.round.circuit.places.items) (tokens_of net st.round.circuit.places.items) st.round.ratio
   pub sums : AreSums net parts part st.round.ratio.time st.round.ratio.tokens (policy_of policy) (first_transition_of net st.round.circuit.places.items) (potentials st.values.items)
   pub home : (t : ℕ) → IsMember parts part t → LeadsBack net (policy_of policy) t (first_transition_of net st.round.circuit.places.items)
-  pub small : IsSmallRatio st.round.ratio
+  pub small : IsCircuitRatio st.round.ratio
   pub count : length policy ≡ length parts
   pub count_values : length st.values.items ≡ length parts
   pub in_range : All (λ p. p.index < length net.places) policy
-  pub has : (t : ℕ) → IsMember parts part t → value_of st.values.items t ≢ None
-  pub within : (t : ℕ) → IsWithin 400000000000000000 (value_or_zero (value_of st.values.items t))
+  pub has : (t : ℕ) → IsMember parts part t → value_held st.values.items t ≢ None
+  pub within : (t : ℕ) → IsMagnitudeWithin greatest_scaled_potential (value_or_zero (value_held st.values.items t))
   pub outside : (t : ℕ) → (IsMember parts part t → ⊥) → policy_of policy t ≡ first_id
-  pub no_value : (t : ℕ) → (IsMember parts part t → ⊥) → value_of st.values.items t ≡ None
+  pub no_value : (t : ℕ) → (IsMember parts part t → ⊥) → value_held st.values.items t ≡ None
 
 -- the ratio stays, no potential falls, and one rises
 pub record RisesEach (r s : Round) : Type 0 where
@@ -52,11 +53,11 @@ pub record HasCircuit (net : NetLists) (parts : List ℕ) (part : ℕ) : Type 0 
   pub inner : (p : PlaceId) × IsPlaceOfPart net parts part p
 
 -- the next round, from one that stands
-pub record GoesOn (net : NetLists) (parts : List ℕ) (part : ℕ) (policy : List PlaceId) (st next : RoundState) : Type 0 where
+pub record IsNextRoundState (net : NetLists) (parts : List ℕ) (part : ℕ) (policy : List PlaceId) (st next : RoundState) : Type 0 where
   pub standing : IsRoundState net parts part policy next
-  pub follows : Follows net parts part st.round next.round
+  pub follows : FollowsRound net parts part st.round next.round
   pub rises : Rises st.round next.round
 
 -- no place improves
-abbrev pub IsLast : NetLists → List ℕ → ℕ → Round → Type 0
-IsLast net parts part r = (t : ℕ) (p : PlaceId) → Improves net parts part r.ratio.time r.ratio.tokens (potential r) t p → ⊥
+abbrev pub IsLastRound : NetLists → List ℕ → ℕ → Round → Type 0
+IsLastRound net parts part r = (t : ℕ) (p : PlaceId) → Improves net parts part r.ratio.time r.ratio.tokens (potential r) t p → ⊥

@@ -3,7 +3,7 @@ ghost use Rattle.std.specs.Prelude.{ℕ, ◌≡◌, ◌↔◌, ◌<◌, length, 
 ghost use Rattle.teg_net.specs.Nets.{IsNet};
 ghost use Rattle.teg_howard.specs.Policies.{IsPolicy};
 ghost use Rattle.teg_howard.specs.FoundCircuits.{policy_of, IsOnPolicy};
-ghost use Rattle.teg_howard.specs.CircuitStarts.{ComesAgain, IsLowestBack, IsPassed, AreStarts, walk_at};
+ghost use Rattle.teg_howard.specs.CircuitStarts.{ComesAgain, IsLowestBack, HasWalkPassed, AreStarts, walk_at};
 
 use crate::steps::place_into;
 use std::alloc::{AllocError, Global};
@@ -15,7 +15,7 @@ fn pass(net: &Net, policy: &[PlaceId], start: usize, passed: &mut [Option<usize>
     requires count { length policy.now ≡ length net.now.transitions }
     requires count_passed { length passed.old ≡ length policy.now }
     requires on_policy { IsOnPolicy net.now (policy_of policy.now) start }
-    ensures { IsPassed net.now (policy_of policy.now) start passed.old passed.new result }
+    ensures { HasWalkPassed net.now (policy_of policy.now) start passed.old passed.new result }
 {
     let mut at = start;
     'back: while passed[at].is_none() {
@@ -66,9 +66,10 @@ fn fresh_end(
     requires count { length policy.now ≡ length net.now.transitions }
     requires count_passed { length passed.old ≡ length policy.now }
     requires on_policy { IsOnPolicy net.now (policy_of policy.now) start }
-    ensures some { IfSome result (λ end. IsPassed net.now (policy_of policy.now) start passed.old
+    ensures some { IfSome result (λ end. HasWalkPassed net.now (policy_of policy.now) start
+        passed.old
         passed.new end × (walk_at passed.new end ≡ Some start)) }
-    ensures none { IfNone result ((end : ℕ) × IsPassed net.now (policy_of policy.now) start
+    ensures none { IfNone result ((end : ℕ) × HasWalkPassed net.now (policy_of policy.now) start
         passed.old passed.new end × (walk_at passed.new end ≡ Some start → ⊥)) }
 {
     let end = pass(net, policy, start, passed);

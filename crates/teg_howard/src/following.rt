@@ -1,7 +1,7 @@
 //! Potentials along a policy: each member from which following backwards leads to the root gets its own.
 ghost use Rattle.std.specs.Prelude.{◌≡◌, ◌<◌, ◌++◌, ℕ, length, All, IfOk, OnOk};
 ghost use Rattle.teg_howard.specs.FoundCircuits.{policy_of, IsFollower};
-ghost use Rattle.teg_howard.specs.Following.{AreFollowers, Followed, CanFollow, listed};
+ghost use Rattle.teg_howard.specs.Following.{AreFollowers, Followed, CanFollow, listed_member};
 
 use crate::offers::offer_from;
 use std::alloc::{AllocError, Global};
@@ -44,7 +44,7 @@ fn link_followers(
 
 // Puts the member, if there is one, at the end of the list.
 fn add(waiting: &mut Vec<usize>, member: Option<usize>) -> Result<(), AllocError>
-    ensures { OnOk result (waiting.new.items ≡ waiting.old.items ++ listed member) }
+    ensures { OnOk result (waiting.new.items ≡ waiting.old.items ++ listed_member member) }
 {
     if let Some(member) = member {
         waiting.push(member)?;

@@ -1,11 +1,11 @@
 //! The rounds of a part, from the first to the one that no place improves.
 ghost use Rattle.std.specs.Prelude.{◌≡◌, IfOk, IfSome, IfNone, map};
 ghost use Rattle.teg_net.specs.PartAnswers.{IsPartAnswer};
-ghost use Rattle.teg_howard.specs.Rounds.{IsFirstRound, IsPolicyRun};
-ghost use Rattle.teg_howard.specs.Runs.{potential_of, IsAnswerOf, IsAnswerOfLast, EndsRun, KeepsLimits, AllRise, RiseByCase};
+ghost use Rattle.teg_howard.specs.PolicyRounds.{IsFirstRound, IsPolicyRun};
+ghost use Rattle.teg_howard.specs.PolicyRuns.{potential_of, IsAnswerOf, IsAnswerOfLast, EndsRun, KeepsLimits, AllRise, RiseByCase};
 ghost use Rattle.teg_howard.specs.FoundCircuits.{AreLowest};
 ghost use Rattle.teg_howard.specs.InnerPlaces.{ListsPlaces};
-ghost use Rattle.teg_howard.specs.RoundStates.{IsRoundState, HasCircuit, GoesOn, IsLast};
+ghost use Rattle.teg_howard.specs.RoundStates.{IsRoundState, HasCircuit, IsNextRoundState, IsLastRound};
 
 use crate::inside::inner_places;
 use crate::policies::{improve, is_any, lowest_places};
@@ -48,9 +48,11 @@ fn next_state(
     requires inner { ListsPlaces net.now parts.now part inner.now }
     requires circuit { HasCircuit net.now parts.now part }
     requires standing { IsRoundState net.now parts.now part policy.old state.now }
-    ensures some { IfOk result (λ o. IfSome o (λ next. GoesOn net.now parts.now part policy.new
+    ensures some { IfOk result (λ o. IfSome o (λ next. IsNextRoundState net.now parts.now part
+        policy.new
         state.now next)) }
-    ensures none { IfOk result (λ o. IfNone o (IsLast net.now parts.now part state.now.round)) }
+    ensures none { IfOk result (λ o. IfNone o (IsLastRound net.now parts.now part
+        state.now.round)) }
 {
     let changed = improve(
         alloc,

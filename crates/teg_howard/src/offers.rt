@@ -2,18 +2,19 @@
 ghost use Rattle.std.specs.Prelude.{◌≡◌, ◌≢◌, ◌*◌, ◌<◌, ◌≤◌, ◌+ℤ◌, ◌-ℤ◌, pos, length, None};
 ghost use Rattle.teg_net.specs.Circuits.{from_of};
 ghost use Rattle.teg_net.specs.Parts.{to_of};
-ghost use Rattle.teg_net.specs.ReducedTimes.{IsWithin};
+ghost use Rattle.teg_net.specs.ReducedTimes.{IsMagnitudeWithin};
+ghost use Rattle.teg_net.specs.Limits.{greatest_scaled_potential, greatest_hold};
 ghost use Rattle.teg_howard.specs.Policies.{offer_of};
-ghost use Rattle.teg_howard.specs.FoundCircuits.{value_of, potentials, IsSmallRatio};
+ghost use Rattle.teg_howard.specs.FoundCircuits.{value_held, potentials, IsCircuitRatio};
 
 use teg_net::{Net, Place, PlaceId, Ratio};
 
 // What a place offers to its end, where its start has the value.
 fn offer(ratio: Ratio, place: &Place, value: i128) -> i128
-    requires ratio { IsSmallRatio ratio }
-    requires hold { place.now.hold ≤ 1000000000 }
+    requires ratio { IsCircuitRatio ratio }
+    requires hold { place.now.hold ≤ greatest_hold }
     requires tokens { place.now.tokens ≤ 1000 }
-    requires within { IsWithin 400000000000000000 value }
+    requires within { IsMagnitudeWithin greatest_scaled_potential value }
     ensures { result ≡ (pos (ratio.tokens * place.now.hold) -ℤ pos (ratio.time * place.now.tokens)
         +ℤ value) }
 {
@@ -33,9 +34,10 @@ pub(crate) fn end_of(net: &Net, id: PlaceId) -> usize
 // What the place of this number offers, where its start has a value.
 pub(crate) fn offer_from(net: &Net, ratio: Ratio, values: &[Option<i128>], id: PlaceId) -> i128
     requires place { id.index < length net.now.places }
-    requires ratio { IsSmallRatio ratio }
-    requires start { value_of values.now (from_of net.now id) ≢ None }
-    requires within { IsWithin 400000000000000000 (potentials values.now (from_of net.now id)) }
+    requires ratio { IsCircuitRatio ratio }
+    requires start { value_held values.now (from_of net.now id) ≢ None }
+    requires within { IsMagnitudeWithin greatest_scaled_potential (potentials values.now (from_of
+        net.now id)) }
     ensures { result ≡ offer_of net.now ratio.time ratio.tokens (potentials values.now) id }
 {
     let place = &net.places()[id.index as usize];

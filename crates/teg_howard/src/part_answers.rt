@@ -3,8 +3,8 @@ ghost use Rattle.std.specs.Prelude.{IfOk};
 ghost use Rattle.teg_net.specs.PartAnswers.{IsPartAnswer};
 ghost use Rattle.teg_check.specs.Ranks.{IsRanking};
 ghost use Rattle.teg_parts.specs.Partitions.{AreParts};
-ghost use Rattle.teg_howard.specs.Rounds.{IsPolicyRun};
-ghost use Rattle.teg_howard.specs.Runs.{HasInnerPlace, IsAnswerOfLast, EndsRun, KeepsLimits, AllRise, RiseByCase};
+ghost use Rattle.teg_howard.specs.PolicyRounds.{IsPolicyRun};
+ghost use Rattle.teg_howard.specs.PolicyRuns.{HasInnerPlace, IsAnswerOfLast, EndsRun, KeepsLimits, AllRise, RiseByCase};
 
 use crate::iteration::{last_answer, policy_run};
 use std::alloc::Global;

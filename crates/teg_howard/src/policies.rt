@@ -1,7 +1,8 @@
 //! Policies of a part: the first one, and the better one that the potentials give (policy improvement).
 ghost use Rattle.std.specs.Prelude.{◌≡◌, ◌≢◌, ◌<◌, ◌↔◌, ℕ, length, None, IsTrue, IfOk};
+ghost use Rattle.teg_parts.specs.Components.{IsMarked};
 ghost use Rattle.teg_howard.specs.InnerPlaces.{ListsPlaces};
-ghost use Rattle.teg_howard.specs.FoundCircuits.{AreLowest, IsMarked, IsBar, CanImprove, IsBetter, value_of, potentials};
+ghost use Rattle.teg_howard.specs.FoundCircuits.{AreLowest, IsBar, CanImprove, IsBetterPolicy, value_held, potentials};
 
 use crate::inside::is_inside;
 use crate::offers::{end_of, offer_from};
@@ -35,7 +36,7 @@ pub(crate) fn lowest_places(
 fn bar_of(values: &[Option<i128>], greatest: &[i128], changed: &[bool], member: usize) -> i128
     requires greatest { member < length greatest.now }
     requires changed { member < length changed.now }
-    requires has { value_of values.now member ≢ None }
+    requires has { value_held values.now member ≢ None }
     ensures { IsBar (potentials values.now) greatest.now changed.now member result }
 {
     if changed[member] {
@@ -58,7 +59,8 @@ pub(crate) fn improve(
 ) -> Result<Vec<bool>, AllocError>
     requires inner { ListsPlaces net.now parts.now part inner.now }
     requires can { CanImprove net.now parts.now part ratio values.now policy.old }
-    ensures { IfOk result (λ changed. IsBetter net.now parts.now part ratio values.now policy.old
+    ensures { IfOk result (λ changed. IsBetterPolicy net.now parts.now part ratio values.now
+        policy.old
         policy.new changed.items) }
 {
     let mut greatest = vec![in alloc; 0i128; parts.len()]?;

@@ -5,7 +5,8 @@ ghost use Rattle.teg_net.specs.Circuits.{IsLive, AreInRange};
 ghost use Rattle.teg_net.specs.Parts.{to_of};
 ghost use Rattle.teg_howard.specs.Policies.{IsPolicy, IsPolicyCircuit};
 ghost use Rattle.teg_net.specs.declared.entries.PlaceId.{PlaceId};
-ghost use Rattle.teg_howard.specs.FoundCircuits.{policy_of, IsOnPolicy, IsFoundAt, IsMarked, IsAbove, AreSmall, IsBestFound, GoesBelow};
+ghost use Rattle.teg_parts.specs.Components.{IsMarked};
+ghost use Rattle.teg_howard.specs.FoundCircuits.{policy_of, IsOnPolicy, IsFoundAt, IsAbove, IsFoundSmall, IsBestFound, GoesBelow};
 
 use crate::circuit_starts::circuit_starts;
 use crate::steps::place_into;
@@ -79,8 +80,8 @@ fn passes(net: &Net, circuit: &[PlaceId], marked: &[bool]) -> bool
 
 // Whether the circuit has a greater ratio than the best so far.
 fn is_greater(circuit: &FoundCircuit, best: &Option<FoundCircuit>) -> bool
-    requires small { AreSmall (Some circuit.now) }
-    requires best_small { AreSmall best.now }
+    requires small { IsFoundSmall (Some circuit.now) }
+    requires best_small { IsFoundSmall best.now }
     ensures { IsTrue result ↔ IsAbove circuit.now best.now }
 {
     match best {

@@ -3,7 +3,7 @@ ghost use Rattle.std.specs.Prelude.{◌≡◌, ◌≢◌, ◌<◌, ◌≤◌, �
 ghost use Rattle.teg_net.specs.Parts.{IsMember};
 ghost use Rattle.teg_net.specs.declared.entries.PlaceId.{PlaceId};
 ghost use Rattle.teg_howard.specs.InnerPlaces.{ListsPlaces};
-ghost use Rattle.teg_howard.specs.FoundCircuits.{policy_of, value_of, LeadsOn, IsJoin, IsNextJoin, IsMade, CanSettle, IsSettled};
+ghost use Rattle.teg_howard.specs.FoundCircuits.{policy_of, value_held, LeadsOn, IsJoin, IsNextJoin, IsRoundMade, CanSettle, IsSettled};
 
 use crate::following::follow;
 use crate::offers::{end_of, offer_from};
@@ -62,10 +62,11 @@ fn round_of(
     requires few { length parts.now ≤ 400 }
     requires count { length policy.now ≡ length parts.now }
     requires count_values { length values.now ≡ length parts.now }
-    requires has { (t : ℕ) → IsMember parts.now part t → value_of values.now t ≢ None }
+    requires has { (t : ℕ) → IsMember parts.now part t → value_held values.now t ≢ None }
     ensures ratio { IfOk result (λ round. round.ratio ≡ ratio) }
     ensures circuit { IfOk result (λ round. round.circuit.places.items ≡ circuit.items) }
-    ensures made { IfOk result (λ round. IsMade parts.now part (policy_of policy.now) values.now
+    ensures made { IfOk result (λ round. IsRoundMade parts.now part (policy_of policy.now)
+        values.now
         round) }
 {
     let mut choices = Vec::new(alloc);

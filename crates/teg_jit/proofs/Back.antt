@@ -12,14 +12,14 @@ use Rattle.teg_net.specs.declared.entries.Place.{Place}
 use Rattle.teg_net.specs.Nets.{NetLists, IsNet, IsPlaceOf}
 use Rattle.teg_net.specs.Circuits.{no_place, place_at}
 use Rattle.teg_model.specs.Datings.{IsFeasibleUnder}
-use Rattle.due_laws.specs.Dues.{KeepsDues, inputs_at_zero}
-use Rattle.teg_dates.specs.Tables.{cell_of}
+use Rattle.due_laws.specs.MeetingDueDates.{KeepsDues, inputs_at_zero}
+use Rattle.teg_dates.specs.DateTables.{firing_position}
 use Rattle.teg_jit.specs.declared.order.Depth.{Depth}
 use Rattle.teg_jit.specs.declared.answers.Onward.{Onward}
 use Rattle.teg_jit.specs.declared.answers.Onward.TheVariants.{Due, By, Next}
 use Rattle.teg_jit.specs.declared.answers.LatestDate.{LatestDate}
 use Rattle.teg_jit.specs.declared.answers.LatestDate.TheVariants.{Free, At}
-use Rattle.teg_jit.specs.Plans.{latest_in, date_or_never, dates_in, IsOnward, HasOnward}
+use Rattle.teg_jit.specs.Plans.{latest_in, date_or_never, dates_of_latest, IsOnward, HasOnward}
 use Rattle.teg_jit.specs.GoingBack.{ArePassed}
 use Rattle.teg_jit.proofs.TableCells.{set_here, set_other}
 use Rattle.teg_jit.proofs.Lowering.{IsBefore, onward_of}
@@ -87,7 +87,7 @@ pub record CanLower (net : NetLists) (due : ℕ → ℕ → Option ℕ) (order :
   pub to_last : k ≤ last
   pub before : IsBefore d (latest_in (length net.transitions) dates t k)
   pub above : (x : ℕ → ℕ → Date) → IsFeasibleUnder net inputs_at_zero x → KeepsDues net due x → IsAtMostDate (x t k) (on_date (pos d))
-  pub step : IsOnward net due (dates_in (length net.transitions) dates) t k d o
+  pub step : IsOnward net due (dates_of_latest (length net.transitions) dates) t k d o
   pub known : (c : ℕ) (e : Depth) → c < length order → c < by → (get_or order c e).place.index < length net.places
   pub apart : (c : ℕ) (e : Depth) → c < length order → c < by → (place_at net (get_or order c e).place).tokens ≡ 0 → (place_at net (get_or order c e).place).to.index ≡ t → ⊥
   pub itself : (p : PlaceId) → o ≡ By p → (place_at net p).tokens ≡ 0 → (place_at net p).to.index ≡ t → ⊥
@@ -96,12 +96,12 @@ pub record CanLower (net : NetLists) (due : ℕ → ℕ → Option ℕ) (order :
 pub lowered_at :
     (net : NetLists) (due : ℕ → ℕ → Option ℕ) (order : List Depth) (last k next first by more : ℕ) (dates : List LatestDate) (t d : ℕ) (o : Onward)
     → IsNet net → ArePassed net due order last k next first by dates → first ≤ by → by ≤ more → CanLower net due order last k by more dates t d o
-    → ArePassed net due order last k next first more (set dates (cell_of (length net.transitions) t k) (At d o))
+    → ArePassed net due order last k next first more (set dates (firing_position (length net.transitions) t k) (At d o))
 lowered_at net due order last k next first by more dates t d o ok h fb bm can =
     let n : ℕ = length net.transitions in
-    let fresh : List LatestDate = set dates (cell_of n t k) (At d o) in
-    let y : ℕ → ℕ → Date = dates_in n dates in
-    let z : ℕ → ℕ → Date = dates_in n fresh in
+    let fresh : List LatestDate = set dates (firing_position n t k) (At d o) in
+    let y : ℕ → ℕ → Date = dates_of_latest n dates in
+    let z : ℕ → ℕ → Date = dates_of_latest n fresh in
     let one = can.from_one in
     let here : latest_in n fresh t k ≡ At d o = set_here n last dates t k (At d o) h.full can.firing_in one can.to_last in
     let other : (v s : ℕ) → v < n → 1 ≤ s → (v ≡ t → s ≡ k → ⊥) → latest_in n fresh v s ≡ latest_in n dates v s = λ v s l m a. set_other n dates t k v s (At d o) can.firing_in l one m a in
@@ -118,7 +118,7 @@ lowered_at net due order last k next first by more dates t d o ok h fb bm can =
     (cases_eq v t) in
     let ends : (p : PlaceId) → p.index < length net.places → IsPlaceOf net (place_at net p) = λ p in'. ok.each_place p.index no_place in' in
     record {
-      full = length-set dates (cell_of n t k) (At d o) ∙ h.full;
+      full = length-set dates (firing_position n t k) (At d o) ∙ h.full;
       dues = λ v s e l m is. at_most_trans (z v s) (y v s) (on_date (pos e)) (less v s l m) (h.dues v s e l m is);
       above = λ x f keeps v s l m.
           ⊎_elim

@@ -9,14 +9,14 @@ use Rattle.dioid.specs.Dates.{IsAtMostDate, delayed}
 use Rattle.dioid.proofs.DateOrder.{at_most_refl, at_most_is, at_most_trans, never_last}
 use Rattle.teg_net.specs.Nets.{NetLists, IsNet}
 use Rattle.teg_net.specs.Circuits.{place_at}
-use Rattle.teg_dates.specs.Tables.{cell_of}
+use Rattle.teg_dates.specs.DateTables.{firing_position}
 use Rattle.teg_due.specs.declared.rows.DueRow.{DueRow}
 use Rattle.teg_jit.specs.declared.answers.Onward.{Onward}
 use Rattle.teg_jit.specs.declared.answers.Onward.TheVariants.{Due, By}
 use Rattle.teg_jit.specs.declared.answers.LatestDate.{LatestDate}
 use Rattle.teg_jit.specs.declared.answers.LatestDate.TheVariants.{Free, At}
 use Rattle.teg_jit.specs.DueDates.{due_in}
-use Rattle.teg_jit.specs.Plans.{latest_in, date_or_never, dates_in, HasOnward, IsOnward}
+use Rattle.teg_jit.specs.Plans.{latest_in, date_or_never, dates_of_latest, HasOnward, IsOnward}
 use Rattle.teg_jit.specs.GoingBack.{lowered, ArePassedAbove}
 use Rattle.teg_jit.proofs.TableCells.{set_here, set_other, past_last}
 use Rattle.teg_jit.proofs.DueRows.{row_of_due}
@@ -30,7 +30,7 @@ date_of (At d o) = d
 -- the dates with the first i rows set
 pub record BegunTo (w : ℕ) (rows : List DueRow) (last : ℕ) (dates : List LatestDate) (i : ℕ) : Type 0 where
   pub full : length dates ≡ last * w
-  pub dues : (j : ℕ) (r : DueRow) → j < length rows → j < i → IsAtMostDate (dates_in w dates (get_or rows j r).transition.index (get_or rows j r).number) (on_date (pos (get_or rows j r).date))
+  pub dues : (j : ℕ) (r : DueRow) → j < length rows → j < i → IsAtMostDate (dates_of_latest w dates (get_or rows j r).transition.index (get_or rows j r).number) (on_date (pos (get_or rows j r).date))
   pub only : (t s d : ℕ) (o : Onward) → t < w → 1 ≤ s → latest_in w dates t s ≡ At d o → (o ≡ Due) × (due_in rows t s ≡ Some d)
 
 free_is_not : (d : ℕ) (o : Onward) → Free ≡ At d o → ⊥
@@ -41,18 +41,18 @@ pub begun_starts : (w : ℕ) (rows : List DueRow) (last : ℕ) (dates : List Lat
 begun_starts w rows last dates full free = record {
   full = full;
   dues = λ j r l m. absurd (omega arith);
-  only = λ t s d o l m is. absurd (free_is_not d o (sym (free (cell_of w t s)) ∙ is));
+  only = λ t s d o l m is. absurd (free_is_not d o (sym (free (firing_position w t s)) ∙ is));
 }
 
 -- a row more
 pub begun_more :
     (w : ℕ) (rows : List DueRow) (last : ℕ) (dates : List LatestDate) (i : ℕ) (r : DueRow) → ((j : ℕ) (q : DueRow) → j < length rows → ((get_or rows j q).transition.index < w) × (1 ≤ (get_or rows j q).number)) → BegunTo w rows last dates i → i < length rows → ((q : DueRow) → get_or rows i q ≡ r) → r.transition.index < w → 1 ≤ r.number → r.number ≤ last
     → due_in rows r.transition.index r.number ≡ Some r.date
-    → BegunTo w rows last (set dates (cell_of w r.transition.index r.number) (lowered (get_or dates (cell_of w r.transition.index r.number) Free) r.date Due)) (i + 1)
+    → BegunTo w rows last (set dates (firing_position w r.transition.index r.number) (lowered (get_or dates (firing_position w r.transition.index r.number) Free) r.date Due)) (i + 1)
 begun_more w rows last dates i r range h l at t_in one m due =
     let t : ℕ = r.transition.index in
     let k : ℕ = r.number in
-    let cell : ℕ = cell_of w t k in
+    let cell : ℕ = firing_position w t k in
     let new : LatestDate = lowered (get_or dates cell Free) r.date Due in
     let fresh : List LatestDate = set dates cell new in
     let here : latest_in w fresh t k ≡ new = set_here w last dates t k new h.full t_in one m in
@@ -63,10 +63,10 @@ begun_more w rows last dates i r range h l at t_in one m due =
     (at_most_is (date_or_never new) (date_or_never (get_or dates cell Free)) (ap date_or_never q.0), rw q.0 q.1))
     (λ (q : (new ≡ At r.date Due) × IsBefore r.date (get_or dates cell Free)). (rw q.0 q.1.below, rw q.0 (at_most_refl (on_date (pos r.date)))))
     (lowered_cases (get_or dates cell Free) r.date Due) in
-    let less : (v s : ℕ) → v < w → 1 ≤ s → IsAtMostDate (dates_in w fresh v s) (dates_in w dates v s) =
+    let less : (v s : ℕ) → v < w → 1 ≤ s → IsAtMostDate (dates_of_latest w fresh v s) (dates_of_latest w dates v s) =
     λ v s a b. ⊎_elim
     (λ (q : (v ≡ t) × (s ≡ k)). rw (q.0, q.1, here) new_below.0)
-    (λ (q : v ≡ t → s ≡ k → ⊥). at_most_is (dates_in w fresh v s) (dates_in w dates v s) (ap date_or_never (other v s a b q)))
+    (λ (q : v ≡ t → s ≡ k → ⊥). at_most_is (dates_of_latest w fresh v s) (dates_of_latest w dates v s) (ap date_or_never (other v s a b q)))
     (both_or_not v t s k) in
     record {
       full = length-set dates cell new ∙ h.full;
@@ -74,7 +74,7 @@ begun_more w rows last dates i r range h l at t_in one m due =
           ⊎_elim
           (λ (c : j < i).
           let in' = range j q a in
-          at_most_trans (dates_in w fresh (get_or rows j q).transition.index (get_or rows j q).number) (dates_in w dates (get_or rows j q).transition.index (get_or rows j q).number) (on_date (pos (get_or rows j q).date))
+          at_most_trans (dates_of_latest w fresh (get_or rows j q).transition.index (get_or rows j q).number) (dates_of_latest w dates (get_or rows j q).transition.index (get_or rows j q).number) (on_date (pos (get_or rows j q).date))
           (less (get_or rows j q).transition.index (get_or rows j q).number in'.0 in'.1) (h.dues j q a c))
           (λ (c : i ≤ j).
           let is : j ≡ i = omega arith in
@@ -112,7 +112,7 @@ no_row = record { row = 0; transition = record { index = 0 }; number = 0; date =
 pub begun_is : (net : NetLists) (rows : List DueRow) (last : ℕ) (dates : List LatestDate) (i : ℕ) → IsNet net → BegunTo (length net.transitions) rows last dates i → length rows ≤ i → ArePassedAbove net (due_in rows) last last dates
 begun_is net rows last dates i ok h end order =
     let w : ℕ = length net.transitions in
-    let never : (t s : ℕ) → last < s → dates_in w dates t s ≡ Never = λ t s l. ap date_or_never (past_last w last dates t s h.full l) in
+    let never : (t s : ℕ) → last < s → dates_of_latest w dates t s ≡ Never = λ t s l. ap date_or_never (past_last w last dates t s h.full l) in
     record {
       full = h.full;
       dues = λ t k d l o is.
@@ -121,11 +121,11 @@ begun_is net rows last dates i ok h end order =
           rw (named.0, named.1, named.2) at (h.dues r.0 no_row r.1 (omega (arith, r.1)));
       above = λ x f keeps t s l o.
           only_above (latest_in w dates t s) (x t s) (λ d q is. keeps t s d l o (h.only t s d q l o is).1);
-      places = λ p s in' l. rw (never (place_at net p).to.index (s + (place_at net p).tokens) (omega arith)) (never_last (delayed (place_at net p).hold (dates_in w dates (place_at net p).from.index s)));
-      climbs = λ t s l m. rw (never t (s + 1) (omega arith)) (never_last (dates_in w dates t s));
+      places = λ p s in' l. rw (never (place_at net p).to.index (s + (place_at net p).tokens) (omega arith)) (never_last (delayed (place_at net p).hold (dates_of_latest w dates (place_at net p).from.index s)));
+      climbs = λ t s l m. rw (never t (s + 1) (omega arith)) (never_last (dates_of_latest w dates t s));
       nexts = λ t l m. absurd (omega arith);
       done = λ c d l m. absurd (omega arith);
-      onward = λ t s l o. only_onward net (due_in rows) (dates_in w dates) t s (latest_in w dates t s) (λ d q is. h.only t s d q l o is);
+      onward = λ t s l o. only_onward net (due_in rows) (dates_of_latest w dates) t s (latest_in w dates t s) (λ d q is. h.only t s d q l o is);
       steps = λ t d p l o is. absurd (due_is_no_place p (h.only t last d (By p) l o is).0);
       untouched = λ t s l o m d q is. (h.only t s d q l o is).0;
     }

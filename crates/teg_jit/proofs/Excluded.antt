@@ -9,12 +9,12 @@ use Rattle.dioid.specs.declared.dates.Date.TheVariants.{At}
 use Rattle.dioid.specs.Dates.{IsAtMostDate}
 use Rattle.teg_net.specs.Nets.{NetLists}
 use Rattle.teg_model.proofs.OfNet.{only_least}
-use Rattle.due_laws.specs.Dues.{KeepsDues, inputs_at_zero}
+use Rattle.due_laws.specs.MeetingDueDates.{KeepsDues, inputs_at_zero}
 use Rattle.teg_due.specs.declared.rows.DueRow.{DueRow}
-use Rattle.teg_due.specs.Rules.{IsDueOf}
+use Rattle.teg_due.specs.RowRules.{IsDueOf}
 use Rattle.teg_jit.specs.DueDates.{due_in}
-use Rattle.teg_jit.specs.Laws.{DuesAreKeptByRows, LateExcludesMeet}
-use Rattle.teg_jit.specs.Refusals.{KeepsRow}
+use Rattle.teg_jit.specs.PlansAndLateness.{DuesAreKeptByRows, LateExcludesMeet}
+use Rattle.teg_jit.specs.LateRefusals.{KeepsRow}
 use Rattle.teg_jit.proofs.Begun.{no_row}
 use Rattle.teg_jit.proofs.DueRows.{due_of_row, row_of_due}
 

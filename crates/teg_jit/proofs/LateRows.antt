@@ -8,7 +8,7 @@ use Rattle.std.proofs.lemmas.Option.{slice_get-get_or}
 use Rattle.dioid.specs.declared.dates.Date.{Date}
 use Rattle.dioid.specs.declared.dates.Date.TheVariants.{Early, At as on_date, Never}
 use Rattle.dioid.proofs.DateOrder.{at_most_is}
-use Rattle.teg_net.specs.Limits.{greatest_date}
+use Rattle.teg_net.specs.Limits.{greatest_input_date}
 use Rattle.teg_net.specs.Nets.{NetLists, IsNet, without_inputs}
 use Rattle.teg_net.specs.ReadyDates.{start_date}
 use Rattle.teg_net.specs.Walks.{walk_time}
@@ -16,13 +16,13 @@ use Rattle.teg_check.specs.Ranks.{IsRanking}
 use Rattle.teg_model.specs.Datings.{IsLeastUnder, IsLeastDating}
 use Rattle.teg_model.proofs.OfNet.{net_ends}
 use Rattle.teg_model.proofs.Within.{AreWithin, least_within}
-use Rattle.teg_dates.specs.DateCells.{no_number, date_of}
-use Rattle.teg_dates.specs.Tables.{most_numbers}
-use Rattle.due_laws.specs.Dues.{InputsMeet, inputs_at_zero}
+use Rattle.teg_dates.specs.DateCells.{no_number, date_of_cell}
+use Rattle.teg_dates.specs.DateTables.{most_numbers}
+use Rattle.due_laws.specs.MeetingDueDates.{InputsMeet, inputs_at_zero}
 use Rattle.teg_due.specs.declared.rows.DueRow.{DueRow}
 use Rattle.teg_jit.specs.DueDates.{due_in, NameFirings}
 use Rattle.teg_jit.specs.DueNumbers.{AreDatesOfRows, AreNumbersOfRows}
-use Rattle.teg_jit.specs.Refusals.{KeepsRow, IsFirstLate}
+use Rattle.teg_jit.specs.LateRefusals.{KeepsRow, IsFirstLateDue}
 use Rattle.teg_jit.specs.LatestCells.{most_cell_date}
 use Rattle.teg_jit.proofs.Begun.{no_row}
 use Rattle.teg_jit.proofs.DueRows.{row_of_due}
@@ -45,9 +45,9 @@ date_is_small net ranks x ok r h t k l o few =
     let rr = ranks_of net ranks ok r in
     let g : Reached net x t k = reached net x 400 (λ v. get_or ranks v 0) (net_ends net ok) rr h t k l o in
     let n : ℕ = start_date net g.from g.number + walk_time net g.steps in
-    let w : AreWithin net inputs_at_zero (λ j. greatest_date) =
+    let w : AreWithin net inputs_at_zero (λ j. greatest_input_date) =
     record { grows = λ j m q. omega arith; ready = omega arith; inputs = λ v j q i. (omega (arith, ints), omega (arith, ints)) } in
-    let small = rw g.is at (least_within net inputs_at_zero x 400 (λ v. get_or ranks v 0) (λ j. greatest_date) ok rr w h t k l o) in
+    let small = rw g.is at (least_within net inputs_at_zero x 400 (λ v. get_or ranks v 0) (λ j. greatest_input_date) ok rr w h t k l o) in
     let low = rr.below t in
     (n, omega (arith, ints, small.1), g.is)
 
@@ -65,7 +65,7 @@ number_is a b e = ap number_of e
 -- ---- the loop
 
 pub first_late_is : (x : ℕ → ℕ → Date) (rows : List DueRow) (i least : ℕ) (r : DueRow) → ((j : ℕ) (q : DueRow) → j < length rows → j < i → KeepsRow x (get_or rows j q)) → i < length rows → ((q : DueRow) → get_or rows i q ≡ r) → x r.transition.index r.number ≡ on_date (pos least) → r.date < least
-    → IsFirstLate x rows r.transition r.number r.date least
+    → IsFirstLateDue x rows r.transition r.number r.date least
 first_late_is x rows i least r kept l at is late = record {
   before = i;
   kept = λ j q m.
@@ -90,7 +90,7 @@ no_never : (z : ℤ) → Never ≡ on_date z → ⊥
 no_never z e = at_most_is Never (on_date z) e
 
 -- the number of eight bytes that stands for a number's date is the number
-pub cell_is : (c n : ℕ) → date_of c ≡ on_date (pos n) → c ≡ n
+pub cell_is : (c n : ℕ) → date_of_cell c ≡ on_date (pos n) → c ≡ n
 cell_is c n e =
     ⊎_elim
     (λ (q : eqb c no_number ≡ true). absurd (no_never (pos n) (rw q at e)))

@@ -12,17 +12,17 @@ use Rattle.teg_net.specs.declared.walks.Walk.{Walk}
 use Rattle.teg_net.specs.Nets.{NetLists, IsNet, IsInput}
 use Rattle.teg_net.specs.ReadyDates.{start_date}
 use Rattle.teg_net.specs.Walks.{Walks, walk_time}
-use Rattle.teg_model.specs.Ranks.{AreRanks, HasEndsInRange}
+use Rattle.teg_model.specs.LiveRanks.{AreRanks, HasEndsInRange}
 use Rattle.teg_model.specs.Datings.{IsLeastUnder, at_input}
-use Rattle.teg_model.specs.Starts.{start_of}
+use Rattle.teg_model.specs.Starts.{start_of_firing}
 use Rattle.teg_model.proofs.GreatestWalks.{least_is_walk, not_before_ready}
 use Rattle.teg_model.proofs.OfNet.{input_or_not, net_ends}
-use Rattle.due_laws.specs.Dues.{KeepsDues, InputsMeet, inputs_at_zero}
+use Rattle.due_laws.specs.MeetingDueDates.{KeepsDues, InputsMeet, inputs_at_zero}
 use Rattle.due_laws.specs.LatestDates.{IsDateToDue, IsTightWalk, IsLateWalk}
 use Rattle.due_laws.proofs.LatestDates.{kept_below}
 use Rattle.teg_due.specs.declared.rows.DueRow.{DueRow}
 use Rattle.teg_jit.specs.DueDates.{due_in, NamesFiring}
-use Rattle.teg_jit.specs.Plans.{dates_of, PlanDates, KeepsSizes, IsPlanFor}
+use Rattle.teg_jit.specs.Plans.{dates_of_plan, PlanDates, KeepsSizes, IsPlanFor}
 use Rattle.teg_jit.specs.FirstLate.{HasDateAtStart, StartsAreKept}
 use Rattle.teg_jit.proofs.Begun.{no_row}
 use Rattle.teg_jit.proofs.DueRows.{row_of_due, due_of_row}
@@ -54,7 +54,7 @@ one_meets net r x h is = (
 
 -- ---- least dates with all inputs at 0
 
-starts_are : (net : NetLists) (a s : ℕ) → start_of net inputs_at_zero a s ≡ on_date (pos (start_date net a s))
+starts_are : (net : NetLists) (a s : ℕ) → start_of_firing net inputs_at_zero a s ≡ on_date (pos (start_date net a s))
 starts_are net a s =
     let first : Date = on_date (pos (start_date net a s)) in
     ⊎_elim
@@ -88,9 +88,9 @@ reached net x bound rank ends rr h t k l o =
 -- no latest date is before the start of its firing, where a feasible dating keeps the due dates
 pub starts_are_kept : (net : NetLists) (due : ℕ → ℕ → Option ℕ) (x : ℕ → ℕ → Date) (plan : PlanDates) → IsNet net → IsPlanFor net due plan → IsLeastUnder net inputs_at_zero x → KeepsDues net due x → StartsAreKept net plan
 starts_are_kept net due x plan ok for h keeps t k l o =
-    at_most_trans (on_date (pos (start_date net t k))) (x t k) (dates_of plan t k)
+    at_most_trans (on_date (pos (start_date net t k))) (x t k) (dates_of_plan plan t k)
     (not_before_ready net inputs_at_zero x h.feasible t k l o)
-    (kept_below net due inputs_at_zero x (net_ends net ok) h.feasible keeps t k (dates_of plan t k) l o (for.latest t k l o))
+    (kept_below net due inputs_at_zero x (net_ends net ok) h.feasible keeps t k (dates_of_plan plan t k) l o (for.latest t k l o))
 
 -- the plan of the one row has a firing whose latest date is its start, where the walk of the least date begins
 pub start_is_there : (net : NetLists) (r : DueRow) (x : ℕ → ℕ → Date) (plan : PlanDates) → IsNet net → KeepsSizes plan → IsPlanFor net (due_in (r ∷ [])) plan → NamesFiring net r → IsLeastUnder net inputs_at_zero x
@@ -102,8 +102,8 @@ start_is_there net r x plan ok is for names h here kept =
     let sum : delayed (walk_time net g.steps) (on_date (pos start)) ≡ on_date (pos (start + walk_time net g.steps)) = ap on_date (omega (arith, ints)) in
     let leads : IsDateToDue net (due_in (r ∷ [])) g.from g.number (on_date (pos start)) =
     record { to = r.transition.index; number = r.number; due_date = r.date; steps = g.steps; walk = g.walk; is_due = one_due r; is = sum ∙ (sym g.is ∙ here) } in
-    let up : IsAtMostDate (dates_of plan g.from g.number) (on_date (pos start)) = (for.latest g.from g.number g.from_in g.from_one).least (on_date (pos start)) leads in
-    let at : dates_of plan g.from g.number ≡ on_date (pos start) = same_by_at_most (dates_of plan g.from g.number) (on_date (pos start)) up (kept g.from g.number g.from_in g.from_one) in
+    let up : IsAtMostDate (dates_of_plan plan g.from g.number) (on_date (pos start)) = (for.latest g.from g.number g.from_in g.from_one).least (on_date (pos start)) leads in
+    let at : dates_of_plan plan g.from g.number ≡ on_date (pos start) = same_by_at_most (dates_of_plan plan g.from g.number) (on_date (pos start)) up (kept g.from g.number g.from_in g.from_one) in
     let wide = for.width in
     (g.from, g.number, record { in_range = rw wide g.from_in; from_one = g.from_one; to_last = in_numbers plan g.from g.number start is at; is = at })
 

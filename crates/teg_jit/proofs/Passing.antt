@@ -14,17 +14,17 @@ use Rattle.teg_net.specs.Nets.{NetLists, IsNet, IsPlaceOf}
 use Rattle.teg_net.specs.Circuits.{no_place, place_at}
 use Rattle.teg_check.specs.Ranks.{IsRanking}
 use Rattle.teg_model.specs.Datings.{IsFeasibleUnder}
-use Rattle.due_laws.specs.Dues.{KeepsDues, inputs_at_zero}
+use Rattle.due_laws.specs.MeetingDueDates.{KeepsDues, inputs_at_zero}
 use Rattle.due_laws.proofs.LatestDates.{delayed_back}
 use Rattle.due_laws.proofs.LatestDates.{feasible_keeps}
 use Rattle.teg_model.proofs.Tokens.{not_before_zero}
-use Rattle.teg_dates.specs.Tables.{cell_of}
+use Rattle.teg_dates.specs.DateTables.{firing_position}
 use Rattle.teg_jit.specs.declared.order.Depth.{Depth}
 use Rattle.teg_jit.specs.declared.answers.Onward.TheVariants.{By, Next}
 use Rattle.teg_jit.specs.declared.answers.LatestDate.{LatestDate}
 use Rattle.teg_jit.specs.declared.answers.LatestDate.TheVariants.{Free, At}
-use Rattle.teg_jit.specs.Order.{IsDepth, IsBackOrder, depth_at}
-use Rattle.teg_jit.specs.Plans.{latest_in, date_or_never, dates_in}
+use Rattle.teg_jit.specs.BackwardOrder.{IsDepth, IsBackOrder, depth_at}
+use Rattle.teg_jit.specs.Plans.{latest_in, date_or_never, dates_of_latest}
 use Rattle.teg_jit.specs.GoingBack.{lowered, date_there, ArePassed, ArePassedAbove}
 use Rattle.teg_jit.proofs.TableCells.{set_here, set_other}
 use Rattle.teg_jit.proofs.Lowering.{IsBefore, lowered_cases, there_none, there_some}
@@ -32,7 +32,7 @@ use Rattle.teg_jit.proofs.Back.{CanLower, lowered_at, due_is_no_place, next_is_n
 
 -- one more transition has its next step done
 next_more : (net : NetLists) (due : ℕ → ℕ → Option ℕ) (order : List Depth) (last k i : ℕ) (dates : List LatestDate) → ArePassed net due order last k i 0 0 dates
-    → IsAtMostDate (dates_in (length net.transitions) dates i k) (dates_in (length net.transitions) dates i (k + 1)) → ArePassed net due order last k (i + 1) 0 0 dates
+    → IsAtMostDate (dates_of_latest (length net.transitions) dates i k) (dates_of_latest (length net.transitions) dates i (k + 1)) → ArePassed net due order last k (i + 1) 0 0 dates
 next_more net due order last k i dates h below = record {
   full = h.full;
   dues = h.dues;
@@ -50,7 +50,7 @@ next_more net due order last k i dates h below = record {
 pub next_none : (net : NetLists) (due : ℕ → ℕ → Option ℕ) (order : List Depth) (last k i : ℕ) (dates : List LatestDate) → ArePassed net due order last k i 0 0 dates
     → None ≡ date_there (latest_in (length net.transitions) dates i (k + 1)) → ArePassed net due order last k (i + 1) 0 0 dates
 next_none net due order last k i dates h e =
-    next_more net due order last k i dates h (rw (there_none (latest_in (length net.transitions) dates i (k + 1)) e) (never_last (dates_in (length net.transitions) dates i k)))
+    next_more net due order last k i dates h (rw (there_none (latest_in (length net.transitions) dates i (k + 1)) e) (never_last (dates_of_latest (length net.transitions) dates i k)))
 
 -- a firing is not due before its date
 not_due : (net : NetLists) (due : ℕ → ℕ → Option ℕ) (order : List Depth) (last k next first by : ℕ) (dates : List LatestDate) (t d : ℕ) → ArePassed net due order last k next first by dates
@@ -60,13 +60,13 @@ not_due net due order last k next first by dates t d h l o before = λ e. before
 -- the date is lowered to that of the next firing
 pub next_some : (net : NetLists) (due : ℕ → ℕ → Option ℕ) (order : List Depth) (last k i d : ℕ) (dates : List LatestDate) → IsNet net
     → ArePassed net due order last k i 0 0 dates → i < length net.transitions → 1 ≤ k → k ≤ last → Some d ≡ date_there (latest_in (length net.transitions) dates i (k + 1))
-    → ArePassed net due order last k (i + 1) 0 0 (set dates (cell_of (length net.transitions) i k) (lowered (get_or dates (cell_of (length net.transitions) i k) Free) d Next))
+    → ArePassed net due order last k (i + 1) 0 0 (set dates (firing_position (length net.transitions) i k) (lowered (get_or dates (firing_position (length net.transitions) i k) Free) d Next))
 next_some net due order last k i d dates ok h l o m e =
     let n : ℕ = length net.transitions in
-    let cell : ℕ = cell_of n i k in
-    let there : dates_in n dates i (k + 1) ≡ on_date (pos d) = there_some (latest_in n dates i (k + 1)) d e in
+    let cell : ℕ = firing_position n i k in
+    let there : dates_of_latest n dates i (k + 1) ≡ on_date (pos d) = there_some (latest_in n dates i (k + 1)) d e in
     ⊎_elim
-    (λ (q : (lowered (get_or dates cell Free) d Next ≡ get_or dates cell Free) × IsAtMostDate (dates_in n dates i k) (on_date (pos d))).
+    (λ (q : (lowered (get_or dates cell Free) d Next ≡ get_or dates cell Free) × IsAtMostDate (dates_of_latest n dates i k) (on_date (pos d))).
     let stays : set dates cell (lowered (get_or dates cell Free) d Next) ≡ dates = ap (set dates cell) q.0 ∙ set-get_or dates cell Free in
     rw stays (next_more net due order last k i dates h (rw there q.1)))
     (λ (q : (lowered (get_or dates cell Free) d Next ≡ At d Next) × IsBefore d (get_or dates cell Free)).
@@ -77,7 +77,7 @@ next_some net due order last k i d dates ok h l o m e =
       from_one = o;
       to_last = m;
       before = q.1;
-      above = λ x f keeps. rw there at (at_most_trans (x i k) (x i (k + 1)) (dates_in n dates i (k + 1)) ((feasible_keeps net inputs_at_zero x f).next i k l o) (h.above x f keeps i (k + 1) l (omega arith)));
+      above = λ x f keeps. rw there at (at_most_trans (x i k) (x i (k + 1)) (dates_of_latest n dates i (k + 1)) ((feasible_keeps net inputs_at_zero x f).next i k l o) (h.above x f keeps i (k + 1) l (omega arith)));
       step = (there, not_due net due order last k i 0 0 dates i d h l o q.1);
       known = λ c f c_in none. absurd (omega arith);
       apart = λ c f c_in none. absurd (omega arith);
@@ -86,8 +86,8 @@ next_some net due order last k i d dates ok h l o m e =
     } in
     let now : ArePassed net due order last k i 0 0 fresh = lowered_at net due order last k i 0 0 0 dates i d Next ok h (omega arith) (omega arith) can in
     let same : set dates cell (lowered (get_or dates cell Free) d Next) ≡ fresh = ap (set dates cell) q.0 in
-    let here : dates_in n fresh i k ≡ on_date (pos d) = ap date_or_never (set_here n last dates i k (At d Next) h.full l o m) in
-    let after : dates_in n fresh i (k + 1) ≡ on_date (pos d) = ap date_or_never (set_other n dates i k i (k + 1) (At d Next) l l o (omega arith) (λ a b. absurd (omega arith))) ∙ there in
+    let here : dates_of_latest n fresh i k ≡ on_date (pos d) = ap date_or_never (set_here n last dates i k (At d Next) h.full l o m) in
+    let after : dates_of_latest n fresh i (k + 1) ≡ on_date (pos d) = ap date_or_never (set_other n dates i k i (k + 1) (At d Next) l l o (omega arith) (λ a b. absurd (omega arith))) ∙ there in
     rw same (next_more net due order last k i fresh now (rw (here, after) (at_most_refl (on_date (pos d))))))
     (lowered_cases (get_or dates cell Free) d Next)
 
@@ -100,7 +100,7 @@ later_again h e l =
 
 -- one more place is done
 done_more : (net : NetLists) (due : ℕ → ℕ → Option ℕ) (order : List Depth) (last k i by : ℕ) (o : Depth) (dates : List LatestDate) → ArePassed net due order last k (length net.transitions) i by dates → by ≤ i + 1 → ((d : Depth) → get_or order i d ≡ o)
-    → IsAtMostDate (delayed (place_at net o.place).hold (dates_in (length net.transitions) dates (place_at net o.place).from.index k)) (dates_in (length net.transitions) dates (place_at net o.place).to.index (k + (place_at net o.place).tokens))
+    → IsAtMostDate (delayed (place_at net o.place).hold (dates_of_latest (length net.transitions) dates (place_at net o.place).from.index k)) (dates_of_latest (length net.transitions) dates (place_at net o.place).to.index (k + (place_at net o.place).tokens))
     → ArePassed net due order last k (length net.transitions) (i + 1) (i + 1) dates
 done_more net due order last k i by o dates h few at below = record {
   full = h.full;
@@ -122,7 +122,7 @@ pub place_none : (net : NetLists) (due : ℕ → ℕ → Option ℕ) (order : Li
 place_none net due order last k i o dates h at e =
     let place : Place = place_at net o.place in
     done_more net due order last k i i o dates h (omega arith) at
-    (rw (there_none (latest_in (length net.transitions) dates place.to.index (k + place.tokens)) e) (never_last (delayed place.hold (dates_in (length net.transitions) dates place.from.index k))))
+    (rw (there_none (latest_in (length net.transitions) dates place.to.index (k + place.tokens)) e) (never_last (delayed place.hold (dates_of_latest (length net.transitions) dates place.from.index k))))
 
 -- a feasible dating leaves room for the hold
 pub has_room : (net : NetLists) (due : ℕ → ℕ → Option ℕ) (order : List Depth) (last k next first by e : ℕ) (p : PlaceId) (dates : List LatestDate) (x : ℕ → ℕ → Date) → IsNet net → IsFeasibleUnder net inputs_at_zero x → KeepsDues net due x
@@ -132,10 +132,10 @@ has_room net due order last k next first by e p dates x ok f keeps h in' o some 
     let n : ℕ = length net.transitions in
     let place : Place = place_at net p in
     let is : IsPlaceOf net place = ok.each_place p.index no_place in' in
-    let there : dates_in n dates place.to.index (k + place.tokens) ≡ on_date (pos e) = there_some (latest_in n dates place.to.index (k + place.tokens)) e some in
+    let there : dates_of_latest n dates place.to.index (k + place.tokens) ≡ on_date (pos e) = there_some (latest_in n dates place.to.index (k + place.tokens)) e some in
     let below : IsAtMostDate (delayed place.hold (x place.from.index k)) (on_date (pos e)) =
     rw there at
-    (at_most_trans (delayed place.hold (x place.from.index k)) (x place.to.index (k + place.tokens)) (dates_in n dates place.to.index (k + place.tokens))
+    (at_most_trans (delayed place.hold (x place.from.index k)) (x place.to.index (k + place.tokens)) (dates_of_latest n dates place.to.index (k + place.tokens))
     ((feasible_keeps net inputs_at_zero x f).by p k in' o) (h.above x f keeps place.to.index (k + place.tokens) is.to_in (omega arith))) in
     let zero : IsAtMostDate (delayed place.hold (on_date (pos 0))) (on_date (pos e)) =
     at_most_trans (delayed place.hold (on_date (pos 0))) (delayed place.hold (x place.from.index k)) (on_date (pos e))
@@ -167,22 +167,22 @@ pub place_some :
     → (place_at net o.place).hold ≤ e → ArePassed net due order last k (length net.transitions) i i dates → i < length order → ((d : Depth) → get_or order i d ≡ o) → 1 ≤ k → k ≤ last
     → Some e ≡ date_there (latest_in (length net.transitions) dates (place_at net o.place).to.index (k + (place_at net o.place).tokens))
     → ArePassed net due order last k (length net.transitions) (i + 1) (i + 1)
-    (set dates (cell_of (length net.transitions) (place_at net o.place).from.index k) (lowered (get_or dates (cell_of (length net.transitions) (place_at net o.place).from.index k) Free) (e - (place_at net o.place).hold) (By o.place)))
+    (set dates (firing_position (length net.transitions) (place_at net o.place).from.index k) (lowered (get_or dates (firing_position (length net.transitions) (place_at net o.place).from.index k) Free) (e - (place_at net o.place).hold) (By o.place)))
 place_some net due ranks order last k i e o dates ok r ord room fits h l at one m some =
     let n : ℕ = length net.transitions in
     let place : Place = place_at net o.place in
     let t : ℕ = place.from.index in
     let d : ℕ = e - place.hold in
-    let cell : ℕ = cell_of n t k in
+    let cell : ℕ = firing_position n t k in
     let range : o.place.index < length net.places = rw at at (ord.known i o l).in_range in
     let is : IsPlaceOf net place = ok.each_place o.place.index no_place range in
-    let there : dates_in n dates place.to.index (k + place.tokens) ≡ on_date (pos e) = there_some (latest_in n dates place.to.index (k + place.tokens)) e some in
+    let there : dates_of_latest n dates place.to.index (k + place.tokens) ≡ on_date (pos e) = there_some (latest_in n dates place.to.index (k + place.tokens)) e some in
     let back : delayed place.hold (on_date (pos d)) ≡ on_date (pos e) = later_again place.hold e fits in
     let itself : place.tokens ≡ 0 → place.to.index ≡ t → ⊥ = λ none same. ends_apart net ranks order i i o o.place ok r ord (omega arith) l (λ f. ap (λ z. z.place) (at f)) (rw at none) (rw at same) in
     ⊎_elim
-    (λ (q : (lowered (get_or dates cell Free) d (By o.place) ≡ get_or dates cell Free) × IsAtMostDate (dates_in n dates t k) (on_date (pos d))).
+    (λ (q : (lowered (get_or dates cell Free) d (By o.place) ≡ get_or dates cell Free) × IsAtMostDate (dates_of_latest n dates t k) (on_date (pos d))).
     let stays : set dates cell (lowered (get_or dates cell Free) d (By o.place)) ≡ dates = ap (set dates cell) q.0 ∙ set-get_or dates cell Free in
-    rw stays (done_more net due order last k i i o dates h (omega arith) at (rw (there, ← back) (delayed_rises place.hold (dates_in n dates t k) (on_date (pos d)) q.1))))
+    rw stays (done_more net due order last k i i o dates h (omega arith) at (rw (there, ← back) (delayed_rises place.hold (dates_of_latest n dates t k) (on_date (pos d)) q.1))))
     (λ (q : (lowered (get_or dates cell Free) d (By o.place) ≡ At d (By o.place)) × IsBefore d (get_or dates cell Free)).
     let fresh : List LatestDate = set dates cell (At d (By o.place)) in
     let plus : e ≡ d + place.hold = omega arith in
@@ -207,8 +207,8 @@ place_some net due ranks order last k i e o dates ok r ord room fits h l at one 
     } in
     let now : ArePassed net due order last k n i (i + 1) fresh = lowered_at net due order last k n i i (i + 1) dates t d (By o.place) ok h (omega arith) (omega arith) can in
     let same : set dates cell (lowered (get_or dates cell Free) d (By o.place)) ≡ fresh = ap (set dates cell) q.0 in
-    let here : dates_in n fresh t k ≡ on_date (pos d) = ap date_or_never (set_here n last dates t k (At d (By o.place)) h.full is.from_in one m) in
-    let end : dates_in n fresh place.to.index (k + place.tokens) ≡ on_date (pos e) =
+    let here : dates_of_latest n fresh t k ≡ on_date (pos d) = ap date_or_never (set_here n last dates t k (At d (By o.place)) h.full is.from_in one m) in
+    let end : dates_of_latest n fresh place.to.index (k + place.tokens) ≡ on_date (pos e) =
     ap date_or_never (set_other n dates t k place.to.index (k + place.tokens) (At d (By o.place)) is.from_in is.to_in one (omega arith) (λ a b. itself (omega arith) a)) ∙ there in
     rw same (done_more net due order last k i (i + 1) o fresh now (omega arith) at (rw (here, end) (at_most_is (delayed place.hold (on_date (pos d))) (on_date (pos e)) back))))
     (lowered_cases (get_or dates cell Free) d (By o.place))

@@ -10,7 +10,7 @@ use Rattle.teg_net.specs.Nets.{NetLists}
 use Rattle.teg_net.specs.Circuits.{no_place}
 use Rattle.teg_net.specs.ReadyDates.{ready_date, start_date}
 use Rattle.teg_net.proofs.StartDates.{IsStartDate-start_date}
-use Rattle.teg_jit.specs.Plans.{PlanDates, dates_of}
+use Rattle.teg_jit.specs.Plans.{PlanDates, dates_of_plan}
 use Rattle.teg_jit.specs.FirstLate.{HasDateAtStart, HasDateWhenReady, HasDateZero, IsAtStart, IsWhenReady, StartsAreKept}
 
 pub ready_is_start : (net : NetLists) (plan : PlanDates) (t k : ℕ) → plan.width ≡ length net.transitions → StartsAreKept net plan → IsWhenReady net plan t k → IsAtStart net plan t k
@@ -20,7 +20,7 @@ ready_is_start net plan t k wide kept h =
     let date = from.date in
     let within : t < plan.width = rw h.2 at date.in_range in
     let low : ready_date p k ≤ start_date net t k = (IsStartDate-start_date net t k).late_enough h.0 no_place from.place_in h.2 from.takes in
-    let there : dates_of plan t k ≡ on_date (pos (ready_date p k)) = rw h.2 at date.is in
+    let there : dates_of_plan plan t k ≡ on_date (pos (ready_date p k)) = rw h.2 at date.is in
     let up : IsAtMostDate (on_date (pos (start_date net t k))) (on_date (pos (ready_date p k))) = rw there at (kept t k (rw wide at within) date.from_one) in
     let same : ready_date p k ≡ start_date net t k = omega (arith, ints, low, up) in
     record { in_range = within; from_one = date.from_one; to_last = date.to_last; is = there ∙ ap (λ n. on_date (pos n)) same }

@@ -13,7 +13,7 @@ use Rattle.teg_net.specs.Circuits.{no_place, place_at, IsLive}
 use Rattle.teg_check.specs.Ranks.{IsRanking}
 use Rattle.std.proofs.lemmas.List.{get_or_past}
 use Rattle.teg_net.specs.Walks.{walk_time}
-use Rattle.teg_model.specs.Ranks.{AreRanks}
+use Rattle.teg_model.specs.LiveRanks.{AreRanks}
 use Rattle.teg_model.proofs.OfNet.{net_ends}
 use Rattle.due_laws.specs.LatestDates.{IsDateToDue, AreLatestDates}
 use Rattle.due_laws.proofs.LatestDates.{delayed_back, due_here, due_by, due_next, walk_ends_in}
@@ -22,7 +22,7 @@ use Rattle.teg_jit.specs.declared.answers.Onward.{Onward}
 use Rattle.teg_jit.specs.declared.answers.Onward.TheVariants.{Due, By, Next}
 use Rattle.teg_jit.specs.declared.answers.LatestDate.{LatestDate}
 use Rattle.teg_jit.specs.declared.answers.LatestDate.TheVariants.{Free, At}
-use Rattle.teg_jit.specs.Plans.{latest_in, date_or_never, dates_in, HasOnward, HaveOnward, PlanDates, IsPlanFor}
+use Rattle.teg_jit.specs.Plans.{latest_in, date_or_never, dates_of_latest, HasOnward, HaveOnward, PlanDates, IsPlanFor}
 use Rattle.teg_jit.specs.GoingBack.{ArePassedAbove}
 use Rattle.teg_jit.proofs.TableCells.{past_last}
 
@@ -72,7 +72,7 @@ nearer last bound k j r q l m n o p =
 -- a date is attained by its step
 by_step :
     (net : NetLists) (due : ℕ → ℕ → Option ℕ) (last bound : ℕ) (rank : ℕ → ℕ) (dates : List LatestDate) → IsNet net → AreRanks net.places bound rank
-    → (n t k d : ℕ) → ((v s e : ℕ) → distance last bound rank v s < n → v < length net.transitions → 1 ≤ s → dates_in (length net.transitions) dates v s ≡ on_date (pos e) → IsDateToDue net due v s (on_date (pos e))) → distance last bound rank t k < suc n → t < length net.transitions → 1 ≤ k → k ≤ last → (o : Onward) → HasOnward net due (dates_in (length net.transitions) dates) t k (At d o) → IsDateToDue net due t k (on_date (pos d))
+    → (n t k d : ℕ) → ((v s e : ℕ) → distance last bound rank v s < n → v < length net.transitions → 1 ≤ s → dates_of_latest (length net.transitions) dates v s ≡ on_date (pos e) → IsDateToDue net due v s (on_date (pos e))) → distance last bound rank t k < suc n → t < length net.transitions → 1 ≤ k → k ≤ last → (o : Onward) → HasOnward net due (dates_of_latest (length net.transitions) dates) t k (At d o) → IsDateToDue net due t k (on_date (pos d))
 by_step net due last bound rank dates ok rr n t k d rec s l one few Due h = due_here net due t k d h
 by_step net due last bound rank dates ok rr n t k d rec s l one few Next h =
     let down = nearer last bound k (k + 1) (rank t) (rank t) few (rr.below t) (rr.below t) (omega arith) (λ e. absurd (omega arith)) in
@@ -90,11 +90,11 @@ by_step net due last bound rank dates ok rr n t k d rec s l one few (By p) h =
 -- by induction on that: a date that is there is attained by a walk
 attained :
     (net : NetLists) (due : ℕ → ℕ → Option ℕ) (last bound : ℕ) (rank : ℕ → ℕ) (dates : List LatestDate) → IsNet net → AreRanks net.places bound rank → length dates ≡ last * length net.transitions → HaveOnward net due dates
-    → (n t k d : ℕ) → distance last bound rank t k < n → t < length net.transitions → 1 ≤ k → dates_in (length net.transitions) dates t k ≡ on_date (pos d) → IsDateToDue net due t k (on_date (pos d))
+    → (n t k d : ℕ) → distance last bound rank t k < n → t < length net.transitions → 1 ≤ k → dates_of_latest (length net.transitions) dates t k ≡ on_date (pos d) → IsDateToDue net due t k (on_date (pos d))
 attained net due last bound rank dates ok rr full on zero t k d s l o is = absurd (omega arith)
 attained net due last bound rank dates ok rr full on (suc n) t k d s l o is =
     let w : ℕ = length net.transitions in
-    let y : ℕ → ℕ → Date = dates_in w dates in
+    let y : ℕ → ℕ → Date = dates_of_latest w dates in
     let there = number_there (latest_in w dates t k) d is in
     let few : k ≤ last =
     ⊎_elim
@@ -105,10 +105,10 @@ attained net due last bound rank dates ok rr full on (suc n) t k d s l o is =
 
 -- settled dates are the latest dates
 pub passed_are_latest :
-    (net : NetLists) (due : ℕ → ℕ → Option ℕ) (last bound : ℕ) (rank : ℕ → ℕ) (dates : List LatestDate) → IsNet net → AreRanks net.places bound rank → ArePassedAbove net due last 0 dates → AreLatestDates net due (dates_in (length net.transitions) dates)
+    (net : NetLists) (due : ℕ → ℕ → Option ℕ) (last bound : ℕ) (rank : ℕ → ℕ) (dates : List LatestDate) → IsNet net → AreRanks net.places bound rank → ArePassedAbove net due last 0 dates → AreLatestDates net due (dates_of_latest (length net.transitions) dates)
 passed_are_latest net due last bound rank dates ok rr settled t k l o =
     let w : ℕ = length net.transitions in
-    let y : ℕ → ℕ → Date = dates_in w dates in
+    let y : ℕ → ℕ → Date = dates_of_latest w dates in
     let h = settled [] in
     let keeps : Keeps net y = record { by = λ p s in' m. h.places p s in' m; next = λ v s in' m. h.climbs v s in' m } in
     record {

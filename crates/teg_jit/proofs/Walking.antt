@@ -23,9 +23,9 @@ use Rattle.teg_jit.specs.declared.answers.Onward.TheVariants.{Due, By, Next}
 use Rattle.teg_jit.specs.declared.answers.LatestDate.{LatestDate}
 use Rattle.teg_jit.specs.declared.answers.LatestDate.TheVariants.{Free, At}
 use Rattle.due_laws.specs.LatestDates.{IsTightWalk}
-use Rattle.teg_jit.specs.FirstSteps.{IsFirstStep, step_of}
-use Rattle.teg_jit.specs.Laws.{PlansLead}
-use Rattle.teg_jit.specs.Plans.{date_or_never, dates_of, latest_at, HasOnward, PlanDates, KeepsSizes, IsPlanFor, FollowsPlan}
+use Rattle.teg_jit.specs.FirstSteps.{IsFirstStep, first_step_of}
+use Rattle.teg_jit.specs.PlansAndLateness.{PlansLead}
+use Rattle.teg_jit.specs.Plans.{date_or_never, dates_of_plan, latest_at, HasOnward, PlanDates, KeepsSizes, IsPlanFor, FollowsPlan}
 use Rattle.teg_jit.proofs.TableCells.{past_last}
 use Rattle.teg_model.proofs.LiveRanks.{rank_bound, rank_in, ranks_in}
 use Rattle.teg_jit.proofs.Tight.{distance, nearer, number_there}
@@ -36,9 +36,9 @@ pub record WalkedTo (net : NetLists) (plan : PlanDates) (t k : ℕ) (steps : Lis
   pub from_one : 1 ≤ count
   pub to_last : count ≤ plan.numbers
   pub date : ℕ
-  pub there : dates_of plan at count ≡ on_date (pos date)
+  pub there : dates_of_plan plan at count ≡ on_date (pos date)
   pub leads : Walks net t k steps at count
-  pub time : delayed (walk_time net steps) (dates_of plan t k) ≡ on_date (pos date)
+  pub time : delayed (walk_time net steps) (dates_of_plan plan t k) ≡ on_date (pos date)
   pub follows : (rest : List Step) → FollowsPlan net plan at count rest → FollowsPlan net plan t k (steps ++ rest)
 
 -- what is not free has a date
@@ -49,7 +49,7 @@ not_free (At d o) h = (d, refl)
 pub walk_begins : (net : NetLists) (plan : PlanDates) (t k : ℕ) → t < plan.width → 1 ≤ k → k ≤ plan.numbers → latest_at plan t k ≢ Free → WalkedTo net plan t k [] t k
 walk_begins net plan t k l o m h =
     let d = not_free (latest_at plan t k) h in
-    record { at_in = l; from_one = o; to_last = m; date = d.0; there = d.1; leads = (refl, refl); time = delayed_not (dates_of plan t k) ∙ d.1; follows = λ rest f. f }
+    record { at_in = l; from_one = o; to_last = m; date = d.0; there = d.1; leads = (refl, refl); time = delayed_not (dates_of_plan plan t k) ∙ d.1; follows = λ rest f. f }
 
 -- where the step leads, and that it is nearer to the end
 pub record IsStepTo (net : NetLists) (plan : PlanDates) (t k : ℕ) (steps : List Step) (step : Step) (at count next number : ℕ) : Type 0 where
@@ -57,7 +57,7 @@ pub record IsStepTo (net : NetLists) (plan : PlanDates) (t k : ℕ) (steps : Lis
   pub smaller : distance plan.numbers (rank_bound net) (rank_in net) next number < distance plan.numbers (rank_bound net) (rank_in net) at count
 
 -- a firing with a date is one of the plan's numbers
-pub in_numbers : (plan : PlanDates) (t k d : ℕ) → KeepsSizes plan → dates_of plan t k ≡ on_date (pos d) → k ≤ plan.numbers
+pub in_numbers : (plan : PlanDates) (t k d : ℕ) → KeepsSizes plan → dates_of_plan plan t k ≡ on_date (pos d) → k ≤ plan.numbers
 in_numbers plan t k d is there =
     ⊎_elim
     (λ (q : plan.numbers < k). absurd (at_most_is Never (on_date (pos d)) (sym (ap date_or_never (past_last plan.width plan.numbers plan.dates t k is.full q)) ∙ there)))
@@ -81,12 +81,12 @@ pub next_step : (net : NetLists) (plan : PlanDates) (due : ℕ → ℕ → Optio
 next_step net plan due t k steps at count ok is for h d here =
     let rr = ranks_in net (net_ends net ok) for.live in
     let w = for.width in
-    let onward : HasOnward net due (dates_of plan) at count (At d Next) = rw here at (rw (← w) at (for.onward at count (rw w at h.at_in) h.from_one)) in
+    let onward : HasOnward net due (dates_of_plan plan) at count (At d Next) = rw here at (rw (← w) at (for.onward at count (rw w at h.at_in) h.from_one)) in
     let same : on_date (pos d) ≡ on_date (pos h.date) = ap date_or_never (sym here) ∙ h.there in
     let last : List Step = to_next ∷ [] in
     let one : walk_time net last ≡ 0 + 0 = sum_by-cons (step_time net) to_next [] in
     let time : walk_time net (steps ++ last) ≡ walk_time net steps = omega (arith, walk_time-append net steps last, one) in
-    let there : dates_of plan at (count + 1) ≡ on_date (pos h.date) = onward.0 ∙ same in
+    let there : dates_of_plan plan at (count + 1) ≡ on_date (pos h.date) = onward.0 ∙ same in
     record {
       walked = record {
         at_in = h.at_in;
@@ -95,7 +95,7 @@ next_step net plan due t k steps at count ok is for h d here =
         date = h.date;
         there = there;
         leads = walk_append net steps last t k at count at (count + 1) h.leads (refl, refl);
-        time = ap (λ n. delayed n (dates_of plan t k)) time ∙ h.time;
+        time = ap (λ n. delayed n (dates_of_plan plan t k)) time ∙ h.time;
         follows = λ rest f. subst (λ z. FollowsPlan net plan t k z) (sym (append_assoc steps last rest)) (h.follows (to_next ∷ rest) (d, here, f));
       };
       smaller = nearer plan.numbers (rank_bound net) count (count + 1) (rank_in net at) (rank_in net at) h.to_last (rr.below at) (rr.below at) (omega arith) (λ e. absurd (omega arith));
@@ -106,7 +106,7 @@ pub place_step : (net : NetLists) (plan : PlanDates) (due : ℕ → ℕ → Opti
 place_step net plan due t k steps at count ok is for h d p here =
     let rr = ranks_in net (net_ends net ok) for.live in
     let w = for.width in
-    let onward : HasOnward net due (dates_of plan) at count (At d (By p)) = rw here at (rw (← w) at (for.onward at count (rw w at h.at_in) h.from_one)) in
+    let onward : HasOnward net due (dates_of_plan plan) at count (At d (By p)) = rw here at (rw (← w) at (for.onward at count (rw w at h.at_in) h.from_one)) in
     let place : Place = place_at net p in
     let own : IsPlaceOf net place = ok.each_place p.index no_place onward.0 in
     let same : on_date (pos h.date) ≡ on_date (pos d) = sym h.there ∙ ap date_or_never here in
@@ -124,7 +124,7 @@ place_step net plan due t k steps at count ok is for h d p here =
         date = d + place.hold;
         there = onward.2;
         leads = walk_append net steps last t k at count place.to.index (count + place.tokens) h.leads (onward.0, onward.1, (refl, refl));
-        time = ap (λ n. delayed n (dates_of plan t k)) time ∙ (delayed_twice (walk_time net steps) place.hold (dates_of plan t k) ∙ (ap (delayed place.hold) (h.time ∙ same) ∙ sym sum));
+        time = ap (λ n. delayed n (dates_of_plan plan t k)) time ∙ (delayed_twice (walk_time net steps) place.hold (dates_of_plan plan t k) ∙ (ap (delayed place.hold) (h.time ∙ same) ∙ sym sum));
         follows = λ rest f. subst (λ z. FollowsPlan net plan t k z) (sym (append_assoc steps last rest)) (h.follows (by_place p ∷ rest) (d, here, f));
       };
       smaller = nearer plan.numbers (rank_bound net) count (count + place.tokens) (rank_in net at) (rank_in net place.to.index) h.to_last (rr.below at) (rr.below place.to.index) (omega arith) (λ e. rw from at (rises (omega arith)));
@@ -141,12 +141,12 @@ IsByPlace to_next = ⊥
 by_is_not_next : (p : PlaceId) → by_place p ≡ to_next → ⊥
 by_is_not_next p e = subst IsByPlace e tt
 
-onward_by : (o : Onward) (p : PlaceId) → Some (by_place p) ≡ step_of o → o ≡ By p
+onward_by : (o : Onward) (p : PlaceId) → Some (by_place p) ≡ first_step_of o → o ≡ By p
 onward_by Due p e = absurd (none_is_no_step (by_place p) (sym e))
 onward_by (By q) p e = ap (λ s. By (place_or q s)) (sym (step_is (by_place p) (by_place q) e))
 onward_by Next p e = absurd (by_is_not_next p (step_is (by_place p) to_next e))
 
-onward_next : (o : Onward) → Some to_next ≡ step_of o → o ≡ Next
+onward_next : (o : Onward) → Some to_next ≡ first_step_of o → o ≡ Next
 onward_next Due e = absurd (none_is_no_step to_next (sym e))
 onward_next (By q) e = absurd (by_is_not_next q (sym (step_is to_next (by_place q) e)))
 onward_next Next e = refl
@@ -163,7 +163,7 @@ step_next (At d o) h = (d, ap (At d) (onward_next o h))
 pub place_in : (net : NetLists) (plan : PlanDates) (due : ℕ → ℕ → Option ℕ) (at count d : ℕ) (p : PlaceId) → IsPlanFor net due plan → at < plan.width → 1 ≤ count → latest_at plan at count ≡ At d (By p) → p.index < length net.places
 place_in net plan due at count d p for l o here =
     let w = for.width in
-    let onward : HasOnward net due (dates_of plan) at count (At d (By p)) = rw here at (rw (← w) at (for.onward at count (rw w at l) o)) in
+    let onward : HasOnward net due (dates_of_plan plan) at count (At d (By p)) = rw here at (rw (← w) at (for.onward at count (rw w at l) o)) in
     onward.0
 
 -- ---- the end
@@ -176,7 +176,7 @@ more_below : (s k : ℕ) (ns : List ℕ) → s ≤ k → All (λ n. n ≤ k) ns 
 more_below s k ns l h zero d m = l
 more_below s k ns l h (suc i) d m = h i d (omega arith)
 
-no_step : (o : Onward) → None ≡ step_of o → o ≡ Due
+no_step : (o : Onward) → None ≡ first_step_of o → o ≡ Due
 no_step Due e = refl
 no_step (By p) e = absurd (none_is_no_step (by_place p) e)
 no_step Next e = absurd (none_is_no_step to_next e)
@@ -192,13 +192,13 @@ numbers_to net (to_next ∷ steps) a s b k h =
     (more_below s k (numbers_of net (s + 1) steps) (omega (arith, rest.1)) rest.0, omega (arith, rest.1))
 
 pub walk_is_tight : (net : NetLists) (plan : PlanDates) (due : ℕ → ℕ → Option ℕ) (t k : ℕ) (at count : ℕ) (w : Walk) → IsNet net → KeepsSizes plan → IsPlanFor net due plan → WalkedTo net plan t k w.steps.items at count
-    → t < plan.width → 1 ≤ k → IsFirstStep (latest_at plan at count) None → w.start.index ≡ t → w.number ≡ k → IsTightWalk net due t k (dates_of plan t k) w
+    → t < plan.width → 1 ≤ k → IsFirstStep (latest_at plan at count) None → w.start.index ≡ t → w.number ≡ k → IsTightWalk net due t k (dates_of_plan plan t k) w
 walk_is_tight net plan due t k at count w ok is for h l o last start number =
     let wide = for.width in
     let there = number_there (latest_at plan at count) h.date h.there in
     let is_due : there.0 ≡ Due = no_step there.0 (rw there.1 at last) in
     let here : latest_at plan at count ≡ At h.date Due = there.1 ∙ ap (At h.date) is_due in
-    let onward : HasOnward net due (dates_of plan) at count (At h.date Due) = rw here at (rw (← wide) at (for.onward at count (rw wide at h.at_in) h.from_one)) in
+    let onward : HasOnward net due (dates_of_plan plan) at count (At h.date Due) = rw here at (rw (← wide) at (for.onward at count (rw wide at h.at_in) h.from_one)) in
     let numbers = (numbers_to net w.steps.items t k at count h.leads).0 in
     let few = is.numbers_in in
     record {
@@ -222,7 +222,7 @@ follows_to_end net plan t k steps at count h last =
     subst (λ z. FollowsPlan net plan t k z) (append-nil steps) (h.follows [] (h.date, here))
 
 abbrev LeadsOn : NetLists → PlanDates → (ℕ → ℕ → Option ℕ) → ℕ → ℕ → Type 0
-LeadsOn net plan due t k = (steps : List Step) × FollowsPlan net plan t k steps × (b : ℕ) × (n : ℕ) × (d : ℕ) × Walks net t k steps b n × (due b n ≡ Some d) × (delayed (walk_time net steps) (dates_of plan t k) ≡ on_date (pos d))
+LeadsOn net plan due t k = (steps : List Step) × FollowsPlan net plan t k steps × (b : ℕ) × (n : ℕ) × (d : ℕ) × Walks net t k steps b n × (due b n ≡ Some d) × (delayed (walk_time net steps) (dates_of_plan plan t k) ≡ on_date (pos d))
 
 lead : (net : NetLists) (plan : PlanDates) (due : ℕ → ℕ → Option ℕ) → IsNet net → KeepsSizes plan → IsPlanFor net due plan → (fuel t k : ℕ) (steps : List Step) (at count : ℕ) → WalkedTo net plan t k steps at count
     → distance plan.numbers (rank_bound net) (rank_in net) at count < fuel → LeadsOn net plan due t k
@@ -233,7 +233,7 @@ lead net plan due ok is for (suc fuel) t k steps at count h l =
       by_onward : ((s : List Step) (a c : ℕ) → WalkedTo net plan t k s a c → distance plan.numbers (rank_bound net) (rank_in net) a c < fuel → LeadsOn net plan due t k) → (o : Onward) → latest_at plan at count ≡ At h.date o → LeadsOn net plan due t k
       by_onward again Due e =
           let wide = for.width in
-          let onward : HasOnward net due (dates_of plan) at count (At h.date Due) = rw e at (rw (← wide) at (for.onward at count (rw wide at h.at_in) h.from_one)) in
+          let onward : HasOnward net due (dates_of_plan plan) at count (At h.date Due) = rw e at (rw (← wide) at (for.onward at count (rw wide at h.at_in) h.from_one)) in
           (steps, follows_to_end net plan t k steps at count h (rw e refl), at, count, h.date, h.leads, onward, h.time)
       by_onward again (By p) e =
           let on = place_step net plan due t k steps at count ok is for h h.date p e in

@@ -4,7 +4,7 @@ use Rattle.std.specs.List.Sorted.{IsNonDecreasingBy}
 use Rattle.dioid.specs.declared.dates.Date.{Date}
 use Rattle.dioid.specs.declared.dates.Date.TheVariants.{At}
 use Rattle.teg_net.specs.Nets.{NetLists}
-use Rattle.teg_dates.specs.DateCells.{date_of}
+use Rattle.teg_dates.specs.DateCells.{date_of_cell}
 use Rattle.teg_dates.specs.Streams.{IsLeastRow}
 use Rattle.teg_due.specs.declared.rows.DueRow.{DueRow}
 use Rattle.teg_jit.specs.declared.due_numbers.Numbered.{Numbered}
@@ -16,18 +16,18 @@ pub record IsNumbered (rows : List DueRow) (o : Numbered) : Type 0 where
   pub number : (d : DueRow) → (slice_index_or rows o.index d).number ≡ o.number
 
 -- each row with its number, those of lower numbers first
-pub record AreNumbered (rows : List DueRow) (order : List Numbered) : Type 0 where
+pub record AreRowsNumbered (rows : List DueRow) (order : List Numbered) : Type 0 where
   pub known : All (IsNumbered rows) order
   pub all : (i : ℕ) (d : DueRow) → i < length rows → Contains order (record { number = (slice_index_or rows i d).number; index = i })
   pub sorted : IsNonDecreasingBy (λ o. o.number) order
 
 -- after the first number, the cells have the dates of this number by the least dating of the net
 abbrev pub HaveRow : NetLists → ℕ → List ℕ → Type 0
-HaveRow net k cells = 1 ≤ k → IsLeastRow net k (map date_of cells)
+HaveRow net k cells = 1 ≤ k → IsLeastRow net k (map date_of_cell cells)
 
 -- the date that x gives to the firing of the row at this index
 abbrev pub IsDateOfRow : (ℕ → ℕ → Date) → List DueRow → List ℕ → ℕ → Type 0
-IsDateOfRow x rows dates i = (d : DueRow) → x (slice_index_or rows i d).transition.index (slice_index_or rows i d).number ≡ date_of (slice_index_or dates i 0)
+IsDateOfRow x rows dates i = (d : DueRow) → x (slice_index_or rows i d).transition.index (slice_index_or rows i d).number ≡ date_of_cell (slice_index_or dates i 0)
 
 -- the dates that x gives to the firings of the rows
 pub record AreDatesOfRows (x : ℕ → ℕ → Date) (rows : List DueRow) (dates : List ℕ) : Type 0 where

@@ -8,15 +8,15 @@ use Rattle.teg_net.specs.Circuits.{place_at}
 use Rattle.teg_net.specs.ReadyDates.{ready_date, start_date}
 use Rattle.teg_due.specs.declared.rows.DueRow.{DueRow}
 use Rattle.teg_jit.specs.LatestCells.{most_cell_date}
-use Rattle.teg_jit.specs.Plans.{PlanDates, dates_of}
-use Rattle.teg_jit.specs.Refusals.{KeepsRow}
+use Rattle.teg_jit.specs.Plans.{PlanDates, dates_of_plan}
+use Rattle.teg_jit.specs.LateRefusals.{KeepsRow}
 
 -- the latest date of this firing of the plan
 pub record IsDateAt (plan : PlanDates) (t k date : ℕ) : Type 0 where
   pub in_range : t < plan.width
   pub from_one : 1 ≤ k
   pub to_last : k ≤ plan.numbers
-  pub is : dates_of plan t k ≡ At (pos date)
+  pub is : dates_of_plan plan t k ≡ At (pos date)
 
 -- the latest date of this firing of the plan is its start
 abbrev pub IsAtStart : NetLists → PlanDates → ℕ → ℕ → Type 0
@@ -46,7 +46,7 @@ HasDateWhenReady net plan = (q k : ℕ) × IsReadyFrom net plan q k
 
 -- no latest date is before the start of its firing
 abbrev pub StartsAreKept : NetLists → PlanDates → Type 0
-StartsAreKept net plan = (t k : ℕ) → t < length net.transitions → 1 ≤ k → IsAtMostDate (At (pos (start_date net t k))) (dates_of plan t k)
+StartsAreKept net plan = (t k : ℕ) → t < length net.transitions → 1 ≤ k → IsAtMostDate (At (pos (start_date net t k))) (dates_of_plan plan t k)
 
 -- the rows before i are kept, and that at i is not: the date there, which eight bytes hold
 pub record IsFirstExceeded (y : ℕ → ℕ → Date) (rows : List DueRow) (i least : ℕ) : Type 0 where

@@ -8,12 +8,12 @@ use Rattle.teg_jit.specs.declared.answers.LatestDate.{LatestDate}
 use Rattle.teg_jit.specs.declared.answers.LatestDate.TheVariants.{Free, At}
 
 -- the step of a walk that a first step is; none where the firing is due
-abbrev pub step_of : Onward → Option Step
-step_of Due = None
-step_of (By p) = Some (by_place p)
-step_of Next = Some to_next
+abbrev pub first_step_of : Onward → Option Step
+first_step_of Due = None
+first_step_of (By p) = Some (by_place p)
+first_step_of Next = Some to_next
 
 -- that of what is there
 abbrev pub IsFirstStep : LatestDate → Option Step → Type 0
 IsFirstStep Free step = step ≡ None
-IsFirstStep (At d onward) step = step ≡ step_of onward
+IsFirstStep (At d onward) step = step ≡ first_step_of onward

@@ -6,13 +6,13 @@ use Rattle.teg_net.specs.declared.entries.PlaceId.{PlaceId}
 use Rattle.teg_net.specs.Nets.{NetLists}
 use Rattle.teg_net.specs.Circuits.{place_at}
 use Rattle.teg_model.specs.Datings.{IsFeasibleUnder}
-use Rattle.due_laws.specs.Dues.{KeepsDues, inputs_at_zero}
+use Rattle.due_laws.specs.MeetingDueDates.{KeepsDues, inputs_at_zero}
 use Rattle.teg_jit.specs.declared.answers.Onward.{Onward}
 use Rattle.teg_jit.specs.declared.answers.Onward.TheVariants.{Due, By}
 use Rattle.teg_jit.specs.declared.answers.LatestDate.{LatestDate}
 use Rattle.teg_jit.specs.declared.answers.LatestDate.TheVariants.{Free, At}
 use Rattle.teg_jit.specs.declared.order.Depth.{Depth}
-use Rattle.teg_jit.specs.Plans.{latest_in, dates_in, HaveOnward}
+use Rattle.teg_jit.specs.Plans.{latest_in, dates_of_latest, HaveOnward}
 
 -- the date with its step, where it comes before what is there
 abbrev pub lowered : LatestDate → ℕ → Onward → LatestDate
@@ -32,15 +32,15 @@ IsFreeOrDue date = (d : ℕ) (onward : Onward) → date ≡ At d onward → onwa
 -- next steps of the first transitions and the first places of the order, and only places before the one at `by` are steps
 pub record ArePassed (net : NetLists) (due : ℕ → ℕ → Option ℕ) (order : List Depth) (last k next first by : ℕ) (dates : List LatestDate) : Type 0 where
   pub full : length dates ≡ last * length net.transitions
-  pub dues : KeepsDues net due (dates_in (length net.transitions) dates)
-  pub above : (x : ℕ → ℕ → Date) → IsFeasibleUnder net inputs_at_zero x → KeepsDues net due x → (t s : ℕ) → t < length net.transitions → 1 ≤ s → IsAtMostDate (x t s) (dates_in (length net.transitions) dates t s)
+  pub dues : KeepsDues net due (dates_of_latest (length net.transitions) dates)
+  pub above : (x : ℕ → ℕ → Date) → IsFeasibleUnder net inputs_at_zero x → KeepsDues net due x → (t s : ℕ) → t < length net.transitions → 1 ≤ s → IsAtMostDate (x t s) (dates_of_latest (length net.transitions) dates t s)
   pub places : (p : PlaceId) (s : ℕ) → p.index < length net.places → k < s
-      → IsAtMostDate (delayed (place_at net p).hold (dates_in (length net.transitions) dates (place_at net p).from.index s)) (dates_in (length net.transitions) dates (place_at net p).to.index (s + (place_at net p).tokens))
-  pub climbs : (t s : ℕ) → t < length net.transitions → k < s → IsAtMostDate (dates_in (length net.transitions) dates t s) (dates_in (length net.transitions) dates t (s + 1))
-  pub nexts : (t : ℕ) → t < length net.transitions → t < next → IsAtMostDate (dates_in (length net.transitions) dates t k) (dates_in (length net.transitions) dates t (k + 1))
+      → IsAtMostDate (delayed (place_at net p).hold (dates_of_latest (length net.transitions) dates (place_at net p).from.index s)) (dates_of_latest (length net.transitions) dates (place_at net p).to.index (s + (place_at net p).tokens))
+  pub climbs : (t s : ℕ) → t < length net.transitions → k < s → IsAtMostDate (dates_of_latest (length net.transitions) dates t s) (dates_of_latest (length net.transitions) dates t (s + 1))
+  pub nexts : (t : ℕ) → t < length net.transitions → t < next → IsAtMostDate (dates_of_latest (length net.transitions) dates t k) (dates_of_latest (length net.transitions) dates t (k + 1))
   pub done : (c : ℕ) (d : Depth) → c < length order → c < first
-      → IsAtMostDate (delayed (place_at net (slice_index_or order c d).place).hold (dates_in (length net.transitions) dates (place_at net (slice_index_or order c d).place).from.index k))
-      (dates_in (length net.transitions) dates (place_at net (slice_index_or order c d).place).to.index (k + (place_at net (slice_index_or order c d).place).tokens))
+      → IsAtMostDate (delayed (place_at net (slice_index_or order c d).place).hold (dates_of_latest (length net.transitions) dates (place_at net (slice_index_or order c d).place).from.index k))
+      (dates_of_latest (length net.transitions) dates (place_at net (slice_index_or order c d).place).to.index (k + (place_at net (slice_index_or order c d).place).tokens))
   pub onward : HaveOnward net due dates
   pub steps : (t d : ℕ) (p : PlaceId) → t < length net.transitions → 1 ≤ k → latest_in (length net.transitions) dates t k ≡ At d (By p) → (c : ℕ) × (c < by) × (c < length order) × ((o : Depth) → (slice_index_or order c o).place ≡ p)
   pub untouched : (t s : ℕ) → t < length net.transitions → 1 ≤ s → s < k → IsFreeOrDue (latest_in (length net.transitions) dates t s)

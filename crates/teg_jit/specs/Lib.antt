@@ -1,11 +1,11 @@
 pub mod DueDates
 pub mod Plans
-pub mod Refusals
-pub mod Laws
+pub mod LateRefusals
+pub mod PlansAndLateness
 pub mod FirstSteps
 pub mod LatestCells
 pub mod Turned
 pub mod DueNumbers
 pub mod FirstLate
-pub mod Order
+pub mod BackwardOrder
 pub mod GoingBack

@@ -7,7 +7,7 @@ use Rattle.teg_net.specs.declared.walks.Step.TheVariants.{By as by_place, Next a
 use Rattle.teg_net.specs.Limits.{most_transitions}
 use Rattle.teg_net.specs.Nets.{NetLists}
 use Rattle.teg_net.specs.Circuits.{place_at, from_of, IsLive}
-use Rattle.teg_dates.specs.Tables.{most_numbers, cell_of}
+use Rattle.teg_dates.specs.DateTables.{most_numbers, firing_position}
 use Rattle.due_laws.specs.LatestDates.{AreLatestDates}
 use Rattle.teg_jit.specs.declared.answers.Onward.{Onward}
 use Rattle.teg_jit.specs.declared.answers.Onward.TheVariants.{Due, By, Next}
@@ -28,7 +28,7 @@ pub record KeepsSizes (plan : PlanDates) : Type 0 where
 
 -- the latest date in such a list; past its end each firing is free
 abbrev pub latest_in : ℕ → List LatestDate → ℕ → ℕ → LatestDate
-latest_in width dates t k = slice_index_or dates (cell_of width t k) Free
+latest_in width dates t k = slice_index_or dates (firing_position width t k) Free
 
 -- the latest date of firing k of transition t
 abbrev pub latest_at : PlanDates → ℕ → ℕ → LatestDate
@@ -40,12 +40,12 @@ date_or_never Free = Never
 date_or_never (At d onward) = on_date (pos d)
 
 -- the dates of such a list
-abbrev pub dates_in : ℕ → List LatestDate → ℕ → ℕ → Date
-dates_in width dates t k = date_or_never (latest_in width dates t k)
+abbrev pub dates_of_latest : ℕ → List LatestDate → ℕ → ℕ → Date
+dates_of_latest width dates t k = date_or_never (latest_in width dates t k)
 
 -- the dates of the plan, never past its numbers
-abbrev pub dates_of : PlanDates → ℕ → ℕ → Date
-dates_of plan t k = dates_in plan.width plan.dates t k
+abbrev pub dates_of_plan : PlanDates → ℕ → ℕ → Date
+dates_of_plan plan t k = dates_of_latest plan.width plan.dates t k
 
 -- a first step at which the date of firing k of transition t is attained; due goes before next, and next before a place
 abbrev pub IsOnward : NetLists → (ℕ → ℕ → Option ℕ) → (ℕ → ℕ → Date) → ℕ → ℕ → ℕ → Onward → Type 0
@@ -62,13 +62,13 @@ HasOnward net due y t k (At d onward) = IsOnward net due y t k d onward
 
 -- each date of the list has such a step
 abbrev pub HaveOnward : NetLists → (ℕ → ℕ → Option ℕ) → List LatestDate → Type 0
-HaveOnward net due dates = (t k : ℕ) → t < length net.transitions → 1 ≤ k → HasOnward net due (dates_in (length net.transitions) dates) t k (latest_in (length net.transitions) dates t k)
+HaveOnward net due dates = (t k : ℕ) → t < length net.transitions → 1 ≤ k → HasOnward net due (dates_of_latest (length net.transitions) dates) t k (latest_in (length net.transitions) dates t k)
 
 -- the plan of a live net for these due dates
 pub record IsPlanFor (net : NetLists) (due : ℕ → ℕ → Option ℕ) (plan : PlanDates) : Type 0 where
   pub live : IsLive net
   pub width : plan.width ≡ length net.transitions
-  pub latest : AreLatestDates net due (dates_of plan)
+  pub latest : AreLatestDates net due (dates_of_plan plan)
   pub onward : HaveOnward net due plan.dates
 
 -- the plan of a live net for some due dates

@@ -2,17 +2,17 @@
 use Rattle.std.specs.Prelude.{ℕ, ◌+◌, ◌*◌, ◌/◌, ◌%◌, ◌<◌, ◌≤◌, ◌≡◌, List, length, map, slice_index_or}
 use Rattle.std.specs.List.{range_with_len}
 use Rattle.teg_net.specs.Limits.{most_transitions}
-use Rattle.teg_dates.specs.Tables.{most_numbers}
+use Rattle.teg_dates.specs.DateTables.{most_numbers}
 use Rattle.teg_jit.specs.declared.answers.LatestDate.{LatestDate}
 use Rattle.teg_jit.specs.declared.answers.LatestDate.TheVariants.{Free}
 
 -- where a date stands transition by transition, by where it stands number by number
-abbrev pub turned : ℕ → ℕ → ℕ → ℕ
-turned width numbers i = (i % width) * numbers + i / width
+abbrev pub transposed : ℕ → ℕ → ℕ → ℕ
+transposed width numbers i = (i % width) * numbers + i / width
 
 -- the dates number by number, by those transition by transition
 abbrev pub turned_back : ℕ → ℕ → List LatestDate → List LatestDate
-turned_back width numbers turns = map (λ i. slice_index_or turns (turned width numbers i) Free) (range_with_len 0 (numbers * width))
+turned_back width numbers turns = map (λ i. slice_index_or turns (transposed width numbers i) Free) (range_with_len 0 (numbers * width))
 
 -- there is a date for each transition and number, within the limits
 pub record HasShape (width numbers : ℕ) (turns : List LatestDate) : Type 0 where
@@ -23,4 +23,4 @@ pub record HasShape (width numbers : ℕ) (turns : List LatestDate) : Type 0 whe
 -- the first so many of the dates stand where they stand transition by transition
 pub record AreTurnedTo (width numbers : ℕ) (dates turns : List LatestDate) (m : ℕ) : Type 0 where
   pub full : length turns ≡ numbers * width
-  pub each : (i : ℕ) → i < m → slice_index_or turns (turned width numbers i) Free ≡ slice_index_or dates i Free
+  pub each : (i : ℕ) → i < m → slice_index_or turns (transposed width numbers i) Free ≡ slice_index_or dates i Free

@@ -1,7 +1,7 @@
 //! Where the dates of firings stand in a list with one row a number.
 ghost use Rattle.std.specs.Prelude.{◌≡◌, ◌<◌, ◌≤◌, ◌*◌};
 ghost use Rattle.teg_net.specs.Limits.{most_transitions};
-ghost use Rattle.teg_dates.specs.Tables.{cell_of, most_numbers};
+ghost use Rattle.teg_dates.specs.DateTables.{firing_position, most_numbers};
 
 use teg_net::TransitionId;
 
@@ -11,7 +11,7 @@ pub(crate) fn cell_of(width: usize, transition: TransitionId, number: u32) -> us
     requires transition { transition.index < width }
     requires number { 1 ≤ number }
     requires few { number ≤ most_numbers }
-    ensures value { result ≡ cell_of width transition.index number }
+    ensures value { result ≡ firing_position width transition.index number }
     ensures within { result < number * width }
 {
     (number as usize - 1) * width + transition.index as usize

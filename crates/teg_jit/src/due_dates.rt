@@ -1,6 +1,6 @@
 //! What a due list asks.
 ghost use Rattle.std.specs.Prelude.{◌≤◌, All};
-ghost use Rattle.teg_due.specs.Dues.{greatest_due_number};
+ghost use Rattle.teg_due.specs.DueFileRows.{greatest_due_number};
 ghost use Rattle.teg_jit.specs.DueDates.{IsGreatestNumber};
 
 use teg_due::DueRow;

@@ -4,9 +4,9 @@ ghost use Rattle.dioid.specs.declared.dates.Date.{Date};
 ghost use Rattle.teg_check.specs.Ranks.{IsRanking};
 ghost use Rattle.teg_model.specs.Datings.{IsLeastDating};
 ghost use Rattle.teg_dates.specs.Streams.{AreFirstRowsOf};
-ghost use Rattle.teg_dates.specs.Tables.{most_numbers};
+ghost use Rattle.teg_dates.specs.DateTables.{most_numbers};
 ghost use Rattle.teg_jit.specs.DueDates.{NameFirings};
-ghost use Rattle.teg_jit.specs.DueNumbers.{AreNumbered, HaveRow, AreDatesOfRows};
+ghost use Rattle.teg_jit.specs.DueNumbers.{AreRowsNumbered, HaveRow, AreDatesOfRows};
 
 use std::alloc::{AllocError, Global};
 use teg_check::Live;
@@ -23,7 +23,7 @@ pub(crate) struct Numbered {
 
 // The rows in the order of their numbers.
 fn by_number(alloc: Global, rows: &[DueRow]) -> Result<Vec<Numbered>, AllocError>
-    ensures { IfOk result (λ order. AreNumbered rows.now order.items) }
+    ensures { IfOk result (λ order. AreRowsNumbered rows.now order.items) }
 {
     let mut order = Vec::new(alloc);
     for (index, row) in rows.iter().enumerate() {
@@ -63,7 +63,7 @@ fn take_dates(
 )
     requires stands { AreFirstRowsOf net.now first.old }
     requires begins { first.old.window.number ≡ 0 }
-    requires order { AreNumbered rows.now order.now }
+    requires order { AreRowsNumbered rows.now order.now }
     requires due { NameFirings net.now rows.now }
     requires few { All (λ r. r.number ≤ most_numbers) rows.now }
     requires cells { length cells.old ≡ length net.now.transitions }
@@ -88,7 +88,7 @@ fn fill_dates(
     dates: &mut [u64],
 ) -> Result<(), OutOfMemory>
     requires stands { IsRanking net.now live.now }
-    requires order { AreNumbered rows.now order.now }
+    requires order { AreRowsNumbered rows.now order.now }
     requires due { NameFirings net.now rows.now }
     requires few { All (λ r. r.number ≤ most_numbers) rows.now }
     requires cells { length cells.old ≡ length net.now.transitions }

@@ -6,12 +6,12 @@ ghost use Rattle.teg_net.specs.Nets.{IsNet};
 ghost use Rattle.teg_net.specs.ReadyDates.{start_date};
 ghost use Rattle.teg_check.specs.Ranks.{IsRanking};
 ghost use Rattle.teg_model.specs.Datings.{IsLeastUnder};
-ghost use Rattle.teg_dates.specs.Tables.{most_numbers};
-ghost use Rattle.due_laws.specs.Dues.{InputsMeet, inputs_at_zero};
+ghost use Rattle.teg_dates.specs.DateTables.{most_numbers};
+ghost use Rattle.due_laws.specs.MeetingDueDates.{InputsMeet, inputs_at_zero};
 ghost use Rattle.due_laws.specs.LatestDates.{IsLateWalk};
 ghost use Rattle.teg_jit.specs.DueDates.{due_in, NameFirings, NamesFiring};
 ghost use Rattle.teg_jit.specs.DueNumbers.{AreNumbersOfRows};
-ghost use Rattle.teg_jit.specs.Refusals.{KeepsRow, LateIsRight};
+ghost use Rattle.teg_jit.specs.LateRefusals.{KeepsRow, LateIsRight};
 ghost use Rattle.teg_jit.specs.FirstLate.{IsFirstExceeded};
 ghost use Rattle.teg_jit.specs.LatestCells.{most_cell_date};
 

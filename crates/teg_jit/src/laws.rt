@@ -1,6 +1,6 @@
 //! What holds of plans, of late rows and of due lists. Each is a function that does nothing when it
 //! runs: its contract is the law.
-ghost use Rattle.teg_jit.specs.Laws.{DuesAreKeptByRows, LateExcludesMeet, MeetOrLate, PlansLead};
+ghost use Rattle.teg_jit.specs.PlansAndLateness.{DuesAreKeptByRows, LateExcludesMeet, MeetOrLate, PlansLead};
 
 /// From each firing that is not free the first steps of a plan lead to one that is due, by a tight
 /// walk (chapter 5).

@@ -3,9 +3,9 @@
 ghost use Rattle.std.specs.Prelude.{◌≡◌, ◌+◌, ◌-◌, ◌*◌, ◌<◌, ◌≤◌, ℕ, List, length, All, IfOk, IfSome, slice_index_or, slice_set, Option};
 ghost use Rattle.teg_net.specs.Limits.{most_transitions};
 ghost use Rattle.teg_check.specs.Ranks.{IsRanking};
-ghost use Rattle.teg_dates.specs.Tables.{cell_of, most_numbers};
+ghost use Rattle.teg_dates.specs.DateTables.{most_numbers};
 ghost use Rattle.teg_jit.specs.DueDates.{due_in, IsGreatestNumber, NameFirings};
-ghost use Rattle.teg_jit.specs.Order.{IsBackOrder};
+ghost use Rattle.teg_jit.specs.BackwardOrder.{IsBackOrder};
 ghost use Rattle.teg_jit.specs.declared.answers.LatestDate.TheVariants.{Free};
 ghost use Rattle.teg_jit.specs.Plans.{latest_in};
 ghost use Rattle.teg_jit.specs.LatestCells.{most_cell_date, HasStepNumber};

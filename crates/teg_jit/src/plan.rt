@@ -3,7 +3,7 @@ ghost use Rattle.std.specs.Prelude.{◌≡◌, ◌≢◌, ◌<◌, ◌≤◌, �
 ghost use Rattle.due_laws.specs.LatestDates.{IsTightWalk};
 ghost use Rattle.teg_jit.specs.declared.answers.LatestDate.TheVariants.{Free};
 ghost use Rattle.teg_jit.specs.FirstSteps.{IsFirstStep};
-ghost use Rattle.teg_jit.specs.Plans.{latest_at, dates_of, IsPlanFor, StandsForNet, FollowsPlan};
+ghost use Rattle.teg_jit.specs.Plans.{latest_at, dates_of_plan, IsPlanFor, StandsForNet, FollowsPlan};
 
 use crate::answers::{LatestDate, Onward};
 use crate::cells::cell_of;
@@ -98,7 +98,7 @@ impl Plan {
         requires bounded { latest_at self.now transition.index number ≢ Free }
         ensures tight { IfOk result (λ walk. (due : ℕ → ℕ → Option ℕ)
             → IsPlanFor net.now due self.now → IsTightWalk net.now due transition.index number
-            (dates_of self.now transition.index number) walk) }
+            (dates_of_plan self.now transition.index number) walk) }
         ensures follows { IfOk result (λ walk. FollowsPlan net.now self.now transition.index number
             walk.steps.items) }
     {
@@ -139,7 +139,7 @@ impl Plan {
         requires bounded { latest_at self.now transition.index number ≢ Free }
         ensures tight { IfOk result (λ walk. (due : ℕ → ℕ → Option ℕ)
             → IsPlanFor net.now due self.now → IsTightWalk net.now due transition.index number
-            (dates_of self.now transition.index number) walk) }
+            (dates_of_plan self.now transition.index number) walk) }
         ensures follows { IfOk result (λ walk. FollowsPlan net.now self.now transition.index number
             walk.steps.items) }
     {

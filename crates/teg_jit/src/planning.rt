@@ -2,14 +2,14 @@
 ghost use Rattle.std.specs.Prelude.{◌≡◌, ◌≤◌, ◌<◌, All, IfOk, IfErr};
 ghost use Rattle.teg_net.specs.Nets.{IsNet};
 ghost use Rattle.teg_check.specs.Ranks.{IsRanking};
-ghost use Rattle.teg_dates.specs.Tables.{most_numbers};
-ghost use Rattle.teg_form.specs.Forms.{IsFormOf};
-ghost use Rattle.due_laws.specs.Dues.{InputsMeet, AreLatestInputs, inputs_at_zero};
-ghost use Rattle.teg_due.specs.Rules.{IsDueOf};
-ghost use Rattle.teg_jit.specs.Refusals.{LateIsRight};
+ghost use Rattle.teg_dates.specs.DateTables.{most_numbers};
+ghost use Rattle.teg_form.specs.StandardForms.{IsStandardFormOf};
+ghost use Rattle.due_laws.specs.MeetingDueDates.{InputsMeet, AreLatestInputs, inputs_at_zero};
+ghost use Rattle.teg_due.specs.RowRules.{IsDueOf};
+ghost use Rattle.teg_jit.specs.LateRefusals.{LateIsRight};
 ghost use Rattle.teg_jit.specs.DueDates.{due_in, IsGreatestNumber, NameFirings};
 ghost use Rattle.teg_jit.specs.LatestCells.{most_cell_date};
-ghost use Rattle.teg_jit.specs.Plans.{dates_of, IsPlanFor};
+ghost use Rattle.teg_jit.specs.Plans.{dates_of_plan, IsPlanFor};
 
 use crate::answers::JitRefusal;
 use crate::due_dates::greatest_number;
@@ -64,7 +64,7 @@ pub fn latest_inputs(alloc: Global, net: &Net, live: &Live, due: &Due) -> Result
     ensures numbers { IfOk result (λ plan. IsGreatestNumber due.now.rows.items plan.numbers) }
     ensures plan { IfOk result (λ plan. IsPlanFor net.now (due_in due.now.rows.items) plan) }
     ensures inputs { IfOk result (λ plan. AreLatestInputs net.now (due_in due.now.rows.items)
-        (dates_of plan)) }
+        (dates_of_plan plan)) }
     ensures in_time { IfOk result (λ _. InputsMeet net.now (due_in due.now.rows.items)
         inputs_at_zero) }
     ensures late { IfErr result (LateIsRight net.now due.now.rows.items) }
@@ -83,12 +83,12 @@ pub fn latest(
     due: &Due,
 ) -> Result<Plan, JitRefusal>
     requires stands { IsRanking net.now live.now }
-    requires form { IsFormOf net.now form.now }
+    requires form { IsStandardFormOf net.now form.now }
     requires due { IsDueOf net.now due.now.rows.items }
     ensures numbers { IfOk result (λ plan. IsGreatestNumber due.now.rows.items plan.numbers) }
     ensures plan { IfOk result (λ plan. IsPlanFor net.now (due_in due.now.rows.items) plan) }
     ensures inputs { IfOk result (λ plan. AreLatestInputs net.now (due_in due.now.rows.items)
-        (dates_of plan)) }
+        (dates_of_plan plan)) }
     ensures in_time { IfOk result (λ _. InputsMeet net.now (due_in due.now.rows.items)
         inputs_at_zero) }
     ensures late { IfErr result (LateIsRight net.now due.now.rows.items) }

@@ -13,8 +13,8 @@ use Rattle.teg_net.specs.Nets.{NetLists}
 use Rattle.teg_net.specs.Circuits.{place_at, from_of, IsPathBetween, tokens_of}
 use Rattle.teg_net.proofs.PathLaws.{no_id}
 use Rattle.teg_loops.specs.Loops.{EndsBelow}
-use Rattle.teg_loops.specs.Rounds.{HasRound}
-use Rattle.teg_loops.specs.Laws.{LongPathsComeRound}
+use Rattle.teg_loops.specs.ClosedPieces.{HasRound}
+use Rattle.teg_loops.specs.PathSplitting.{LongPathsComeRound}
 use Rattle.teg_loops.proofs.Stops.{met, met_at, met_below, to_met, from_met}
 use Rattle.number_laws.proofs.Pigeons.{pigeons, difference}
 

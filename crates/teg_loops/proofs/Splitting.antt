@@ -7,7 +7,7 @@ use Rattle.teg_net.specs.Nets.{NetLists}
 use Rattle.teg_net.specs.Circuits.{IsPathBetween}
 use Rattle.teg_loops.specs.Loops.{HasLoop, IsCircuitTowards, IsSplit}
 use Rattle.teg_loops.specs.Shortening.{NoCircuitGains}
-use Rattle.teg_loops.specs.Laws.{PathsSplit, PathsCanBeShortened}
+use Rattle.teg_loops.specs.PathSplitting.{PathsSplit, PathsCanBeShortened}
 use Rattle.teg_loops.proofs.Straight.{loop_or_apart, apart_straight}
 use Rattle.teg_loops.proofs.Taking.{rest_leads, rest_shorter, loop_sum}
 

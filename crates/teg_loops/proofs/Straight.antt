@@ -13,7 +13,7 @@ use Rattle.teg_net.specs.Nets.{NetLists}
 use Rattle.teg_net.specs.Circuits.{place_at, from_of, IsPathBetween, IsCircuit}
 use Rattle.teg_net.proofs.PathLaws.{no_id}
 use Rattle.teg_loops.specs.Loops.{EndsBelow, IsStraight, HasLoop}
-use Rattle.teg_loops.specs.Laws.{LongPathsHaveLoops}
+use Rattle.teg_loops.specs.PathSplitting.{LongPathsHaveLoops}
 use Rattle.teg_loops.proofs.Stops.{met, met_length, to_met, from_met, met_at, met_below, first_met, last_met}
 
 -- no two of the numbers are equal

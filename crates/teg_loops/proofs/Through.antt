@@ -8,7 +8,7 @@ use Rattle.teg_net.specs.Circuits.{from_of, IsPathBetween, IsCircuit}
 use Rattle.teg_net.specs.Parts.{to_of}
 use Rattle.teg_net.proofs.Turning.{turned, turned_circuit, turned_sum}
 use Rattle.teg_loops.specs.Loops.{IsStraight}
-use Rattle.teg_loops.specs.Laws.{CircuitsPassWherePathsLeadBack}
+use Rattle.teg_loops.specs.PathSplitting.{CircuitsPassWherePathsLeadBack}
 use Rattle.teg_loops.proofs.Splitting.{split}
 
 -- a circuit through p is p, followed by a path back that does not leave its start again

@@ -1,4 +1,4 @@
 pub mod Loops
 pub mod Shortening
-pub mod Rounds
-pub mod Laws
+pub mod ClosedPieces
+pub mod PathSplitting

@@ -1,5 +1,5 @@
 //! The laws of loops. Each is a function that does nothing when it runs: its contract is the law.
-ghost use Rattle.teg_loops.specs.Laws.{LongPathsHaveLoops, PathsSplit, PathsCanBeShortened, LongPathsComeRound, CircuitsPassWherePathsLeadBack};
+ghost use Rattle.teg_loops.specs.PathSplitting.{LongPathsHaveLoops, PathsSplit, PathsCanBeShortened, LongPathsComeRound, CircuitsPassWherePathsLeadBack};
 
 /// A path of at least as many places as there are transitions has a loop: a circuit stands in it
 /// (chapter 2).

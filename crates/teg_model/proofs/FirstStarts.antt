@@ -6,10 +6,11 @@ use Rattle.dioid.specs.declared.dates.Date.TheVariants.{Early}
 use Rattle.dioid.specs.Dates.{IsAtMostDate}
 use Rattle.dioid.proofs.DateOrder.{same_by_at_most}
 use Rattle.teg_net.specs.declared.entries.Place.{Place}
-use Rattle.teg_model.specs.Systems.{Dating, System, available, IsFeasibleIn}
+use Rattle.teg_model.specs.Systems.{System, available, IsFeasibleIn}
 use Rattle.teg_model.specs.Starts.{IsNotBeforeStart, IsStartIn}
 use Rattle.teg_model.proofs.LeastOver.{latest_into, latest_above, latest_upper, latest_least}
 use Rattle.teg_model.proofs.Tokens.{available_after, available_first}
+use Rattle.teg_model.proofs.DateFunctions.{Dating}
 
 -- where nothing is fired, only initial tokens are available
 nothing : Dating

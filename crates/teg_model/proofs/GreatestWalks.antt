@@ -13,28 +13,29 @@ use Rattle.teg_net.specs.Circuits.{no_place}
 use Rattle.teg_net.specs.ReadyDates.{ready_date, start_date}
 use Rattle.teg_net.proofs.StartDates.{IsStartDate-start_date}
 use Rattle.teg_net.specs.Walks.{walk_time}
-use Rattle.teg_model.specs.Systems.{Dating, System}
-use Rattle.teg_model.specs.Ranks.{AreRanks, HasEndsInRange}
+use Rattle.teg_model.specs.Systems.{System}
+use Rattle.teg_model.specs.LiveRanks.{AreRanks, HasEndsInRange}
 use Rattle.teg_model.specs.Datings.{initial_date, IsFeasibleUnder, IsLeastUnder, at_input, system_of}
-use Rattle.teg_model.specs.Starts.{IsNotBeforeStart, start_of}
-use Rattle.teg_model.specs.WalkDates.{IsStartOf, IsGreatestOfWalks}
+use Rattle.teg_model.specs.Starts.{IsNotBeforeStart, start_of_firing}
+use Rattle.teg_model.specs.WalkDates.{IsFiringStart, IsGreatestOfWalks}
 use Rattle.teg_model.proofs.LeastOver.{least_over}
 use Rattle.teg_model.proofs.OfNet.{all_extended, release_below, feasible_in, least_of, least_is_over}
 use Rattle.teg_model.proofs.Tokens.{available_first, place_keeps, not_before_zero}
 use Rattle.teg_model.proofs.WalkSteps.{walk_below, feasible_keeps_in}
 use Rattle.teg_model.proofs.SystemWalks.{reached_in, walks_below}
+use Rattle.teg_model.proofs.DateFunctions.{Dating}
 
 -- the start of a firing is not before its start in the system
-pub start_not_before : (net : NetLists) (u : Dating) (t k : ℕ) → IsNotBeforeStart (system_of net u) t k (start_of net u t k)
+pub start_not_before : (net : NetLists) (u : Dating) (t k : ℕ) → IsNotBeforeStart (system_of net u) t k (start_of_firing net u t k)
 start_not_before net u t k =
     let first : ℕ = start_date net t k in
-    let after : IsAtMostDate (At (pos first)) (start_of net u t k) = later_left (At (pos first)) (at_input net t (u t k) Early) in
+    let after : IsAtMostDate (At (pos first)) (start_of_firing net u t k) = later_left (At (pos first)) (at_input net t (u t k) Early) in
     let is = IsStartDate-start_date net t k in
     record {
       released = later_right (At (pos first)) (at_input net t (u t k) Early);
-      tokens = all_extended net (λ p. p.to.index ≡ t → k ≤ p.tokens → IsAtMostDate (initial_date p k) (start_of net u t k))
-          (λ i d l q m. let low = is.late_enough i d l q m in at_most_trans (initial_date (get_or net.places i d) k) (At (pos first)) (start_of net u t k) (omega (arith, ints, low)) after)
-          (λ v q m. at_most_trans (At (pos 0)) (At (pos first)) (start_of net u t k) (omega (arith, ints)) after);
+      tokens = all_extended net (λ p. p.to.index ≡ t → k ≤ p.tokens → IsAtMostDate (initial_date p k) (start_of_firing net u t k))
+          (λ i d l q m. let low = is.late_enough i d l q m in at_most_trans (initial_date (get_or net.places i d) k) (At (pos first)) (start_of_firing net u t k) (omega (arith, ints, low)) after)
+          (λ v q m. at_most_trans (At (pos 0)) (At (pos first)) (start_of_firing net u t k) (omega (arith, ints)) after);
     }
 
 -- no firing of a feasible dating comes before the ready dates of the tokens that it takes
@@ -55,13 +56,13 @@ not_before_ready net u x f t k l o =
     (IsStartDate-start_date net t k).reached
 
 -- nor is the start after the date of a feasible dating
-pub start_below : (net : NetLists) (u x : Dating) → IsFeasibleUnder net u x → (t k : ℕ) → t < length net.transitions → 1 ≤ k → IsAtMostDate (start_of net u t k) (x t k)
+pub start_below : (net : NetLists) (u x : Dating) → IsFeasibleUnder net u x → (t k : ℕ) → t < length net.transitions → 1 ≤ k → IsAtMostDate (start_of_firing net u t k) (x t k)
 start_below net u x f t k l o =
     later_least (At (pos (start_date net t k))) (at_input net t (u t k) Early) (x t k)
     (not_before_ready net u x f t k l o)
     (release_below net t (u t k) (x t k) (f.inputs t k o))
 
-start_is_below : (net : NetLists) (u x : Dating) → IsFeasibleUnder net u x → (t k : ℕ) (d : Date) → t < length net.transitions → 1 ≤ k → IsStartOf net u t k d → IsAtMostDate d (x t k)
+start_is_below : (net : NetLists) (u x : Dating) → IsFeasibleUnder net u x → (t k : ℕ) (d : Date) → t < length net.transitions → 1 ≤ k → IsFiringStart net u t k d → IsAtMostDate d (x t k)
 start_is_below net u x f t k d l o e = rw e (start_below net u x f t k l o)
 
 pub least_is_walk : (net : NetLists) (u x : Dating) (bound : ℕ) (r : ℕ → ℕ) → HasEndsInRange net → AreRanks net.places bound r → IsLeastUnder net u x
@@ -71,7 +72,7 @@ least_is_walk net u x bound r ends rr h t k l o =
     let lo : Dating = least_over s bound r in
     let f = feasible_in net u x h.feasible in
     let w = reached_in net initial_date s.release bound r ends rr lo (least_of net u bound r rr) t k l o in
-    let start : Date = start_of net u w.from w.number in
+    let start : Date = start_of_firing net u w.from w.number in
     let time = walk_time net w.steps in
     let up : IsAtMostDate w.start start = w.starts.least start (start_not_before net u w.from w.number) in
     let is : x t k ≡ delayed time w.start = sym (least_is_over net u x bound r rr h t k l o) ∙ w.is in
@@ -92,5 +93,5 @@ least_is_walk net u x bound r ends rr h t k l o =
         starts = refl;
         is = same_by_at_most (x t k) (delayed time start) low high;
       };
-      greatest = λ d v. walks_below net (IsStartOf net u) initial_date s.release x ends f (start_is_below net u x h.feasible) t k d v;
+      greatest = λ d v. walks_below net (IsFiringStart net u) initial_date s.release x ends f (start_is_below net u x h.feasible) t k d v;
     }

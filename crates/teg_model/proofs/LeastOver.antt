@@ -10,8 +10,9 @@ use Rattle.dioid.specs.Dates.{IsAtMostDate, later_of}
 use Rattle.dioid.proofs.DateOrder.{at_most_refl, at_most_trans, same_by_at_most, later_left, later_right, later_least, later_either, delayed_rises}
 use Rattle.teg_net.specs.declared.entries.Place.{Place}
 use Rattle.teg_net.specs.Circuits.{no_place}
-use Rattle.teg_model.specs.Systems.{Dating, InitialDates, System, available_in, available, IsFeasibleIn, IsLeastIn}
-use Rattle.teg_model.specs.Ranks.{AreRanks}
+use Rattle.teg_model.specs.Systems.{System, available_in, available, IsFeasibleIn, IsLeastIn}
+use Rattle.teg_model.specs.LiveRanks.{AreRanks}
+use Rattle.teg_model.proofs.DateFunctions.{Dating, InitialDates}
 
 -- the latest of d and of the tokens that the places into t have for firing k
 pub latest_into : List Place → InitialDates → Dating → ℕ → ℕ → Date → Date

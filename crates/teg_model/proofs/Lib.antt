@@ -1,3 +1,4 @@
+pub mod DateFunctions
 pub mod LeastOver
 pub mod OfNet
 pub mod Delays

@@ -14,7 +14,7 @@ use Rattle.teg_net.specs.declared.entries.Place.{Place}
 use Rattle.teg_net.specs.Nets.{NetLists}
 use Rattle.teg_net.specs.Circuits.{no_place, place_at, from_of, IsPathBetween, tokens_of, IsLive}
 use Rattle.teg_net.proofs.PathLaws.{IsPathBetween-in_range}
-use Rattle.teg_model.specs.Ranks.{AreRanks, IsRanked, HasEndsInRange}
+use Rattle.teg_model.specs.LiveRanks.{AreRanks, IsRanked, HasEndsInRange}
 
 -- ---- places without tokens never come back
 

@@ -16,11 +16,12 @@ use Rattle.teg_net.specs.declared.entries.Transition.{Transition}
 use Rattle.teg_net.specs.declared.entries.Place.{Place}
 use Rattle.teg_net.specs.Nets.{NetLists, IsNet, IsInput}
 use Rattle.teg_net.specs.Circuits.{no_place}
-use Rattle.teg_model.specs.Systems.{Dating, System, available, IsFeasibleIn, IsLeastIn}
-use Rattle.teg_model.specs.Ranks.{AreRanks, HasEndsInRange}
+use Rattle.teg_model.specs.Systems.{System, available, IsFeasibleIn, IsLeastIn}
+use Rattle.teg_model.specs.LiveRanks.{AreRanks, HasEndsInRange}
 use Rattle.teg_model.specs.Datings.{implicit_place, extended_places, IsFeasibleUnder, IsLeastUnder, by_role, by_transition, at_input, system_of}
-use Rattle.teg_model.specs.Laws.{AreSameOn, IsTight}
+use Rattle.teg_model.specs.LeastDatings.{AreSameOn, IsTight}
 use Rattle.teg_model.proofs.LeastOver.{least_over, least_is_feasible, least_is_tight, least_is_least, least_over_is_least, available_rises}
+use Rattle.teg_model.proofs.DateFunctions.{Dating}
 
 -- the places of a net end at its transitions
 pub net_ends : (net : NetLists) → IsNet net → HasEndsInRange net

@@ -12,8 +12,8 @@ use Rattle.teg_net.specs.declared.walks.Step.TheVariants.{By, Next}
 use Rattle.teg_net.specs.Nets.{NetLists}
 use Rattle.teg_net.specs.Circuits.{no_place, place_at}
 use Rattle.teg_net.specs.Walks.{walk_time, step_time}
-use Rattle.teg_model.specs.Systems.{Dating, InitialDates, System, available_in, IsFeasibleIn, IsLeastIn}
-use Rattle.teg_model.specs.Ranks.{AreRanks, HasEndsInRange}
+use Rattle.teg_model.specs.Systems.{System, available_in, IsFeasibleIn, IsLeastIn}
+use Rattle.teg_model.specs.LiveRanks.{AreRanks, HasEndsInRange}
 use Rattle.teg_model.specs.Starts.{IsStartIn}
 use Rattle.teg_model.specs.Datings.{implicit_place, extended_places, system_with}
 use Rattle.teg_model.specs.WalkDates.{IsDateOfWalkFrom, IsGreatestOfWalksIn}
@@ -23,6 +23,7 @@ use Rattle.teg_model.proofs.Delays.{delayed_twice, delayed_not}
 use Rattle.teg_model.proofs.Tokens.{available_after, available_first, implicit_gives}
 use Rattle.teg_model.proofs.FirstStarts.{start_in, start_is, feasible_not_before}
 use Rattle.teg_model.proofs.WalkSteps.{walk_append, walk_time-append, walk_below, feasible_keeps_in}
+use Rattle.teg_model.proofs.DateFunctions.{Dating, InitialDates}
 
 -- the walk without steps
 pub walk_starts : (net : NetLists) (IsStart : ℕ → ℕ → Date → Type 0) (t k : ℕ) (d : Date) → t < length net.transitions → 1 ≤ k → IsStart t k d → IsDateOfWalkFrom net IsStart t k d

@@ -8,13 +8,14 @@ use Rattle.dioid.specs.Dates.{IsAtMostDate}
 use Rattle.dioid.proofs.DateOrder.{at_most_refl, at_most_trans, delayed_rises}
 use Rattle.teg_net.specs.declared.entries.Place.{Place}
 use Rattle.teg_net.specs.Nets.{NetLists}
-use Rattle.teg_model.specs.Systems.{Dating, InitialDates, System, available_in, available, IsFeasibleIn, IsLeastIn, IsTightIn}
-use Rattle.teg_model.specs.Ranks.{AreRanks, HasEndsInRange}
+use Rattle.teg_model.specs.Systems.{System, available_in, available, IsFeasibleIn, IsLeastIn, IsTightIn}
+use Rattle.teg_model.specs.LiveRanks.{AreRanks, HasEndsInRange}
 use Rattle.teg_model.specs.Datings.{extended_places, system_of, IsFeasibleUnder, IsLeastUnder}
-use Rattle.teg_model.specs.Laws.{IsTight}
+use Rattle.teg_model.specs.LeastDatings.{IsTight}
 use Rattle.teg_model.proofs.LeastOver.{falls}
 use Rattle.teg_model.proofs.OfNet.{all_extended, ranks_extended, feasible_in, at_input_is}
 use Rattle.teg_model.proofs.Tokens.{available_after, available_first}
+use Rattle.teg_model.proofs.DateFunctions.{Dating, InitialDates}
 
 -- a token is available no later where the firing that gives it comes no later
 pub available_below : (init : InitialDates) (x y : Dating) (p : Place) (k : ℕ) → (p.tokens < k → IsAtMostDate (x p.from.index (k - p.tokens)) (y p.from.index (k - p.tokens)))

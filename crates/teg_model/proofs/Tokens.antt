@@ -10,10 +10,11 @@ use Rattle.dioid.proofs.DateOrder.{at_most_trans}
 use Rattle.teg_net.specs.declared.entries.Place.{Place}
 use Rattle.teg_net.specs.Nets.{NetLists}
 use Rattle.teg_net.specs.Circuits.{no_place}
-use Rattle.teg_model.specs.Systems.{Dating, InitialDates, available_in}
+use Rattle.teg_model.specs.Systems.{available_in}
 use Rattle.teg_model.specs.Datings.{implicit_place, available_at, IsFeasibleUnder}
 use Rattle.teg_model.proofs.Delays.{delayed_not}
 use Rattle.teg_model.proofs.OfNet.{implicit_is, extended_has}
+use Rattle.teg_model.proofs.DateFunctions.{Dating, InitialDates}
 
 -- a token of an earlier firing comes after its hold
 pub available_after : (init : InitialDates) (x : Dating) (p : Place) (k : ℕ) (d : Date) → p.tokens < k → x p.from.index (k - p.tokens) ≡ d → available_in init x p k ≡ delayed p.hold d

@@ -7,8 +7,8 @@ use Rattle.teg_net.specs.declared.entries.PlaceId.{PlaceId}
 use Rattle.teg_net.specs.declared.entries.Place.{Place}
 use Rattle.teg_net.specs.Nets.{NetLists}
 use Rattle.teg_net.specs.Circuits.{no_place, place_at}
-use Rattle.teg_model.specs.Systems.{Dating, InitialDates, available_in, IsFeasibleIn}
-use Rattle.teg_model.specs.Ranks.{HasEndsInRange}
+use Rattle.teg_model.specs.Systems.{available_in, IsFeasibleIn}
+use Rattle.teg_model.specs.LiveRanks.{HasEndsInRange}
 use Rattle.teg_model.specs.Datings.{system_with}
 use Rattle.teg_net.specs.declared.walks.Step.{Step}
 use Rattle.teg_net.specs.declared.walks.Step.TheVariants.{By, Next}
@@ -16,6 +16,7 @@ use Rattle.teg_net.specs.Walks.{Walks, step_time, walk_time}
 use Rattle.teg_model.proofs.Delays.{delayed_twice, delayed_not}
 use Rattle.teg_model.proofs.OfNet.{implicit_is, extended_has}
 use Rattle.teg_model.proofs.Tokens.{available_after, implicit_gives}
+use Rattle.teg_model.proofs.DateFunctions.{Dating, InitialDates}
 
 pub walk_append : (net : NetLists) (xs ys : List Step) (a s b k c j : ℕ) → Walks net a s xs b k → Walks net b k ys c j → Walks net a s (xs ++ ys) c j
 walk_append net [] ys a s b k c j w v = subst (λ z. Walks net z s ys c j) (sym w.0) (subst (λ z. Walks net b z ys c j) (sym w.1) v)

@@ -35,8 +35,8 @@ as_date None = Never
 as_date (Some d) = At (pos d)
 
 -- the releases by the input lists of the net
-abbrev pub listed : NetLists → ℕ → ℕ → Date
-listed net t k = as_date (input_date net t k)
+abbrev pub listed_releases : NetLists → ℕ → ℕ → Date
+listed_releases net t k = as_date (input_date net t k)
 
 -- no firing comes before the tokens that it takes are available, nor an input before its release
 pub record IsFeasibleUnder (net : NetLists) (u : ℕ → ℕ → Date) (x : ℕ → ℕ → Date) : Type 0 where
@@ -50,7 +50,7 @@ pub record IsLeastUnder (net : NetLists) (u : ℕ → ℕ → Date) (x : ℕ →
 
 -- the least dating of the net
 abbrev pub IsLeastDating : NetLists → (ℕ → ℕ → Date) → Type 0
-IsLeastDating net x = IsLeastUnder net (listed net) x
+IsLeastDating net x = IsLeastUnder net (listed_releases net) x
 
 -- the first date for an input, the second for every other role
 abbrev pub by_role : Role → Date → Date → Date

@@ -1,8 +1,8 @@
 pub mod Systems
-pub mod Ranks
+pub mod LiveRanks
 pub mod Datings
 pub mod Starts
 pub mod WalkDates
-pub mod Bounds
+pub mod DateBounds
 pub mod SystemLaws
-pub mod Laws
+pub mod LeastDatings

@@ -20,5 +20,5 @@ pub record IsStartIn (s : System) (t k : ℕ) (start : Date) : Type 0 where
 
 -- in a net under releases of its inputs: the greatest of 0 and the ready dates of the initial tokens that the firing takes,
 -- or the release where that is later and the transition is an input
-abbrev pub start_of : NetLists → (ℕ → ℕ → Date) → ℕ → ℕ → Date
-start_of net u t k = later_of (At (pos (start_date net t k))) (at_input net t (u t k) Early)
+abbrev pub start_of_firing : NetLists → (ℕ → ℕ → Date) → ℕ → ℕ → Date
+start_of_firing net u t k = later_of (At (pos (start_date net t k))) (at_input net t (u t k) Early)

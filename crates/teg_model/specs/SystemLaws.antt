@@ -4,11 +4,11 @@ use Rattle.dioid.specs.declared.dates.Date.{Date}
 use Rattle.teg_net.specs.declared.entries.Place.{Place}
 use Rattle.teg_net.specs.Nets.{NetLists}
 use Rattle.teg_model.specs.Systems.{System, IsFeasibleIn, IsLeastIn, IsTightIn}
-use Rattle.teg_model.specs.Ranks.{AreRanks, HaveRanks, IsRanked, HasEndsInRange}
+use Rattle.teg_model.specs.LiveRanks.{AreRanks, HaveRanks, IsRanked, HasEndsInRange}
 use Rattle.teg_model.specs.Starts.{IsStartIn}
 use Rattle.teg_model.specs.Datings.{system_with}
 use Rattle.teg_model.specs.WalkDates.{IsGreatestOfWalksIn}
-use Rattle.teg_model.specs.Bounds.{IsWithin, IsBoundedBy}
+use Rattle.teg_model.specs.DateBounds.{IsDateWithin, IsBoundedBy}
 
 -- each ranked system has a least dating, whatever its initial dates and its releases
 abbrev pub SystemsHaveLeast : Type 0
@@ -40,4 +40,4 @@ LeastInAreWalks = (net : NetLists) → HasEndsInRange net → IsRanked net → (
 abbrev pub LeastInAreWithin : Type 0
 LeastInAreWithin = (s : System) (bound hold : ℕ) (rank first : ℕ → ℕ) (x : ℕ → ℕ → Date)
     → AreRanks s.places bound rank → IsBoundedBy s hold first → IsLeastIn s x
-    → (t k : ℕ) → 1 ≤ k → IsWithin (first k + hold * (k * bound + rank t)) (x t k)
+    → (t k : ℕ) → 1 ≤ k → IsDateWithin (first k + hold * (k * bound + rank t)) (x t k)

@@ -5,14 +5,6 @@ use Rattle.dioid.specs.declared.dates.Date.{Date}
 use Rattle.dioid.specs.Dates.{IsAtMostDate, delayed}
 use Rattle.teg_net.specs.declared.entries.Place.{Place}
 
--- a date for each transition and each firing number from 1 on
-abbrev pub Dating : Type 0
-Dating = ℕ → ℕ → Date
-
--- for each place the date from which its k-th initial token is available
-abbrev pub InitialDates : Type 0
-InitialDates = Place → ℕ → Date
-
 -- places, the dates of their initial tokens, and for each firing the date before which it is not released
 pub record System : Type 0 where
   pub places : List Place

@@ -6,7 +6,7 @@ use Rattle.teg_net.specs.Nets.{NetLists}
 use Rattle.teg_net.specs.declared.walks.Step.{Step}
 use Rattle.teg_net.specs.Walks.{Walks, walk_time}
 use Rattle.teg_model.specs.Systems.{System}
-use Rattle.teg_model.specs.Starts.{IsStartIn, start_of}
+use Rattle.teg_model.specs.Starts.{IsStartIn, start_of_firing}
 
 -- a walk from a firing with a start ends at firing k of transition b, and the date is that start plus its time
 pub record IsDateOfWalkFrom (net : NetLists) (IsStart : ℕ → ℕ → Date → Type 0) (b k : ℕ) (date : Date) : Type 0 where
@@ -30,12 +30,12 @@ abbrev pub IsGreatestOfWalksIn : NetLists → System → ℕ → ℕ → Date �
 IsGreatestOfWalksIn net s b k date = IsGreatestDate (IsDateOfWalkFrom net (IsStartIn s) b k) date
 
 -- the start of a firing of the net
-abbrev pub IsStartOf : NetLists → (ℕ → ℕ → Date) → ℕ → ℕ → Date → Type 0
-IsStartOf net u t k start = start ≡ start_of net u t k
+abbrev pub IsFiringStart : NetLists → (ℕ → ℕ → Date) → ℕ → ℕ → Date → Type 0
+IsFiringStart net u t k start = start ≡ start_of_firing net u t k
 
 -- a walk with this start plus time ends at firing k of transition b
 abbrev pub IsDateOfWalk : NetLists → (ℕ → ℕ → Date) → ℕ → ℕ → Date → Type 0
-IsDateOfWalk net u b k date = IsDateOfWalkFrom net (IsStartOf net u) b k date
+IsDateOfWalk net u b k date = IsDateOfWalkFrom net (IsFiringStart net u) b k date
 
 -- the greatest start plus time of the walks that end at firing k of transition b
 abbrev pub IsGreatestOfWalks : NetLists → (ℕ → ℕ → Date) → ℕ → ℕ → Date → Type 0

@@ -1,6 +1,6 @@
 //! The laws of the least datings of nets. Each is a function that does nothing when it runs: its
 //! contract is the law.
-ghost use Rattle.teg_model.specs.Laws.{LeastDatesAreFromZero, LeastDatesAreWalks, LeastDatesAreWithin, LeastDatingsAreOne, LeastDatingsAreTight, LeastDatingsExist, LeastOfSystemsAreLeast, LiveNetsAreRanked, TightDatingsAreLeast};
+ghost use Rattle.teg_model.specs.LeastDatings.{LeastDatesAreFromZero, LeastDatesAreWalks, LeastDatesAreWithin, LeastDatingsAreOne, LeastDatingsAreTight, LeastDatingsExist, LeastOfSystemsAreLeast, LiveNetsAreRanked, TightDatingsAreLeast};
 
 /// A live net has ranks: numbers of its transitions that rise along each place without tokens (chapter 2).
 pub fn live_nets_are_ranked()

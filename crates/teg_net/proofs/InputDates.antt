@@ -9,28 +9,28 @@ use Rattle.std.proofs.lemmas.Nat.{div_below}
 use Rattle.std.proofs.Math.Nat.{add-div_right, mul-le-mul_left, div-le_self}
 use Rattle.teg_net.specs.declared.entries.Again.{Again}
 use Rattle.teg_net.specs.declared.entries.InputList.{InputList}
-use Rattle.teg_net.specs.Limits.{greatest_date}
+use Rattle.teg_net.specs.Limits.{greatest_input_date}
 use Rattle.teg_net.specs.Nets.{NetLists, IsNet, IsInputOf, EndsOrGoesOn}
-use Rattle.teg_net.specs.Inputs.{moved_by, GoOnBy, IsInputDates, IsListDate, AreInputDates, IsInputDate, rounds_past, date_past, list_date, date_by, input_date}
+use Rattle.teg_net.specs.Inputs.{moved_by, GoOnBy, IsInputDates, IsListDate, AreInputDates, IsInputDate, laps_past, list_date_past, list_date, date_by_list, input_date}
 
 in_list : (dates : List ℕ) (again : Option Again) (k : ℕ) → k ≤ length dates → list_date dates again k ≡ Some (get_or dates (k - 1) 0)
 in_list dates again k l = let e : leb k (length dates) ≡ true = grind (arith, nat_tests) in rw e refl
 
-past_list : (dates : List ℕ) (again : Option Again) (k : ℕ) → length dates < k → list_date dates again k ≡ date_past dates again k
+past_list : (dates : List ℕ) (again : Option Again) (k : ℕ) → length dates < k → list_date dates again k ≡ list_date_past dates again k
 past_list dates again k l = let e : leb k (length dates) ≡ false = grind (arith, nat_tests) in rw e refl
 
 -- past the list, with the number of rounds
-past_by : (dates : List ℕ) (a : Again) (k r : ℕ) → length dates < k → rounds_past (length dates) a.every k ≡ r → list_date dates (Some a) k ≡ Some (get_or dates (k - r * a.every - 1) 0 + r * a.gap)
+past_by : (dates : List ℕ) (a : Again) (k r : ℕ) → length dates < k → laps_past (length dates) a.every k ≡ r → list_date dates (Some a) k ≡ Some (get_or dates (k - r * a.every - 1) 0 + r * a.gap)
 past_by dates a k r l e =
     past_list dates (Some a) k l ∙ ap (λ n. Some (get_or dates (k - n * a.every - 1) 0 + n * a.gap)) e
 
-pub one_round : (long every k : ℕ) → 1 ≤ every → long < k → k - every ≤ long → rounds_past long every k ≡ 1
+pub one_round : (long every k : ℕ) → 1 ≤ every → long < k → k - every ≤ long → laps_past long every k ≡ 1
 one_round long every k o l m =
     let few : k - long - 1 < 1 * every = omega arith in
     let none : (k - long - 1) / every < 1 = div_below (k - long - 1) every 1 (omega arith) few in
     omega arith
 
-pub more_rounds : (long every k : ℕ) → 1 ≤ every → long < k - every → rounds_past long every k ≡ rounds_past long every (k - every) + 1
+pub more_rounds : (long every k : ℕ) → 1 ≤ every → long < k - every → laps_past long every k ≡ laps_past long every (k - every) + 1
 more_rounds long every k o l =
     let is : k - long - 1 ≡ (k - every - long - 1) + every = omega arith in
     let step : ((k - every - long - 1) + every) / every ≡ (k - every - long - 1) / every + 1 = add-div_right (k - every - long - 1) (omega arith) in
@@ -41,7 +41,7 @@ goes_on : (dates : List ℕ) (a : Again) (k : ℕ) → 1 ≤ a.every → a.every
 goes_on dates a k o e l =
     ⊎_elim
     (λ (m : length dates < k - a.every).
-    let r : ℕ = rounds_past (length dates) a.every (k - a.every) in
+    let r : ℕ = laps_past (length dates) a.every (k - a.every) in
     let far = past_by dates a k (r + 1) l (more_rounds (length dates) a.every k o m) in
     let near = past_by dates a (k - a.every) r m refl in
     let wide : (r + 1) * a.every ≡ r * a.every + a.every = grind arith in
@@ -103,8 +103,8 @@ AreInputDates-input_date net t h = record {
   by_list = λ i d m e. (
       let l : InputList = get_or net.inputs i d in
       let is : find (λ x. x.transition.index == t) net.inputs ≡ Some l = found net.inputs t i d h.one_list m e in
-      subst (λ o. IsInputDates l (date_by o)) (sym is) (IsInputDates-list_date l (h.each_input i d m).again));
-  no_list = λ none k. ap (λ o. date_by o k) (not_found net.inputs t none);
+      subst (λ o. IsInputDates l (date_by_list o)) (sym is) (IsInputDates-list_date l (h.each_input i d m).again));
+  no_list = λ none k. ap (λ o. date_by_list o k) (not_found net.inputs t none);
 }
 
 -- past the list, dates that agree before agree
@@ -159,24 +159,24 @@ IsInputDate-input_date net t k ok one = record {
       (has_list net.inputs t);
 }
 
-pub date_le : (dates : List ℕ) (i : ℕ) → All (λ d. d ≤ greatest_date) dates → get_or dates i 0 ≤ greatest_date
+pub date_le : (dates : List ℕ) (i : ℕ) → All (λ d. d ≤ greatest_input_date) dates → get_or dates i 0 ≤ greatest_input_date
 date_le dates i h =
     ⊎_elim
     (λ (l : i < length dates). h i 0 l)
     (λ (l : length dates ≤ i). let is : get_or dates i 0 ≡ 0 = get_or_past dates i 0 l in omega arith)
     (cases_lt i (length dates))
 
-past-most : (dates : List ℕ) (o : Option Again) (k : ℕ) → All (λ d. d ≤ greatest_date) dates → EndsOrGoesOn dates o → length dates < k → IfSome (date_past dates o k) (λ d. d ≤ greatest_date * (k + 1))
+past-most : (dates : List ℕ) (o : Option Again) (k : ℕ) → All (λ d. d ≤ greatest_input_date) dates → EndsOrGoesOn dates o → length dates < k → IfSome (list_date_past dates o k) (λ d. d ≤ greatest_input_date * (k + 1))
 past-most dates None k h e l = tt
 past-most dates (Some a) k h e l =
-    let r : ℕ = rounds_past (length dates) a.every k in
+    let r : ℕ = laps_past (length dates) a.every k in
     let few : (k - length dates - 1) / a.every ≤ k - length dates - 1 = div-le_self (k - length dates - 1) a.every in
-    let gaps : r * a.gap ≤ r * greatest_date = mul-le-mul_left r e.gap_in in
+    let gaps : r * a.gap ≤ r * greatest_input_date = mul-le-mul_left r e.gap_in in
     let first = date_le dates (k - r * a.every - 1) h in
     omega arith
 
 -- no date is later than that of a list that goes on by the greatest gap
-pub list_date-most : (dates : List ℕ) (o : Option Again) (k : ℕ) → All (λ d. d ≤ greatest_date) dates → EndsOrGoesOn dates o → IfSome (list_date dates o k) (λ d. d ≤ greatest_date * (k + 1))
+pub list_date-most : (dates : List ℕ) (o : Option Again) (k : ℕ) → All (λ d. d ≤ greatest_input_date) dates → EndsOrGoesOn dates o → IfSome (list_date dates o k) (λ d. d ≤ greatest_input_date * (k + 1))
 list_date-most dates o k h e =
     ⊎_elim
     (λ (l : length dates < k). rw (past_list dates o k l) (past-most dates o k h e l))

@@ -5,7 +5,7 @@ use Rattle.std.proofs.lemmas.List.{length-drop, get_or-drop, get_or_default}
 use Rattle.teg_net.specs.declared.entries.PlaceId.{PlaceId}
 use Rattle.teg_net.specs.Nets.{NetLists}
 use Rattle.teg_net.specs.Circuits.{place_at, from_of, IsPathBetween, IsPath, AreInRange}
-use Rattle.teg_net.specs.Paths.{IsStartOf}
+use Rattle.teg_net.specs.Paths.{IsPathStart}
 
 pub IsPathBetween-append :
     (net : NetLists) (ps qs : List PlaceId) (a b c : ℕ) → IsPathBetween net a ps b → IsPathBetween net b qs c → IsPathBetween net a (ps ++ qs) c
@@ -39,7 +39,7 @@ pub IsPath-in_range : (net : NetLists) (ps : List PlaceId) → IsPath net ps →
 IsPath-in_range net ps (a, b, h) = IsPathBetween-in_range net ps a b h
 
 -- a closed path ends where its first place begins
-pub IsPathBetween-closed : (net : NetLists) (ps : List PlaceId) (a start end : ℕ) → IsPathBetween net a ps a → IsStartOf net ps start → IsPathBetween net start ps end → end ≡ start
+pub IsPathBetween-closed : (net : NetLists) (ps : List PlaceId) (a start end : ℕ) → IsPathBetween net a ps a → IsPathStart net ps start → IsPathBetween net start ps end → end ≡ start
 IsPathBetween-closed net [] a start end h s w = absurd s
 IsPathBetween-closed net (p ∷ ps) a start end h s w =
     let same : start ≡ a = sym s.1 ∙ h.1 in

@@ -6,7 +6,7 @@ use Rattle.std.proofs.lemmas.Bool.{cases_Bool, cases_lt}
 use Rattle.std.proofs.lemmas.Bool.Decides.{nat_tests}
 use Rattle.std.proofs.lemmas.List.{take_all}
 use Rattle.teg_net.specs.declared.entries.Place.{Place}
-use Rattle.teg_net.specs.Limits.{greatest_date}
+use Rattle.teg_net.specs.Limits.{greatest_input_date}
 use Rattle.teg_net.specs.Nets.{NetLists, IsNet}
 use Rattle.teg_net.specs.ReadyDates.{ready_date, takes_initial, ready_for, start_date, IsStartDate}
 use Rattle.teg_net.proofs.InputDates.{date_le}
@@ -73,12 +73,12 @@ IsStartDate-start_date net t k = record {
 }
 
 -- a ready date keeps the limit of dates
-pub start_date-most : (net : NetLists) (t k : ℕ) → IsNet net → start_date net t k ≤ greatest_date
+pub start_date-most : (net : NetLists) (t k : ℕ) → IsNet net → start_date net t k ≤ greatest_input_date
 start_date-most net t k ok =
     ⊎_elim
     (λ (none : start_date net t k ≡ 0). omega arith)
     (λ (one : Any (λ p. (p.to.index ≡ t) × (k ≤ p.tokens) × (ready_date p k ≡ start_date net t k)) net.places).
     let (i, p, l, r, (into, few, e)) = one in
-    let most : ready_date p k ≤ greatest_date = date_le p.ready (k - 1) (subst (λ q. All (λ d. d ≤ greatest_date) q.ready) r (ok.each_place i p l).ready_in) in
+    let most : ready_date p k ≤ greatest_input_date = date_le p.ready (k - 1) (subst (λ q. All (λ d. d ≤ greatest_input_date) q.ready) r (ok.each_place i p l).ready_in) in
     omega (arith, most, e))
     (IsStartDate-start_date net t k).reached

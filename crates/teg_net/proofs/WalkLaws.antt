@@ -5,22 +5,22 @@ use Rattle.std.specs.Prelude.{All}
 use Rattle.teg_net.specs.declared.walks.Step.{Step}
 use Rattle.teg_net.specs.declared.walks.Step.TheVariants.{By, Next}
 use Rattle.teg_net.specs.declared.walks.Walk.{Walk}
-use Rattle.teg_net.specs.Limits.{greatest_number}
+use Rattle.teg_net.specs.Limits.{greatest_firing_number}
 use Rattle.teg_net.specs.Nets.{NetLists}
 use Rattle.teg_net.specs.Circuits.{place_at}
 use Rattle.teg_net.specs.Walks.{Walks, WalksWithin, numbers_of, IsWalk, IsStepOf}
 
 abbrev AreSmall : List ℕ → Type 0
-AreSmall ns = All (λ n. n ≤ greatest_number) ns
+AreSmall ns = All (λ n. n ≤ greatest_firing_number) ns
 
-small_more : (n : ℕ) (ns : List ℕ) → n ≤ greatest_number → AreSmall ns → AreSmall (n ∷ ns)
+small_more : (n : ℕ) (ns : List ℕ) → n ≤ greatest_firing_number → AreSmall ns → AreSmall (n ∷ ns)
 small_more n ns l h zero d m = l
 small_more n ns l h (suc i) d m = h i d (omega arith)
 
 small_rest : (n : ℕ) (ns : List ℕ) → AreSmall (n ∷ ns) → AreSmall ns
 small_rest n ns h i d m = h (suc i) d (omega arith)
 
-small_first : (net : NetLists) (n : ℕ) (steps : List Step) → AreSmall (numbers_of net n steps) → n ≤ greatest_number
+small_first : (net : NetLists) (n : ℕ) (steps : List Step) → AreSmall (numbers_of net n steps) → n ≤ greatest_firing_number
 small_first net n [] h = h 0 0 (omega arith)
 small_first net n (By p ∷ steps) h = h 0 0 (omega arith)
 small_first net n (Next ∷ steps) h = h 0 0 (omega arith)
@@ -57,22 +57,22 @@ first_on net Next rest a s b k c n h w =
 
 -- where the first step leads nowhere, no steps do that begin with it
 first_none :
-    (net : NetLists) (step : Step) (rest : List Step) (a s : ℕ) → s ≤ greatest_number → ((b k : ℕ) → WalksWithin net a s (step ∷ []) b k → ⊥) → (c n : ℕ) → WalksWithin net a s (step ∷ rest) c n → ⊥
+    (net : NetLists) (step : Step) (rest : List Step) (a s : ℕ) → s ≤ greatest_firing_number → ((b k : ℕ) → WalksWithin net a s (step ∷ []) b k → ⊥) → (c n : ℕ) → WalksWithin net a s (step ∷ rest) c n → ⊥
 first_none net (By p) rest a s l none c n w =
     let to : ℕ = s + (place_at net p).tokens in
-    let small : to ≤ greatest_number = small_first net to rest (small_rest s (numbers_of net to rest) w.1) in
+    let small : to ≤ greatest_firing_number = small_first net to rest (small_rest s (numbers_of net to rest) w.1) in
     none (place_at net p).to.index to ((w.0.0, w.0.1, (refl, refl)), small_more s (to ∷ []) l (small_more to [] small (λ i d m. absurd (omega arith))))
 first_none net Next rest a s l none c n w =
-    let small : s + 1 ≤ greatest_number = small_first net (s + 1) rest (small_rest s (numbers_of net (s + 1) rest) w.1) in
+    let small : s + 1 ≤ greatest_firing_number = small_first net (s + 1) rest (small_rest s (numbers_of net (s + 1) rest) w.1) in
     none a (s + 1) ((refl, refl), small_more s ((s + 1) ∷ []) l (small_more (s + 1) [] small (λ i d m. absurd (omega arith))))
 
-first_small : (net : NetLists) (step : Step) (a s b k : ℕ) → WalksWithin net a s (step ∷ []) b k → k ≤ greatest_number
-first_small net (By p) a s b k h = subst (λ n. n ≤ greatest_number) h.0.2.1 (h.1 1 0 (omega arith))
-first_small net Next a s b k h = subst (λ n. n ≤ greatest_number) h.0.1 (h.1 1 0 (omega arith))
+first_small : (net : NetLists) (step : Step) (a s b k : ℕ) → WalksWithin net a s (step ∷ []) b k → k ≤ greatest_firing_number
+first_small net (By p) a s b k h = subst (λ n. n ≤ greatest_firing_number) h.0.2.1 (h.1 1 0 (omega arith))
+first_small net Next a s b k h = subst (λ n. n ≤ greatest_firing_number) h.0.1 (h.1 1 0 (omega arith))
 
 -- after the first i steps from firing s of a, the rest goes on from firing n of at
 pub record IsWalkLeft (net : NetLists) (steps : List Step) (a s i at n : ℕ) : Type 0 where
-  pub small : n ≤ greatest_number
+  pub small : n ≤ greatest_firing_number
   pub forth : (b k : ℕ) → WalksWithin net a s steps b k → WalksWithin net at n (drop i steps) b k
   pub back : (b k : ℕ) → WalksWithin net at n (drop i steps) b k → WalksWithin net a s steps b k
 
@@ -104,11 +104,11 @@ IsWalkLeft-end net steps a s i at n h l =
     h.back at n (subst (λ z. WalksWithin net at n z at n) (sym none) ((refl, refl), small_more n [] h.small (λ j d m. absurd (omega arith))))
 
 -- the numbers of a walk are within their limit from its start to its end
-pub IsWalk-start : (net : NetLists) (w : Walk) → IsWalk net w → w.number ≤ greatest_number
+pub IsWalk-start : (net : NetLists) (w : Walk) → IsWalk net w → w.number ≤ greatest_firing_number
 IsWalk-start net w h = small_first net w.number w.steps.items h.numbers
 
-pub WalksWithin-end : (net : NetLists) (steps : List Step) (a s b k : ℕ) → WalksWithin net a s steps b k → k ≤ greatest_number
-WalksWithin-end net [] a s b k h = subst (λ n. n ≤ greatest_number) h.0.1 (h.1 0 0 (omega arith))
+pub WalksWithin-end : (net : NetLists) (steps : List Step) (a s b k : ℕ) → WalksWithin net a s steps b k → k ≤ greatest_firing_number
+WalksWithin-end net [] a s b k h = subst (λ n. n ≤ greatest_firing_number) h.0.1 (h.1 0 0 (omega arith))
 WalksWithin-end net (By p ∷ steps) a s b k h =
     WalksWithin-end net steps (place_at net p).to.index (s + (place_at net p).tokens) b k (h.0.2, small_rest s (numbers_of net (s + (place_at net p).tokens) steps) h.1)
 WalksWithin-end net (Next ∷ steps) a s b k h = WalksWithin-end net steps a (s + 1) b k (h.0, small_rest s (numbers_of net (s + 1) steps) h.1)

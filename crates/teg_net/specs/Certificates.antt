@@ -6,12 +6,12 @@ use Rattle.teg_net.specs.declared.answers.Potential.{Potential}
 use Rattle.teg_net.specs.declared.answers.PartAnswer.{PartAnswer}
 use Rattle.teg_net.specs.declared.answers.PartAnswer.TheVariants.{NoCircuit, Best}
 use Rattle.teg_net.specs.declared.answers.CycleAnswer.{CycleAnswer}
-use Rattle.teg_net.specs.Limits.{greatest_ratio, greatest_potential}
+use Rattle.teg_net.specs.Limits.{greatest_checked_ratio, greatest_checked_potential}
 use Rattle.teg_net.specs.Nets.{NetLists}
 use Rattle.teg_net.specs.Ratios.{Fraction, IsLowestTerms}
 use Rattle.teg_net.specs.Circuits.{from_of, IsCircuit, time_of, tokens_of}
 use Rattle.teg_net.specs.Parts.{to_of, IsPlaceOfPart, ListsMembers}
-use Rattle.teg_net.specs.ReducedTimes.{reduced_time, IsWithin}
+use Rattle.teg_net.specs.ReducedTimes.{reduced_time, IsMagnitudeWithin}
 use Rattle.teg_net.specs.GreatestRatios.{IsFirstGreatest}
 use Rattle.teg_net.specs.PartAnswers.{transitions_of}
 
@@ -28,14 +28,14 @@ ArePotentials net part_of part r vs =
 -- a ratio of a circuit in the part, and potentials of its members that no place exceeds, within limits; each ratio is in
 -- lowest terms
 pub record IsBestCertificate (net : NetLists) (part_of : List ℕ) (part : ℕ) (r : Fraction) (c : List PlaceId) (vs : List Potential) : Type 0 where
-  pub time_in : r.time ≤ greatest_ratio
-  pub tokens_in : r.tokens ≤ greatest_ratio
+  pub time_in : r.time ≤ greatest_checked_ratio
+  pub tokens_in : r.tokens ≤ greatest_checked_ratio
   pub terms : IsLowestTerms r
   pub circuit : IsCircuit net c
   pub inside : All (IsPlaceOfPart net part_of part) c
   pub attains : time_of net c * r.tokens ≡ r.time * tokens_of net c
   pub members : ListsMembers part_of part (transitions_of vs)
-  pub within : All (λ v. IsWithin greatest_potential v.value) vs
+  pub within : All (λ v. IsMagnitudeWithin greatest_checked_potential v.value) vs
   pub potentials : ArePotentials net part_of part r vs
 
 -- no place has both ends in the part, or its ratio is certified

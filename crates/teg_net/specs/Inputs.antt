@@ -34,30 +34,30 @@ pub record IsInputDate (net : NetLists) (t k : ℕ) (date : Option ℕ) : Type 0
   pub each : (u : ℕ → Option ℕ) → AreInputDates net t u → u k ≡ date
 
 -- how many times `every` firings lead from firing k back into a list of `long` dates
-abbrev pub rounds_past : ℕ → ℕ → ℕ → ℕ
-rounds_past long every k = (k - long - 1) / every + 1
+abbrev pub laps_past : ℕ → ℕ → ℕ → ℕ
+laps_past long every k = (k - long - 1) / every + 1
 
 -- the date of firing k past the end of the list
-abbrev pub date_past : List ℕ → Option Again → ℕ → Option ℕ
-date_past dates None k = None
-date_past dates (Some a) k =
-    let rounds = rounds_past (length dates) a.every k in
+abbrev pub list_date_past : List ℕ → Option Again → ℕ → Option ℕ
+list_date_past dates None k = None
+list_date_past dates (Some a) k =
+    let rounds = laps_past (length dates) a.every k in
     Some (slice_index dates (k - rounds * a.every - 1) + rounds * a.gap)
 
 -- the date of firing k by a list
 abbrev pub list_date : List ℕ → Option Again → ℕ → Option ℕ
 list_date dates again k =
-    if nat_le k (length dates) then Some (slice_index dates (k - 1)) else date_past dates again k
+    if nat_le k (length dates) then Some (slice_index dates (k - 1)) else list_date_past dates again k
 
 -- the date of firing k of an input that may have a list
-abbrev pub date_by : Option InputList → ℕ → Option ℕ
-date_by None k = Some 0
-date_by (Some l) k = list_date l.dates l.again k
+abbrev pub date_by_list : Option InputList → ℕ → Option ℕ
+date_by_list None k = Some 0
+date_by_list (Some l) k = list_date l.dates l.again k
 
 -- the list of the transition, if it has one
-abbrev pub list_of : NetLists → ℕ → Option InputList
-list_of net t = find (λ l. l.transition.index == t) net.inputs
+abbrev pub list_of_input : NetLists → ℕ → Option InputList
+list_of_input net t = find (λ l. l.transition.index == t) net.inputs
 
 -- the date of firing k of an input transition; none is never
 abbrev pub input_date : NetLists → ℕ → ℕ → Option ℕ
-input_date net t k = date_by (list_of net t) k
+input_date net t k = date_by_list (list_of_input net t) k

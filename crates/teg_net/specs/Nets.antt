@@ -6,7 +6,7 @@ use Rattle.teg_net.specs.declared.entries.Again.{Again}
 use Rattle.teg_net.specs.declared.entries.Transition.{Transition}
 use Rattle.teg_net.specs.declared.entries.Place.{Place}
 use Rattle.teg_net.specs.declared.entries.InputList.{InputList}
-use Rattle.teg_net.specs.Limits.{most_transitions, most_places, greatest_hold, most_tokens, most_dates, greatest_date, most_every}
+use Rattle.teg_net.specs.Limits.{most_transitions, most_places, greatest_hold, most_place_tokens, most_input_dates, greatest_input_date, greatest_every}
 use Rattle.teg_net.specs.Names.{is_name}
 
 -- the lists of a net, each in the order of the file
@@ -30,28 +30,28 @@ pub record IsPlaceOf (net : NetLists) (p : Place) : Type 0 where
   pub to_in : p.to.index < length net.transitions
   pub enters_no_input : IsInput net p.to.index → ⊥
   pub hold_in : p.hold ≤ greatest_hold
-  pub tokens_in : p.tokens ≤ most_tokens
+  pub tokens_in : p.tokens ≤ most_place_tokens
   pub ready_all : (length p.ready ≡ 0) ⊎ (length p.ready ≡ p.tokens)
-  pub ready_in : All (λ d. d ≤ greatest_date) p.ready
+  pub ready_in : All (λ d. d ≤ greatest_input_date) p.ready
 
 -- the list goes on past its end: each date is that of `every` firings before, plus the gap, and dates do not fall there
-pub record GoesOn (dates : List ℕ) (a : Again) : Type 0 where
+pub record ListGoesOn (dates : List ℕ) (a : Again) : Type 0 where
   pub some : 1 ≤ a.every
-  pub every_in : a.every ≤ most_every
-  pub gap_in : a.gap ≤ greatest_date
+  pub every_in : a.every ≤ greatest_every
+  pub gap_in : a.gap ≤ greatest_input_date
   pub enough : a.every ≤ length dates
   pub joins : slice_index dates (length dates - 1) ≤ slice_index dates (length dates - a.every) + a.gap
 
 -- the rule of a list that ends, or goes on
 abbrev pub EndsOrGoesOn : List ℕ → Option Again → Type 0
 EndsOrGoesOn dates None = ⊤
-EndsOrGoesOn dates (Some a) = GoesOn dates a
+EndsOrGoesOn dates (Some a) = ListGoesOn dates a
 
 -- a list of an input of the net: its dates keep their limits and never fall
 pub record IsInputOf (net : NetLists) (l : InputList) : Type 0 where
   pub is_input : IsInput net l.transition.index
-  pub few : length l.dates ≤ most_dates
-  pub dates_in : All (λ d. d ≤ greatest_date) l.dates
+  pub few : length l.dates ≤ most_input_dates
+  pub dates_in : All (λ d. d ≤ greatest_input_date) l.dates
   pub never_falls : IsNonDecreasing l.dates
   pub again : EndsOrGoesOn l.dates l.again
 

@@ -8,7 +8,7 @@ use Rattle.teg_net.specs.Nets.{NetLists}
 use Rattle.teg_net.specs.Ratios.{Fraction, IsLowestTerms}
 use Rattle.teg_net.specs.Circuits.{from_of, IsCircuit, BeginsLowest, time_of, tokens_of}
 use Rattle.teg_net.specs.Parts.{IsPlaceOfPart, ListsMembers}
-use Rattle.teg_net.specs.ReducedTimes.{IsGreatestSum}
+use Rattle.teg_net.specs.ReducedTimes.{IsGreatestPathTime}
 use Rattle.teg_net.specs.GreatestRatios.{IsGreatestRatio, HasNoCircuit}
 
 -- the transition at which a list of places begins
@@ -29,7 +29,7 @@ pub record IsBestOfPart (net : NetLists) (part_of : List ℕ) (part : ℕ) (r : 
   pub attains : time_of net c * r.tokens ≡ r.time * tokens_of net c
   pub lowest_first : BeginsLowest net c
   pub members : ListsMembers part_of part (transitions_of vs)
-  pub sums : All (λ v. IsGreatestSum net part_of part r.time r.tokens (first_transition_of net c) v.transition.index v.value) vs
+  pub sums : All (λ v. IsGreatestPathTime net part_of part r.time r.tokens (first_transition_of net c) v.transition.index v.value) vs
 
 -- no circuit lies in the part, or its greatest ratio is told
 abbrev pub IsPartAnswer : NetLists → List ℕ → ℕ → PartAnswer → Type 0

@@ -5,9 +5,9 @@ use Rattle.teg_net.specs.Nets.{NetLists}
 use Rattle.teg_net.specs.Circuits.{from_of}
 
 -- the first place is one of the net, and leaves this transition
-abbrev pub IsStartOf : NetLists → List PlaceId → ℕ → Type 0
-IsStartOf net [] start = ⊥
-IsStartOf net (p ∷ ps) start = (p.index < length net.places) × (from_of net p ≡ start)
+abbrev pub IsPathStart : NetLists → List PlaceId → ℕ → Type 0
+IsPathStart net [] start = ⊥
+IsPathStart net (p ∷ ps) start = (p.index < length net.places) × (from_of net p ≡ start)
 
 -- the place at k leaves the lowest numbered transition
 abbrev pub IsLowestAt : NetLists → List PlaceId → ℕ → Type 0

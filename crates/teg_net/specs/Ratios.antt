@@ -3,6 +3,7 @@ use Rattle.std.specs.Prelude.{ℕ, ◌*◌, ◌<◌, ◌≤◌, ◌≡◌}
 use Rattle.std.specs.Int.{◌∣◌}
 use Rattle.std.specs.Ordering.{MatchOrdering}
 use Rattle.std.specs.declared.cmp.Ordering.{Ordering}
+use Rattle.teg_net.specs.Limits.{greatest_checked_ratio}
 
 -- a time over a number of tokens
 pub record Fraction : Type 0 where
@@ -23,3 +24,8 @@ IsOrderOf order r s =
 pub record IsRatioOf (time tokens : ℕ) (r : Fraction) : Type 0 where
   pub same : time * r.tokens ≡ r.time * tokens
   pub terms : IsLowestTerms r
+
+-- the ratio keeps the limits of an answer that is checked
+pub record IsRatioWithin (r : Fraction) : Type 0 where
+  pub time_in : r.time ≤ greatest_checked_ratio
+  pub tokens_in : r.tokens ≤ greatest_checked_ratio

@@ -3,7 +3,7 @@ use Rattle.std.specs.Prelude.{ℕ, ◌+◌, ◌<◌, ◌≤◌, ◌≡◌, List,
 use Rattle.teg_net.specs.declared.walks.Step.{Step}
 use Rattle.teg_net.specs.declared.walks.Step.TheVariants.{By, Next}
 use Rattle.teg_net.specs.declared.walks.Walk.{Walk}
-use Rattle.teg_net.specs.Limits.{greatest_number}
+use Rattle.teg_net.specs.Limits.{greatest_firing_number}
 use Rattle.teg_net.specs.Nets.{NetLists}
 use Rattle.teg_net.specs.Circuits.{place_at, from_of}
 
@@ -27,14 +27,14 @@ IsStepOf net Next = ⊤
 
 -- a transition of the net, and a number that is asked or walked to
 abbrev pub IsFiring : NetLists → ℕ → ℕ → Type 0
-IsFiring net t k = (t < length net.transitions) × (1 ≤ k) × (k ≤ greatest_number)
+IsFiring net t k = (t < length net.transitions) × (1 ≤ k) × (k ≤ greatest_firing_number)
 
 -- it starts at a firing of the net, its steps follow each other, and each firing number keeps its limit
 pub record IsWalk (net : NetLists) (w : Walk) : Type 0 where
   pub start_in : w.start.index < length net.transitions
   pub number_in : 1 ≤ w.number
   pub steps : (b k : ℕ) × Walks net w.start.index w.number w.steps.items b k
-  pub numbers : All (λ k. k ≤ greatest_number) (numbers_of net w.number w.steps.items)
+  pub numbers : All (λ k. k ≤ greatest_firing_number) (numbers_of net w.number w.steps.items)
 
 -- the walk ends at firing k of transition b
 abbrev pub EndsAt : NetLists → Walk → ℕ → ℕ → Type 0
@@ -51,4 +51,4 @@ walk_time net steps = sum_by (step_time net) steps
 
 -- the steps lead there, and no firing number on the way passes its limit
 abbrev pub WalksWithin : NetLists → ℕ → ℕ → List Step → ℕ → ℕ → Type 0
-WalksWithin net a s steps b k = Walks net a s steps b k × All (λ n. n ≤ greatest_number) (numbers_of net s steps)
+WalksWithin net a s steps b k = Walks net a s steps b k × All (λ n. n ≤ greatest_firing_number) (numbers_of net s steps)

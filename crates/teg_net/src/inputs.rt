@@ -1,7 +1,7 @@
 //! The dates before which the firings of an input transition cannot happen.
 ghost use Rattle.std.specs.Prelude.{◌≡◌, ◌≤◌, ◌+◌, ◌*◌, IfSome, option_copied};
-ghost use Rattle.teg_net.specs.Inputs.{IsInputDate, IsListDate, input_date, list_date, list_of};
-ghost use Rattle.teg_net.specs.Limits.{greatest_date, greatest_number};
+ghost use Rattle.teg_net.specs.Inputs.{IsInputDate, IsListDate, input_date, list_date, list_of_input};
+ghost use Rattle.teg_net.specs.Limits.{greatest_input_date, greatest_firing_number};
 ghost use Rattle.teg_net.specs.Nets.{IsInput, IsNet, EndsOrGoesOn};
 
 use crate::entries::{InputList, TransitionId};
@@ -43,7 +43,7 @@ fn date_by_list(list: &InputList, number: u64) -> Option<u128>
 // The list of the transition, if it has one.
 fn list_of(net: &Net, transition: TransitionId) -> Option<&InputList>
     ensures rules { IsNet net.now }
-    ensures first { option_copied result ≡ list_of net.now transition.index }
+    ensures first { option_copied result ≡ list_of_input net.now transition.index }
 {
     net.inputs()
         .iter()
@@ -56,10 +56,10 @@ impl Net {
     pub fn input_date(&self, transition: TransitionId, number: u64) -> Option<u128>
         requires input { IsInput self.now transition.index }
         requires first { 1 ≤ number }
-        requires last { number ≤ greatest_number }
+        requires last { number ≤ greatest_firing_number }
         ensures value { result ≡ input_date self.now transition.index number }
         ensures meaning { IsInputDate self.now transition.index number result }
-        ensures most { IfSome result (λ date. date ≤ greatest_date * (number + 1)) }
+        ensures most { IfSome result (λ date. date ≤ greatest_input_date * (number + 1)) }
     {
         match list_of(self, transition) {
             Some(list) => list.date(number),

@@ -1,6 +1,6 @@
 //! Paths and circuits of a net: which lists of places they are, and their sums (chapter 2).
 ghost use Rattle.std.specs.Prelude.{◌≡◌, ◌↔◌, ◌<◌, ℕ, [], IsTrue, IfNone, IfSome, Any, AllPairs, ◌≢◌};
-ghost use Rattle.teg_net.specs.Paths.{IsStartOf};
+ghost use Rattle.teg_net.specs.Paths.{IsPathStart};
 ghost use Rattle.teg_net.specs.Circuits.{IsPathBetween, IsPath, IsCircuit, AreInRange, from_of, time_of, tokens_of};
 
 use crate::entries::{PlaceId, TransitionId};
@@ -27,7 +27,7 @@ fn path_end(net: &Net, places: &[PlaceId], start: TransitionId) -> Option<Transi
 // of the net.
 fn path_start(net: &Net, places: &[PlaceId]) -> Option<TransitionId>
     ensures none { IfNone result (AreInRange net.now places.now → places.now ≡ []) }
-    ensures start { IfSome result (λ start. IsStartOf net.now places.now start.index) }
+    ensures start { IfSome result (λ start. IsPathStart net.now places.now start.index) }
 {
     let first = places.first()?;
     let place = net.places().get(first.index as usize)?;

@@ -1,7 +1,7 @@
 //! From when the initial tokens of places are ready, and the start that they give a firing.
 ghost use Rattle.std.specs.Prelude.{◌≡◌, ◌<◌, ◌≤◌, length};
 ghost use Rattle.teg_net.specs.Circuits.{place_at};
-ghost use Rattle.teg_net.specs.Limits.{greatest_date};
+ghost use Rattle.teg_net.specs.Limits.{greatest_input_date};
 ghost use Rattle.teg_net.specs.ReadyDates.{ready_date, ready_for, start_date, IsStartDate};
 
 use crate::entries::{Place, PlaceId, TransitionId};
@@ -41,7 +41,7 @@ impl Net {
         requires first { 1 ≤ token }
         requires last { token ≤ (place_at self.now place).tokens }
         ensures value { result ≡ ready_date (place_at self.now place) token }
-        ensures most { result ≤ greatest_date }
+        ensures most { result ≤ greatest_input_date }
     {
         ready_date(&self.places()[place.index as usize], u64::from(token))
     }
@@ -52,7 +52,7 @@ impl Net {
         requires { 1 ≤ number }
         ensures value { result ≡ start_date self.now transition.index number }
         ensures meaning { IsStartDate self.now transition.index number result }
-        ensures most { result ≤ greatest_date }
+        ensures most { result ≤ greatest_input_date }
     {
         let mut start = 0;
         for place in self.places() {

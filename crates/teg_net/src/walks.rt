@@ -1,6 +1,6 @@
 //! Walks over firings: the net unfolded over firing numbers (chapter 2).
 ghost use Rattle.std.specs.Prelude.{◌≡◌, ◌≤◌, ◌↔◌, ℕ, [], ◌∷◌, IsTrue, IfNone, IfSome};
-ghost use Rattle.teg_net.specs.Limits.{greatest_hold, greatest_number};
+ghost use Rattle.teg_net.specs.Limits.{greatest_hold, greatest_firing_number};
 ghost use Rattle.teg_net.specs.Walks.{EndsAt, IsFiring, IsStepOf, IsWalk, WalksWithin, step_time, walk_time};
 
 use crate::entries::{PlaceId, TransitionId};
@@ -31,7 +31,7 @@ const GREATEST_NUMBER: u64 = 1_000_000_000_000_000_000;
 // The firing to which the step leads; none where it does not leave this transition, is no place of
 // the net, or leads past the greatest number.
 fn step_end(net: &Net, start: TransitionId, number: u64, step: Step) -> Option<(TransitionId, u64)>
-    requires { number ≤ greatest_number }
+    requires { number ≤ greatest_firing_number }
     ensures none { IfNone result ((b k : ℕ) → WalksWithin net.now start.index number (step ∷ []) b k
         → ⊥) }
     ensures end { IfSome result (λ end. WalksWithin net.now start.index number (step ∷ [])
@@ -62,7 +62,7 @@ fn steps_end(
     number: u64,
     steps: &[Step],
 ) -> Option<(TransitionId, u64)>
-    requires { number ≤ greatest_number }
+    requires { number ≤ greatest_firing_number }
     ensures none { IfNone result ((b k : ℕ) → WalksWithin net.now start.index number steps.now b k
         → ⊥) }
     ensures end { IfSome result (λ end. WalksWithin net.now start.index number steps.now end.0.index
@@ -122,7 +122,7 @@ pub fn walk_time(net: &Net, walk: &Walk) -> u128
 pub fn walk_end(net: &Net, walk: &Walk) -> (TransitionId, u64)
     requires { IsWalk net.now walk.now }
     ensures end { EndsAt net.now walk.now result.0.index result.1 }
-    ensures number { result.1 ≤ greatest_number }
+    ensures number { result.1 ≤ greatest_firing_number }
 {
     steps_end(net, walk.start, walk.number, &walk.steps).unwrap()
 }

@@ -10,5 +10,5 @@ abbrev pub Rested : ℕ → ℕ → Type 0
 Rested before now = (now ≤ before) × (now ≢ 2 ^ 64 - 1)
 
 -- a u64 count after one more; it stays at its greatest value
-abbrev pub one_more : ℕ → ℕ
-one_more count = min (count + 1) (2 ^ 64 - 1)
+abbrev pub counted_once_more : ℕ → ℕ
+counted_once_more count = min (count + 1) (2 ^ 64 - 1)

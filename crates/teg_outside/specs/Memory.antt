@@ -2,7 +2,7 @@
 use Rattle.std.specs.Prelude.{ℕ, ◌-◌, ◌==◌, ◌≡◌, ◌⊎◌, nat_le, Bool, List, [], ◌∷◌, ◌++◌, length, take, min, Option, Some, None, Result, Ok, Err, if◌then◌else◌, String, string_bytes}
 use Rattle.std.specs.List.{list_any}
 use Rattle.std.specs.Global.{Vec, Global}
-use Rattle.teg_outside.specs.Causes.{one_more}
+use Rattle.teg_outside.specs.Causes.{counted_once_more}
 use Rattle.teg_outside.specs.Shelves.{ShelfState, file_of}
 use Rattle.teg_outside.specs.Sinks.{SinkState}
 use Rattle.teg_outside.specs.declared.shelf.ShelfFault.{ShelfFault}
@@ -41,7 +41,7 @@ told_read read = (string_bytes read.0, read.1)
 
 -- whether the next call is one of those that fail
 abbrev pub fails_next : List ℕ → ℕ → Bool
-fails_next failing calls = list_any (λ number. number == one_more calls) failing
+fails_next failing calls = list_any (λ number. number == counted_once_more calls) failing
 
 -- a file, if it is there and not longer than the limit
 abbrev pub file_within : Option (List ℕ) → ℕ → Result (List ℕ) ShelfFault
@@ -55,15 +55,15 @@ reply_of files failing call name limit =
 
 -- how the next read answers where memory is found
 abbrev pub next_read : FilesInMemory → List ℕ → ℕ → Result (List ℕ) ShelfFault
-next_read shelf name limit = reply_of shelf.files shelf.failing (one_more shelf.calls) name limit
+next_read shelf name limit = reply_of shelf.files shelf.failing (counted_once_more shelf.calls) name limit
 
 -- the shelf after one more call
 abbrev pub after_call : FilesInMemory → FilesInMemory
-after_call shelf = record shelf { calls = one_more shelf.calls }
+after_call shelf = record shelf { calls = counted_once_more shelf.calls }
 
 -- the shelf after one more read, which it tells
 abbrev pub after_read : FilesInMemory → List ℕ → ℕ → FilesInMemory
-after_read shelf name limit = record shelf { calls = one_more shelf.calls; reads = shelf.reads ++ (name, limit) ∷ [] }
+after_read shelf name limit = record shelf { calls = counted_once_more shelf.calls; reads = shelf.reads ++ (name, limit) ∷ [] }
 
 -- what a read of a shelf in memory did, by its reply
 abbrev pub MemoryReads : FilesInMemory → FilesInMemory → List ℕ → ℕ → Result (List ℕ) ShelfFault → Type 0
@@ -71,10 +71,10 @@ MemoryReads old new name limit (Ok bytes) =
     (next_read old name limit ≡ Ok bytes) × (new ≡ after_read old name limit)
 MemoryReads old new name limit (Err ReadFailed) =
     (next_read old name limit ≡ Err ReadFailed)
-    × (new ≡ record (after_read old name limit) { faults = one_more old.faults })
+    × (new ≡ record (after_read old name limit) { faults = counted_once_more old.faults })
 MemoryReads old new name limit (Err TooLarge) =
     (next_read old name limit ≡ Err TooLarge)
-    × (new ≡ record (after_read old name limit) { overlong = one_more old.overlong })
+    × (new ≡ record (after_read old name limit) { overlong = counted_once_more old.overlong })
 MemoryReads old new name limit (Err OutOfMemory) = (new ≡ after_call old) ⊎ (new ≡ after_read old name limit)
 
 -- a sink in memory as contracts see it
@@ -107,7 +107,7 @@ next_write sink wanted =
 
 -- the number of the last call with a piece that is not empty, after one with a piece of that length
 abbrev pub calls_after : BytesInMemory → ℕ → ℕ
-calls_after sink wanted = if wanted == 0 then sink.calls else one_more sink.calls
+calls_after sink wanted = if wanted == 0 then sink.calls else counted_once_more sink.calls
 
 -- what a write into a sink in memory did, by its answer
 abbrev pub MemoryWrites : BytesInMemory → BytesInMemory → List ℕ → Result ℕ SinkFault → Type 0
@@ -116,4 +116,4 @@ MemoryWrites old new piece (Ok n) =
     × (new ≡ record old { calls = calls_after old (length piece); bytes = old.bytes ++ take n piece })
 MemoryWrites old new piece (Err WriteFailed) =
     (next_write old (length piece) ≡ Err WriteFailed)
-    × (new ≡ record old { calls = one_more old.calls; faults = one_more old.faults })
+    × (new ≡ record old { calls = counted_once_more old.calls; faults = counted_once_more old.faults })

@@ -2,7 +2,7 @@
 use Rattle.std.specs.Prelude.{ℕ, ◌≤◌, ◌<◌, ◌≡◌, ◌⊎◌, List, [], ◌∷◌, ◌++◌, length, Option, Some, None, Result, Ok, Err, if◌then◌else◌}
 use Rattle.std.specs.Str.{bytes_eq}
 use Rattle.std.specs.Global.{Vec}
-use Rattle.teg_outside.specs.Causes.{Rose, Rested, one_more}
+use Rattle.teg_outside.specs.Causes.{Rose, Rested, counted_once_more}
 use Rattle.teg_outside.specs.declared.shelf.ShelfFault.{ShelfFault}
 use Rattle.teg_outside.specs.declared.shelf.ShelfFault.TheVariants.{Failed, TooLarge, OutOfMemory}
 
@@ -18,8 +18,8 @@ pub record ShelfState : Type 0 where
   pub overlong : ℕ
 
 -- a shelf that tells its counts alone
-abbrev pub counted : ℕ → ℕ → ShelfState
-counted faults overlong = record { files = None; reads = None; faults = faults; overlong = overlong }
+abbrev pub counting_shelf : ℕ → ℕ → ShelfState
+counting_shelf faults overlong = record { files = None; reads = None; faults = faults; overlong = overlong }
 
 -- the bytes of the first file of that name
 abbrev pub file_of : List (List ℕ × List ℕ) → List ℕ → Option (List ℕ)
@@ -69,8 +69,8 @@ pub record Reads (old new : ShelfState) (name : List ℕ) (limit : ℕ) (reply :
 -- a read raises the count of its own fault by one, and no other
 abbrev pub CountsFault : ShelfState → ShelfState → Result (List ℕ) ShelfFault → Type 0
 CountsFault old new (Ok bytes) = (new.faults ≡ old.faults) × (new.overlong ≡ old.overlong)
-CountsFault old new (Err Failed) = (new.faults ≡ one_more old.faults) × (new.overlong ≡ old.overlong)
-CountsFault old new (Err TooLarge) = (new.faults ≡ old.faults) × (new.overlong ≡ one_more old.overlong)
+CountsFault old new (Err Failed) = (new.faults ≡ counted_once_more old.faults) × (new.overlong ≡ old.overlong)
+CountsFault old new (Err TooLarge) = (new.faults ≡ old.faults) × (new.overlong ≡ counted_once_more old.overlong)
 CountsFault old new (Err OutOfMemory) = (new.faults ≡ old.faults) × (new.overlong ≡ old.overlong)
 
 -- a told file beyond the limit is refused as such, where no fault rose and memory was found

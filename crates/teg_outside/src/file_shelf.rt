@@ -1,7 +1,7 @@
 //! The real files.
 ghost use Rattle.std.specs.Prelude.{◌≡◌, ◌≤◌, ◌<◌, Err, length, vec_len, IfOk, IfSome};
 ghost use Rattle.teg_outside.specs.declared.shelf.ShelfFault.TheVariants.{TooLarge};
-ghost use Rattle.teg_outside.specs.Shelves.{CountsFault, ReadAnswers, counted, replied};
+ghost use Rattle.teg_outside.specs.Shelves.{CountsFault, ReadAnswers, counting_shelf, replied};
 
 use crate::{Shelf, ShelfFault};
 use std::alloc::Global;
@@ -25,7 +25,7 @@ pub struct FileShelf<'a, R: Files> {
 impl<'a, R: Files> FileShelf<'a, R> {
     /// A shelf of the runtime's files, with both counts at 0. No memory is taken.
     pub fn new(rt: &'a R) -> Self
-        ensures { ⟦<FileShelf<'a, R> as Shelf>⟧.state result ≡ counted 0 0 }
+        ensures { ⟦<FileShelf<'a, R> as Shelf>⟧.state result ≡ counting_shelf 0 0 }
     {
         FileShelf {
             rt,
@@ -75,21 +75,21 @@ fn read_file<R: Files>(
 }
 
 impl<R: Files> Shelf for FileShelf<'_, R> {
-    ghost state = { λ s. counted s.faults s.overlong };
+    ghost state = { λ s. counting_shelf s.faults s.overlong };
 
     /// The whole file of that name in the runtime. An error of std answers Failed. Failed and
     /// TooLarge raise their own count by one, and nothing else raises a count.
     fn read(&mut self, alloc: Global, name: &str, limit: usize) -> Result<Vec<u8>, ShelfFault>
-        ensures files { (counted self.new.faults self.new.overlong).files
-            ≡ (counted self.old.faults self.old.overlong).files }
-        ensures faults { (counted self.old.faults self.old.overlong).faults ≤
-            (counted self.new.faults self.new.overlong).faults }
-        ensures overlong { (counted self.old.faults self.old.overlong).overlong ≤
-            (counted self.new.faults self.new.overlong).overlong }
-        ensures answer { ReadAnswers (counted self.old.faults self.old.overlong)
-            (counted self.new.faults self.new.overlong) name.now limit (replied result) }
-        ensures counts { CountsFault (counted self.old.faults self.old.overlong)
-            (counted self.new.faults self.new.overlong) (replied result) }
+        ensures files { (counting_shelf self.new.faults self.new.overlong).files
+            ≡ (counting_shelf self.old.faults self.old.overlong).files }
+        ensures faults { (counting_shelf self.old.faults self.old.overlong).faults ≤
+            (counting_shelf self.new.faults self.new.overlong).faults }
+        ensures overlong { (counting_shelf self.old.faults self.old.overlong).overlong ≤
+            (counting_shelf self.new.faults self.new.overlong).overlong }
+        ensures answer { ReadAnswers (counting_shelf self.old.faults self.old.overlong)
+            (counting_shelf self.new.faults self.new.overlong) name.now limit (replied result) }
+        ensures counts { CountsFault (counting_shelf self.old.faults self.old.overlong)
+            (counting_shelf self.new.faults self.new.overlong) (replied result) }
     {
         let answer = read_file(self.rt, alloc, name, limit);
         match &answer {

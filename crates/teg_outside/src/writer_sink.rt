@@ -1,7 +1,7 @@
 //! The real output.
 ghost use Rattle.std.specs.Prelude.{◌≡◌, ◌≤◌, ◌<◌, None, length, take, IfOk, IfSome, IsNone, OnErr};
 ghost use Rattle.std.specs.Io.KnownBytes.{Appends};
-ghost use Rattle.teg_outside.specs.Causes.{one_more};
+ghost use Rattle.teg_outside.specs.Causes.{counted_once_more};
 ghost use Rattle.teg_outside.specs.Sinks.{AppendsPrefix, WriteAnswers};
 
 use crate::{Sink, SinkFault};
@@ -57,7 +57,7 @@ impl<W: Write> Sink for WriterSink<W> {
         ensures answer { WriteAnswers (record { bytes = None; faults = self.old.faults }) (record { bytes = None; faults = self.new.faults }) piece.now result }
         ensures taken { IfOk result (λ n. Appends (W.contents self.old.inner)
             (W.contents self.new.inner) (take n piece.now)) }
-        ensures counts { OnErr result (self.new.faults ≡ one_more self.old.faults) }
+        ensures counts { OnErr result (self.new.faults ≡ counted_once_more self.old.faults) }
         ensures part { OnErr result (AppendsPrefix (W.contents self.old.inner)
             (W.contents self.new.inner) piece.now) }
     {

@@ -1,3 +1,4 @@
+pub mod FarEnds
 pub mod Marks
 pub mod Linking
 pub mod Reaching

@@ -9,25 +9,25 @@ use Rattle.teg_net.specs.declared.entries.PlaceId.{PlaceId}
 use Rattle.teg_net.specs.Nets.{NetLists}
 use Rattle.teg_parts.specs.declared.places_along.PlacesAlong.{PlacesAlong}
 use Rattle.teg_parts.specs.declared.places_along.Way.{Way}
-use Rattle.teg_parts.specs.PlacesAlong.{near_of, IsHighestBelow, ArePlacesAlong, AddsPlacesAlong}
+use Rattle.teg_parts.specs.PlacesAlong.{near_of, IsHighestPlaceBelow, ArePlacesAlong, AddsPlacesAlong}
 use Rattle.teg_net.proofs.Reading.{same_id}
 
 -- ---- the links
 pub record LinkedTo (net : NetLists) (way : Way) (highest lower : List (Option PlaceId)) (i : ℕ) : Type 0 where
   pub highest_count : length highest ≡ length net.transitions
   pub lower_count : length lower ≡ i
-  pub highest_ : (t : ℕ) → t < length net.transitions → IsHighestBelow net way t i (get_or highest t None)
-  pub lower_ : (p : PlaceId) → p.index < i → IsHighestBelow net way (near_of way net p) p.index (get_or lower p.index None)
+  pub highest_ : (t : ℕ) → t < length net.transitions → IsHighestPlaceBelow net way t i (get_or highest t None)
+  pub lower_ : (p : PlaceId) → p.index < i → IsHighestPlaceBelow net way (near_of way net p) p.index (get_or lower p.index None)
 
 pub linked_none : (net : NetLists) (way : Way) (highest : List (Option PlaceId)) → highest ≡ replicate (length net.transitions) None → LinkedTo net way highest [] 0
 linked_none net way highest e = record {
   highest_count = ap length e ∙ length-replicate (length net.transitions) None;
   lower_count = refl;
-  highest_ = λ t l. subst (IsHighestBelow net way t 0) (sym (ap (λ x. get_or x t None) e ∙ get_or-replicate (length net.transitions) t None None l)) (λ r m. absurd (omega arith));
+  highest_ = λ t l. subst (IsHighestPlaceBelow net way t 0) (sym (ap (λ x. get_or x t None) e ∙ get_or-replicate (length net.transitions) t None None l)) (λ r m. absurd (omega arith));
   lower_ = λ p l. absurd (omega arith);
 }
 
-still_highest : (net : NetLists) (way : Way) (u : ℕ) (p : PlaceId) (o : Option PlaceId) → near_of way net p ≢ u → IsHighestBelow net way u p.index o → IsHighestBelow net way u (p.index + 1) o
+still_highest : (net : NetLists) (way : Way) (u : ℕ) (p : PlaceId) (o : Option PlaceId) → near_of way net p ≢ u → IsHighestPlaceBelow net way u p.index o → IsHighestPlaceBelow net way u (p.index + 1) o
 still_highest net way u p None n h = λ r l.
     ⊎_elim
     (λ (q : r.index < p.index). h r q)
@@ -57,16 +57,16 @@ linked_more net way highest lower p h l =
           ⊎_elim
           (λ (q : u ≡ t).
           let read : get_or (set highest t (Some p)) u None ≡ Some p = ap (λ x. get_or (set highest t (Some p)) x None) q ∙ get_or-set_same highest t (Some p) None in' in
-          subst (IsHighestBelow net way u (p.index + 1)) (sym read) (omega arith, sym q, λ r a b. absurd (omega arith)))
-          (λ (q : u ≢ t). subst (IsHighestBelow net way u (p.index + 1)) (sym (get_or-set_other highest t u (Some p) None q)) (still_highest net way u p (get_or highest u None) (λ e. q (sym e)) (h.highest_ u m)))
+          subst (IsHighestPlaceBelow net way u (p.index + 1)) (sym read) (omega arith, sym q, λ r a b. absurd (omega arith)))
+          (λ (q : u ≢ t). subst (IsHighestPlaceBelow net way u (p.index + 1)) (sym (get_or-set_other highest t u (Some p) None q)) (still_highest net way u p (get_or highest u None) (λ e. q (sym e)) (h.highest_ u m)))
           (cases_eq u t);
       lower_ = λ r m.
           ⊎_elim
-          (λ (q : r.index < p.index). let at : r.index < length lower = let c = h.lower_count in omega arith in subst (IsHighestBelow net way (near_of way net r) r.index) (sym (get_or_append_left lower (old ∷ []) None r.index at)) (h.lower_ r q))
+          (λ (q : r.index < p.index). let at : r.index < length lower = let c = h.lower_count in omega arith in subst (IsHighestPlaceBelow net way (near_of way net r) r.index) (sym (get_or_append_left lower (old ∷ []) None r.index at)) (h.lower_ r q))
           (λ (q : p.index ≤ r.index).
           let e : p ≡ r = same_id p r (omega arith) in
           let read : get_or (lower ++ old ∷ []) p.index None ≡ old = get_or_push lower old None p.index h.lower_count in
-          subst (λ x. IsHighestBelow net way (near_of way net x) x.index (get_or (lower ++ old ∷ []) x.index None)) e (subst (IsHighestBelow net way t p.index) (sym read) (h.highest_ t l)))
+          subst (λ x. IsHighestPlaceBelow net way (near_of way net x) x.index (get_or (lower ++ old ∷ []) x.index None)) e (subst (IsHighestPlaceBelow net way t p.index) (sym read) (h.highest_ t l)))
           (cases_lt r.index p.index);
     }
 
@@ -74,7 +74,7 @@ pub linked_all : (net : NetLists) (f : PlacesAlong) (n : ℕ) → n ≡ length n
 linked_all net f n e h = record {
   highest_count = h.highest_count;
   lower_count = h.lower_count ∙ e;
-  highest = λ t l. subst (λ x. IsHighestBelow net f.way t x (get_or f.highest.items t None)) e (h.highest_ t l);
+  highest = λ t l. subst (λ x. IsHighestPlaceBelow net f.way t x (get_or f.highest.items t None)) e (h.highest_ t l);
   lower = λ p l. h.lower_ p (omega arith);
 }
 
@@ -93,7 +93,7 @@ pub record ListedTo (net : NetLists) (way : Way) (t : ℕ) (old now : List Place
   pub here : (q : PlaceId) → at ≡ Some q → (q.index < length net.places) × (near_of way net q ≡ t)
 
 -- a place of the transition that is not above the highest one
-below_highest : (net : NetLists) (way : Way) (t bound : ℕ) (o : Option PlaceId) (p : PlaceId) → IsHighestBelow net way t bound o → p.index < bound → near_of way net p ≡ t → p.index < room o
+below_highest : (net : NetLists) (way : Way) (t bound : ℕ) (o : Option PlaceId) (p : PlaceId) → IsHighestPlaceBelow net way t bound o → p.index < bound → near_of way net p ≡ t → p.index < room o
 below_highest net way t bound None p h l e = absurd (h p l e)
 below_highest net way t bound (Some q) p h l e =
     ⊎_elim
@@ -101,11 +101,11 @@ below_highest net way t bound (Some q) p h l e =
     (λ (s : p.index ≤ q.index). omega arith)
     (cases_lt q.index p.index)
 
-highest_in : (net : NetLists) (way : Way) (t bound : ℕ) (o : Option PlaceId) → IsHighestBelow net way t bound o → (q : PlaceId) → o ≡ Some q → (q.index < bound) × (near_of way net q ≡ t)
+highest_in : (net : NetLists) (way : Way) (t bound : ℕ) (o : Option PlaceId) → IsHighestPlaceBelow net way t bound o → (q : PlaceId) → o ≡ Some q → (q.index < bound) × (near_of way net q ≡ t)
 highest_in net way t bound None h q e = let f : ⊥ = cc in absurd f
 highest_in net way t bound (Some r) h q e = let s : r ≡ q = cc in subst (λ x. (x.index < bound) × (near_of way net x ≡ t)) s (h.0, h.1)
 
-room_small : (net : NetLists) (way : Way) (t bound : ℕ) (o : Option PlaceId) → IsHighestBelow net way t bound o → room o ≤ bound
+room_small : (net : NetLists) (way : Way) (t bound : ℕ) (o : Option PlaceId) → IsHighestPlaceBelow net way t bound o → room o ≤ bound
 room_small net way t bound None h = omega arith
 room_small net way t bound (Some q) h = let l = h.0 in omega arith
 
@@ -125,7 +125,7 @@ pub listed_more : (net : NetLists) (f : PlacesAlong) (t : ℕ) (old now : List P
 listed_more net f t old now q h s =
     let here = s.here q refl in
     let o : Option PlaceId = get_or f.lower.items q.index None in
-    let low : IsHighestBelow net f.way t q.index o = subst (λ x. IsHighestBelow net f.way x q.index o) here.1 (h.lower q here.0) in
+    let low : IsHighestPlaceBelow net f.way t q.index o = subst (λ x. IsHighestPlaceBelow net f.way x q.index o) here.1 (h.lower q here.0) in
     let long : length (now ++ q ∷ []) ≡ length now + 1 = length_push now q in
     let more = s.longer in
     record {

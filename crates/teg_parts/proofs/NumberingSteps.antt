@@ -6,18 +6,18 @@ use Rattle.teg_net.specs.declared.entries.PlaceId.{PlaceId}
 use Rattle.teg_net.specs.Nets.{NetLists}
 use Rattle.teg_net.specs.Circuits.{from_of}
 use Rattle.teg_net.specs.Parts.{to_of, IsPlaceOfPart}
-use Rattle.teg_parts.specs.Numbers.{component_at, number_of, without, Blocks, AreBlocked, IsFree, IsOpenFor}
+use Rattle.teg_parts.specs.PartNumbers.{component_at, part_number, without, BlocksComponent, AreBlocked, IsFree, IsOpenFor}
 use Rattle.teg_parts.proofs.Marks.{false_not_true, set_flag, set_flag_before}
 use Rattle.teg_net.proofs.Reading.{same_id}
 
 -- ---- which components are blocked
 pub record BlockedTo (net : NetLists) (components : List ℕ) (numbers : List (Option ℕ)) (blocked : List Bool) (i : ℕ) : Type 0 where
   pub count : length blocked ≡ length components
-  pub sound : (c : ℕ) → get_or blocked c false ≡ true → (p : PlaceId) × Blocks net components numbers c p
-  pub complete : (c : ℕ) (p : PlaceId) → p.index < i → Blocks net components numbers c p → get_or blocked c false ≡ true
+  pub sound : (c : ℕ) → get_or blocked c false ≡ true → (p : PlaceId) × BlocksComponent net components numbers c p
+  pub complete : (c : ℕ) (p : PlaceId) → p.index < i → BlocksComponent net components numbers c p → get_or blocked c false ≡ true
 
 module _ (net : NetLists) (components : List ℕ) (numbers : List (Option ℕ)) where
-  pub blocked_more : (blocked : List Bool) (p : PlaceId) → BlockedTo net components numbers blocked p.index → component_at components (to_of net p) < length components → Blocks net components numbers (component_at components (to_of net p)) p
+  pub blocked_more : (blocked : List Bool) (p : PlaceId) → BlockedTo net components numbers blocked p.index → component_at components (to_of net p) < length components → BlocksComponent net components numbers (component_at components (to_of net p)) p
       → BlockedTo net components numbers (set blocked (component_at components (to_of net p)) true) (p.index + 1)
   blocked_more blocked p h l b =
       let u : ℕ = component_at components (to_of net p) in
@@ -26,7 +26,7 @@ module _ (net : NetLists) (components : List ℕ) (numbers : List (Option ℕ)) 
         count = length-set blocked u true ∙ h.count;
         sound = λ c t.
             ⊎_elim
-            (λ (q : c ≡ u). (p, subst (λ x. Blocks net components numbers x p) (sym q) b))
+            (λ (q : c ≡ u). (p, subst (λ x. BlocksComponent net components numbers x p) (sym q) b))
             (λ (q : get_or blocked c false ≡ true). h.sound c q)
             (set_flag_before blocked u c t);
         complete = λ c q m k.
@@ -39,7 +39,7 @@ module _ (net : NetLists) (components : List ℕ) (numbers : List (Option ℕ)) 
             (cases_lt q.index p.index);
       }
 
-  pub blocked_skip : (blocked : List Bool) (p : PlaceId) → BlockedTo net components numbers blocked p.index → (Blocks net components numbers (component_at components (to_of net p)) p → ⊥) → BlockedTo net components numbers blocked (p.index + 1)
+  pub blocked_skip : (blocked : List Bool) (p : PlaceId) → BlockedTo net components numbers blocked p.index → (BlocksComponent net components numbers (component_at components (to_of net p)) p → ⊥) → BlockedTo net components numbers blocked (p.index + 1)
   blocked_skip blocked p h none = record {
     count = h.count;
     sound = h.sound;
@@ -48,8 +48,8 @@ module _ (net : NetLists) (components : List ℕ) (numbers : List (Option ℕ)) 
         (λ (s : q.index < p.index). h.complete c q s k)
         (λ (s : p.index ≤ q.index).
         let same : q ≡ p = same_id q p (omega arith) in
-        let here : Blocks net components numbers c p = subst (Blocks net components numbers c) same k in
-        absurd (none (subst (λ x. Blocks net components numbers x p) (sym here.enters) here)))
+        let here : BlocksComponent net components numbers c p = subst (BlocksComponent net components numbers c) same k in
+        absurd (none (subst (λ x. BlocksComponent net components numbers x p) (sym here.enters) here)))
         (cases_lt q.index p.index);
   }
 
@@ -71,11 +71,11 @@ module _ (net : NetLists) (components : List ℕ) (numbers : List (Option ℕ)) 
 -- ---- a number is given
 pub record GivenTo (components : List ℕ) (old now : List (Option ℕ)) (component number i : ℕ) : Type 0 where
   pub count : length now ≡ length components
-  pub given : (t : ℕ) → t < i → component_at components t ≡ component → number_of now t ≡ Some number
-  pub kept : (t : ℕ) → component_at components t ≢ component → number_of now t ≡ number_of old t
-  pub waiting : (t : ℕ) → i ≤ t → number_of now t ≡ number_of old t
+  pub given : (t : ℕ) → t < i → component_at components t ≡ component → part_number now t ≡ Some number
+  pub kept : (t : ℕ) → component_at components t ≢ component → part_number now t ≡ part_number old t
+  pub waiting : (t : ℕ) → i ≤ t → part_number now t ≡ part_number old t
   pub no_more : without now ≤ without old
-  pub fewer : (t : ℕ) → t < i → component_at components t ≡ component → number_of old t ≡ None → without now + 1 ≤ without old
+  pub fewer : (t : ℕ) → t < i → component_at components t ≡ component → part_number old t ≡ None → without now + 1 ≤ without old
 
 -- ---- the marks of the parts
 pub record MarkedTo (net : NetLists) (part_of : List ℕ) (count : ℕ) (inner : List Bool) (i : ℕ) : Type 0 where

@@ -10,7 +10,7 @@ use Rattle.teg_net.specs.Circuits.{no_place, from_of, IsPathBetween}
 use Rattle.teg_net.specs.Parts.{Reaches, to_of}
 use Rattle.teg_parts.specs.Partitions.{AreStrong, AreInOrder, AreParts}
 use Rattle.teg_parts.specs.Components.{AreComponents}
-use Rattle.teg_parts.specs.Numbers.{component_at, number_of, IsFree, IsFirstFree, IsGiven, IsAfter, MayBy, IsFirstOf, AreNumbered, AllNumbered, AreInOrderOf, AreInnerMarks}
+use Rattle.teg_parts.specs.PartNumbers.{component_at, part_number, IsFree, IsFirstFree, IsGiven, IsAfter, MayBy, IsFirstOfPart, ArePartsNumbered, AllNumbered, AreInOrderOf, AreInnerMarks}
 use Rattle.teg_parts.proofs.Marks.{false_not_true, unmarked, unmarked_less, flag_past, set_flag_before}
 use Rattle.teg_parts.proofs.Reaching.{reaches_on, reaches_by}
 
@@ -24,11 +24,11 @@ none_not_some o j a b = cc
 pub same_number : (o : Option ℕ) (i j : ℕ) → o ≡ Some i → o ≡ Some j → i ≡ j
 same_number o i j a b = cc
 
-pub number_in : (numbers : List (Option ℕ)) (t j : ℕ) → number_of numbers t ≡ Some j → t < length numbers
+pub number_in : (numbers : List (Option ℕ)) (t j : ℕ) → part_number numbers t ≡ Some j → t < length numbers
 number_in numbers t j e =
     ⊎_elim
     (λ (l : t < length numbers). l)
-    (λ (l : length numbers ≤ t). absurd (none_not_some (number_of numbers t) j (get_or_past numbers t None l) e))
+    (λ (l : length numbers ≤ t). absurd (none_not_some (part_number numbers t) j (get_or_past numbers t None l) e))
     (cases_lt t (length numbers))
 
 module _ (net : NetLists) (kept : IsNet net) (components : List ℕ) (comps : AreComponents net components) where
@@ -41,31 +41,31 @@ module _ (net : NetLists) (kept : IsNet net) (components : List ℕ) (comps : Ar
   to_in : (p : PlaceId) → p.index < length net.places → to_of net p < length components
   to_in p l = let c = comps.count in let f = (kept.each_place p.index no_place l).to_in in omega arith
 
-  module _ (ns ns' : List (Option ℕ)) (k f : ℕ) (h : AreNumbered net components ns k) (first : IsFirstFree net components ns f) (count : length ns' ≡ length ns) (g : IsGiven components ns ns' (component_at components f) k) where
-    new_is : (t : ℕ) → t < length components → comp t ≡ comp f → number_of ns' t ≡ Some k
+  module _ (ns ns' : List (Option ℕ)) (k f : ℕ) (h : ArePartsNumbered net components ns k) (first : IsFirstFree net components ns f) (count : length ns' ≡ length ns) (g : IsGiven components ns ns' (component_at components f) k) where
+    new_is : (t : ℕ) → t < length components → comp t ≡ comp f → part_number ns' t ≡ Some k
     new_is t l e = g.given t l e
 
-    old_is : (t : ℕ) → comp t ≢ comp f → number_of ns' t ≡ number_of ns t
+    old_is : (t : ℕ) → comp t ≢ comp f → part_number ns' t ≡ part_number ns t
     old_is t n = g.kept t n
 
-    in_new : (t j : ℕ) → number_of ns' t ≡ Some j → t < length components
+    in_new : (t j : ℕ) → part_number ns' t ≡ Some j → t < length components
     in_new t j e = let l = number_in ns' t j e in let c = h.count in omega arith
 
-    in_old : (t j : ℕ) → number_of ns t ≡ Some j → t < length components
+    in_old : (t j : ℕ) → part_number ns t ≡ Some j → t < length components
     in_old t j e = let l = number_in ns t j e in let c = h.count in omega arith
 
     -- a numbered transition is of another component
-    numbered_apart : (t j : ℕ) → number_of ns t ≡ Some j → comp t ≢ comp f
-    numbered_apart t j e c = none_not_some (number_of ns t) j (h.same t f (in_old t j e) first.free.in_range c ∙ first.free.unnumbered) e
+    numbered_apart : (t j : ℕ) → part_number ns t ≡ Some j → comp t ≢ comp f
+    numbered_apart t j e c = none_not_some (part_number ns t) j (h.same t f (in_old t j e) first.free.in_range c ∙ first.free.unnumbered) e
 
-    still : (t j : ℕ) → number_of ns t ≡ Some j → number_of ns' t ≡ Some j
+    still : (t j : ℕ) → part_number ns t ≡ Some j → part_number ns' t ≡ Some j
     still t j e = old_is t (numbered_apart t j e) ∙ e
 
     -- a number is the new one, or was there
-    split_number : (t j : ℕ) → number_of ns' t ≡ Some j → ((comp t ≡ comp f) × (j ≡ k)) ⊎ (number_of ns t ≡ Some j)
+    split_number : (t j : ℕ) → part_number ns' t ≡ Some j → ((comp t ≡ comp f) × (j ≡ k)) ⊎ (part_number ns t ≡ Some j)
     split_number t j e =
         ⊎_elim
-        (λ (q : comp t ≡ comp f). inl (q, same_number (number_of ns' t) j k e (new_is t (in_new t j e) q)))
+        (λ (q : comp t ≡ comp f). inl (q, same_number (part_number ns' t) j k e (new_is t (in_new t j e) q)))
         (λ (q : comp t ≢ comp f). inr (sym (old_is t q) ∙ e))
         (cases_eq (comp t) (comp f))
 
@@ -75,18 +75,18 @@ module _ (net : NetLists) (kept : IsNet net) (components : List ℕ) (comps : Ar
         let low = x.2 in
         ⊎_elim
         (λ (q : (comp w ≡ comp f) × (x.0 ≡ k)). let e = q.1 in absurd (omega arith))
-        (λ (q : number_of ns w ≡ Some x.0). (x.0, q, x.2))
+        (λ (q : part_number ns w ≡ Some x.0). (x.0, q, x.2))
         (split_number w x.0 x.1)
 
     -- of the transitions that may take k, f is the lowest
     lowest_new : (u : ℕ) → u < length components → IsAfter ns' k u → MayBy net components ns' k u → f < u
     lowest_new u l after may =
         let other : comp u ≢ comp f = λ (e : comp u ≡ comp f). let z = after k (new_is u l e) in let r : ⊥ = absurd (omega arith) in r in
-        let without : number_of ns u ≡ None =
+        let without : part_number ns u ≡ None =
         ⊎_elim
-        (λ (q : number_of ns u ≡ None). q)
-        (λ (q : (j : ℕ) × (number_of ns u ≡ Some j)). let a = after q.0 (still u q.0 q.1) in let b = h.below u q.0 q.1 in absurd (omega arith))
-        (cases_number (number_of ns u)) in
+        (λ (q : part_number ns u ≡ None). q)
+        (λ (q : (j : ℕ) × (part_number ns u ≡ Some j)). let a = after q.0 (still u q.0 q.1) in let b = h.below u q.0 q.1 in absurd (omega arith))
+        (cases_number (part_number ns u)) in
         let free : IsFree net components ns u = record {
           in_range = l;
           unnumbered = without;
@@ -94,7 +94,7 @@ module _ (net : NetLists) (kept : IsNet net) (components : List ℕ) (comps : Ar
               let w : ℕ = from_of net p in
               let into : Reaches net (to_of net p) u = ((comps.strong (to_of net p) u (to_in p b.in_range) l).0 b.enters).0 in
               let x = may_before k u (omega arith) may w (from_in p b.in_range) (reaches_on net w (to_of net p) u (reaches_by net p b.in_range) into) b.other in
-              none_not_some (number_of ns w) x.0 b.unnumbered x.1;
+              none_not_some (part_number ns w) x.0 b.unnumbered x.1;
         } in
         ⊎_elim
         (λ (q : f < u). q)
@@ -105,7 +105,7 @@ module _ (net : NetLists) (kept : IsNet net) (components : List ℕ) (comps : Ar
         (cases_eq u f))
         (cases_lt f u)
 
-    pub numbered_more : AreNumbered net components ns' (k + 1)
+    pub numbered_more : ArePartsNumbered net components ns' (k + 1)
     numbered_more = record {
       count = count ∙ h.count;
       same = λ t u l m e.
@@ -118,18 +118,18 @@ module _ (net : NetLists) (kept : IsNet net) (components : List ℕ) (comps : Ar
           (λ (q : (comp t ≡ comp f) × (j ≡ k)).
           ⊎_elim
           (λ (r : (comp u ≡ comp f) × (j ≡ k)). q.0 ∙ sym r.0)
-          (λ (r : number_of ns u ≡ Some j). let l = h.below u j r in let e = q.1 in absurd (omega arith))
+          (λ (r : part_number ns u ≡ Some j). let l = h.below u j r in let e = q.1 in absurd (omega arith))
           (split_number u j b))
-          (λ (q : number_of ns t ≡ Some j).
+          (λ (q : part_number ns t ≡ Some j).
           ⊎_elim
           (λ (r : (comp u ≡ comp f) × (j ≡ k)). let l = h.below t j q in let e = r.1 in absurd (omega arith))
-          (λ (r : number_of ns u ≡ Some j). h.apart t u j q r)
+          (λ (r : part_number ns u ≡ Some j). h.apart t u j q r)
           (split_number u j b))
           (split_number t j a);
       below = λ t j e.
           ⊎_elim
           (λ (q : (comp t ≡ comp f) × (j ≡ k)). let s = q.1 in omega arith)
-          (λ (q : number_of ns t ≡ Some j). let l = h.below t j q in omega arith)
+          (λ (q : part_number ns t ≡ Some j). let l = h.below t j q in omega arith)
           (split_number t j e);
       taken = λ j l.
           ⊎_elim
@@ -143,7 +143,7 @@ module _ (net : NetLists) (kept : IsNet net) (components : List ℕ) (comps : Ar
           ))
           (λ (q : k ≤ j).
           let e : k ≡ j = omega arith in
-          subst (λ y. (t : ℕ) × IsFirstOf net components ns' y t) e (f, record { here = new_is f first.free.in_range refl; lower = lowest_new }))
+          subst (λ y. (t : ℕ) × IsFirstOfPart net components ns' y t) e (f, record { here = new_is f first.free.in_range refl; lower = lowest_new }))
           (cases_lt j k);
       upstream = λ p j l e.
           ⊎_elim
@@ -153,18 +153,18 @@ module _ (net : NetLists) (kept : IsNet net) (components : List ℕ) (comps : Ar
           (λ (r : comp (from_of net p) ≡ comp f). (k, new_is (from_of net p) (from_in p l) r, omega arith))
           (λ (r : comp (from_of net p) ≢ comp f).
           ⊎_elim
-          (λ (z : number_of ns (from_of net p) ≡ None). absurd (first.free.unblocked p (record { in_range = l; enters = q.0; other = r; unnumbered = z })))
-          (λ (z : (i : ℕ) × (number_of ns (from_of net p) ≡ Some i)). let b = h.below (from_of net p) z.0 z.1 in (z.0, still (from_of net p) z.0 z.1, omega arith))
-          (cases_number (number_of ns (from_of net p))))
+          (λ (z : part_number ns (from_of net p) ≡ None). absurd (first.free.unblocked p (record { in_range = l; enters = q.0; other = r; unnumbered = z })))
+          (λ (z : (i : ℕ) × (part_number ns (from_of net p) ≡ Some i)). let b = h.below (from_of net p) z.0 z.1 in (z.0, still (from_of net p) z.0 z.1, omega arith))
+          (cases_number (part_number ns (from_of net p))))
           (cases_eq (comp (from_of net p)) (comp f)))
-          (λ (q : number_of ns (to_of net p) ≡ Some j). let x = h.upstream p j l q in (x.0, still (from_of net p) x.0 x.1, x.2))
+          (λ (q : part_number ns (to_of net p) ≡ Some j). let x = h.upstream p j l q in (x.0, still (from_of net p) x.0 x.1, x.2))
           (split_number (to_of net p) j e);
     }
 
   -- where no transition is free, each has a number: otherwise another part without one lies upstream of it, and so on;
   -- marked are the parts that were passed, all of which the transition reaches
   all_from : (ns : List (Option ℕ)) → ((t : ℕ) → IsFree net components ns t → ⊥) → (m : ℕ) (seen : List Bool) → length seen ≡ length components → unmarked seen ≤ m
-      → (t : ℕ) → t < length components → get_or seen (comp t) false ≡ false → ((u : ℕ) → u < length components → get_or seen (comp u) false ≡ true → Reaches net t u) → number_of ns t ≢ None
+      → (t : ℕ) → t < length components → get_or seen (comp t) false ≡ false → ((u : ℕ) → u < length components → get_or seen (comp u) false ≡ true → Reaches net t u) → part_number ns t ≢ None
   all_from ns none zero seen long few t l new reached e = let b = comps.below t l in let less = unmarked_less seen (comp t) (omega arith) new in absurd (omega arith)
   all_from ns none (suc m) seen long few t l new reached e =
       let in_seen : comp t < length seen = let b = comps.below t l in omega arith in
@@ -207,14 +207,14 @@ module _ (net : NetLists) (kept : IsNet net) (components : List ℕ) (comps : Ar
     length_is : length part_of ≡ length components
     length_is = o.told.count ∙ o.numbered.count
 
-    number_is : (t : ℕ) → t < length components → number_of o.numbers t ≡ Some (part t)
+    number_is : (t : ℕ) → t < length components → part_number o.numbers t ≡ Some (part t)
     number_is t l = let d = o.numbered.count in o.told.same t (omega arith)
 
-    part_is : (t j : ℕ) → number_of o.numbers t ≡ Some j → part t ≡ j
+    part_is : (t j : ℕ) → part_number o.numbers t ≡ Some j → part t ≡ j
     part_is t j e =
         let l = number_in o.numbers t j e in
         let c = o.numbered.count in
-        same_number (number_of o.numbers t) (part t) j (number_is t (omega arith)) e
+        same_number (part_number o.numbers t) (part t) j (number_is t (omega arith)) e
 
     one_component : (t u : ℕ) → t < length components → u < length components → part t ≡ part u → comp t ≡ comp u
     one_component t u l m e = o.numbered.apart t u (part u) (number_is t l ∙ ap (λ x. Some x) e) (number_is u m)
@@ -244,7 +244,7 @@ module _ (net : NetLists) (kept : IsNet net) (components : List ℕ) (comps : Ar
             λ e. (comps.strong t u t_in u_in).0 (one_component t u t_in u_in e),
             λ r.
                 let one : comp t ≡ comp u = (comps.strong t u t_in u_in).1 r in
-                same_number (number_of o.numbers t) (part t) (part u) (number_is t t_in) (o.numbered.same t u t_in u_in one ∙ number_is u u_in),
+                same_number (part_number o.numbers t) (part t) (part u) (number_is t t_in) (o.numbered.same t u t_in u_in one ∙ number_is u u_in),
           );
     }
 

@@ -12,9 +12,10 @@ use Rattle.teg_net.specs.Parts.{Reaches, to_of}
 use Rattle.teg_net.proofs.PathLaws.{IsPathBetween-append}
 use Rattle.teg_parts.specs.declared.places_along.Way.{Way}
 use Rattle.teg_parts.specs.declared.places_along.Way.TheVariants.{Onward, Back}
-use Rattle.teg_parts.specs.PlacesAlong.{near_of, far_of, Leads, AddsPlacesAlong}
-use Rattle.teg_parts.specs.Components.{IsMarked, AreLedTo}
+use Rattle.teg_parts.specs.PlacesAlong.{near_of, Leads, AddsPlacesAlong}
+use Rattle.teg_parts.specs.Components.{IsMarked, AreReachedMarks}
 use Rattle.teg_parts.proofs.Marks.{flag_past, false_not_true, set_flag, set_flag_before}
+use Rattle.teg_parts.proofs.FarEnds.{far_of}
 
 -- ---- paths
 pub reaches_itself : (net : NetLists) (a : ℕ) → Reaches net a a
@@ -174,7 +175,7 @@ all_marked : (net : NetLists) (way : Way) (start : ℕ) (marks : List Bool) → 
 all_marked net Onward start marks h t (ps, path) = onward_marked net start marks h ps start t path h.begun
 all_marked net Back start marks h t (ps, path) = back_marked net start marks h ps t start path h.begun
 
-pub search_over : (net : NetLists) (way : Way) (start : ℕ) (marks : List Bool) (ag : List PlaceId) → length ag ≡ 0 → IsSearch net way start marks ag → AreLedTo net way start marks
+pub search_over : (net : NetLists) (way : Way) (start : ℕ) (marks : List Bool) (ag : List PlaceId) → length ag ≡ 0 → IsSearch net way start marks ag → AreReachedMarks net way start marks
 search_over net way start marks ag e h =
     let over : IsSearch net way start marks [] = subst (IsSearch net way start marks) (nil_from_length ag e) h in
     record { count = h.count; exact = λ t. (h.led t, all_marked net way start marks over t) }

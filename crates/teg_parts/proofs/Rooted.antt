@@ -6,8 +6,8 @@ use Rattle.std.proofs.lemmas.List.{get_or_past, get_or-replicate, length-replica
 use lib.ListN.{replicate}
 use Rattle.teg_net.specs.Nets.{NetLists}
 use Rattle.teg_parts.specs.declared.places_along.Way.TheVariants.{Onward, Back}
-use Rattle.teg_parts.specs.Components.{IsMarked, AreLedTo, AreMutual, found_at, AreFound, IsRooted, HasFound, AreComponents}
-use Rattle.teg_parts.specs.Numbers.{AreNumbers}
+use Rattle.teg_parts.specs.Components.{IsMarked, AreReachedMarks, AreMutual, found_at, AreFound, IsRooted, HasFound, AreComponents}
+use Rattle.teg_parts.specs.PartNumbers.{AreNumbersListed}
 use Rattle.teg_parts.proofs.Marks.{false_not_true}
 use Rattle.teg_parts.proofs.Reaching.{reaches_itself, reaches_on}
 use Rattle.teg_parts.proofs.Ordering.{cases_number, none_not_some, same_number, number_in}
@@ -46,7 +46,7 @@ pub record RootedTo (onward back : List Bool) (root : ℕ) (old now : List (Opti
   pub kept : (t : ℕ) → (IsMarked onward t → IsMarked back t → ⊥) → found_at now t ≡ found_at old t
 
 module _ (net : NetLists) (root : ℕ) (onward back : List Bool) (old new : List (Option ℕ)) (count : length new ≡ length old) (root_in : root < length net.transitions)
-    (un : found_at old root ≡ None) (h : AreFound net old) (reached : AreLedTo net Onward root onward) (reaching : AreLedTo net Back root back) (g : IsRooted onward back root old new) where
+    (un : found_at old root ≡ None) (h : AreFound net old) (reached : AreReachedMarks net Onward root onward) (reaching : AreReachedMarks net Back root back) (g : IsRooted onward back root old new) where
   given : (t : ℕ) → t < length net.transitions → AreMutual net root t → found_at new t ≡ Some root
   given t l m = let c = h.count in g.given t (omega arith) ((reached.exact t).1 m.0) ((reaching.exact t).1 m.1)
 
@@ -99,7 +99,7 @@ module _ (net : NetLists) (root : ℕ) (onward back : List Bool) (old new : List
   }
 
 -- once each transition has a number
-pub are_components : (net : NetLists) (found : List (Option ℕ)) (plain : List ℕ) → AreFound net found → AreNumbers found plain → AreComponents net plain
+pub are_components : (net : NetLists) (found : List (Option ℕ)) (plain : List ℕ) → AreFound net found → AreNumbersListed found plain → AreComponents net plain
 are_components net found plain h n =
     let c = n.count in
     let d = h.count in

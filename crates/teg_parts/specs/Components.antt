@@ -10,7 +10,7 @@ abbrev pub IsMarked : List Bool → ℕ → Type 0
 IsMarked marks t = slice_index_or marks t false ≡ true
 
 -- marked are exactly the transitions to which a path goes this way from start
-pub record AreLedTo (net : NetLists) (way : Way) (start : ℕ) (marks : List Bool) : Type 0 where
+pub record AreReachedMarks (net : NetLists) (way : Way) (start : ℕ) (marks : List Bool) : Type 0 where
   pub count : length marks ≡ length net.transitions
   pub exact : (t : ℕ) → IsMarked marks t ↔ Leads net way start t
 

@@ -1,5 +1,5 @@
 pub mod Partitions
 pub mod PlacesAlong
 pub mod Components
-pub mod Numbers
-pub mod Laws
+pub mod PartNumbers
+pub mod CircuitsAndParts

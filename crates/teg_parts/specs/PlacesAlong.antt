@@ -23,26 +23,23 @@ far_in Back place = place.from.index
 abbrev pub near_of : Way → NetLists → PlaceId → ℕ
 near_of way net p = near_in way (place_at net p)
 
-abbrev pub far_of : Way → NetLists → PlaceId → ℕ
-far_of way net p = far_in way (place_at net p)
-
 -- a path goes this way from transition a to transition b
 abbrev pub Leads : NetLists → Way → ℕ → ℕ → Type 0
 Leads net Onward a b = Reaches net a b
 Leads net Back a b = Reaches net b a
 
 -- the highest numbered place below the bound along which one may go from the transition
-abbrev pub IsHighestBelow : NetLists → Way → ℕ → ℕ → Option PlaceId → Type 0
-IsHighestBelow net way t bound None = (r : PlaceId) → r.index < bound → near_of way net r ≢ t
-IsHighestBelow net way t bound (Some q) =
+abbrev pub IsHighestPlaceBelow : NetLists → Way → ℕ → ℕ → Option PlaceId → Type 0
+IsHighestPlaceBelow net way t bound None = (r : PlaceId) → r.index < bound → near_of way net r ≢ t
+IsHighestPlaceBelow net way t bound (Some q) =
     (q.index < bound) × (near_of way net q ≡ t) × ((r : PlaceId) → q.index < r.index → r.index < bound → near_of way net r ≢ t)
 
 -- for each transition the highest numbered of them, and for each place the next lower one
 pub record ArePlacesAlong (net : NetLists) (f : PlacesAlong) : Type 0 where
   pub highest_count : length f.highest.items ≡ length net.transitions
   pub lower_count : length f.lower.items ≡ length net.places
-  pub highest : (t : ℕ) → t < length net.transitions → IsHighestBelow net f.way t (length net.places) (slice_index_or f.highest.items t None)
-  pub lower : (p : PlaceId) → p.index < length net.places → IsHighestBelow net f.way (near_of f.way net p) p.index (slice_index_or f.lower.items p.index None)
+  pub highest : (t : ℕ) → t < length net.transitions → IsHighestPlaceBelow net f.way t (length net.places) (slice_index_or f.highest.items t None)
+  pub lower : (p : PlaceId) → p.index < length net.places → IsHighestPlaceBelow net f.way (near_of f.way net p) p.index (slice_index_or f.lower.items p.index None)
 
 -- the list goes on with the places along which one may go from the transition
 pub record AddsPlacesAlong (net : NetLists) (way : Way) (t : ℕ) (old new : List PlaceId) : Type 0 where

@@ -4,7 +4,7 @@ ghost use Rattle.std.specs.Prelude.{◌≡◌, ◌<◌, length, IfOk, OnOk};
 ghost use Rattle.teg_net.specs.Nets.{IsNet};
 ghost use Rattle.teg_parts.specs.PlacesAlong.{ArePlacesAlong};
 ghost use Rattle.teg_parts.specs.declared.places_along.Way.TheVariants.{Onward, Back};
-ghost use Rattle.teg_parts.specs.Components.{AreLedTo, AreFound, IsRooted, HasFound, AreComponents};
+ghost use Rattle.teg_parts.specs.Components.{AreReachedMarks, AreFound, IsRooted, HasFound, AreComponents};
 
 use crate::numbers::numbers_of;
 use crate::places_along::{PlacesAlong, Way, far_end, places_along, push_places_along};
@@ -20,7 +20,7 @@ fn led_from(
 ) -> Result<Vec<bool>, AllocError>
     requires along { ArePlacesAlong net.now along.now }
     requires start { start < length net.now.transitions }
-    ensures { IfOk result (λ marks. AreLedTo net.now along.now.way start marks.items) }
+    ensures { IfOk result (λ marks. AreReachedMarks net.now along.now.way start marks.items) }
 {
     let places = net.places();
     let mut marks = vec![in alloc; false; net.transitions().len()]?;

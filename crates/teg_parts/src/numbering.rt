@@ -4,7 +4,7 @@ ghost use Rattle.std.specs.Prelude.{◌≡◌, ◌<◌, ◌≤◌, ℕ, All, len
 ghost use Rattle.teg_net.specs.Limits.{most_transitions};
 ghost use Rattle.teg_net.specs.Nets.{IsNet};
 ghost use Rattle.teg_parts.specs.Components.{AreComponents};
-ghost use Rattle.teg_parts.specs.Numbers.{AreBlocked, IsFree, IsFirstFree, IsGiven, AreInOrderOf, AreInnerMarks, IsOpenFor, IsFirstOpen};
+ghost use Rattle.teg_parts.specs.PartNumbers.{AreBlocked, IsFree, IsFirstFree, IsGiven, AreInOrderOf, AreInnerMarks, IsOpenFor, IsFirstOpen};
 
 use crate::numbers::numbers_of;
 use std::alloc::{AllocError, Global};

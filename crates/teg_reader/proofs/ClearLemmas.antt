@@ -5,7 +5,7 @@ use Rattle.std.proofs.lemmas.List.{map-append, length-append}
 use Rattle.std.specs.List.{list_all}
 use Rattle.std.specs.Option.{option_map_or}
 use Rattle.toml.specs.Data.{Data, string, integer, float, boolean, datetime, array, table}
-use Rattle.teg_net.specs.Limits.{most_transitions, most_places, greatest_hold, most_tokens, greatest_date, most_every}
+use Rattle.teg_net.specs.Limits.{most_transitions, most_places, greatest_hold, most_place_tokens, greatest_input_date, greatest_every}
 use Rattle.teg_reader.specs.declared.keys.Key.{Key}
 use Rattle.teg_reader.specs.declared.keys.Key.TheVariants as key
 use Rattle.teg_reader.specs.declared.fields.Field.{Field}
@@ -13,9 +13,9 @@ use Rattle.teg_reader.specs.declared.refusals.Section.{Section}
 use Rattle.teg_reader.specs.declared.refusals.Section.TheVariants as section
 use Rattle.teg_reader.specs.declared.refusals.ReadRefusal.{ReadRefusal}
 use Rattle.teg_reader.specs.Fields.{fields_of}
-use Rattle.teg_reader.specs.Texts.{is_among, is_distinct}
-use Rattle.teg_reader.specs.Trees.{value_at, text_at, list_at, number_at, as_number, is_between, names_of, or_else}
-use Rattle.teg_reader.specs.Walks.{Look, spot_at, first_finding, first_of, finding}
+use Rattle.teg_reader.specs.TextLists.{is_among, is_distinct}
+use Rattle.teg_reader.specs.DocumentTrees.{data_at, text_at, array_at, number_at, as_number, is_between, entry_names, or_else}
+use Rattle.teg_reader.specs.PassWalks.{Look, spot_at, first_finding, first_of_entries, finding}
 use Rattle.teg_reader.specs.WrongKinds.{first_failing}
 use Rattle.teg_reader.specs.UnknownKeys.{is_second, unknown_key}
 use Rattle.teg_reader.specs.WrongKinds.{wrong_kind}
@@ -51,7 +51,7 @@ all_clear look section p says n (e ∷ es) h =
     let both = neither _ _ h in
     rw (says n e both.0, all_clear look section p says (n + 1) es both.1)
 
-pub all_passed : (look : Data → Option ReadRefusal) (p : Data → Bool) → ((d : Data) → look d ≡ None → p d ≡ true) → (es : List Data) → first_of look es ≡ None → list_all p es ≡ true
+pub all_passed : (look : Data → Option ReadRefusal) (p : Data → Bool) → ((d : Data) → look d ≡ None → p d ≡ true) → (es : List Data) → first_of_entries look es ≡ None → list_all p es ≡ true
 all_passed look p says [] h = refl
 all_passed look p says (e ∷ es) h =
     let both = neither _ _ h in
@@ -60,16 +60,16 @@ all_passed look p says (e ∷ es) h =
 -- what a pass without a finding says of each section
 pub record IsClear (look : Look) (top : Data) : Type 0 where
   pub at_top : look (spot_at section.Top 0) top ≡ None
-  pub transitions : first_finding look section.Transition 1 (list_at key.Transition top) ≡ None
-  pub places : first_finding look section.Place 1 (list_at key.Place top) ≡ None
-  pub inputs : first_finding look section.Input 1 (list_at key.Input top) ≡ None
+  pub transitions : first_finding look section.Transition 1 (array_at key.Transition top) ≡ None
+  pub places : first_finding look section.Place 1 (array_at key.Place top) ≡ None
+  pub inputs : first_finding look section.Input 1 (array_at key.Input top) ≡ None
 
 pub clear : (look : Look) (top : Data) → finding look top ≡ None → IsClear look top
 unfolding finding
 clear look top h =
     let a = neither (look (spot_at section.Top 0) top) _ h in
-    let b = neither (first_finding look section.Transition 1 (list_at key.Transition top)) _ a.1 in
-    let c = neither (first_finding look section.Place 1 (list_at key.Place top)) _ b.1 in
+    let b = neither (first_finding look section.Transition 1 (array_at key.Transition top)) _ a.1 in
+    let c = neither (first_finding look section.Place 1 (array_at key.Place top)) _ b.1 in
     record { at_top = a.0; transitions = b.0; places = c.0; inputs = c.1 }
 
 -- the passes over the entries that the net rests on
@@ -96,11 +96,11 @@ place_named : (n : ℕ) (d : Data) → bad_name (spot_at section.Place n) d ≡ 
 unfolding bad_name
 place_named n d none = none_if (has_good_name d) _ none
 
-pub transitions_named : (top : Data) → AreGood top → list_all has_good_name (list_at key.Transition top) ≡ true
-transitions_named top good = all_clear bad_name section.Transition has_good_name transition_named 1 (list_at key.Transition top) (clear bad_name top good.names).transitions
+pub transitions_named : (top : Data) → AreGood top → list_all has_good_name (array_at key.Transition top) ≡ true
+transitions_named top good = all_clear bad_name section.Transition has_good_name transition_named 1 (array_at key.Transition top) (clear bad_name top good.names).transitions
 
-pub places_named : (top : Data) → AreGood top → list_all has_good_name (list_at key.Place top) ≡ true
-places_named top good = all_clear bad_name section.Place has_good_name place_named 1 (list_at key.Place top) (clear bad_name top good.names).places
+pub places_named : (top : Data) → AreGood top → list_all has_good_name (array_at key.Place top) ≡ true
+places_named top good = all_clear bad_name section.Place has_good_name place_named 1 (array_at key.Place top) (clear bad_name top good.names).places
 
 -- entries of which none repeats an earlier one have distinct texts
 pub front_of : (front rest : List Data) → take ((length front + 1) - 1) (front ++ rest) ≡ front
@@ -130,19 +130,19 @@ unfolding repeated_at
 distinct_at section key es h = distinct_from section key [] es h refl
 
 pub record AreDistinct (top : Data) : Type 0 where
-  pub transitions : is_distinct (names_of (list_at key.Transition top)) ≡ true
-  pub places : is_distinct (names_of (list_at key.Place top)) ≡ true
-  pub inputs : is_distinct (map (text_at key.Transition) (list_at key.Input top)) ≡ true
+  pub transitions : is_distinct (entry_names (array_at key.Transition top)) ≡ true
+  pub places : is_distinct (entry_names (array_at key.Place top)) ≡ true
+  pub inputs : is_distinct (map (text_at key.Transition) (array_at key.Input top)) ≡ true
 
 pub distinct : (top : Data) → AreGood top → AreDistinct top
 unfolding repeated
 distinct top good =
-    let a = neither (repeated_at section.Transition key.Name (list_at key.Transition top)) _ good.repeats in
-    let b = neither (repeated_at section.Place key.Name (list_at key.Place top)) _ a.1 in
+    let a = neither (repeated_at section.Transition key.Name (array_at key.Transition top)) _ good.repeats in
+    let b = neither (repeated_at section.Place key.Name (array_at key.Place top)) _ a.1 in
     record {
-      transitions = distinct_at section.Transition key.Name (list_at key.Transition top) a.0;
-      places = distinct_at section.Place key.Name (list_at key.Place top) b.0;
-      inputs = distinct_at section.Input key.Transition (list_at key.Input top) b.1;
+      transitions = distinct_at section.Transition key.Name (array_at key.Transition top) a.0;
+      places = distinct_at section.Place key.Name (array_at key.Place top) b.0;
+      inputs = distinct_at section.Input key.Transition (array_at key.Input top) b.1;
     }
 
 -- fields of which none fails
@@ -159,49 +159,49 @@ fields_in_range section n d h = none_failing (λ f. in_range section d f.key) (f
 
 -- the numbers of entries are those of a net
 pub record AreFew (top : Data) : Type 0 where
-  pub transitions : length (list_at key.Transition top) ≤ most_transitions
-  pub places : length (list_at key.Place top) ≤ most_places
+  pub transitions : length (array_at key.Transition top) ≤ most_transitions
+  pub places : length (array_at key.Place top) ≤ most_places
 
 pub few : (top : Data) → AreGood top → AreFew top
 unfolding fields_of in_range
 few top good =
     let all = fields_in_range section.Top 0 top (clear out_of_range top good.ranges).at_top in
     let a = and_parts (is_between_at key.Version 1 2 top) _ all in
-    let b = and_parts (nat_le (length (list_at key.Transition top)) most_transitions) _ a.1 in
-    let c = and_parts (nat_le (length (list_at key.Place top)) most_places) _ b.1 in
+    let b = and_parts (nat_le (length (array_at key.Transition top)) most_transitions) _ a.1 in
+    let c = and_parts (nat_le (length (array_at key.Place top)) most_places) _ b.1 in
     record { transitions = le_of _ _ b.0; places = le_of _ _ c.0 }
 
 -- the numbers of a place keep their ranges
 abbrev pub has_small_numbers : Data → Bool
-has_small_numbers d = is_between_at key.Hold 0 greatest_hold d && (is_between_at key.Tokens 0 most_tokens d && list_all (is_between 0 greatest_date) (list_at key.Ready d))
+has_small_numbers d = is_between_at key.Hold 0 greatest_hold d && (is_between_at key.Tokens 0 most_place_tokens d && list_all (is_between 0 greatest_input_date) (array_at key.Ready d))
 
 place_in_range : (n : ℕ) (d : Data) → out_of_range (spot_at section.Place n) d ≡ None → has_small_numbers d ≡ true
 unfolding fields_of in_range
 place_in_range n d h =
     let all = fields_in_range section.Place n d h in
     let a = and_parts (is_between_at key.Hold 0 greatest_hold d) _ all in
-    let b = and_parts (is_between_at key.Tokens 0 most_tokens d) _ a.1 in
-    let c = and_parts (list_all (is_between 0 greatest_date) (list_at key.Ready d)) _ b.1 in
+    let b = and_parts (is_between_at key.Tokens 0 most_place_tokens d) _ a.1 in
+    let c = and_parts (list_all (is_between 0 greatest_input_date) (array_at key.Ready d)) _ b.1 in
     rw (a.0, b.0, c.0)
 
-pub places_in_range : (top : Data) → AreGood top → list_all has_small_numbers (list_at key.Place top) ≡ true
-places_in_range top good = all_clear out_of_range section.Place has_small_numbers place_in_range 1 (list_at key.Place top) (clear out_of_range top good.ranges).places
+pub places_in_range : (top : Data) → AreGood top → list_all has_small_numbers (array_at key.Place top) ≡ true
+places_in_range top good = all_clear out_of_range section.Place has_small_numbers place_in_range 1 (array_at key.Place top) (clear out_of_range top good.ranges).places
 
 -- the numbers of an input list keep their ranges
 abbrev pub has_numbers_in_range : Data → Bool
-has_numbers_in_range d = has_dates_in_range d && (is_between_at key.Every 1 most_every d && is_between_at key.Gap 0 greatest_date d)
+has_numbers_in_range d = has_dates_in_range d && (is_between_at key.Every 1 greatest_every d && is_between_at key.Gap 0 greatest_input_date d)
 
 input_in_range : (n : ℕ) (d : Data) → out_of_range (spot_at section.Input n) d ≡ None → has_numbers_in_range d ≡ true
 unfolding fields_of in_range
 input_in_range n d h =
     let all = fields_in_range section.Input n d h in
     let a = and_parts (has_dates_in_range d) _ all in
-    let b = and_parts (is_between_at key.Every 1 most_every d) _ a.1 in
-    let c = and_parts (is_between_at key.Gap 0 greatest_date d) _ b.1 in
+    let b = and_parts (is_between_at key.Every 1 greatest_every d) _ a.1 in
+    let c = and_parts (is_between_at key.Gap 0 greatest_input_date d) _ b.1 in
     rw (a.0, b.0, c.0)
 
-pub inputs_in_range : (top : Data) → AreGood top → list_all has_numbers_in_range (list_at key.Input top) ≡ true
-inputs_in_range top good = all_clear out_of_range section.Input has_numbers_in_range input_in_range 1 (list_at key.Input top) (clear out_of_range top good.ranges).inputs
+pub inputs_in_range : (top : Data) → AreGood top → list_all has_numbers_in_range (array_at key.Input top) ≡ true
+inputs_in_range top good = all_clear out_of_range section.Input has_numbers_in_range input_in_range 1 (array_at key.Input top) (clear out_of_range top good.ranges).inputs
 
 -- an integer in its range has a number there
 pub between : (low high : ℕ) (d : Data) → is_between low high d ≡ true → (low ≤ as_number d) × (as_number d ≤ high)
@@ -220,4 +220,4 @@ found_up_to high (Some d) h = (between 0 high d h).1
 
 pub number_up_to : (key : Key) (high : ℕ) (d : Data) → is_between_at key 0 high d ≡ true → number_at key d ≤ high
 unfolding number_at
-number_up_to key high d h = found_up_to high (value_at key d) h
+number_up_to key high d h = found_up_to high (data_at key d) h

@@ -3,7 +3,7 @@ use Rattle.std.proofs.Common.{◌≡◌, ℕ, ◌-◌, ◌<◌, ◌≤◌, List,
 use Rattle.std.proofs.lemmas.List.{length-map, length-drop, get_or-map}
 use Rattle.toml.specs.declared.value.Value.{Value}
 use Rattle.toml.specs.View.{view}
-use Rattle.teg_reader.specs.Trees.{as_number}
+use Rattle.teg_reader.specs.DocumentTrees.{as_number}
 use Rattle.teg_reader.specs.InputLists.{first_fall}
 
 pub number_at_index : (vs : List Value) (i : ℕ) (d : Value) → i < length vs → slice_index (map as_number (map view vs)) i ≡ as_number (view (get_or vs i d))

@@ -7,9 +7,9 @@ use Rattle.toml.specs.Data.{Data}
 use Rattle.teg_net.specs.Names.{is_name}
 use Rattle.teg_reader.specs.declared.keys.Key.TheVariants as key
 use Rattle.teg_reader.specs.declared.refusals.Section.TheVariants as section
-use Rattle.teg_reader.specs.Texts.{is_among}
-use Rattle.teg_reader.specs.Trees.{text_at, texts_at, list_at, names_of}
-use Rattle.teg_reader.specs.Walks.{spot_at, finding, first_of}
+use Rattle.teg_reader.specs.TextLists.{is_among}
+use Rattle.teg_reader.specs.DocumentTrees.{text_at, texts_at, array_at, entry_names}
+use Rattle.teg_reader.specs.PassWalks.{spot_at, finding, first_of_entries}
 use Rattle.teg_reader.specs.BadNames.{has_good_name}
 use Rattle.teg_reader.specs.UnknownTransitions.{unknown_among, unknown_text, unknown_transition}
 use Rattle.teg_reader.specs.EventGraphs.{no_transitions, not_event_graph, first_text, end_at, is_input_named, input_has_upstream}
@@ -20,20 +20,20 @@ use Rattle.teg_reader.proofs.ClearLemmas.{neither, unmapped, none_where, all_cle
 
 -- the passes over the graph
 pub record IsGraph (top : Data) : Type 0 where
-  pub some_transition : no_transitions (list_at key.Transition top) ≡ None
-  pub known : finding (unknown_transition (names_of (list_at key.Transition top))) top ≡ None
-  pub ends : first_of not_event_graph (list_at key.Place top) ≡ None
-  pub inputs_free : first_of (input_has_upstream (list_at key.Transition top)) (list_at key.Place top) ≡ None
-  pub inputs : first_of (bad_input (list_at key.Transition top)) (list_at key.Input top) ≡ None
+  pub some_transition : no_transitions (array_at key.Transition top) ≡ None
+  pub known : finding (unknown_transition (entry_names (array_at key.Transition top))) top ≡ None
+  pub ends : first_of_entries not_event_graph (array_at key.Place top) ≡ None
+  pub inputs_free : first_of_entries (input_has_upstream (array_at key.Transition top)) (array_at key.Place top) ≡ None
+  pub inputs : first_of_entries (bad_input (array_at key.Transition top)) (array_at key.Input top) ≡ None
 
 pub good_graph : (top : Data) → bad_graph top ≡ None → IsGraph top
 unfolding bad_graph
 good_graph top h =
-    let ts = list_at key.Transition top in
+    let ts = array_at key.Transition top in
     let a = neither (no_transitions ts) _ h in
-    let b = neither (finding (unknown_transition (names_of ts)) top) _ a.1 in
-    let c = neither (first_of not_event_graph (list_at key.Place top)) _ b.1 in
-    let d = neither (first_of (input_has_upstream ts) (list_at key.Place top)) _ c.1 in
+    let b = neither (finding (unknown_transition (entry_names ts)) top) _ a.1 in
+    let c = neither (first_of_entries not_event_graph (array_at key.Place top)) _ b.1 in
+    let d = neither (first_of_entries (input_has_upstream ts) (array_at key.Place top)) _ c.1 in
     record { some_transition = a.0; known = b.0; ends = c.0; inputs_free = d.0; inputs = d.1 }
 
 -- there is a transition
@@ -71,10 +71,10 @@ place_known names n d h =
     let both = neither (unknown_among names (texts_at key.From d)) _ (unmapped _ _ h) in
     rw (all_known names (texts_at key.From d) both.0, all_known names (texts_at key.To d) both.1)
 
-pub places_known : (top : Data) → IsGraph top → list_all (has_known_texts (names_of (list_at key.Transition top))) (list_at key.Place top) ≡ true
+pub places_known : (top : Data) → IsGraph top → list_all (has_known_texts (entry_names (array_at key.Transition top))) (array_at key.Place top) ≡ true
 places_known top graph =
-    all_clear (unknown_transition (names_of (list_at key.Transition top))) section.Place (has_known_texts (names_of (list_at key.Transition top)))
-    (place_known (names_of (list_at key.Transition top))) 1 (list_at key.Place top) (clear _ top graph.known).places
+    all_clear (unknown_transition (entry_names (array_at key.Transition top))) section.Place (has_known_texts (entry_names (array_at key.Transition top)))
+    (place_known (entry_names (array_at key.Transition top))) 1 (array_at key.Place top) (clear _ top graph.known).places
 
 -- the transition of the entry is one of the names
 abbrev pub has_known_owner : List (List ℕ) → Data → Bool
@@ -84,24 +84,24 @@ owner_known : (names : List (List ℕ)) (n : ℕ) (d : Data) → unknown_transit
 unfolding unknown_transition unknown_text unknown_among
 owner_known names n d h = (found_none (is_among names (text_at key.Transition d)) (text_at key.Transition d) None (unmapped _ _ h)).0
 
-pub owners_known : (top : Data) → finding (unknown_transition (names_of (list_at key.Transition top))) top ≡ None → list_all (has_known_owner (names_of (list_at key.Transition top))) (list_at key.Input top) ≡ true
+pub owners_known : (top : Data) → finding (unknown_transition (entry_names (array_at key.Transition top))) top ≡ None → list_all (has_known_owner (entry_names (array_at key.Transition top))) (array_at key.Input top) ≡ true
 owners_known top known =
-    all_clear (unknown_transition (names_of (list_at key.Transition top))) section.Input (has_known_owner (names_of (list_at key.Transition top)))
-    (owner_known (names_of (list_at key.Transition top))) 1 (list_at key.Input top) (clear _ top known).inputs
+    all_clear (unknown_transition (entry_names (array_at key.Transition top))) section.Input (has_known_owner (entry_names (array_at key.Transition top)))
+    (owner_known (entry_names (array_at key.Transition top))) 1 (array_at key.Input top) (clear _ top known).inputs
 
 -- a text that is the name of a transition is a name
-among_good : (ts : List Data) (text : List ℕ) → list_all has_good_name ts ≡ true → is_among (names_of ts) text ≡ true → is_name text ≡ true
+among_good : (ts : List Data) (text : List ℕ) → list_all has_good_name ts ≡ true → is_among (entry_names ts) text ≡ true → is_name text ≡ true
 among_good [] text good h = cc
 among_good (t ∷ ts) text good h =
     let parts = and_parts (has_good_name t) _ good in
-    or_true (bytes_eq text (text_at key.Name t)) (is_among (names_of ts) text) h
+    or_true (bytes_eq text (text_at key.Name t)) (is_among (entry_names ts) text) h
     (λ e. rw (same_text text (text_at key.Name t) e) parts.0)
     (λ e. among_good ts text parts.1 e)
 
-pub owners_good : (ts es : List Data) → list_all has_good_name ts ≡ true → list_all (has_known_owner (names_of ts)) es ≡ true → list_all has_good_owner es ≡ true
+pub owners_good : (ts es : List Data) → list_all has_good_name ts ≡ true → list_all (has_known_owner (entry_names ts)) es ≡ true → list_all has_good_owner es ≡ true
 owners_good ts [] good known = refl
 owners_good ts (e ∷ es) good known =
-    let parts = and_parts (has_known_owner (names_of ts) e) _ known in
+    let parts = and_parts (has_known_owner (entry_names ts) e) _ known in
     let here : has_good_owner e ≡ true = among_good ts (text_at key.Transition e) good parts.0 in
     rw (here, owners_good ts es good parts.1)
 
@@ -117,8 +117,8 @@ place_joined : (d : Data) → not_event_graph d ≡ None → has_one_end d ≡ t
 unfolding not_event_graph
 place_joined d h = none_unless (has_one_end d) _ h
 
-pub places_joined : (top : Data) → IsGraph top → list_all has_one_end (list_at key.Place top) ≡ true
-places_joined top graph = all_passed not_event_graph has_one_end place_joined (list_at key.Place top) graph.ends
+pub places_joined : (top : Data) → IsGraph top → list_all has_one_end (array_at key.Place top) ≡ true
+places_joined top graph = all_passed not_event_graph has_one_end place_joined (array_at key.Place top) graph.ends
 
 one_of : (a : ℕ) → (a == 1) ≡ true → a ≡ 1
 one_of a h = grind (arith, nat_tests)
@@ -146,5 +146,5 @@ end_free : (ts : List Data) (d : Data) → input_has_upstream ts d ≡ None → 
 unfolding input_has_upstream
 end_free ts d h = rw (none_where (is_input_named ts (end_at key.To d)) _ h)
 
-pub places_free : (top : Data) → IsGraph top → list_all (enters_no_input (list_at key.Transition top)) (list_at key.Place top) ≡ true
-places_free top graph = all_passed (input_has_upstream (list_at key.Transition top)) (enters_no_input (list_at key.Transition top)) (end_free (list_at key.Transition top)) (list_at key.Place top) graph.inputs_free
+pub places_free : (top : Data) → IsGraph top → list_all (enters_no_input (array_at key.Transition top)) (array_at key.Place top) ≡ true
+places_free top graph = all_passed (input_has_upstream (array_at key.Transition top)) (enters_no_input (array_at key.Transition top)) (end_free (array_at key.Transition top)) (array_at key.Place top) graph.inputs_free

@@ -18,9 +18,9 @@ use Rattle.teg_reader.specs.declared.refusals.Section.TheVariants as section
 use Rattle.teg_reader.specs.declared.refusals.ReadRefusal.TheVariants as refusal
 use Rattle.teg_reader.specs.Keys.{key_text}
 use Rattle.teg_reader.specs.Fields.{fields_of, listed_fields}
-use Rattle.teg_reader.specs.Trees.{is_there, is_table}
-use Rattle.teg_reader.specs.Walks.{Look, spot_at, first_finding, finding}
-use Rattle.teg_reader.specs.UnknownKeys.{is_field, least_of, unlisted_keys, is_second, unknown_key}
+use Rattle.teg_reader.specs.DocumentTrees.{is_there, is_table}
+use Rattle.teg_reader.specs.PassWalks.{Look, spot_at, first_finding, finding}
+use Rattle.teg_reader.specs.UnknownKeys.{is_field, least_text, unlisted_keys, is_second, unknown_key}
 use Rattle.teg_reader.specs.WrongKinds.{is_kind, has_kind, wrong_kind}
 use Rattle.teg_reader.specs.MissingKeys.{has_needed, lone_key, missing_key}
 use Rattle.teg_reader.specs.BadNames.{bad_name}
@@ -48,7 +48,7 @@ no_finding look net top transitions places inputs = rw (transitions_at net, plac
 
 -- unknown keys
 transition_listed : (n : ℕ) (t : Transition) → unknown_key true (spot_at section.Transition n) (transition_entry t) ≡ None
-unfolding unknown_key unlisted_keys listed_fields fields_of is_field least_of key_text transition_entry
+unfolding unknown_key unlisted_keys listed_fields fields_of is_field least_text key_text transition_entry
 transition_listed n t = refl
 
 place_keys : (ready : List ℕ) (from hold name to tokens : Data)
@@ -58,8 +58,8 @@ place_keys [] from hold name to tokens = refl
 place_keys (d ∷ ds) from hold name to tokens = refl
 
 place_listed : (ts : List Transition) (n : ℕ) (p : Place) → unknown_key true (spot_at section.Place n) (place_entry ts p) ≡ None
-unfolding unknown_key least_of place_entry
-place_listed ts n p = ap (λ ks. option_map (λ k. refusal.UnknownKey (spot_at section.Place n) k) (least_of ks)) (place_keys p.ready _ _ _ _ _)
+unfolding unknown_key least_text place_entry
+place_listed ts n p = ap (λ ks. option_map (λ k. refusal.UnknownKey (spot_at section.Place n) k) (least_text ks)) (place_keys p.ready _ _ _ _ _)
 
 input_keys : (again : Option Again) (dates name : Data)
     → unlisted_keys (listed_fields true section.Input) (table (member (key_text key.Dates) dates (with_again again (member (key_text key.Transition) name no_members)))) ≡ []
@@ -68,8 +68,8 @@ input_keys None dates name = refl
 input_keys (Some a) dates name = refl
 
 input_listed : (ts : List Transition) (n : ℕ) (l : InputList) → unknown_key true (spot_at section.Input n) (input_entry ts l) ≡ None
-unfolding unknown_key least_of input_entry
-input_listed ts n l = ap (λ ks. option_map (λ k. refusal.UnknownKey (spot_at section.Input n) k) (least_of ks)) (input_keys l.again _ _)
+unfolding unknown_key least_text input_entry
+input_listed ts n l = ap (λ ks. option_map (λ k. refusal.UnknownKey (spot_at section.Input n) k) (least_text ks)) (input_keys l.again _ _)
 
 top_keys : (is ps ts : List Data) (version : Data)
     → unlisted_keys (listed_fields true section.Top) (table (with_entries key.Input is (with_entries key.Place ps (with_entries key.Transition ts (member (key_text key.Version) version no_members))))) ≡ []
@@ -84,8 +84,8 @@ top_keys (i ∷ is) (p ∷ ps) [] version = refl
 top_keys (i ∷ is) (p ∷ ps) (t ∷ ts) version = refl
 
 top_listed : (net : NetLists) → unknown_key true (spot_at section.Top 0) (table (migrated net)) ≡ None
-unfolding unknown_key least_of migrated
-top_listed net = ap (λ ks. option_map (λ k. refusal.UnknownKey (spot_at section.Top 0) k) (least_of ks)) (top_keys (input_entries net) (place_entries net) (transition_entries net) _)
+unfolding unknown_key least_text migrated
+top_listed net = ap (λ ks. option_map (λ k. refusal.UnknownKey (spot_at section.Top 0) k) (least_text ks)) (top_keys (input_entries net) (place_entries net) (transition_entries net) _)
 
 second : (net : NetLists) → is_second (table (migrated net)) ≡ true
 unfolding is_second

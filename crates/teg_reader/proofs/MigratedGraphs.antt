@@ -16,14 +16,14 @@ use Rattle.teg_net.specs.declared.entries.InputList.{InputList}
 use Rattle.teg_reader.specs.declared.keys.Key.TheVariants as key
 use Rattle.teg_reader.specs.declared.refusals.Section.TheVariants as section
 use Rattle.teg_reader.specs.declared.refusals.ReadRefusal.{ReadRefusal}
-use Rattle.teg_reader.specs.Texts.{is_among}
-use Rattle.teg_reader.specs.Trees.{texts_of, texts_at, number_at, as_number, is_there, names_of, entry_named}
-use Rattle.teg_reader.specs.Walks.{spot_at, first_of, finding}
+use Rattle.teg_reader.specs.TextLists.{is_among}
+use Rattle.teg_reader.specs.DocumentTrees.{texts_of, texts_at, number_at, as_number, is_there, entry_names, entry_named}
+use Rattle.teg_reader.specs.PassWalks.{spot_at, first_of_entries, finding}
 use Rattle.teg_reader.specs.UnknownTransitions.{unknown_among, unknown_text, unknown_transition}
 use Rattle.teg_reader.specs.EventGraphs.{no_transitions, not_event_graph, end_at, is_input_named, input_has_upstream}
-use Rattle.teg_reader.specs.InputLists.{dates_of, again_of, first_fall, is_bad_end, bad_date, fault_of, bad_input}
-use Rattle.teg_reader.specs.ReadyDates.{bad_ready}
-use Rattle.teg_reader.specs.Holds.{duration_named, hold_of, too_slow}
+use Rattle.teg_reader.specs.InputLists.{entry_dates, entry_again, first_fall, is_bad_end, bad_date, fault_of, bad_input}
+use Rattle.teg_reader.specs.ReadyDatePass.{bad_ready}
+use Rattle.teg_reader.specs.Holds.{duration_named, hold_with_duration, too_slow}
 use Rattle.teg_reader.specs.Migrated.{number_data, name_of, transition_entry, place_entry, input_entry, migrated}
 use Rattle.teg_reader.proofs.Facts.{le_test}
 use Rattle.teg_reader.proofs.RoleLemmas.{is_input-from_named, named-from_is_input}
@@ -32,7 +32,7 @@ use Rattle.teg_reader.proofs.MigratedNames.{names_in, names_back, name_known, Ha
 use Rattle.teg_reader.proofs.MigratedEntries.{found_nowhere, found_at_none, no_finding}
 
 -- a look that finds nothing at the entries of a list
-pub found_in_none : {X : Type 0} (look : Data → Option ReadRefusal) (f : X → Data) (P : X → Type 0) → ((x : X) → P x → look (f x) ≡ None) → (xs : List X) → All P xs → first_of look (map f xs) ≡ None
+pub found_in_none : {X : Type 0} (look : Data → Option ReadRefusal) (f : X → Data) (P : X → Type 0) → ((x : X) → P x → look (f x) ≡ None) → (xs : List X) → All P xs → first_of_entries look (map f xs) ≡ None
 found_in_none look f P says [] all = refl
 found_in_none look f P says (x ∷ xs) all = rw (says x (All-head P x xs all), found_in_none look f P says xs (All-tail P x xs all))
 
@@ -89,7 +89,7 @@ top_known : (names : List (List ℕ)) (net : NetLists) → unknown_transition na
 unfolding unknown_transition unknown_text
 top_known names net = refl
 
-pub no_unknown_transition : (net : NetLists) → IsNet net → finding (unknown_transition (names_of (transition_entries net))) (table (migrated net)) ≡ None
+pub no_unknown_transition : (net : NetLists) → IsNet net → finding (unknown_transition (entry_names (transition_entries net))) (table (migrated net)) ≡ None
 no_unknown_transition net rules =
     let names = names_in net.transitions in
     rw (names_back net.transitions)
@@ -145,8 +145,8 @@ good_dates : (dates : List ℕ) (again : Option Again) → IsNonDecreasing dates
 unfolding bad_date
 good_dates dates again up rules = rw (no_fall 2 dates up, good_end dates again rules)
 
-pub dates_back : (ts : List Transition) (l : InputList) → dates_of (input_entry ts l) ≡ l.dates
-unfolding dates_of
+pub dates_back : (ts : List Transition) (l : InputList) → entry_dates (input_entry ts l) ≡ l.dates
+unfolding entry_dates
 dates_back ts l = rw (dates_list ts l) (numbers_back l.dates)
 
 same_again : (again : Option Again) →
@@ -154,8 +154,8 @@ same_again : (again : Option Again) →
 same_again None = refl
 same_again (Some a) = refl
 
-pub again_back : (ts : List Transition) (l : InputList) → again_of (input_entry ts l) ≡ l.again
-unfolding again_of number_at
+pub again_back : (ts : List Transition) (l : InputList) → entry_again (input_entry ts l) ≡ l.again
+unfolding entry_again number_at
 again_back ts l = rw (input_every ts l, input_gap ts l) (same_again l.again)
 
 pub good_input : (net : NetLists) → HaveDistinctNames net.transitions → (l : InputList) → IsInputOf net l → bad_input (transition_entries net) (input_entry net.transitions l) ≡ None
@@ -204,8 +204,8 @@ given_hold : (ts : List Transition) (p : Place) → number_at key.Hold (place_en
 unfolding number_at
 given_hold ts p = rw (place_hold ts p)
 
-pub hold_back : (ts : List Transition) (p : Place) → hold_of (map transition_entry ts) (place_entry ts p) ≡ p.hold
-unfolding hold_of
+pub hold_back : (ts : List Transition) (p : Place) → hold_with_duration (map transition_entry ts) (place_entry ts p) ≡ p.hold
+unfolding hold_with_duration
 hold_back ts p = rw (given_hold ts p, no_duration ts (end_at key.From (place_entry ts p))) (omega arith)
 
 pub good_hold : (net : NetLists) (p : Place) → IsPlaceOf net p → too_slow (transition_entries net) (place_entry net.transitions p) ≡ None

@@ -11,9 +11,9 @@ use Rattle.teg_net.specs.declared.entries.Role.{Role}
 use Rattle.teg_net.specs.declared.entries.Role.TheVariants.{Internal, Input, Output}
 use Rattle.teg_reader.specs.declared.keys.Key.{Key}
 use Rattle.teg_reader.specs.declared.keys.Key.TheVariants as key
-use Rattle.teg_reader.specs.Texts.{is_among, is_distinct}
-use Rattle.teg_reader.specs.Trees.{text_at, names_of}
-use Rattle.teg_reader.specs.NetOf.{role_of, transition_of}
+use Rattle.teg_reader.specs.TextLists.{is_among, is_distinct}
+use Rattle.teg_reader.specs.DocumentTrees.{text_at, entry_names}
+use Rattle.teg_reader.specs.NetOf.{role_of, entry_transition}
 use Rattle.teg_reader.specs.Migrated.{role_text, name_of, transition_entry}
 use Rattle.teg_reader.proofs.Facts.{same_text, right_true}
 use Rattle.teg_reader.proofs.MigratedTrees.{transition_text, transition_role}
@@ -53,7 +53,7 @@ texts_through k f g says (x ∷ xs) = rw (says x, texts_through k f g says xs)
 abbrev pub names_in : List Transition → List (List ℕ)
 names_in ts = map (λ (t : Transition). t.name) ts
 
-pub names_back : (ts : List Transition) → names_of (map transition_entry ts) ≡ names_in ts
+pub names_back : (ts : List Transition) → entry_names (map transition_entry ts) ≡ names_in ts
 names_back ts = texts_through key.Name transition_entry (λ (t : Transition). t.name) transition_text ts
 
 any_transition : Transition
@@ -108,10 +108,10 @@ role_there : (t : Transition) → text_at key.Role (transition_entry t) ≡ role
 unfolding text_at
 role_there t = rw (transition_role t)
 
-pub transition_back : (t : Transition) → transition_of (transition_entry t) ≡ t
-unfolding transition_of
+pub transition_back : (t : Transition) → entry_transition (transition_entry t) ≡ t
+unfolding entry_transition
 transition_back t = rw (transition_text t, role_there t, role_back t.role)
 
-pub transitions_back : (ts : List Transition) → map transition_of (map transition_entry ts) ≡ ts
+pub transitions_back : (ts : List Transition) → map entry_transition (map transition_entry ts) ≡ ts
 transitions_back [] = refl
 transitions_back (t ∷ ts) = rw (transition_back t, transitions_back ts)

@@ -5,12 +5,12 @@ use Rattle.toml.specs.Data.{Data, table}
 use Rattle.teg_net.specs.Nets.{NetLists, IsNet, IsPlaceOf, IsInputOf}
 use Rattle.teg_net.specs.declared.entries.Place.{Place}
 use Rattle.teg_net.specs.declared.entries.InputList.{InputList}
-use Rattle.teg_reader.specs.Trees.{names_of}
+use Rattle.teg_reader.specs.DocumentTrees.{entry_names}
 use Rattle.teg_reader.specs.EventGraphs.{not_event_graph, input_has_upstream}
 use Rattle.teg_reader.specs.InputLists.{bad_input}
-use Rattle.teg_reader.specs.ReadyDates.{ready_of, bad_ready}
+use Rattle.teg_reader.specs.ReadyDatePass.{ready_of, bad_ready}
 use Rattle.teg_reader.specs.Holds.{too_slow}
-use Rattle.teg_reader.specs.NetOf.{id_of, place_of, input_of, net_of}
+use Rattle.teg_reader.specs.NetOf.{id_of, entry_place, input_of, net_of}
 use Rattle.teg_reader.specs.Documents.{bad_entries, bad_graph, bad_places, refused, tree_document}
 use Rattle.teg_reader.specs.Migrated.{place_entry, input_entry, migrated}
 use Rattle.teg_reader.proofs.MigratedTrees.{numbers_back, place_text, ready_list, input_text, transition_entries, transitions_at, places_at, inputs_at}
@@ -52,8 +52,8 @@ unfolding refused
 not_refused net rules = rw (entries_good net rules, graph_good net rules, places_good net rules)
 
 -- each entry is that of its table
-place_back : (net : NetLists) → IsNet net → (p : Place) → IsPlaceOf net p → place_of (transition_entries net) (place_entry net.transitions p) ≡ p
-unfolding place_of id_of ready_of
+place_back : (net : NetLists) → IsNet net → (p : Place) → IsPlaceOf net p → entry_place (transition_entries net) (place_entry net.transitions p) ≡ p
+unfolding entry_place id_of ready_of
 place_back net rules p fits =
     rw (
       place_text net.transitions p,
@@ -68,7 +68,7 @@ place_back net rules p fits =
       numbers_back p.ready,
     )
 
-input_back : (net : NetLists) → IsNet net → (l : InputList) → IsInputOf net l → input_of (names_of (transition_entries net)) (input_entry net.transitions l) ≡ l
+input_back : (net : NetLists) → IsNet net → (l : InputList) → IsInputOf net l → input_of (entry_names (transition_entries net)) (input_entry net.transitions l) ≡ l
 unfolding input_of id_of
 input_back net rules l fits =
     rw (
@@ -91,8 +91,8 @@ net_back net rules =
       places_at net,
       inputs_at net,
       transitions_back net.transitions,
-      all_back (place_of (transition_entries net)) (place_entry net.transitions) (IsPlaceOf net) (place_back net rules) net.places rules.each_place,
-      all_back (input_of (names_of (transition_entries net))) (input_entry net.transitions) (IsInputOf net) (input_back net rules) net.inputs rules.each_input,
+      all_back (entry_place (transition_entries net)) (place_entry net.transitions) (IsPlaceOf net) (place_back net rules) net.places rules.each_place,
+      all_back (input_of (entry_names (transition_entries net))) (input_entry net.transitions) (IsInputOf net) (input_back net rules) net.inputs rules.each_input,
     )
 
 pub net_written : (net : NetLists) → IsNet net → tree_document (table (migrated net)) ≡ Ok net

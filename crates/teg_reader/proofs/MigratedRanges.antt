@@ -5,7 +5,7 @@ use Rattle.std.proofs.lemmas.List.{length-map, length-append, map-append}
 use Rattle.std.specs.Option.{option_map_or}
 use Rattle.toml.specs.Data.{Data, table}
 use Rattle.teg_net.specs.Nets.{NetLists, IsNet, IsPlaceOf, IsInputOf, EndsOrGoesOn}
-use Rattle.teg_net.specs.Limits.{most_transitions, most_places, greatest_hold, most_tokens, most_dates, greatest_date, most_every}
+use Rattle.teg_net.specs.Limits.{most_transitions, most_places, greatest_hold, most_place_tokens, most_input_dates, greatest_input_date, greatest_every}
 use Rattle.teg_net.specs.declared.entries.Role.{Role}
 use Rattle.teg_net.specs.declared.entries.Role.TheVariants.{Internal, Input, Output}
 use Rattle.teg_net.specs.declared.entries.Again.{Again}
@@ -17,9 +17,9 @@ use Rattle.teg_reader.specs.declared.keys.Key.TheVariants as key
 use Rattle.teg_reader.specs.declared.refusals.Section.{Section}
 use Rattle.teg_reader.specs.declared.refusals.Section.TheVariants as section
 use Rattle.teg_reader.specs.Fields.{fields_of}
-use Rattle.teg_reader.specs.Texts.{is_among, is_distinct}
-use Rattle.teg_reader.specs.Trees.{text_at, is_between}
-use Rattle.teg_reader.specs.Walks.{spot_at, first_finding, finding}
+use Rattle.teg_reader.specs.TextLists.{is_among, is_distinct}
+use Rattle.teg_reader.specs.DocumentTrees.{text_at, is_between}
+use Rattle.teg_reader.specs.PassWalks.{spot_at, first_finding, finding}
 use Rattle.teg_reader.specs.Repeats.{repeats_earlier, repeated_at, repeated}
 use Rattle.teg_reader.specs.Ranges.{is_role, in_range, out_of_range}
 use Rattle.teg_reader.specs.Migrated.{number_data, role_text, name_of, transition_entry, place_entry, input_entry, migrated}
@@ -107,26 +107,26 @@ place_ranges net n p rules =
       place_tokens net.transitions p,
       ready_list net.transitions p,
       number_between 0 greatest_hold p.hold (omega arith) rules.hold_in,
-      number_between 0 most_tokens p.tokens (omega arith) rules.tokens_in,
-      all_between greatest_date p.ready rules.ready_in,
+      number_between 0 most_place_tokens p.tokens (omega arith) rules.tokens_in,
+      all_between greatest_input_date p.ready rules.ready_in,
     )
 
-every_in_range : (dates : List ℕ) (again : Option Again) → EndsOrGoesOn dates again → option_map_or (is_between 1 most_every) (option_map (λ a. number_data a.every) again) true ≡ true
+every_in_range : (dates : List ℕ) (again : Option Again) → EndsOrGoesOn dates again → option_map_or (is_between 1 greatest_every) (option_map (λ a. number_data a.every) again) true ≡ true
 every_in_range dates None rules = refl
-every_in_range dates (Some a) rules = number_between 1 most_every a.every rules.some rules.every_in
+every_in_range dates (Some a) rules = number_between 1 greatest_every a.every rules.some rules.every_in
 
-gap_in_range : (dates : List ℕ) (again : Option Again) → EndsOrGoesOn dates again → option_map_or (is_between 0 greatest_date) (option_map (λ a. number_data a.gap) again) true ≡ true
+gap_in_range : (dates : List ℕ) (again : Option Again) → EndsOrGoesOn dates again → option_map_or (is_between 0 greatest_input_date) (option_map (λ a. number_data a.gap) again) true ≡ true
 gap_in_range dates None rules = refl
-gap_in_range dates (Some a) rules = number_between 0 greatest_date a.gap (omega arith) rules.gap_in
+gap_in_range dates (Some a) rules = number_between 0 greatest_input_date a.gap (omega arith) rules.gap_in
 
 input_ranges : (net : NetLists) (n : ℕ) (l : InputList) → IsInputOf net l → out_of_range (spot_at section.Input n) (input_entry net.transitions l) ≡ None
 unfolding out_of_range in_range fields_of
 input_ranges net n l rules =
-    let few : nat_le (length (map number_data l.dates)) most_dates ≡ true = le_test _ _ (rw length-map rules.few) in
+    let few : nat_le (length (map number_data l.dates)) most_input_dates ≡ true = le_test _ _ (rw length-map rules.few) in
     rw (
       dates_list net.transitions l,
       few,
-      all_between greatest_date l.dates rules.dates_in,
+      all_between greatest_input_date l.dates rules.dates_in,
       input_every net.transitions l,
       input_gap net.transitions l,
       every_in_range l.dates l.again rules.again,

@@ -8,8 +8,8 @@ use Rattle.std.specs.Map.Iter.{deref}
 use Rattle.toml.specs.declared.value.Value.{Value}
 use Rattle.toml.specs.View.{view}
 use Rattle.teg_reader.specs.declared.keys.Key.TheVariants as key
-use Rattle.teg_reader.specs.Trees.{text_at, names_of}
-use Rattle.teg_reader.specs.Texts.{is_among, is_distinct}
+use Rattle.teg_reader.specs.DocumentTrees.{text_at, entry_names}
+use Rattle.teg_reader.specs.TextLists.{is_among, is_distinct}
 use Rattle.teg_reader.proofs.Facts.{or_false, negated, same_text, or_true, right_true, right_false}
 
 -- a text as an index set keeps it
@@ -37,7 +37,7 @@ map_deref-push (j ∷ ks) k = ap (λ t. j.now ∷ t) (map_deref-push ks k)
 
 -- the names from an entry on
 abbrev pub names_from : ℕ → List Value → List (List ℕ)
-names_from i es = names_of (map view (drop i es))
+names_from i es = entry_names (map view (drop i es))
 
 names_from-more : (es : List Value) (i : ℕ) (v : Value) → i < length es → v ≡ get_or es i v → names_from i es ≡ text_at key.Name (view v) ∷ names_from (i + 1) es
 names_from-more es i v h is = rw (drop_more es i v h, ← is)

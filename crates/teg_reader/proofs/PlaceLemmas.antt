@@ -6,30 +6,30 @@ use Rattle.std.specs.Option.{option_map_or}
 use Rattle.toml.specs.Data.{Data, as_array}
 use Rattle.teg_net.specs.Limits.{greatest_hold}
 use Rattle.teg_reader.specs.declared.keys.Key.TheVariants as key
-use Rattle.teg_reader.specs.Trees.{list_of, value_at, is_there, list_at, number_at, as_number}
-use Rattle.teg_reader.specs.ReadyDates.{ready_of, has_ready_for_each, bad_ready}
-use Rattle.teg_reader.specs.Holds.{hold_of, too_slow}
-use Rattle.teg_reader.specs.Walks.{first_of}
+use Rattle.teg_reader.specs.DocumentTrees.{listed_data, data_at, is_there, array_at, number_at, as_number}
+use Rattle.teg_reader.specs.ReadyDatePass.{ready_of, has_ready_for_each, bad_ready}
+use Rattle.teg_reader.specs.Holds.{hold_with_duration, too_slow}
+use Rattle.teg_reader.specs.PassWalks.{first_of_entries}
 use Rattle.teg_reader.specs.Documents.{bad_places}
 use Rattle.teg_reader.proofs.Facts.{negated, or_true}
 use Rattle.number_laws.proofs.Numbers.{same_number}
 use Rattle.teg_reader.proofs.ClearLemmas.{neither, all_passed}
 use Rattle.teg_reader.proofs.GraphLemmas.{none_unless}
 
-no_list : (found : Option Data) → is_some found ≡ false → option_map_or list_of (option_and_then as_array found) [] ≡ []
+no_list : (found : Option Data) → is_some found ≡ false → option_map_or listed_data (option_and_then as_array found) [] ≡ []
 no_list None h = refl
 no_list (Some d) h = cc
 
-absent : (d : Data) → is_there key.Ready d ≡ false → list_at key.Ready d ≡ []
-unfolding is_there list_at
-absent d h = no_list (value_at key.Ready d) h
+absent : (d : Data) → is_there key.Ready d ≡ false → array_at key.Ready d ≡ []
+unfolding is_there array_at
+absent d h = no_list (data_at key.Ready d) h
 
 -- no ready date, or one for each token
 pub ready_for_each : (d : Data) → has_ready_for_each d ≡ true → (length (ready_of d) ≡ 0) ⊎ (length (ready_of d) ≡ number_at key.Tokens d)
 unfolding ready_of
 ready_for_each d h =
-    let count : length (map as_number (list_at key.Ready d)) ≡ length (list_at key.Ready d) = length-map (list_at key.Ready d) as_number in
-    or_true (not (is_there key.Ready d)) (length (list_at key.Ready d) == number_at key.Tokens d) h
+    let count : length (map as_number (array_at key.Ready d)) ≡ length (array_at key.Ready d) = length-map (array_at key.Ready d) as_number in
+    or_true (not (is_there key.Ready d)) (length (array_at key.Ready d) == number_at key.Tokens d) h
     (λ e. inl (count ∙ ap length (absent d (negated _ e))))
     (λ e. inr (count ∙ same_number _ _ e))
 
@@ -39,7 +39,7 @@ ready_fits d h = none_unless (has_ready_for_each d) _ h
 
 -- the hold of the place keeps its limit
 abbrev pub has_small_hold : List Data → Data → Bool
-has_small_hold ts d = nat_le (hold_of ts d) greatest_hold
+has_small_hold ts d = nat_le (hold_with_duration ts d) greatest_hold
 
 hold_fits : (ts : List Data) (d : Data) → too_slow ts d ≡ None → has_small_hold ts d ≡ true
 unfolding too_slow
@@ -47,14 +47,14 @@ hold_fits ts d h = none_unless (has_small_hold ts d) _ h
 
 -- the passes over the numbers of the places
 pub record ArePlaces (top : Data) : Type 0 where
-  pub ready : list_all has_ready_for_each (list_at key.Place top) ≡ true
-  pub holds : list_all (has_small_hold (list_at key.Transition top)) (list_at key.Place top) ≡ true
+  pub ready : list_all has_ready_for_each (array_at key.Place top) ≡ true
+  pub holds : list_all (has_small_hold (array_at key.Transition top)) (array_at key.Place top) ≡ true
 
 pub good_places : (top : Data) → bad_places top ≡ None → ArePlaces top
 unfolding bad_places
 good_places top h =
-    let both = neither (first_of bad_ready (list_at key.Place top)) _ h in
+    let both = neither (first_of_entries bad_ready (array_at key.Place top)) _ h in
     record {
-      ready = all_passed bad_ready has_ready_for_each ready_fits (list_at key.Place top) both.0;
-      holds = all_passed (too_slow (list_at key.Transition top)) (has_small_hold (list_at key.Transition top)) (hold_fits (list_at key.Transition top)) (list_at key.Place top) both.1;
+      ready = all_passed bad_ready has_ready_for_each ready_fits (array_at key.Place top) both.0;
+      holds = all_passed (too_slow (array_at key.Transition top)) (has_small_hold (array_at key.Transition top)) (hold_fits (array_at key.Transition top)) (array_at key.Place top) both.1;
     }

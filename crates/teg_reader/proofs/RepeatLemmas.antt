@@ -13,9 +13,9 @@ use Rattle.teg_reader.specs.declared.keys.Key.{Key}
 use Rattle.teg_reader.specs.declared.refusals.Section.{Section}
 use Rattle.teg_reader.specs.declared.refusals.ReadRefusal.{ReadRefusal}
 use Rattle.teg_reader.specs.declared.refusals.ReadRefusal.TheVariants.{Repeated}
-use Rattle.teg_reader.specs.Texts.{is_among}
-use Rattle.teg_reader.specs.Trees.{text_at}
-use Rattle.teg_reader.specs.Walks.{first_finding, spot_at}
+use Rattle.teg_reader.specs.TextLists.{is_among}
+use Rattle.teg_reader.specs.DocumentTrees.{text_at}
+use Rattle.teg_reader.specs.PassWalks.{first_finding, spot_at}
 use Rattle.teg_reader.specs.Repeats.{repeats_earlier}
 use Rattle.teg_reader.proofs.Facts.{one_less}
 use Rattle.teg_reader.proofs.TreeLemmas.{entries_from, entries_from-more}

@@ -3,10 +3,10 @@ use Rattle.std.proofs.Common.{◌≡◌, ℕ, ◌≤◌, true, nat_le, List, Opt
 use Rattle.std.proofs.lemmas.Bool.{and_parts}
 use Rattle.std.specs.Option.{option_map_or}
 use Rattle.toml.specs.Data.{Data}
-use Rattle.teg_net.specs.Limits.{most_tokens, most_every}
+use Rattle.teg_net.specs.Limits.{most_place_tokens, greatest_every}
 use Rattle.teg_reader.specs.declared.keys.Key.TheVariants as key
-use Rattle.teg_reader.specs.Texts.{is_among}
-use Rattle.teg_reader.specs.Trees.{value_at, text_at, number_at, as_number}
+use Rattle.teg_reader.specs.TextLists.{is_among}
+use Rattle.teg_reader.specs.DocumentTrees.{data_at, text_at, number_at, as_number}
 use Rattle.teg_reader.specs.BadNames.{has_good_name}
 use Rattle.teg_reader.specs.EventGraphs.{end_at}
 use Rattle.teg_reader.specs.Sound.{is_sound_place, has_small_every, is_sound_input}
@@ -14,7 +14,7 @@ use Rattle.teg_reader.proofs.Facts.{le_of}
 
 pub record SoundPlace (names : List (List ℕ)) (d : Data) : Type 0 where
   pub name : has_good_name d ≡ true
-  pub tokens : number_at key.Tokens d ≤ most_tokens
+  pub tokens : number_at key.Tokens d ≤ most_place_tokens
   pub from : is_among names (end_at key.From d) ≡ true
   pub to : is_among names (end_at key.To d) ≡ true
 
@@ -33,10 +33,10 @@ sound_input names d h = and_parts (is_among names (text_at key.Transition d)) _ 
 unwrapped : (a b : Data) → Some a ≡ Some b → a ≡ b
 unwrapped a b h = cc
 
-small_found : (found : Option Data) (every : Data) → option_map_or (λ d. nat_le (as_number d) most_every) found true ≡ true → found ≡ Some every → as_number every ≤ most_every
+small_found : (found : Option Data) (every : Data) → option_map_or (λ d. nat_le (as_number d) greatest_every) found true ≡ true → found ≡ Some every → as_number every ≤ greatest_every
 small_found None every h is = cc
-small_found (Some d) every h is = le_of _ _ (subst (λ x. nat_le (as_number x) most_every ≡ true) (unwrapped d every is) h)
+small_found (Some d) every h is = le_of _ _ (subst (λ x. nat_le (as_number x) greatest_every ≡ true) (unwrapped d every is) h)
 
-pub every_within : (d every : Data) → has_small_every d ≡ true → value_at key.Every d ≡ Some every → as_number every ≤ most_every
+pub every_within : (d every : Data) → has_small_every d ≡ true → data_at key.Every d ≡ Some every → as_number every ≤ greatest_every
 unfolding has_small_every
-every_within d every h is = small_found (value_at key.Every d) every h is
+every_within d every h is = small_found (data_at key.Every d) every h is

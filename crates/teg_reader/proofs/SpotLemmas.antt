@@ -11,8 +11,8 @@ use Rattle.teg_reader.specs.declared.refusals.Section.TheVariants as section
 use Rattle.teg_reader.specs.declared.refusals.Spot.{Spot}
 use Rattle.teg_reader.specs.declared.refusals.ReadRefusal.{ReadRefusal}
 use Rattle.teg_reader.specs.declared.refusals.ReadRefusal.TheVariants.{NotToml}
-use Rattle.teg_reader.specs.Trees.{list_at, names_of, or_else}
-use Rattle.teg_reader.specs.Walks.{Look, spot_at, first_finding, first_of, finding}
+use Rattle.teg_reader.specs.DocumentTrees.{array_at, entry_names, or_else}
+use Rattle.teg_reader.specs.PassWalks.{Look, spot_at, first_finding, first_of_entries, finding}
 use Rattle.teg_reader.specs.UnknownKeys.{is_second, unknown_key}
 use Rattle.teg_reader.specs.WrongKinds.{wrong_kind}
 use Rattle.teg_reader.specs.MissingKeys.{missing_key}
@@ -22,10 +22,10 @@ use Rattle.teg_reader.specs.Ranges.{out_of_range}
 use Rattle.teg_reader.specs.UnknownTransitions.{unknown_transition}
 use Rattle.teg_reader.specs.EventGraphs.{no_transitions, not_event_graph, input_has_upstream}
 use Rattle.teg_reader.specs.InputLists.{bad_input}
-use Rattle.teg_reader.specs.ReadyDates.{bad_ready}
+use Rattle.teg_reader.specs.ReadyDatePass.{bad_ready}
 use Rattle.teg_reader.specs.Holds.{too_slow}
-use Rattle.teg_reader.specs.Documents.{tree_of, bad_entries, bad_graph, bad_places, refused, verdict, tree_document, document}
-use Rattle.teg_reader.specs.Spots.{IsPlainSpot, IsPlainRefusal, RefusalsArePlain}
+use Rattle.teg_reader.specs.Documents.{tree_of_bytes, bad_entries, bad_graph, bad_places, refused, verdict, tree_document, document}
+use Rattle.teg_reader.specs.RefusalSpots.{IsPlainSpot, IsPlainRefusal, RefusalsArePlain}
 
 -- what is found, if anything, is plain
 abbrev IsPlainFinding : Option ReadRefusal → Type 0
@@ -60,13 +60,13 @@ plain_pass : (look : Look) (top : Data) → IsPlainLook look → IsPlainFinding 
 unfolding finding
 plain_pass look top plain =
     plain_either (look (spot_at section.Top 0) top) _ (plain (spot_at section.Top 0) top (λ _. refl))
-    (plain_either (first_finding look section.Transition 1 (list_at key.Transition top)) _ (plain_first look section.Transition 1 (list_at key.Transition top) plain (λ e. cc))
-    (plain_either (first_finding look section.Place 1 (list_at key.Place top)) _ (plain_first look section.Place 1 (list_at key.Place top) plain (λ e. cc))
-    (plain_first look section.Input 1 (list_at key.Input top) plain (λ e. cc))))
+    (plain_either (first_finding look section.Transition 1 (array_at key.Transition top)) _ (plain_first look section.Transition 1 (array_at key.Transition top) plain (λ e. cc))
+    (plain_either (first_finding look section.Place 1 (array_at key.Place top)) _ (plain_first look section.Place 1 (array_at key.Place top) plain (λ e. cc))
+    (plain_first look section.Input 1 (array_at key.Input top) plain (λ e. cc))))
 
-plain_of : (look : Data → Option ReadRefusal) (es : List Data) → ((d : Data) → IsPlainFinding (look d)) → IsPlainFinding (first_of look es)
+plain_of : (look : Data → Option ReadRefusal) (es : List Data) → ((d : Data) → IsPlainFinding (look d)) → IsPlainFinding (first_of_entries look es)
 plain_of look [] plain = tt
-plain_of look (e ∷ es) plain = plain_either (look e) (first_of look es) (plain e) (plain_of look es plain)
+plain_of look (e ∷ es) plain = plain_either (look e) (first_of_entries look es) (plain e) (plain_of look es plain)
 
 unknown_keys : (second : Bool) → IsPlainLook (unknown_key second)
 unfolding unknown_key
@@ -91,9 +91,9 @@ repeats_plain key es spot d h = plain_if _ _ (record { spot = h; no_memory = ref
 repeated_plain : (top : Data) → IsPlainFinding (repeated top)
 unfolding repeated repeated_at
 repeated_plain top =
-    plain_either (repeated_at section.Transition key.Name (list_at key.Transition top)) _ (plain_first _ section.Transition 1 (list_at key.Transition top) (repeats_plain key.Name (list_at key.Transition top)) (λ e. cc))
-    (plain_either (repeated_at section.Place key.Name (list_at key.Place top)) _ (plain_first _ section.Place 1 (list_at key.Place top) (repeats_plain key.Name (list_at key.Place top)) (λ e. cc))
-    (plain_first _ section.Input 1 (list_at key.Input top) (repeats_plain key.Transition (list_at key.Input top)) (λ e. cc)))
+    plain_either (repeated_at section.Transition key.Name (array_at key.Transition top)) _ (plain_first _ section.Transition 1 (array_at key.Transition top) (repeats_plain key.Name (array_at key.Transition top)) (λ e. cc))
+    (plain_either (repeated_at section.Place key.Name (array_at key.Place top)) _ (plain_first _ section.Place 1 (array_at key.Place top) (repeats_plain key.Name (array_at key.Place top)) (λ e. cc))
+    (plain_first _ section.Input 1 (array_at key.Input top) (repeats_plain key.Transition (array_at key.Input top)) (λ e. cc)))
 
 out_of_ranges : IsPlainLook out_of_range
 unfolding out_of_range
@@ -140,18 +140,18 @@ bad_entries_plain top =
 bad_graph_plain : (top : Data) → IsPlainFinding (bad_graph top)
 unfolding bad_graph
 bad_graph_plain top =
-    let ts : List Data = list_at key.Transition top in
+    let ts : List Data = array_at key.Transition top in
     plain_either (no_transitions ts) _ (no_transitions_plain ts)
-    (plain_either (finding (unknown_transition (names_of ts)) top) _ (plain_pass (unknown_transition (names_of ts)) top (unknown_transitions (names_of ts)))
-    (plain_either (first_of not_event_graph (list_at key.Place top)) _ (plain_of not_event_graph (list_at key.Place top) not_event_graph_plain)
-    (plain_either (first_of (input_has_upstream ts) (list_at key.Place top)) _ (plain_of (input_has_upstream ts) (list_at key.Place top) (entered_plain ts))
-    (plain_of (bad_input ts) (list_at key.Input top) (bad_input_plain ts)))))
+    (plain_either (finding (unknown_transition (entry_names ts)) top) _ (plain_pass (unknown_transition (entry_names ts)) top (unknown_transitions (entry_names ts)))
+    (plain_either (first_of_entries not_event_graph (array_at key.Place top)) _ (plain_of not_event_graph (array_at key.Place top) not_event_graph_plain)
+    (plain_either (first_of_entries (input_has_upstream ts) (array_at key.Place top)) _ (plain_of (input_has_upstream ts) (array_at key.Place top) (entered_plain ts))
+    (plain_of (bad_input ts) (array_at key.Input top) (bad_input_plain ts)))))
 
 bad_places_plain : (top : Data) → IsPlainFinding (bad_places top)
 unfolding bad_places
 bad_places_plain top =
-    plain_either (first_of bad_ready (list_at key.Place top)) _ (plain_of bad_ready (list_at key.Place top) bad_ready_plain)
-    (plain_of (too_slow (list_at key.Transition top)) (list_at key.Place top) (too_slow_plain (list_at key.Transition top)))
+    plain_either (first_of_entries bad_ready (array_at key.Place top)) _ (plain_of bad_ready (array_at key.Place top) bad_ready_plain)
+    (plain_of (too_slow (array_at key.Transition top)) (array_at key.Place top) (too_slow_plain (array_at key.Transition top)))
 
 refused_plain : (top : Data) → IsPlainFinding (refused top)
 unfolding refused
@@ -173,7 +173,7 @@ read_plain (Some ms) = tree_plain (table ms)
 
 document_plain : (bytes : List ℕ) → IfErr (document bytes) IsPlainRefusal
 unfolding document
-document_plain bytes = read_plain (tree_of bytes)
+document_plain bytes = read_plain (tree_of_bytes bytes)
 
 pub plain_documents : RefusalsArePlain
 plain_documents bytes refusal is = subst (λ answer. IfErr answer IsPlainRefusal) is (document_plain bytes)

@@ -6,9 +6,9 @@ use Rattle.std.specs.List.{list_all}
 use Rattle.toml.specs.Data.{Data}
 use Rattle.toml.specs.declared.value.Value.{Value}
 use Rattle.toml.specs.View.{view, items_view}
-use Rattle.teg_reader.specs.Trees.{list_of}
+use Rattle.teg_reader.specs.DocumentTrees.{listed_data}
 
-pub list_of_view : (vs : List Value) → list_of (items_view vs) ≡ map view vs
+pub list_of_view : (vs : List Value) → listed_data (items_view vs) ≡ map view vs
 list_of_view [] = refl
 list_of_view (v ∷ vs) = ap (λ t. view v ∷ t) (list_of_view vs)
 

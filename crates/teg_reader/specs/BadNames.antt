@@ -6,8 +6,8 @@ use Rattle.teg_reader.specs.declared.keys.Key.TheVariants as key
 use Rattle.teg_reader.specs.declared.refusals.Section.{Section}
 use Rattle.teg_reader.specs.declared.refusals.Section.TheVariants as section
 use Rattle.teg_reader.specs.declared.refusals.ReadRefusal.TheVariants as refusal
-use Rattle.teg_reader.specs.Trees.{text_at}
-use Rattle.teg_reader.specs.Walks.{Look}
+use Rattle.teg_reader.specs.DocumentTrees.{text_at}
+use Rattle.teg_reader.specs.PassWalks.{Look}
 
 -- the entry's name is a name
 abbrev pub has_good_name : Data → Bool

@@ -8,8 +8,8 @@ use Rattle.teg_net.specs.Nets.{NetLists}
 use Rattle.teg_reader.specs.declared.keys.Key.TheVariants as key
 use Rattle.teg_reader.specs.declared.refusals.ReadRefusal.{ReadRefusal}
 use Rattle.teg_reader.specs.declared.refusals.ReadRefusal.TheVariants.{NotToml}
-use Rattle.teg_reader.specs.Trees.{list_at, names_of, or_else}
-use Rattle.teg_reader.specs.Walks.{finding, first_of, is_memory}
+use Rattle.teg_reader.specs.DocumentTrees.{array_at, entry_names, or_else}
+use Rattle.teg_reader.specs.PassWalks.{finding, first_of_entries, is_memory}
 use Rattle.teg_reader.specs.UnknownKeys.{is_second, unknown_key}
 use Rattle.teg_reader.specs.WrongKinds.{wrong_kind}
 use Rattle.teg_reader.specs.MissingKeys.{missing_key}
@@ -19,13 +19,13 @@ use Rattle.teg_reader.specs.Ranges.{out_of_range}
 use Rattle.teg_reader.specs.UnknownTransitions.{unknown_transition}
 use Rattle.teg_reader.specs.EventGraphs.{no_transitions, not_event_graph, input_has_upstream}
 use Rattle.teg_reader.specs.InputLists.{bad_input}
-use Rattle.teg_reader.specs.ReadyDates.{bad_ready}
+use Rattle.teg_reader.specs.ReadyDatePass.{bad_ready}
 use Rattle.teg_reader.specs.Holds.{too_slow}
 use Rattle.teg_reader.specs.NetOf.{net_of}
 
 -- the table that the bytes are, where they are a text that the grammar of TOML reads
-unfoldable pub tree_of : List ℕ → Option Members
-tree_of bytes = if is_utf8 bytes then parse_document bytes else None
+unfoldable pub tree_of_bytes : List ℕ → Option Members
+tree_of_bytes bytes = if is_utf8 bytes then parse_document bytes else None
 
 -- what is wrong with the keys, kinds, names and ranges of the entries
 unfoldable pub bad_entries : Data → Option ReadRefusal
@@ -38,17 +38,17 @@ bad_entries top =
 -- what is wrong with the graph that the entries make
 unfoldable pub bad_graph : Data → Option ReadRefusal
 bad_graph top =
-    or_else (no_transitions (list_at key.Transition top))
-    (or_else (finding (unknown_transition (names_of (list_at key.Transition top))) top)
-    (or_else (first_of not_event_graph (list_at key.Place top))
-    (or_else (first_of (input_has_upstream (list_at key.Transition top)) (list_at key.Place top))
-    (first_of (bad_input (list_at key.Transition top)) (list_at key.Input top)))))
+    or_else (no_transitions (array_at key.Transition top))
+    (or_else (finding (unknown_transition (entry_names (array_at key.Transition top))) top)
+    (or_else (first_of_entries not_event_graph (array_at key.Place top))
+    (or_else (first_of_entries (input_has_upstream (array_at key.Transition top)) (array_at key.Place top))
+    (first_of_entries (bad_input (array_at key.Transition top)) (array_at key.Input top)))))
 
 -- what is wrong with the ready dates and the holds of the places
 unfoldable pub bad_places : Data → Option ReadRefusal
 bad_places top =
-    or_else (first_of bad_ready (list_at key.Place top))
-    (first_of (too_slow (list_at key.Transition top)) (list_at key.Place top))
+    or_else (first_of_entries bad_ready (array_at key.Place top))
+    (first_of_entries (too_slow (array_at key.Transition top)) (array_at key.Place top))
 
 -- the first finding of the passes over the tree
 unfoldable pub refused : Data → Option ReadRefusal
@@ -65,9 +65,9 @@ tree_document top = verdict (refused top) (net_of top)
 
 -- the net that the bytes say, or why they say none
 unfoldable pub document : List ℕ → Result NetLists ReadRefusal
-document bytes = option_map_or (λ ms. tree_document (table ms)) (tree_of bytes) (Err NotToml)
+document bytes = option_map_or (λ ms. tree_document (table ms)) (tree_of_bytes bytes) (Err NotToml)
 
 -- the answer is this one, or want of memory
-abbrev pub Answers : {V : Type 0} → Result V ReadRefusal → Result V ReadRefusal → Type 0
-Answers meant (Ok value) = meant ≡ Ok value
-Answers meant (Err refusal) = is_memory refusal ≡ false → meant ≡ Err refusal
+abbrev pub AnswersAsMeant : {V : Type 0} → Result V ReadRefusal → Result V ReadRefusal → Type 0
+AnswersAsMeant meant (Ok value) = meant ≡ Ok value
+AnswersAsMeant meant (Err refusal) = is_memory refusal ≡ false → meant ≡ Err refusal

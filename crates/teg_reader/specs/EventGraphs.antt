@@ -6,7 +6,7 @@ use Rattle.teg_reader.specs.declared.keys.Key.{Key}
 use Rattle.teg_reader.specs.declared.keys.Key.TheVariants as key
 use Rattle.teg_reader.specs.declared.refusals.ReadRefusal.{ReadRefusal}
 use Rattle.teg_reader.specs.declared.refusals.ReadRefusal.TheVariants as refusal
-use Rattle.teg_reader.specs.Trees.{text_at, texts_at, entry_named}
+use Rattle.teg_reader.specs.DocumentTrees.{text_at, texts_at, entry_named}
 
 -- there is no transition
 unfoldable pub no_transitions : List Data → Option ReadRefusal

@@ -6,7 +6,7 @@ use Rattle.teg_net.specs.declared.entries.Again.{Again}
 use Rattle.teg_reader.specs.declared.keys.Key.TheVariants as key
 use Rattle.teg_reader.specs.declared.refusals.ReadRefusal.{ReadRefusal}
 use Rattle.teg_reader.specs.declared.refusals.ReadRefusal.TheVariants as refusal
-use Rattle.teg_reader.specs.Trees.{value_at, text_at, list_at, number_at, as_number, or_else}
+use Rattle.teg_reader.specs.DocumentTrees.{data_at, text_at, array_at, number_at, as_number, or_else}
 use Rattle.teg_reader.specs.EventGraphs.{is_input_named}
 
 -- the text that names the entry's transition is a name
@@ -14,12 +14,12 @@ abbrev pub has_good_owner : Data → Bool
 has_good_owner d = is_name (text_at key.Transition d)
 
 -- the dates of the entry
-unfoldable pub dates_of : Data → List ℕ
-dates_of d = map as_number (list_at key.Dates d)
+unfoldable pub entry_dates : Data → List ℕ
+entry_dates d = map as_number (array_at key.Dates d)
 
 -- how the entry goes on past its list
-unfoldable pub again_of : Data → Option Again
-again_of d = option_map (λ every. record { every = as_number every; gap = number_at key.Gap d }) (value_at key.Every d)
+unfoldable pub entry_again : Data → Option Again
+entry_again d = option_map (λ every. record { every = as_number every; gap = number_at key.Gap d }) (data_at key.Every d)
 
 -- the position of the first date that is less than the one before it; the second date has this position
 abbrev pub first_fall : ℕ → List ℕ → Option ℕ
@@ -41,7 +41,7 @@ bad_date dates again = or_else (first_fall 2 dates) (if is_bad_end dates again t
 -- the position of the first fault of the entry: 0 where its transition is no input
 unfoldable pub fault_of : List Data → Data → Option ℕ
 fault_of transitions d =
-    if is_input_named transitions (text_at key.Transition d) then bad_date (dates_of d) (again_of d) else Some 0
+    if is_input_named transitions (text_at key.Transition d) then bad_date (entry_dates d) (entry_again d) else Some 0
 
 -- the entry is faulty
 unfoldable pub bad_input : List Data → Data → Option ReadRefusal

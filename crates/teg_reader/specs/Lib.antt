@@ -1,8 +1,8 @@
 pub mod Keys
 pub mod Fields
-pub mod Trees
-pub mod Texts
-pub mod Walks
+pub mod DocumentTrees
+pub mod TextLists
+pub mod PassWalks
 pub mod UnknownKeys
 pub mod WrongKinds
 pub mod MissingKeys
@@ -12,7 +12,7 @@ pub mod Ranges
 pub mod UnknownTransitions
 pub mod EventGraphs
 pub mod InputLists
-pub mod ReadyDates
+pub mod ReadyDatePass
 pub mod Holds
 pub mod NetOf
 pub mod Sound
@@ -20,4 +20,4 @@ pub mod Documents
 pub mod Migrated
 pub mod Written
 pub mod Layouts
-pub mod Spots
+pub mod RefusalSpots

@@ -8,9 +8,9 @@ use Rattle.teg_reader.specs.declared.refusals.Section.{Section}
 use Rattle.teg_reader.specs.declared.refusals.Section.TheVariants as section
 use Rattle.teg_reader.specs.declared.refusals.ReadRefusal.TheVariants as refusal
 use Rattle.teg_reader.specs.Fields.{fields_of}
-use Rattle.teg_reader.specs.Trees.{is_there, or_else}
+use Rattle.teg_reader.specs.DocumentTrees.{is_there, or_else}
 use Rattle.teg_reader.specs.WrongKinds.{first_failing}
-use Rattle.teg_reader.specs.Walks.{Look}
+use Rattle.teg_reader.specs.PassWalks.{Look}
 
 -- the field is not needed, or something stands at its key
 unfoldable pub has_needed : Data → Field → Bool

@@ -10,19 +10,19 @@ use Rattle.teg_net.specs.declared.entries.TransitionId.{TransitionId}
 use Rattle.teg_net.specs.declared.entries.Place.{Place}
 use Rattle.teg_net.specs.declared.entries.InputList.{InputList}
 use Rattle.teg_reader.specs.declared.keys.Key.TheVariants as key
-use Rattle.teg_reader.specs.Trees.{text_at, list_at, number_at, names_of}
+use Rattle.teg_reader.specs.DocumentTrees.{text_at, array_at, number_at, entry_names}
 use Rattle.teg_reader.specs.EventGraphs.{end_at}
-use Rattle.teg_reader.specs.InputLists.{dates_of, again_of}
-use Rattle.teg_reader.specs.ReadyDates.{ready_of}
-use Rattle.teg_reader.specs.Holds.{hold_of}
+use Rattle.teg_reader.specs.InputLists.{entry_dates, entry_again}
+use Rattle.teg_reader.specs.ReadyDatePass.{ready_of}
+use Rattle.teg_reader.specs.Holds.{hold_with_duration}
 
 -- the role of this text; without one a transition is internal
 unfoldable pub role_of : List ℕ → Role
 role_of text = if bytes_eq text (codes "input") then role.Input else if bytes_eq text (codes "output") then role.Output else role.Internal
 
 -- the transition of an entry
-unfoldable pub transition_of : Data → Transition
-transition_of d = record { name = text_at key.Name d; role = role_of (text_at key.Role d) }
+unfoldable pub entry_transition : Data → Transition
+entry_transition d = record { name = text_at key.Name d; role = role_of (text_at key.Role d) }
 
 -- the number of the first of the names that is this text
 unfoldable pub id_of : List (List ℕ) → List ℕ → TransitionId
@@ -30,24 +30,24 @@ id_of names text = record { index = position_or_len (bytes_eq text) names }
 
 -- the place of an entry: its hold and the duration of its upstream transition, where absent 0, its tokens, and
 -- without ready dates all tokens are ready at 0
-unfoldable pub place_of : List Data → Data → Place
-place_of transitions d = record {
+unfoldable pub entry_place : List Data → Data → Place
+entry_place transitions d = record {
   name = text_at key.Name d;
-  from = id_of (names_of transitions) (end_at key.From d);
-  to = id_of (names_of transitions) (end_at key.To d);
-  hold = hold_of transitions d;
+  from = id_of (entry_names transitions) (end_at key.From d);
+  to = id_of (entry_names transitions) (end_at key.To d);
+  hold = hold_with_duration transitions d;
   tokens = number_at key.Tokens d;
   ready = ready_of d;
 }
 
 -- the input list of an entry
 unfoldable pub input_of : List (List ℕ) → Data → InputList
-input_of names d = record { transition = id_of names (text_at key.Transition d); dates = dates_of d; again = again_of d }
+input_of names d = record { transition = id_of names (text_at key.Transition d); dates = entry_dates d; again = entry_again d }
 
 -- the net of the entries in order
 unfoldable pub net_of : Data → NetLists
 net_of top = record {
-  transitions = map transition_of (list_at key.Transition top);
-  places = map (place_of (list_at key.Transition top)) (list_at key.Place top);
-  inputs = map (input_of (names_of (list_at key.Transition top))) (list_at key.Input top);
+  transitions = map entry_transition (array_at key.Transition top);
+  places = map (entry_place (array_at key.Transition top)) (array_at key.Place top);
+  inputs = map (input_of (entry_names (array_at key.Transition top))) (array_at key.Input top);
 }

@@ -7,9 +7,9 @@ use Rattle.teg_reader.specs.declared.refusals.Section.{Section}
 use Rattle.teg_reader.specs.declared.refusals.Section.TheVariants as section
 use Rattle.teg_reader.specs.declared.refusals.ReadRefusal.{ReadRefusal}
 use Rattle.teg_reader.specs.declared.refusals.ReadRefusal.TheVariants as refusal
-use Rattle.teg_reader.specs.Texts.{is_among}
-use Rattle.teg_reader.specs.Trees.{text_at, list_at, or_else}
-use Rattle.teg_reader.specs.Walks.{Look, first_finding}
+use Rattle.teg_reader.specs.TextLists.{is_among}
+use Rattle.teg_reader.specs.DocumentTrees.{text_at, array_at, or_else}
+use Rattle.teg_reader.specs.PassWalks.{Look, first_finding}
 
 -- the entry's text at the key is that of an earlier one of the entries
 unfoldable pub repeats_earlier : Key → List Data → Look
@@ -24,6 +24,6 @@ repeated_at section key entries = first_finding (repeats_earlier key entries) se
 -- the first transition or place whose name is an earlier one's, or second list of one transition
 unfoldable pub repeated : Data → Option ReadRefusal
 repeated top =
-    or_else (repeated_at section.Transition key.Name (list_at key.Transition top))
-    (or_else (repeated_at section.Place key.Name (list_at key.Place top))
-    (repeated_at section.Input key.Transition (list_at key.Input top)))
+    or_else (repeated_at section.Transition key.Name (array_at key.Transition top))
+    (or_else (repeated_at section.Place key.Name (array_at key.Place top))
+    (repeated_at section.Input key.Transition (array_at key.Input top)))

@@ -5,9 +5,9 @@ use Rattle.teg_reader.specs.declared.keys.Key.TheVariants as key
 use Rattle.teg_reader.specs.declared.refusals.Section.{Section}
 use Rattle.teg_reader.specs.declared.refusals.Section.TheVariants as section
 use Rattle.teg_reader.specs.declared.refusals.ReadRefusal.TheVariants as refusal
-use Rattle.teg_reader.specs.Texts.{is_among}
-use Rattle.teg_reader.specs.Trees.{text_at, texts_at, or_else}
-use Rattle.teg_reader.specs.Walks.{Look}
+use Rattle.teg_reader.specs.TextLists.{is_among}
+use Rattle.teg_reader.specs.DocumentTrees.{text_at, texts_at, or_else}
+use Rattle.teg_reader.specs.PassWalks.{Look}
 
 -- the first of the texts that is none of the names
 unfoldable pub unknown_among : List (List ℕ) → List (List ℕ) → Option (List ℕ)

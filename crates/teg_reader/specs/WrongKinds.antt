@@ -9,8 +9,8 @@ use Rattle.teg_reader.specs.declared.fields.Kind.TheVariants.{Text, Integer, Tex
 use Rattle.teg_reader.specs.declared.fields.Field.{Field}
 use Rattle.teg_reader.specs.declared.refusals.ReadRefusal.TheVariants as refusal
 use Rattle.teg_reader.specs.Fields.{fields_of}
-use Rattle.teg_reader.specs.Trees.{value_at, elements_of, is_text, is_integer, is_table}
-use Rattle.teg_reader.specs.Walks.{Look}
+use Rattle.teg_reader.specs.DocumentTrees.{data_at, elements_of, is_text, is_integer, is_table}
+use Rattle.teg_reader.specs.PassWalks.{Look}
 
 -- it is an array whose elements all pass the test
 abbrev pub is_array_of : (Data → Bool) → Data → Bool
@@ -26,7 +26,7 @@ is_kind Tables d = is_array_of is_table d
 
 -- what stands at the field's key, if anything, is of the field's kind
 unfoldable pub has_kind : Data → Field → Bool
-has_kind d f = option_map_or (is_kind f.kind) (value_at f.key d) true
+has_kind d f = option_map_or (is_kind f.kind) (data_at f.key d) true
 
 -- the key of the first field that fails the test
 abbrev pub first_failing : (Field → Bool) → List Field → Option Key

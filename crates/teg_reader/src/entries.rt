@@ -3,10 +3,10 @@ ghost use Rattle.std.specs.Prelude.{◌≡◌, ◌<◌, ◌^◌, true, None, map
 ghost use Rattle.std.specs.List.{list_all};
 ghost use Rattle.std.specs.Map.Iter.{deref};
 ghost use Rattle.toml.specs.View.{view};
-ghost use Rattle.teg_reader.specs.Trees.{as_number, list_at, names_of};
+ghost use Rattle.teg_reader.specs.DocumentTrees.{as_number, array_at, entry_names};
 ghost use Rattle.teg_reader.specs.BadNames.{has_good_name};
-ghost use Rattle.teg_reader.specs.InputLists.{dates_of, again_of};
-ghost use Rattle.teg_reader.specs.NetOf.{role_of, transition_of, place_of, input_of, net_of};
+ghost use Rattle.teg_reader.specs.InputLists.{entry_dates, entry_again};
+ghost use Rattle.teg_reader.specs.NetOf.{role_of, entry_transition, entry_place, input_of, net_of};
 ghost use Rattle.teg_reader.specs.Sound.{is_sound_place, has_small_every, is_sound_input};
 ghost use Rattle.teg_reader.specs.Documents.{refused};
 ghost use Rattle.teg_reader.specs.declared.keys.Key.TheVariants as key;
@@ -36,10 +36,10 @@ fn role_of(text: &str) -> Role
 }
 
 // The transition of an entry.
-#[tactic(auto, unfolding(crate::specs::NetOf::transition_of))]
+#[tactic(auto, unfolding(crate::specs::NetOf::entry_transition))]
 fn make_transition(alloc: Global, entry: &Value) -> Result<Transition, AllocError>
     requires { has_good_name (view entry.now) ≡ true }
-    ensures { IfOk result (λ t. t ≡ transition_of (view entry.now)) }
+    ensures { IfOk result (λ t. t ≡ entry_transition (view entry.now)) }
 {
     let name = copy_name(alloc, text_at(entry, Key::Name))?;
     let role = role_of(text_at(entry, Key::Role));
@@ -49,7 +49,7 @@ fn make_transition(alloc: Global, entry: &Value) -> Result<Transition, AllocErro
 // The transitions of the entries in order.
 fn make_transitions(alloc: Global, entries: &[Value]) -> Result<Vec<Transition>, AllocError>
     requires { list_all has_good_name (map view entries.now) ≡ true }
-    ensures { IfOk result (λ ts. ts.items ≡ map transition_of (map view entries.now)) }
+    ensures { IfOk result (λ ts. ts.items ≡ map entry_transition (map view entries.now)) }
 {
     let mut transitions = Vec::new(alloc);
     for entry in entries {
@@ -70,17 +70,17 @@ fn make_dates(alloc: Global, values: &[Value]) -> Result<Vec<u64>, AllocError>
 }
 
 // The place of an entry.
-#[tactic(auto, unfolding(crate::specs::NetOf::place_of, crate::specs::ReadyDates::ready_of))]
+#[tactic(auto, unfolding(crate::specs::NetOf::entry_place, crate::specs::ReadyDatePass::ready_of))]
 fn make_place(
     alloc: Global,
     names: &IndexSet<&str>,
     transitions: &[Value],
     entry: &Value,
 ) -> Result<Place, AllocError>
-    requires same { map deref names.now.keys ≡ names_of (map view transitions.now) }
+    requires same { map deref names.now.keys ≡ entry_names (map view transitions.now) }
     requires sound { is_sound_place (map deref names.now.keys) (view entry.now) ≡ true }
     requires few { length names.now.keys < 2 ^ 32 }
-    ensures { IfOk result (λ p. p ≡ place_of (map view transitions.now) (view entry.now)) }
+    ensures { IfOk result (λ p. p ≡ entry_place (map view transitions.now) (view entry.now)) }
 {
     let ready = make_dates(alloc, list_at(entry, Key::Ready))?;
     Ok(Place {
@@ -100,11 +100,11 @@ fn make_places(
     transitions: &[Value],
     entries: &[Value],
 ) -> Result<Vec<Place>, AllocError>
-    requires same { map deref names.now.keys ≡ names_of (map view transitions.now) }
+    requires same { map deref names.now.keys ≡ entry_names (map view transitions.now) }
     requires sound { list_all (is_sound_place (map deref names.now.keys)) (map view entries.now)
         ≡ true }
     requires few { length names.now.keys < 2 ^ 32 }
-    ensures { IfOk result (λ ps. ps.items ≡ map (place_of (map view transitions.now))
+    ensures { IfOk result (λ ps. ps.items ≡ map (entry_place (map view transitions.now))
         (map view entries.now)) }
 {
     let mut places = Vec::new(alloc);
@@ -115,10 +115,10 @@ fn make_places(
 }
 
 // How the input entry goes on past its list, if it does.
-#[tactic(auto, unfolding(crate::specs::InputLists::again_of))]
+#[tactic(auto, unfolding(crate::specs::InputLists::entry_again))]
 fn again_of(entry: &Value) -> Option<Again>
     requires { has_small_every (view entry.now) ≡ true }
-    ensures { result ≡ again_of (view entry.now) }
+    ensures { result ≡ entry_again (view entry.now) }
 {
     match value_at(entry, Key::Every) {
         Some(every) => Some(Again {
@@ -130,7 +130,7 @@ fn again_of(entry: &Value) -> Option<Again>
 }
 
 // The input list of an entry.
-#[tactic(auto, unfolding(crate::specs::NetOf::input_of, crate::specs::InputLists::dates_of))]
+#[tactic(auto, unfolding(crate::specs::NetOf::input_of, crate::specs::InputLists::entry_dates))]
 fn make_input(alloc: Global, names: &IndexSet<&str>, entry: &Value) -> Result<InputList, AllocError>
     requires sound { is_sound_input (map deref names.now.keys) (view entry.now) ≡ true }
     requires few { length names.now.keys < 2 ^ 32 }
@@ -172,7 +172,8 @@ pub(crate) fn make_net(
     top: &Value,
 ) -> Result<Net, AllocError>
     requires accepted { refused (view top.now) ≡ None }
-    requires names { map deref names.now.keys ≡ names_of (list_at key.Transition (view top.now)) }
+    requires names { map deref names.now.keys ≡ entry_names (array_at key.Transition (view
+        top.now)) }
     ensures { IfOk result (λ n. n ≡ net_of (view top.now)) }
 {
     let entries = list_at(top, Key::Transition);

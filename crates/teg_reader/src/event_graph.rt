@@ -4,8 +4,8 @@ ghost use Rattle.std.specs.List.{list_all};
 ghost use Rattle.std.specs.Map.Iter.{deref};
 ghost use Rattle.toml.specs.View.{view};
 ghost use Rattle.teg_net.specs.Names.{is_name};
-ghost use Rattle.teg_reader.specs.Trees.{names_of, texts_of, texts_at};
-ghost use Rattle.teg_reader.specs.Walks.{Finds, first_of};
+ghost use Rattle.teg_reader.specs.DocumentTrees.{entry_names, texts_of, texts_at};
+ghost use Rattle.teg_reader.specs.PassWalks.{Finds, first_of_entries};
 ghost use Rattle.teg_reader.specs.BadNames.{has_good_name};
 ghost use Rattle.teg_reader.specs.EventGraphs.{no_transitions, not_event_graph, first_text, end_at, is_input_entry, is_input_named, input_has_upstream};
 
@@ -42,7 +42,7 @@ pub(crate) fn look_for_transitions(transitions: &[Value]) -> Result<(), ReadRefu
 }
 
 // How many texts the value is: one text, or those of an array.
-#[tactic(auto, using(crate::proofs::TreeLemmas::lengths), unfolding(crate::specs::Trees::texts_of))]
+#[tactic(auto, using(crate::proofs::TreeLemmas::lengths), unfolding(crate::specs::DocumentTrees::texts_of))]
 fn texts_len(value: &Value) -> usize
     ensures { result ≡ length (texts_of (view value.now)) }
 {
@@ -56,7 +56,7 @@ fn texts_len(value: &Value) -> usize
 }
 
 // How many texts stand at the key.
-#[tactic(auto, unfolding(crate::specs::Trees::texts_at))]
+#[tactic(auto, unfolding(crate::specs::DocumentTrees::texts_at))]
 fn texts_len_at(entry: &Value, key: Key) -> usize
     ensures { result ≡ length (texts_at key (view entry.now)) }
 {
@@ -92,7 +92,7 @@ fn look_at_ends(alloc: Global, place: &Value) -> Result<(), ReadRefusal>
 // Looks for a place that has not one producer and one consumer.
 pub(crate) fn look_at_all_ends(alloc: Global, places: &[Value]) -> Result<(), ReadRefusal>
     requires { list_all has_good_name (map view places.now) ≡ true }
-    ensures { Finds (first_of not_event_graph (map view places.now)) result }
+    ensures { Finds (first_of_entries not_event_graph (map view places.now)) result }
 {
     for place in places {
         match look_at_ends(alloc, place) {
@@ -104,7 +104,7 @@ pub(crate) fn look_at_all_ends(alloc: Global, places: &[Value]) -> Result<(), Re
 }
 
 // The first text of the value, or the empty text.
-#[tactic(auto, unfolding(crate::specs::Trees::texts_of))]
+#[tactic(auto, unfolding(crate::specs::DocumentTrees::texts_of))]
 fn first_text(value: &Value) -> &str
     ensures { result.now ≡ first_text (texts_of (view value.now)) }
 {
@@ -121,7 +121,7 @@ fn first_text(value: &Value) -> &str
 }
 
 // The first text at the key, or the empty text.
-#[tactic(auto, unfolding(crate::specs::EventGraphs::end_at, crate::specs::Trees::texts_at))]
+#[tactic(auto, unfolding(crate::specs::EventGraphs::end_at, crate::specs::DocumentTrees::texts_at))]
 pub(crate) fn end_at(place: &Value, key: Key) -> &str
     ensures { result.now ≡ end_at key (view place.now) }
 {
@@ -142,7 +142,7 @@ fn is_input_entry(transition: &Value) -> bool
 // Whether the transition of this name is an input.
 #[tactic(auto, unfolding(crate::specs::EventGraphs::is_input_named))]
 pub(crate) fn is_input_named(names: &IndexSet<&str>, transitions: &[Value], text: &str) -> bool
-    requires { map deref names.now.keys ≡ names_of (map view transitions.now) }
+    requires { map deref names.now.keys ≡ entry_names (map view transitions.now) }
     ensures { result ≡ is_input_named (map view transitions.now) text.now }
 {
     match entry_named(names, transitions, text) {
@@ -159,7 +159,7 @@ fn look_at_end(
     transitions: &[Value],
     place: &Value,
 ) -> Result<(), ReadRefusal>
-    requires names { map deref names.now.keys ≡ names_of (map view transitions.now) }
+    requires names { map deref names.now.keys ≡ entry_names (map view transitions.now) }
     requires name { has_good_name (view place.now) ≡ true }
     ensures { Finds (input_has_upstream (map view transitions.now) (view place.now)) result }
 {
@@ -177,9 +177,10 @@ pub(crate) fn look_for_entered_inputs(
     transitions: &[Value],
     places: &[Value],
 ) -> Result<(), ReadRefusal>
-    requires names { map deref names.now.keys ≡ names_of (map view transitions.now) }
+    requires names { map deref names.now.keys ≡ entry_names (map view transitions.now) }
     requires good { list_all has_good_name (map view places.now) ≡ true }
-    ensures { Finds (first_of (input_has_upstream (map view transitions.now)) (map view places.now))
+    ensures { Finds (first_of_entries (input_has_upstream (map view transitions.now)) (map view
+        places.now))
         result }
 {
     for place in places {

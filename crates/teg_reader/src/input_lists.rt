@@ -3,9 +3,9 @@ ghost use Rattle.std.specs.Prelude.{◌≡◌, ◌<◌, ◌^◌, true, map, slic
 ghost use Rattle.std.specs.List.{list_all};
 ghost use Rattle.std.specs.Map.Iter.{deref};
 ghost use Rattle.toml.specs.View.{view};
-ghost use Rattle.teg_reader.specs.Trees.{as_number, names_of};
-ghost use Rattle.teg_reader.specs.Walks.{Finds, first_of};
-ghost use Rattle.teg_reader.specs.InputLists.{again_of, has_good_owner, first_fall, is_bad_end, bad_date, fault_of, bad_input};
+ghost use Rattle.teg_reader.specs.DocumentTrees.{as_number, entry_names};
+ghost use Rattle.teg_reader.specs.PassWalks.{Finds, first_of_entries};
+ghost use Rattle.teg_reader.specs.InputLists.{entry_again, has_good_owner, first_fall, is_bad_end, bad_date, fault_of, bad_input};
 
 use crate::event_graph::{copy_name, is_input_named};
 use crate::keys::Key;
@@ -41,9 +41,10 @@ fn date_at(dates: &[Value], index: usize) -> u64
 }
 
 // Whether the list cannot go on.
-#[tactic(auto, using(crate::proofs::TreeLemmas::lengths), unfolding(crate::specs::InputLists::again_of))]
+#[tactic(auto, using(crate::proofs::TreeLemmas::lengths), unfolding(crate::specs::InputLists::entry_again))]
 fn is_bad_end(entry: &Value, dates: &[Value]) -> bool
-    ensures { result ≡ is_bad_end (map as_number (map view dates.now)) (again_of (view entry.now)) }
+    ensures { result ≡ is_bad_end (map as_number (map view dates.now)) (entry_again (view
+        entry.now)) }
 {
     let Some(every) = value_at(entry, Key::Every) else {
         return false;
@@ -60,7 +61,8 @@ fn is_bad_end(entry: &Value, dates: &[Value]) -> bool
 // The position of the first fault of the dates of an input.
 #[tactic(auto, using(crate::proofs::TreeLemmas::lengths), unfolding(crate::specs::InputLists::bad_date))]
 fn bad_date(entry: &Value, dates: &[Value]) -> Option<usize>
-    ensures { result ≡ bad_date (map as_number (map view dates.now)) (again_of (view entry.now)) }
+    ensures { result ≡ bad_date (map as_number (map view dates.now)) (entry_again (view
+        entry.now)) }
 {
     match first_fall(dates) {
         Some(position) => Some(position),
@@ -75,9 +77,9 @@ fn bad_date(entry: &Value, dates: &[Value]) -> Option<usize>
 }
 
 // The position of the first fault of the entry: 0 where its transition is no input.
-#[tactic(auto, unfolding(crate::specs::InputLists::fault_of, crate::specs::InputLists::dates_of))]
+#[tactic(auto, unfolding(crate::specs::InputLists::fault_of, crate::specs::InputLists::entry_dates))]
 fn fault_of(names: &IndexSet<&str>, transitions: &[Value], entry: &Value) -> Option<usize>
-    requires { map deref names.now.keys ≡ names_of (map view transitions.now) }
+    requires { map deref names.now.keys ≡ entry_names (map view transitions.now) }
     ensures { result ≡ fault_of (map view transitions.now) (view entry.now) }
 {
     if is_input_named(names, transitions, text_at(entry, Key::Transition)) {
@@ -96,7 +98,7 @@ fn look_at_input(
     transitions: &[Value],
     entry: &Value,
 ) -> Result<(), ReadRefusal>
-    requires names { map deref names.now.keys ≡ names_of (map view transitions.now) }
+    requires names { map deref names.now.keys ≡ entry_names (map view transitions.now) }
     requires owner { has_good_owner (view entry.now) ≡ true }
     ensures { Finds (bad_input (map view transitions.now) (view entry.now)) result }
 {
@@ -120,9 +122,10 @@ pub(crate) fn look_for_bad_inputs(
     transitions: &[Value],
     inputs: &[Value],
 ) -> Result<(), ReadRefusal>
-    requires names { map deref names.now.keys ≡ names_of (map view transitions.now) }
+    requires names { map deref names.now.keys ≡ entry_names (map view transitions.now) }
     requires owners { list_all has_good_owner (map view inputs.now) ≡ true }
-    ensures { Finds (first_of (bad_input (map view transitions.now)) (map view inputs.now)) result }
+    ensures { Finds (first_of_entries (bad_input (map view transitions.now)) (map view inputs.now))
+        result }
 {
     for entry in inputs {
         match look_at_input(alloc, names, transitions, entry) {

@@ -2,8 +2,8 @@
 ghost use Rattle.std.specs.Prelude.{◌≡◌, ◌<◌, ◌^◌, true, map, length, option_map, IfOk};
 ghost use Rattle.std.specs.Map.Iter.{deref};
 ghost use Rattle.toml.specs.View.{view};
-ghost use Rattle.teg_reader.specs.Texts.{is_among, is_distinct};
-ghost use Rattle.teg_reader.specs.Trees.{names_of, entry_named};
+ghost use Rattle.teg_reader.specs.TextLists.{is_among, is_distinct};
+ghost use Rattle.teg_reader.specs.DocumentTrees.{entry_names, entry_named};
 ghost use Rattle.teg_reader.specs.NetOf.{id_of};
 
 use crate::keys::Key;
@@ -15,8 +15,8 @@ use toml::Value;
 
 // The names of the entries in order, of which none stands twice.
 pub(crate) fn number_names(alloc: Global, entries: &[Value]) -> Result<IndexSet<&str>, AllocError>
-    requires { is_distinct (names_of (map view entries.now)) ≡ true }
-    ensures { IfOk result (λ names. map deref names.keys ≡ names_of (map view entries.now)) }
+    requires { is_distinct (entry_names (map view entries.now)) ≡ true }
+    ensures { IfOk result (λ names. map deref names.keys ≡ entry_names (map view entries.now)) }
 {
     let mut names = IndexSet::new(alloc);
     for entry in entries {
@@ -56,7 +56,7 @@ pub(crate) fn entry_named<'a>(
     entries: &'a [Value],
     text: &str,
 ) -> Option<&'a Value>
-    requires { map deref names.now.keys ≡ names_of (map view entries.now) }
+    requires { map deref names.now.keys ≡ entry_names (map view entries.now) }
     ensures { option_map (λ v. view v.now) result ≡ entry_named text.now (map view entries.now) }
 {
     match names.get_index_of(&text) {

@@ -2,10 +2,10 @@
 ghost use Rattle.std.specs.Prelude.{◌≡◌, map, nat_le, length};
 ghost use Rattle.std.specs.List.{list_all};
 ghost use Rattle.toml.specs.View.{view};
-ghost use Rattle.teg_net.specs.Limits.{greatest_date};
-ghost use Rattle.teg_reader.specs.Trees.{is_between};
+ghost use Rattle.teg_net.specs.Limits.{greatest_input_date};
+ghost use Rattle.teg_reader.specs.DocumentTrees.{is_between};
 ghost use Rattle.teg_reader.specs.WrongKinds.{first_failing};
-ghost use Rattle.teg_reader.specs.Ranges.{is_role, is_between_at, has_role, has_dates_in_range, in_range};
+ghost use Rattle.teg_reader.specs.Ranges.{is_role, is_between_at, has_role_text, has_dates_in_range, in_range};
 
 use crate::fields::{Field, fields_of};
 use crate::keys::Key;
@@ -34,7 +34,7 @@ fn is_role(text: &str) -> bool
 
 // Whether the text at the key of the role, if there is one, is a role.
 fn has_role(entry: &Value) -> bool
-    ensures { result ≡ has_role (view entry.now) }
+    ensures { result ≡ has_role_text (view entry.now) }
 {
     match value_at(entry, Key::Role) {
         Some(value) => match value.as_str() {
@@ -55,7 +55,7 @@ fn is_count_within(values: &[Value], most: usize) -> bool
 
 // Whether each value is an integer within the limits of a date.
 fn are_dates(values: &[Value]) -> bool
-    ensures { result ≡ list_all (is_between 0 greatest_date) (map view values.now) }
+    ensures { result ≡ list_all (is_between 0 greatest_input_date) (map view values.now) }
 {
     for value in values {
         if !is_between(value, 0, 1_000_000_000_000) {

@@ -4,10 +4,10 @@ ghost use Rattle.std.specs.Map.Iter.{deref};
 ghost use Rattle.toml.specs.Data.{table as table_data};
 ghost use Rattle.toml.specs.View.{view, table_view};
 ghost use Rattle.teg_reader.specs.declared.keys.Key.TheVariants as key;
-ghost use Rattle.teg_reader.specs.Trees.{list_at, names_of};
-ghost use Rattle.teg_reader.specs.Walks.{Finds};
-ghost use Rattle.teg_reader.specs.Documents.{bad_entries, bad_graph, bad_places, tree_document, document, Answers};
-ghost use Rattle.teg_reader.specs.Spots.{RefusalsArePlain};
+ghost use Rattle.teg_reader.specs.DocumentTrees.{array_at, entry_names};
+ghost use Rattle.teg_reader.specs.PassWalks.{Finds};
+ghost use Rattle.teg_reader.specs.Documents.{bad_entries, bad_graph, bad_places, tree_document, document, AnswersAsMeant};
+ghost use Rattle.teg_reader.specs.RefusalSpots.{RefusalsArePlain};
 
 use crate::bad_names::BadNames;
 use crate::entries::make_net;
@@ -49,7 +49,8 @@ fn look_at_entries(alloc: Global, top: &Value) -> Result<(), ReadRefusal>
 #[tactic(auto, unfolding(crate::specs::Documents::bad_graph))]
 fn look_at_graph(alloc: Global, names: &IndexSet<&str>, top: &Value) -> Result<(), ReadRefusal>
     requires good { bad_entries (view top.now) ≡ None }
-    requires names { map deref names.now.keys ≡ names_of (list_at key.Transition (view top.now)) }
+    requires names { map deref names.now.keys ≡ entry_names (array_at key.Transition (view
+        top.now)) }
     ensures { Finds (bad_graph (view top.now)) result }
 {
     let transitions = list_at(top, Key::Transition);
@@ -65,7 +66,8 @@ fn look_at_graph(alloc: Global, names: &IndexSet<&str>, top: &Value) -> Result<(
 #[tactic(auto, unfolding(crate::specs::Documents::bad_places))]
 fn look_at_places(alloc: Global, names: &IndexSet<&str>, top: &Value) -> Result<(), ReadRefusal>
     requires good { bad_entries (view top.now) ≡ None }
-    requires names { map deref names.now.keys ≡ names_of (list_at key.Transition (view top.now)) }
+    requires names { map deref names.now.keys ≡ entry_names (array_at key.Transition (view
+        top.now)) }
     ensures { Finds (bad_places (view top.now)) result }
 {
     let places = list_at(top, Key::Place);
@@ -77,8 +79,9 @@ fn look_at_places(alloc: Global, names: &IndexSet<&str>, top: &Value) -> Result<
 #[tactic(auto, unfolding(crate::specs::Documents::tree_document, crate::specs::Documents::refused))]
 fn read_entries(alloc: Global, names: &IndexSet<&str>, top: &Value) -> Result<Net, ReadRefusal>
     requires good { bad_entries (view top.now) ≡ None }
-    requires names { map deref names.now.keys ≡ names_of (list_at key.Transition (view top.now)) }
-    ensures { Answers (tree_document (view top.now)) result }
+    requires names { map deref names.now.keys ≡ entry_names (array_at key.Transition (view
+        top.now)) }
+    ensures { AnswersAsMeant (tree_document (view top.now)) result }
 {
     look_at_graph(alloc, names, top)?;
     look_at_places(alloc, names, top)?;
@@ -88,7 +91,7 @@ fn read_entries(alloc: Global, names: &IndexSet<&str>, top: &Value) -> Result<Ne
 // The net of a tree.
 #[tactic(auto, unfolding(crate::specs::Documents::tree_document, crate::specs::Documents::refused))]
 fn read_tree(alloc: Global, top: &Value) -> Result<Net, ReadRefusal>
-    ensures { Answers (tree_document (view top.now)) result }
+    ensures { AnswersAsMeant (tree_document (view top.now)) result }
 {
     look_at_entries(alloc, top)?;
     let names = number_names(alloc, list_at(top, Key::Transition))?;
@@ -97,7 +100,7 @@ fn read_tree(alloc: Global, top: &Value) -> Result<Net, ReadRefusal>
 
 // The net of a table.
 fn read_table(alloc: Global, table: Table) -> Result<Net, ReadRefusal>
-    ensures { Answers (tree_document (table_data (table_view table))) result }
+    ensures { AnswersAsMeant (tree_document (table_data (table_view table))) result }
 {
     let top = Value::Table(table);
     let answer = read_tree(alloc, &top);
@@ -112,7 +115,7 @@ fn read_table(alloc: Global, table: Table) -> Result<Net, ReadRefusal>
 /// goes over the whole tree, the top first, then the transitions, the places and the input lists,
 /// each by position.
 pub fn read_net(alloc: Global, bytes: &[u8]) -> Result<Net, ReadRefusal>
-    ensures { Answers (document bytes.now) result }
+    ensures { AnswersAsMeant (document bytes.now) result }
 {
     let Ok(text) = std::str::from_utf8(bytes) else {
         return Err(ReadRefusal::NotToml);

@@ -2,9 +2,9 @@
 ghost use Rattle.std.specs.Prelude.{◌≡◌, true, map};
 ghost use Rattle.std.specs.List.{list_all};
 ghost use Rattle.toml.specs.View.{view};
-ghost use Rattle.teg_reader.specs.Walks.{Finds, first_of};
+ghost use Rattle.teg_reader.specs.PassWalks.{Finds, first_of_entries};
 ghost use Rattle.teg_reader.specs.BadNames.{has_good_name};
-ghost use Rattle.teg_reader.specs.ReadyDates.{has_ready_for_each, bad_ready};
+ghost use Rattle.teg_reader.specs.ReadyDatePass.{has_ready_for_each, bad_ready};
 
 use crate::event_graph::copy_name;
 use crate::keys::Key;
@@ -24,7 +24,7 @@ fn has_ready_for_each(place: &Value) -> bool
 
 // Looks whether the place has a ready date for each token. No file has so many dates that their
 // number is past 32 bits, and the tokens are few; such numbers would be answered as want of memory.
-#[tactic(auto, using(crate::proofs::TreeLemmas::lengths), unfolding(crate::specs::ReadyDates::bad_ready))]
+#[tactic(auto, using(crate::proofs::TreeLemmas::lengths), unfolding(crate::specs::ReadyDatePass::bad_ready))]
 fn look_at_ready(alloc: Global, place: &Value) -> Result<(), ReadRefusal>
     requires { has_good_name (view place.now) ≡ true }
     ensures { Finds (bad_ready (view place.now)) result }
@@ -48,7 +48,7 @@ fn look_at_ready(alloc: Global, place: &Value) -> Result<(), ReadRefusal>
 // Looks for a place that has another number of ready dates than of tokens.
 pub(crate) fn look_for_bad_ready(alloc: Global, places: &[Value]) -> Result<(), ReadRefusal>
     requires { list_all has_good_name (map view places.now) ≡ true }
-    ensures { Finds (first_of bad_ready (map view places.now)) result }
+    ensures { Finds (first_of_entries bad_ready (map view places.now)) result }
 {
     for place in places {
         match look_at_ready(alloc, place) {

@@ -1,7 +1,7 @@
 //! Texts that stand twice.
 ghost use Rattle.std.specs.Prelude.{map};
 ghost use Rattle.toml.specs.View.{view};
-ghost use Rattle.teg_reader.specs.Walks.{Finds};
+ghost use Rattle.teg_reader.specs.PassWalks.{Finds};
 ghost use Rattle.teg_reader.specs.Repeats.{repeated_at, repeated};
 
 use crate::keys::Key;

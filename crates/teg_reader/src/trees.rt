@@ -1,21 +1,21 @@
 //! What stands in a tree at a key.
 ghost use Rattle.std.specs.Prelude.{◌≡◌, ◌<◌, ◌^◌, map, option_map};
 ghost use Rattle.toml.specs.View.{view};
-ghost use Rattle.teg_reader.specs.Trees.{value_at, is_there, text_of, text_at, elements_of, list_at, is_between, as_number, number_at};
+ghost use Rattle.teg_reader.specs.DocumentTrees.{data_at, is_there, text_or_empty, text_at, elements_of, array_at, is_between, as_number, number_at};
 
 use crate::keys::Key;
 use toml::Value;
 
 // What stands at the key.
-#[tactic(auto, unfolding(crate::specs::Trees::value_at))]
+#[tactic(auto, unfolding(crate::specs::DocumentTrees::data_at))]
 pub(crate) fn value_at(entry: &Value, key: Key) -> Option<&Value>
-    ensures { option_map (λ v. view v.now) result ≡ value_at key (view entry.now) }
+    ensures { option_map (λ v. view v.now) result ≡ data_at key (view entry.now) }
 {
     entry.get(key.text())
 }
 
 // Whether something stands at the key.
-#[tactic(auto, unfolding(crate::specs::Trees::is_there))]
+#[tactic(auto, unfolding(crate::specs::DocumentTrees::is_there))]
 pub(crate) fn is_there(entry: &Value, key: Key) -> bool
     ensures { result ≡ is_there key (view entry.now) }
 {
@@ -24,7 +24,7 @@ pub(crate) fn is_there(entry: &Value, key: Key) -> bool
 
 // The text, or the empty text.
 pub(crate) fn text_of(value: &Value) -> &str
-    ensures { result.now ≡ text_of (view value.now) }
+    ensures { result.now ≡ text_or_empty (view value.now) }
 {
     match value.as_str() {
         Some(text) => text,
@@ -33,7 +33,7 @@ pub(crate) fn text_of(value: &Value) -> &str
 }
 
 // The text at the key, or the empty text.
-#[tactic(auto, unfolding(crate::specs::Trees::text_at))]
+#[tactic(auto, unfolding(crate::specs::DocumentTrees::text_at))]
 pub(crate) fn text_at(entry: &Value, key: Key) -> &str
     ensures { result.now ≡ text_at key (view entry.now) }
 {
@@ -55,9 +55,9 @@ pub(crate) fn elements_of(value: &Value) -> Option<&[Value]>
 }
 
 // The elements of the array at the key, or none.
-#[tactic(auto, using(crate::proofs::TreeLemmas::list_of_view), unfolding(crate::specs::Trees::list_at))]
+#[tactic(auto, using(crate::proofs::TreeLemmas::list_of_view), unfolding(crate::specs::DocumentTrees::array_at))]
 pub(crate) fn list_at(entry: &Value, key: Key) -> &[Value]
-    ensures { map view result.now ≡ list_at key (view entry.now) }
+    ensures { map view result.now ≡ array_at key (view entry.now) }
 {
     match value_at(entry, key) {
         Some(value) => match value.as_array() {
@@ -93,7 +93,7 @@ pub(crate) fn as_number(value: &Value) -> u64
 }
 
 // The number at the key, or 0.
-#[tactic(auto, unfolding(crate::specs::Trees::number_at))]
+#[tactic(auto, unfolding(crate::specs::DocumentTrees::number_at))]
 pub(crate) fn number_at(entry: &Value, key: Key) -> u64
     ensures value { result ≡ number_at key (view entry.now) }
     ensures small { result < 2 ^ 63 }

@@ -4,8 +4,8 @@ ghost use Rattle.std.specs.List.{filter};
 ghost use Rattle.std.specs.List.Sorted.{IsStrictlySortedBy};
 ghost use Rattle.std.specs.BTreeMap.{keys as keys_in};
 ghost use Rattle.toml.specs.View.{view, table_view};
-ghost use Rattle.teg_reader.specs.Trees.{keys_of};
-ghost use Rattle.teg_reader.specs.UnknownKeys.{is_field, least_of, unlisted_keys, is_second};
+ghost use Rattle.teg_reader.specs.DocumentTrees.{keys_of};
+ghost use Rattle.teg_reader.specs.UnknownKeys.{is_field, least_text, unlisted_keys, is_second};
 
 use crate::fields::{Field, listed_fields};
 use crate::keys::Key;
@@ -36,7 +36,7 @@ fn unlisted_in<'a>(table: &'a Table, fields: &[Field]) -> Option<&'a String>
 // The first key, in the table's order, that is none of the fields. A table keeps its keys in
 // order, so it is the least one.
 fn unlisted_text<'a>(table: &'a Table, fields: &[Field]) -> Option<&'a str>
-    ensures { option_map (λ k. k.now) result ≡ least_of
+    ensures { option_map (λ k. k.now) result ≡ least_text
         (filter (λ k. not (is_field fields.now k)) (keys_of (table_view table.now))) }
 {
     match unlisted_in(table, fields) {
@@ -48,7 +48,7 @@ fn unlisted_text<'a>(table: &'a Table, fields: &[Field]) -> Option<&'a str>
 // The least key of the entry that is none of the fields.
 #[tactic(auto, using(crate::proofs::KeyLemmas::least_of_none), unfolding(crate::specs::UnknownKeys::unlisted_keys))]
 fn unlisted_key<'a>(entry: &'a Value, fields: &[Field]) -> Option<&'a str>
-    ensures { option_map (λ k. k.now) result ≡ least_of
+    ensures { option_map (λ k. k.now) result ≡ least_text
         (unlisted_keys fields.now (view entry.now)) }
 {
     match entry.as_table() {

@@ -2,7 +2,7 @@
 ghost use Rattle.std.specs.Prelude.{◌≡◌, map, option_map, [], ◌∷◌};
 ghost use Rattle.std.specs.Map.Iter.{deref};
 ghost use Rattle.toml.specs.View.{view};
-ghost use Rattle.teg_reader.specs.Trees.{text_of, texts_of, texts_at};
+ghost use Rattle.teg_reader.specs.DocumentTrees.{text_or_empty, texts_of, texts_at};
 ghost use Rattle.teg_reader.specs.UnknownTransitions.{unknown_among, unknown_text};
 
 use crate::keys::Key;
@@ -19,7 +19,7 @@ use toml::Value;
 #[tactic(auto, unfolding(crate::specs::UnknownTransitions::unknown_among))]
 fn unknown_in<'a>(names: &IndexSet<&str>, values: &'a [Value]) -> Option<&'a str>
     ensures { option_map (λ t. t.now) result ≡ unknown_among (map deref names.now.keys)
-        (map text_of (map view values.now)) }
+        (map text_or_empty (map view values.now)) }
 {
     for value in values {
         let text = text_of(value);
@@ -44,7 +44,7 @@ fn unknown_one<'a>(names: &IndexSet<&str>, text: &'a str) -> Option<&'a str>
 }
 
 // The first text of the value, one or an array, that names no transition.
-#[tactic(auto, using(crate::proofs::UnknownLemmas::none_unknown), unfolding(crate::specs::Trees::texts_of))]
+#[tactic(auto, using(crate::proofs::UnknownLemmas::none_unknown), unfolding(crate::specs::DocumentTrees::texts_of))]
 fn unknown_of<'a>(names: &IndexSet<&str>, value: &'a Value) -> Option<&'a str>
     ensures { option_map (λ t. t.now) result ≡ unknown_among (map deref names.now.keys)
         (texts_of (view value.now)) }
@@ -59,7 +59,7 @@ fn unknown_of<'a>(names: &IndexSet<&str>, value: &'a Value) -> Option<&'a str>
 }
 
 // The first text at the key that names no transition.
-#[tactic(auto, using(crate::proofs::UnknownLemmas::none_unknown), unfolding(crate::specs::Trees::texts_at))]
+#[tactic(auto, using(crate::proofs::UnknownLemmas::none_unknown), unfolding(crate::specs::DocumentTrees::texts_at))]
 fn unknown_at<'a>(names: &IndexSet<&str>, entry: &'a Value, key: Key) -> Option<&'a str>
     ensures { option_map (λ t. t.now) result ≡ unknown_among (map deref names.now.keys)
         (texts_at key (view entry.now)) }

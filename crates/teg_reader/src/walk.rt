@@ -1,7 +1,7 @@
 //! One pass over the tree.
 ghost use Rattle.std.specs.Prelude.{map};
 ghost use Rattle.toml.specs.View.{view};
-ghost use Rattle.teg_reader.specs.Walks.{Look, Finds, finding, first_finding};
+ghost use Rattle.teg_reader.specs.PassWalks.{Look, Finds, finding, first_finding};
 
 use crate::keys::Key;
 use crate::refusals::{ReadRefusal, Section, Spot};
@@ -42,7 +42,7 @@ pub(crate) fn look_at_each<P: Pass>(
 }
 
 // Looks at the whole tree.
-#[tactic(auto, unfolding(crate::specs::Walks::finding))]
+#[tactic(auto, unfolding(crate::specs::PassWalks::finding))]
 pub(crate) fn look_at_all<P: Pass>(pass: &P, alloc: Global, top: &Value) -> Result<(), ReadRefusal>
     ensures { Finds (finding (P.looks pass.now) (view top.now)) result }
 {

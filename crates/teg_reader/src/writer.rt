@@ -2,10 +2,10 @@
 ghost use Rattle.std.specs.Prelude.{◌≡◌, ◌≤◌, ◌<◌, ◌^◌, map, length, IfOk, OnOk, Some, Ok, All};
 ghost use Rattle.toml.specs.Data.{string, no_members};
 ghost use Rattle.toml.specs.View.{view, table_view};
-ghost use Rattle.teg_net.specs.Limits.{greatest_date};
+ghost use Rattle.teg_net.specs.Limits.{greatest_input_date};
 ghost use Rattle.teg_net.specs.Nets.{IsNet, IsPlaceOf, IsInputOf};
 ghost use Rattle.teg_reader.specs.Keys.{key_text};
-ghost use Rattle.teg_reader.specs.Documents.{tree_of, document};
+ghost use Rattle.teg_reader.specs.Documents.{tree_of_bytes, document};
 ghost use Rattle.teg_reader.specs.Migrated.{number_data, role_text, name_of, transition_entry, place_entry, input_entry, migrated};
 ghost use Rattle.teg_reader.specs.Layouts.{IsLaidOut};
 ghost use Rattle.teg_reader.specs.Written.{with_member, with_list};
@@ -76,7 +76,7 @@ fn put_list(
 
 // The dates as values.
 fn date_values(alloc: Global, dates: &[u64]) -> Result<Vec<Value>, AllocError>
-    requires { All (λ d. d ≤ greatest_date) dates.now }
+    requires { All (λ d. d ≤ greatest_input_date) dates.now }
     ensures { IfOk result (λ vs. map view vs.items ≡ map number_data dates.now) }
 {
     let mut values = Vec::with_capacity(alloc, dates.len())?;
@@ -216,7 +216,7 @@ fn net_table(alloc: Global, net: &Net) -> Result<Table, AllocError>
 /// have, and their layout is that of `toml`. `OutOfMemory` comes only where no memory is found.
 pub fn write_net(alloc: Global, net: &Net) -> Result<Vec<u8>, OutOfMemory>
     ensures layout { IfOk result (λ bytes. IsLaidOut net.now bytes.items) }
-    ensures read_back { IfOk result (λ bytes. tree_of bytes.items ≡ Some (migrated net.now)) }
+    ensures read_back { IfOk result (λ bytes. tree_of_bytes bytes.items ≡ Some (migrated net.now)) }
     ensures document { IfOk result (λ bytes. document bytes.items ≡ Ok net.now) }
 {
     let table = net_table(alloc, net)?;

@@ -2,7 +2,7 @@
 ghost use Rattle.std.specs.Prelude.{◌≡◌, map};
 ghost use Rattle.std.specs.List.{list_all};
 ghost use Rattle.toml.specs.View.{view};
-ghost use Rattle.teg_reader.specs.Trees.{is_text, is_integer, is_table};
+ghost use Rattle.teg_reader.specs.DocumentTrees.{is_text, is_integer, is_table};
 ghost use Rattle.teg_reader.specs.WrongKinds.{is_kind, has_kind, first_failing};
 
 use crate::fields::{Field, Kind, fields_of};

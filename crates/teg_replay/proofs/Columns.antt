@@ -5,10 +5,10 @@ use Rattle.std.proofs.lemmas.List.{length-set, get_or-set_same, get_or-set_other
 use Rattle.std.proofs.lemmas.List.Elements.{All-append}
 use Rattle.run_laws.specs.declared.fired.Fired.{Fired}
 use Rattle.run_laws.proofs.Dates.{dates_of_own, dates_of_other}
-use Rattle.teg_replay.specs.Games.{AreColumns}
+use Rattle.teg_replay.specs.Games.{AreDateColumns}
 
-pub columns_more : (run : List Fired) (columns : List (List ℕ)) (f : Fired) → AreColumns run columns → f.transition.index < length columns
-    → AreColumns (run ++ f ∷ []) (set columns f.transition.index (get_or columns f.transition.index [] ++ f.date ∷ []))
+pub columns_more : (run : List Fired) (columns : List (List ℕ)) (f : Fired) → AreDateColumns run columns → f.transition.index < length columns
+    → AreDateColumns (run ++ f ∷ []) (set columns f.transition.index (get_or columns f.transition.index [] ++ f.date ∷ []))
 columns_more run columns f h in' =
     let own : ℕ = f.transition.index in
     let column : List ℕ = get_or columns own [] ++ f.date ∷ [] in

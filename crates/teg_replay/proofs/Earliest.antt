@@ -7,8 +7,8 @@ use Rattle.teg_net.specs.Circuits.{no_place}
 use Rattle.teg_model.specs.Datings.{extended_places}
 use Rattle.teg_model.proofs.OfNet.{all_extended, extended_has, implicit_is}
 use Rattle.run_laws.specs.declared.fired.Fired.{Fired}
-use Rattle.run_laws.specs.Runs.{dates_of, next_number, token_date, IsThereBy, HasTokensBy}
-use Rattle.run_laws.specs.Earliest.{IsEarliest, last_of}
+use Rattle.run_laws.specs.Runs.{dates_of_transition, next_number, token_date, IsThereBy, HasTokensBy}
+use Rattle.run_laws.specs.Earliest.{IsEarliest, last_listed_date}
 use Rattle.run_laws.proofs.Dates.{later_there}
 use Rattle.run_laws.proofs.Earliest.{implicit_date}
 use Rattle.teg_replay.specs.Waits.{IsLatestToken, IsLatestRelease}
@@ -20,10 +20,10 @@ places_of net run t k date all i d l =
 
 pub earliest_is : (net : NetLists) (run : List Fired) (t tokens release : ℕ) → t < length net.transitions
     → IsLatestToken net run t (next_number run t) tokens → IsLatestRelease net t (next_number run t) release
-    → IsEarliest net run t (next_number run t) (max (max tokens release) (last_of (dates_of run t)))
+    → IsEarliest net run t (next_number run t) (max (max tokens release) (last_listed_date (dates_of_transition run t)))
 earliest_is net run t tokens release l h g =
     let k : ℕ = next_number run t in
-    let before : ℕ = last_of (dates_of run t) in
+    let before : ℕ = last_listed_date (dates_of_transition run t) in
     let date : ℕ = max (max tokens release) before in
     record {
       enough = record {

@@ -10,16 +10,16 @@ use Rattle.teg_replay.specs.declared.replayed.Replayed.{Replayed}
 use Rattle.teg_replay.specs.declared.refusal.FireRefusal.{FireRefusal}
 use Rattle.teg_replay.specs.declared.refusal.FireRefusal.TheVariants.{Illegal, BackInTime, BeforeRelease, OutOfMemory}
 use Rattle.run_laws.specs.Runs.{next_number, IsLegalAfter, IsLegalRun}
-use Rattle.teg_replay.specs.Failures.{IsRightRefusal, IsFailure}
+use Rattle.teg_replay.specs.RefusedFirings.{IsRightFireRefusal, IsFailure}
 use Rattle.teg_replay.specs.Firings.{IsFiringOf}
 use Rattle.teg_replay.specs.Replays.{fired_of, run_of}
-use Rattle.teg_replay.specs.Laws.{StandsToLeastDates, AcceptsLegalRuns, AcceptsEarliestRuns}
+use Rattle.teg_replay.specs.RunsAndLeastDates.{StandsToLeastDates, AcceptsLegalRuns, AcceptsEarliestRuns}
 use Rattle.run_laws.proofs.Failing.{not_legal}
 use Rattle.run_laws.proofs.Least.{legal_open, open_least, not_early, earliest_least}
 use Rattle.run_laws.proofs.InOrder.{parts_legal}
 use Rattle.teg_replay.proofs.Replaying.{no_row}
 
-pub failure_not_legal : (net : NetLists) (run : List Fired) (f : Fired) (why : FireRefusal) → IsRightRefusal net run f why → IsFailure why → IsLegalAfter net run f → ⊥
+pub failure_not_legal : (net : NetLists) (run : List Fired) (f : Fired) (why : FireRefusal) → IsRightFireRefusal net run f why → IsFailure why → IsLegalAfter net run f → ⊥
 failure_not_legal net run f (Illegal id date) h i g = not_legal.late net run f id date h g
 failure_not_legal net run f (BackInTime last) h i g = not_legal.back net run f last h g
 failure_not_legal net run f (BeforeRelease release) h i g = not_legal.unreleased net run f release h g
@@ -40,7 +40,7 @@ mapped (row ∷ rows) (suc n) d e l = mapped rows n d e (omega arith)
 
 -- a row that fails after the rows before it is in no legal run
 fails_in_run : (net : NetLists) (rows : List LogRow) (i : ℕ) (run : List Fired) (row : LogRow) (why : FireRefusal) → i < length rows → ((d : LogRow) → get_or rows i d ≡ row) → run ≡ run_of (take i rows)
-    → IsRightRefusal net run (fired_of row) why → IsFailure why → IsLegalRun net (run_of rows) → ⊥
+    → IsRightFireRefusal net run (fired_of row) why → IsFailure why → IsLegalRun net (run_of rows) → ⊥
 fails_in_run net rows i run row why l is r right failed legal =
     let long : length (run_of rows) ≡ length rows = length-map rows fired_of in
     let first : take i (run_of rows) ≡ run = take-map fired_of i rows ∙ sym r in
@@ -49,13 +49,13 @@ fails_in_run net rows i run row why l is r right failed legal =
     failure_not_legal net run (fired_of row) why right failed (rw (first, item) at own)
 
 pub refused_not_legal : {E : Type 0} (net : NetLists) (rows : List LogRow) (i : ℕ) (run : List Fired) (row : LogRow) (why : FireRefusal) (result : Result Replayed E) → i < length rows
-    → ((d : LogRow) → get_or rows i d ≡ row) → run ≡ run_of (take i rows) → IsRightRefusal net run (fired_of row) why → IfOk result (λ _. IsFailure why)
+    → ((d : LogRow) → get_or rows i d ≡ row) → run ≡ run_of (take i rows) → IsRightFireRefusal net run (fired_of row) why → IfOk result (λ _. IsFailure why)
     → IfOk result (λ replayed. AcceptsLegalRuns net rows replayed)
 refused_not_legal net rows i run row why (Ok replayed) l is r right failed = λ legal. absurd (fails_in_run net rows i run row why l is r right failed legal)
 refused_not_legal net rows i run row why (Err e) l is r right failed = tt
 
 pub refused_not_earliest : {E : Type 0} (net : NetLists) (rows : List LogRow) (i : ℕ) (run : List Fired) (row : LogRow) (why : FireRefusal) (result : Result Replayed E) → IsNet net → i < length rows
-    → ((d : LogRow) → get_or rows i d ≡ row) → run ≡ run_of (take i rows) → IsRightRefusal net run (fired_of row) why → IfOk result (λ _. IsFailure why)
+    → ((d : LogRow) → get_or rows i d ≡ row) → run ≡ run_of (take i rows) → IsRightFireRefusal net run (fired_of row) why → IfOk result (λ _. IsFailure why)
     → IfOk result (λ replayed. AcceptsEarliestRuns net rows replayed)
 refused_not_earliest net rows i run row why (Ok replayed) ok l is r right failed = λ x most n whole least e few same.
     absurd (fails_in_run net rows i run row why l is r right failed (rw same (parts_legal net x most n whole ok least e few)))

@@ -9,7 +9,7 @@ use Rattle.teg_net.specs.declared.entries.InputList.{InputList}
 use Rattle.teg_net.specs.declared.entries.Role.TheVariants.{Input}
 use Rattle.teg_net.specs.declared.entries.Transition.{Transition}
 use Rattle.teg_net.specs.Nets.{NetLists, IsNet, IsInput}
-use Rattle.teg_replay.specs.Games.{list_at}
+use Rattle.teg_replay.specs.Games.{input_list_at}
 
 -- what stands past the end of the lists
 abbrev pub no_list : InputList
@@ -56,7 +56,7 @@ none_before net i t ok in' e =
 
 pub record PositionsUpTo (net : NetLists) (positions : List (Option ℕ)) (i : ℕ) : Type 0 where
   pub width : length positions ≡ length net.transitions
-  pub each : (t : ℕ) → t < length net.transitions → list_at net.inputs (get_or positions t None) ≡ find (λ l. l.transition.index == t) (take i net.inputs)
+  pub each : (t : ℕ) → t < length net.transitions → input_list_at net.inputs (get_or positions t None) ≡ find (λ l. l.transition.index == t) (take i net.inputs)
 
 pub positions_more : (net : NetLists) (positions : List (Option ℕ)) (i to : ℕ) → IsNet net → PositionsUpTo net positions i → i < length net.inputs → (get_or net.inputs i no_list).transition.index ≡ to → to < length net.transitions
     → PositionsUpTo net (set positions to (Some i)) (i + 1)

@@ -7,7 +7,7 @@ use Rattle.teg_net.specs.Nets.{NetLists}
 use Rattle.teg_net.specs.Circuits.{no_place, place_at}
 use Rattle.run_laws.specs.declared.fired.Fired.{Fired}
 use Rattle.run_laws.specs.Runs.{next_number, token_date, IsThereBy, HasTokensBy}
-use Rattle.run_laws.specs.Failures.{IsFirstLate}
+use Rattle.run_laws.specs.FiringFailures.{IsFirstLateToken}
 use Rattle.run_laws.proofs.Dates.{later_there}
 use Rattle.teg_replay.specs.Games.{AreInto}
 use Rattle.teg_replay.specs.Waits.{IsLatestToken}
@@ -61,7 +61,7 @@ latest_by net run t k a b l h q d m e = later_there a b _ l (h q d m e)
 -- the first place of the list whose token is not there is the lowest numbered one
 pub first_late : (net : NetLists) (run : List Fired) (f : Fired) (k : ℕ) (ids : List PlaceId) (i latest : ℕ) (id : PlaceId) (there : Option ℕ)
     → AreInto net f.transition.index ids → LatestUpTo net run f k ids i latest → i < length ids → ((d : PlaceId) → get_or ids i d ≡ id)
-    → k ≡ next_number run f.transition.index → there ≡ token_date run (place_at net id) k → (IsThereBy f.date there → ⊥) → IsFirstLate net run f id there
+    → k ≡ next_number run f.transition.index → there ≡ token_date run (place_at net id) k → (IsThereBy f.date there → ⊥) → IsFirstLateToken net run f id there
 first_late net run f k ids i latest id there into h l is number date late = record {
   in_range = rw (is no_id) at (into.known i no_id l);
   into = rw (is no_id) at (into.right i no_id l);
@@ -86,6 +86,6 @@ first_late net run f k ids i latest id there into h l is number date late = reco
 
 -- the same of the place that stands at i
 pub late_at : (net : NetLists) (run : List Fired) (f : Fired) (k : ℕ) (ids : List PlaceId) (i latest : ℕ) (there : Option ℕ) → AreInto net f.transition.index ids → LatestUpTo net run f k ids i latest → i < length ids
-    → k ≡ next_number run f.transition.index → there ≡ token_date run (place_at net (get_or ids i no_id)) k → (IsThereBy f.date there → ⊥) → IsFirstLate net run f (get_or ids i no_id) there
+    → k ≡ next_number run f.transition.index → there ≡ token_date run (place_at net (get_or ids i no_id)) k → (IsThereBy f.date there → ⊥) → IsFirstLateToken net run f (get_or ids i no_id) there
 late_at net run f k ids i latest there into h l number date late =
     first_late net run f k ids i latest (get_or ids i no_id) there into h l (λ d. get_or_default ids i d no_id l) number date late

@@ -11,7 +11,7 @@ use Rattle.std.specs.Prelude.{Result, Ok, Err, Some, IfOk, IfSome}
 use Rattle.teg_replay.specs.declared.refusal.FireRefusal.{FireRefusal}
 use Rattle.teg_replay.specs.declared.refusal.FireRefusal.TheVariants.{Illegal, BackInTime, BeforeRelease, OutOfMemory}
 use Rattle.run_laws.specs.Runs.{IsLegalAfter}
-use Rattle.teg_replay.specs.Failures.{Fails, IsRightRefusal, IsFailure, NamesPlaceOf}
+use Rattle.teg_replay.specs.RefusedFirings.{Fails, IsRightFireRefusal, IsFailure, NamesPlaceOf}
 use Rattle.teg_replay.specs.Firings.{IsFiringOf}
 use Rattle.teg_replay.specs.Replays.{fired_of, run_of, AreFiringsOf, WereShown, Replays}
 use Rattle.run_laws.proofs.Prefixes.{legal_begins, legal_push}
@@ -48,7 +48,7 @@ firings_more net rows firings i row firing h e l is g t =
     }
 
 -- a refusal other than want of memory is a failure
-pub right_fails : (net : NetLists) (run : List Fired) (f : Fired) (why : FireRefusal) → IsRightRefusal net run f why → IsFailure why → Fails net run f why
+pub right_fails : (net : NetLists) (run : List Fired) (f : Fired) (why : FireRefusal) → IsRightFireRefusal net run f why → IsFailure why → Fails net run f why
 right_fails net run f (Illegal id date) h n = h
 right_fails net run f (BackInTime last) h n = h
 right_fails net run f (BeforeRelease release) h n = h
@@ -57,7 +57,7 @@ right_fails net run f OutOfMemory h n = absurd n
 -- the answer where the row is refused
 pub replay_refused : {E : Type 0} (net : NetLists) (rows : List LogRow) (before now : List Firing → List (List ℕ)) (firings : List Firing) (i accepted : ℕ) (run : List Fired) (row : LogRow) (why : FireRefusal) (result : Result Replayed E)
     → AreFiringsOf net rows firings → WereShown before now firings → length firings ≡ i → accepted ≡ i → i < length rows → ((d : LogRow) → get_or rows i d ≡ row) → run ≡ run_of (take i rows)
-    → IsRightRefusal net run (fired_of row) why
+    → IsRightFireRefusal net run (fired_of row) why
     → IfOk result (λ replayed. replayed ≡ record { accepted = accepted; refused = Some (record { row = row.row; why = why }) }) → IfOk result (λ _. IsFailure why) → Replays net rows before now result
 replay_refused net rows before now firings i accepted run row why (Ok replayed) h shown e a l is r right told failed =
     rw told (
@@ -75,14 +75,14 @@ replay_refused net rows before now firings i accepted run row why (Ok replayed) 
     )
 replay_refused net rows before now firings i accepted run row why (Err x) h shown e a l is r right told failed = (firings, h, shown)
 
-names_place : (net : NetLists) (run : List Fired) (f : Fired) (why : FireRefusal) → IsRightRefusal net run f why → NamesPlaceOf net why
+names_place : (net : NetLists) (run : List Fired) (f : Fired) (why : FireRefusal) → IsRightFireRefusal net run f why → NamesPlaceOf net why
 names_place net run f (Illegal id date) h = h.in_range
 names_place net run f (BackInTime last) h = tt
 names_place net run f (BeforeRelease release) h = tt
 names_place net run f OutOfMemory h = tt
 
 -- and the place that it names
-pub refused_named : {E : Type 0} (net : NetLists) (run : List Fired) (row : LogRow) (accepted : ℕ) (why : FireRefusal) (result : Result Replayed E) → IsRightRefusal net run (fired_of row) why
+pub refused_named : {E : Type 0} (net : NetLists) (run : List Fired) (row : LogRow) (accepted : ℕ) (why : FireRefusal) (result : Result Replayed E) → IsRightFireRefusal net run (fired_of row) why
     → IfOk result (λ replayed. replayed ≡ record { accepted = accepted; refused = Some (record { row = row.row; why = why }) })
     → IfOk result (λ replayed. IfSome replayed.refused (λ refused. NamesPlaceOf net refused.why))
 refused_named net run row accepted why (Ok replayed) right told = rw told (names_place net run (fired_of row) why right)

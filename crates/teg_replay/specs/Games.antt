@@ -4,9 +4,9 @@ use Rattle.teg_net.specs.declared.entries.PlaceId.{PlaceId}
 use Rattle.teg_net.specs.declared.entries.InputList.{InputList}
 use Rattle.teg_net.specs.Nets.{NetLists, IsNet}
 use Rattle.teg_net.specs.Circuits.{place_at}
-use Rattle.teg_net.specs.Inputs.{list_of}
+use Rattle.teg_net.specs.Inputs.{list_of_input}
 use Rattle.run_laws.specs.declared.fired.Fired.{Fired}
-use Rattle.run_laws.specs.Runs.{dates_of, IsLegalRun}
+use Rattle.run_laws.specs.Runs.{dates_of_transition, IsLegalRun}
 use Rattle.run_laws.specs.Earliest.{tokens_after}
 
 -- a run, and how many transitions its columns of dates are kept for
@@ -15,20 +15,20 @@ pub record Past : Type 0 where
   pub run : List Fired
 
 -- the columns are the dates of the firings of each transition
-pub record AreColumns (run : List Fired) (columns : List (List ℕ)) : Type 0 where
-  pub same : (t : ℕ) → t < length columns → slice_index_or columns t [] ≡ dates_of run t
+pub record AreDateColumns (run : List Fired) (columns : List (List ℕ)) : Type 0 where
+  pub same : (t : ℕ) → t < length columns → slice_index_or columns t [] ≡ dates_of_transition run t
   pub known : All (λ f. f.transition.index < length columns) run
 
 -- of each transition the places that lead into it, how many leave it, and where its input list stands
-pub record Ends : Type 0 where
+pub record PlaceEnds : Type 0 where
   pub into : List (List PlaceId)
   pub leaving : List ℕ
   pub lists : List (Option ℕ)
 
 -- the list that stands there, if one does
-abbrev pub list_at : List InputList → Option ℕ → Option InputList
-list_at lists None = None
-list_at lists (Some position) = slice_get lists position
+abbrev pub input_list_at : List InputList → Option ℕ → Option InputList
+input_list_at lists None = None
+input_list_at lists (Some position) = slice_get lists position
 
 -- the places into transition t, lowest first
 pub record AreInto (net : NetLists) (t : ℕ) (ids : List PlaceId) : Type 0 where
@@ -39,19 +39,19 @@ pub record AreInto (net : NetLists) (t : ℕ) (ids : List PlaceId) : Type 0 wher
   pub count : length ids ≡ count_by (λ p. p.to.index == t) net.places
 
 -- the ends of the net's places, and its input lists
-pub record AreEnds (net : NetLists) (ends : Ends) : Type 0 where
+pub record AreEnds (net : NetLists) (ends : PlaceEnds) : Type 0 where
   pub into_width : length ends.into ≡ length net.transitions
   pub into : (t : ℕ) → t < length net.transitions → AreInto net t (slice_index_or ends.into t [])
   pub leaving_width : length ends.leaving ≡ length net.transitions
   pub leaving : (t : ℕ) → t < length net.transitions → slice_index_or ends.leaving t 0 ≡ count_by (λ p. p.from.index == t) net.places
   pub lists_width : length ends.lists ≡ length net.transitions
-  pub lists : (t : ℕ) → t < length net.transitions → list_at net.inputs (slice_index_or ends.lists t None) ≡ list_of net t
+  pub lists : (t : ℕ) → t < length net.transitions → input_list_at net.inputs (slice_index_or ends.lists t None) ≡ list_of_input net t
 
 -- a game as contracts see it: the run so far, with what it keeps beside it for its net
 pub record GameState : Type 0 where
   pub run : List Fired
   pub width : ℕ
-  pub ends : Ends
+  pub ends : PlaceEnds
   pub tokens : ℕ
 
 -- the game stands for the net: its run is a legal one, and what it keeps beside it is that of the net

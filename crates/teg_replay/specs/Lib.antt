@@ -1,6 +1,6 @@
-pub mod Failures
+pub mod RefusedFirings
 pub mod Firings
 pub mod Games
-pub mod Laws
+pub mod RunsAndLeastDates
 pub mod Replays
 pub mod Waits

@@ -7,7 +7,7 @@ use Rattle.teg_due.specs.declared.rows.LogRow.{LogRow}
 use Rattle.teg_replay.specs.declared.replayed.Refused.{Refused}
 use Rattle.teg_replay.specs.declared.replayed.Replayed.{Replayed}
 use Rattle.run_laws.specs.Runs.{IsLegalRun}
-use Rattle.teg_replay.specs.Failures.{Fails}
+use Rattle.teg_replay.specs.RefusedFirings.{Fails}
 use Rattle.teg_replay.specs.Firings.{IsFiringOf}
 
 -- the firing that a row tells of

@@ -2,10 +2,10 @@
 ghost use Rattle.std.specs.Prelude.{◌≡◌, ◌<◌, ◌≤◌, ◌^◌, ◌++◌, ◌∷◌, [], IfOk, IfErr, length};
 ghost use Rattle.run_laws.specs.Runs.{next_number, IsLegalAfter};
 ghost use Rattle.run_laws.specs.Earliest.{IsEarliest, tokens_after};
-ghost use Rattle.teg_replay.specs.Failures.{IsRightRefusal, IsFailure};
+ghost use Rattle.teg_replay.specs.RefusedFirings.{IsRightFireRefusal, IsFailure};
 ghost use Rattle.teg_replay.specs.Firings.{IsFiringOf};
 ghost use Rattle.teg_replay.specs.Games.{GameState, IsGameOf};
-ghost use Rattle.teg_replay.specs.Laws.{StandsToLeastDates};
+ghost use Rattle.teg_replay.specs.RunsAndLeastDates.{StandsToLeastDates};
 
 use crate::ends::EndLists;
 use crate::history::History;
@@ -77,7 +77,7 @@ impl Game {
             (next_number self.old.run fired.transition.index) earliest }
         ensures appended { IfOk result (λ _. self.new.run ≡ self.old.run ++ fired ∷ []) }
         ensures told { IfOk result (λ firing. IsFiringOf net.now self.old.run fired firing) }
-        ensures memory { IfErr result (λ why. IsRightRefusal net.now self.old.run fired why) }
+        ensures memory { IfErr result (λ why. IsRightFireRefusal net.now self.old.run fired why) }
         ensures unchanged { IfErr result (λ _. self.new ≡ self.old) }
         ensures stands { IsGameOf net.now self.new }
     {
@@ -120,7 +120,7 @@ impl Game {
         ensures least { IfOk result (λ firing. StandsToLeastDates net.now self.old.run firing) }
 
         // why one is refused, which changes nothing; a legal one is refused for want of memory alone
-        ensures refused { IfErr result (λ why. IsRightRefusal net.now self.old.run (record { transition = transition; date = date }) why) }
+        ensures refused { IfErr result (λ why. IsRightFireRefusal net.now self.old.run (record { transition = transition; date = date }) why) }
         ensures failure { IfErr result (λ why. IsFailure why → IsLegalAfter net.now self.old.run (record { transition = transition; date = date }) → ⊥) }
         ensures unchanged { IfErr result (λ _. self.new ≡ self.old) }
 

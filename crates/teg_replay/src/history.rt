@@ -1,7 +1,7 @@
 //! The run so far, with the dates of each transition beside it.
 ghost use Rattle.std.specs.Prelude.{◌≡◌, ◌<◌, ◌+◌, ◌++◌, ◌∷◌, [], IfOk, is_ok, replicate, if◌then◌else◌, length};
-ghost use Rattle.teg_replay.specs.Games.{Past, AreColumns};
-ghost use Rattle.run_laws.specs.Runs.{dates_of, last_date};
+ghost use Rattle.teg_replay.specs.Games.{Past, AreDateColumns};
+ghost use Rattle.run_laws.specs.Runs.{dates_of_transition, last_date};
 
 use crate::column::Column;
 use run_laws::Fired;
@@ -18,13 +18,13 @@ pub(crate) struct History {
 
 impl Model for History {
     ghost use Rattle.std.specs.Prelude.{length};
-    ghost use Rattle.teg_replay.specs.Games.{Past, AreColumns};
+    ghost use Rattle.teg_replay.specs.Games.{Past, AreDateColumns};
 
     ghost Value = { Past };
 
     ghost view = { λ h. record { width = length h.columns.items; run = h.run.items } };
 
-    ghost invariant = { λ h. AreColumns h.run.items h.columns.items };
+    ghost invariant = { λ h. AreDateColumns h.run.items h.columns.items };
 }
 
 // So many columns without dates.
@@ -60,7 +60,7 @@ impl History {
     // The dates of the firings of the transition, in order.
     pub(crate) fn dates_of(&self, transition: TransitionId) -> &[u64]
         requires { transition.index < self.now.width }
-        ensures { result.now ≡ dates_of self.now.run transition.index }
+        ensures { result.now ≡ dates_of_transition self.now.run transition.index }
     {
         self.columns[transition.index as usize].as_slice()
     }

@@ -1,7 +1,7 @@
 //! Whether a firing may follow a run.
 ghost use Rattle.std.specs.Prelude.{◌≡◌, ◌<◌, ◌^◌, IfOk, IfErr, length};
 ghost use Rattle.run_laws.specs.Runs.{next_number, IsLegalAfter};
-ghost use Rattle.teg_replay.specs.Failures.{Fails};
+ghost use Rattle.teg_replay.specs.RefusedFirings.{Fails};
 ghost use Rattle.run_laws.specs.Earliest.{IsEarliest};
 ghost use Rattle.teg_replay.specs.Games.{AreEnds};
 

@@ -1,9 +1,9 @@
 //! The replay of a log.
 ghost use Rattle.std.specs.Prelude.{◌<◌, ◌^◌, ◌≡◌, map, length, [], IfOk, IfSome, Some};
-ghost use Rattle.teg_due.specs.Rules.{IsLogOf};
-ghost use Rattle.teg_replay.specs.Failures.{IsFailure, NamesPlaceOf};
+ghost use Rattle.teg_due.specs.RowRules.{IsLogOf};
+ghost use Rattle.teg_replay.specs.RefusedFirings.{IsFailure, NamesPlaceOf};
 ghost use Rattle.teg_replay.specs.Games.{IsGameOf};
-ghost use Rattle.teg_replay.specs.Laws.{AcceptsLegalRuns, AcceptsEarliestRuns};
+ghost use Rattle.teg_replay.specs.RunsAndLeastDates.{AcceptsLegalRuns, AcceptsEarliestRuns};
 ghost use Rattle.teg_replay.specs.Replays.{Replays};
 
 use crate::game::Game;

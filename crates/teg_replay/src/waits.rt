@@ -2,9 +2,9 @@
 ghost use Rattle.std.specs.Prelude.{◌≡◌, ◌<◌, ◌≤◌, ◌+◌, ◌^◌, IfOk, IfErr, Some, length, ◌-◌};
 ghost use Rattle.teg_net.specs.Circuits.{place_at};
 ghost use Rattle.teg_net.specs.Inputs.{input_date};
-ghost use Rattle.run_laws.specs.Runs.{dates_of, next_number, token_date, HasTokensBy, IsReleasedBy, IsThereBy, last_date, IsNotBefore};
-ghost use Rattle.run_laws.specs.Earliest.{last_of};
-ghost use Rattle.teg_replay.specs.Failures.{Fails};
+ghost use Rattle.run_laws.specs.Runs.{dates_of_transition, next_number, token_date, HasTokensBy, IsReleasedBy, IsThereBy, last_date, IsNotBefore};
+ghost use Rattle.run_laws.specs.Earliest.{last_listed_date};
+ghost use Rattle.teg_replay.specs.RefusedFirings.{Fails};
 ghost use Rattle.teg_replay.specs.Games.{AreEnds, AreInto};
 ghost use Rattle.teg_replay.specs.declared.refusal.FireRefusal.TheVariants.{BeforeRelease};
 ghost use Rattle.teg_replay.specs.Waits.{IsLatestToken, IsLatestRelease, IsBackTo, IsUnreleased};
@@ -28,7 +28,7 @@ pub(crate) fn next_number(history: &History, transition: TransitionId) -> u64
 // The date of the transition's last firing, and 0 where there is none.
 pub(crate) fn date_before(history: &History, transition: TransitionId) -> u64
     requires { transition.index < history.now.width }
-    ensures { result ≡ last_of (dates_of history.now.run transition.index) }
+    ensures { result ≡ last_listed_date (dates_of_transition history.now.run transition.index) }
 {
     match history.dates_of(transition).last() {
         Some(date) => *date,

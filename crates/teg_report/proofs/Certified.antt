@@ -15,14 +15,14 @@ use Rattle.teg_net.specs.declared.entries.TransitionId.{TransitionId}
 use Rattle.teg_net.specs.Certificates.{IsCertificate, IsPartCertificate}
 use Rattle.teg_net.specs.Circuits.{AreInRange, IsPathBetween, place_at}
 use Rattle.teg_net.specs.GreatestRatios.{IsFirstGreatest, ratio_in, ratio_at}
-use Rattle.teg_net.specs.Limits.{greatest_potential}
+use Rattle.teg_net.specs.Limits.{greatest_checked_potential}
 use Rattle.teg_net.specs.Nets.{NetLists}
 use Rattle.teg_net.specs.PartAnswers.{transitions_of}
 use Rattle.teg_net.specs.Parts.{IsMember, ListsMembers}
 use Rattle.teg_net.specs.Ratios.{Fraction}
-use Rattle.teg_net.specs.ReducedTimes.{IsWithin}
-use Rattle.teg_report.specs.Cycles.{NoCircuitIn, members_from, part_at, has_ratio, IsCycleTold, IsPartTold, IsFirstOf, HasFirst}
-use Rattle.teg_report.specs.Meanings.{cycle_lists, part_lists}
+use Rattle.teg_net.specs.ReducedTimes.{IsMagnitudeWithin}
+use Rattle.teg_report.specs.Cycles.{NoCircuitIn, members_from, told_part_at, has_ratio, IsCycleTold, IsPartTold, IsFirstOfRatio, HasFirst}
+use Rattle.teg_report.specs.AnswerMeanings.{cycle_lists, part_lists}
 
 -- lists of numbers that rise and have the same elements
 
@@ -133,12 +133,12 @@ path_in : (net : NetLists) (a : ℕ) (ps : List PlaceId) (b : ℕ) → IsPathBet
 path_in net a [] b h = λ i d l. absurd (omega (arith, l))
 path_in net a (p ∷ ps) b h = All-cons (λ q. q.index < length net.places) p ps h.0 (path_in net (place_at net p).to.index ps b h.2)
 
-below_zero : (n : ℕ) → greatest_potential < suc n → pos 0 ≤ℤ (negsuc n +ℤ pos greatest_potential) → ⊥
-below_zero n m h = rw (lt-ltb greatest_potential (suc n) m) at h.le
+below_zero : (n : ℕ) → greatest_checked_potential < suc n → pos 0 ≤ℤ (negsuc n +ℤ pos greatest_checked_potential) → ⊥
+below_zero n m h = rw (lt-ltb greatest_checked_potential (suc n) m) at h.le
 
-small : (z : ℤ) → IsWithin greatest_potential z → unsigned_abs z < 2 ^ 128
-small (pos n) h = let few : n ≤ greatest_potential = leb→le n greatest_potential h.high.le in omega (arith, few)
-small (negsuc n) h = ⊎_elim (λ (m : greatest_potential < suc n). absurd (below_zero n m h.low)) (λ (w : suc n ≤ greatest_potential). omega (arith, w)) (cases_lt greatest_potential (suc n))
+small : (z : ℤ) → IsMagnitudeWithin greatest_checked_potential z → unsigned_abs z < 2 ^ 128
+small (pos n) h = let few : n ≤ greatest_checked_potential = leb→le n greatest_checked_potential h.high.le in omega (arith, few)
+small (negsuc n) h = ⊎_elim (λ (m : greatest_checked_potential < suc n). absurd (below_zero n m h.low)) (λ (w : suc n ≤ greatest_checked_potential). omega (arith, w)) (cases_lt greatest_checked_potential (suc n))
 
 part_told : (net : NetLists) (part_of : List ℕ) (n : ℕ) (part : PartAnswer) → length part_of ≡ length net.transitions → IsPartCertificate net part_of n part → IsPartTold net (members_from 0 part_of n) (part_lists part)
 part_told net part_of n NoCircuit full h = tt
@@ -157,7 +157,7 @@ part_told net part_of n (Best ratio circuit potentials) full h = record {
 
 -- the first part of greatest ratio
 
-parts_at : (parts : List PartAnswer) (n : ℕ) → n < length parts → part_at (map part_lists parts) n ≡ part_lists (slice_index_or parts n NoCircuit)
+parts_at : (parts : List PartAnswer) (n : ℕ) → n < length parts → told_part_at (map part_lists parts) n ≡ part_lists (slice_index_or parts n NoCircuit)
 parts_at parts n l = get_or-map part_lists parts n NoCircuit NoCircuitIn l
 
 other_ratio : (r : Fraction) (part : PartAnswer) → ((q : Fraction) → ratio_in part ≡ Some q → q.time * r.tokens < r.time * q.tokens) → has_ratio r (part_lists part) ≡ false
@@ -172,7 +172,7 @@ other_ratio r (Best ratio circuit potentials) h =
     omega (arith, less'))
 
 first_told : (parts : List PartAnswer) (k : ℕ) (r : Fraction) (part : PartAnswer) → k < length parts → slice_index_or parts k NoCircuit ≡ part → ratio_in part ≡ Some r →
-    ((j : ℕ) (q : Fraction) → j < k → ratio_at parts j ≡ Some q → q.time * r.tokens < r.time * q.tokens) → IsFirstOf (map part_lists parts) k (part_lists part)
+    ((j : ℕ) (q : Fraction) → j < k → ratio_at parts j ≡ Some q → q.time * r.tokens < r.time * q.tokens) → IsFirstOfRatio (map part_lists parts) k (part_lists part)
 first_told parts k r NoCircuit l e here first = let no : None ≡ Some r = here in cc
 first_told parts k r (Best ratio circuit potentials) l e here first = λ m less.
     let same : ratio ≡ r = let both : Some ratio ≡ Some r = here in cc in
@@ -189,7 +189,7 @@ first_of parts None k e h = let no : None ≡ Some k = e in cc
 first_of parts (Some n) k e h =
     let l = in_list parts n h.0 h.1.here in
     let first = first_told parts n h.0 (slice_index_or parts n NoCircuit) l refl h.1.here h.1.first in
-    (omega (arith, l, length-map parts part_lists), subst (IsFirstOf (map part_lists parts) n) (sym (parts_at parts n l)) first)
+    (omega (arith, l, length-map parts part_lists), subst (IsFirstOfRatio (map part_lists parts) n) (sym (parts_at parts n l)) first)
 
 -- a certificate with a best part can be told
 pub certificate_told : (net : NetLists) (answer : CycleAnswer) (best : ℕ) → IsCertificate net answer → answer.best ≡ Some best → IsCycleTold net (cycle_lists answer)

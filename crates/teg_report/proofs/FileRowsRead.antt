@@ -2,6 +2,7 @@
 use Rattle.std.proofs.Common.{◌≡◌, ℕ, true, false, not, ◌==◌, ⊎_elim, Option, IfSome, List, [], ◌∷◌, ◌<◌, All, map, refl, ap, length}
 use Rattle.std.proofs.lemmas.Bool.{cases_Bool}
 use Rattle.std.specs.List.{list_all}
+use Rattle.teg_outside.specs.Monitors.{IsOneLine}
 use Rattle.teg_due.specs.declared.rows.DueRefusal.{DueRefusal}
 use Rattle.teg_due.specs.declared.rows.DueRefusal.TheVariants.{BadRow as BadDueRow, UnknownTransition as UnknownDue, NotDue, RepeatedDue, OutOfRange as DueOutOfRange, OutOfMemory as NoDueRoom}
 use Rattle.teg_due.specs.declared.rows.LogRefusal.{LogRefusal}
@@ -11,17 +12,17 @@ use Rattle.teg_net.specs.Nets.{NetLists, IsNet}
 use Rattle.teg_report.specs.declared.answer.Failure.{Failure}
 use Rattle.teg_report.specs.declared.answer.Failure.TheVariants.{Illegal, BackInTime, BeforeRelease}
 use Rattle.teg_report.specs.Answering.{IsNamedBy}
-use Rattle.teg_report.specs.Answers.{Due, Log, Replayed, Refused}
-use Rattle.teg_report.specs.FileRows.{IsFailureIn, IsOneLine, due_line, log_line, refused_lines, replayed_lines, IsDueKept, IsLogKept}
+use Rattle.teg_report.specs.AnswerValues.{Due, Log, Replayed, Refused}
+use Rattle.teg_report.specs.FileRows.{IsFailureIn, due_line, log_line, refused_lines, replayed_lines, IsDueKept, IsLogKept}
 use Rattle.teg_report.specs.Widths.{IsWord32, IsWord64}
-use Rattle.teg_report.specs.Reports.{names_of}
+use Rattle.teg_report.specs.Reports.{names_from}
 use Rattle.teg_report.proofs.IsRead.{IsRead, with_net}
 use Rattle.teg_text.proofs.NamesRead.{place_back, place_is_word}
 use Rattle.teg_text.specs.Lines.{are_lines, is_line, phrase}
-use Rattle.teg_text.specs.Reading.{phrase_in}
+use Rattle.teg_text.specs.WordReading.{phrase_in}
 use Rattle.teg_text.proofs.Back.{word32_back, word64_back}
 use Rattle.teg_text.proofs.Phrases.{phrase_back, phrase_is_line}
-use Rattle.teg_text.proofs.Rows.{map_back, map_passes}
+use Rattle.teg_text.proofs.LineBlocks.{map_back, map_passes}
 use Rattle.teg_text.proofs.Words.{decimal_is_word}
 
 pub due_read : (names : NetLists) (refusal : DueRefusal) → IsDueKept refusal → IsRead names (due_line refusal ∷ []) (Due refusal)
@@ -69,7 +70,7 @@ illegal_read place row lines h one net rules l = record {
 }
 
 pub refused_read : (net : Option NetLists) (names : NetLists) → IsNamedBy net names → IfSome net IsNet → (row : ℕ) (failure : Failure) (lines : List (List ℕ)) → IsWord32 row →
-    IsFailureIn net failure → All IsOneLine lines → IsRead names (refused_lines (names_of net) row failure lines) (Refused row failure lines)
+    IsFailureIn net failure → All IsOneLine lines → IsRead names (refused_lines (names_from net) row failure lines) (Refused row failure lines)
 refused_read net names e rules row (Illegal place) lines h within one =
     with_net (λ n. place.index < length n.places) (λ names n. IsRead names (refused_lines n row (Illegal place) lines) (Refused row (Illegal place) lines)) net names e rules within
     (illegal_read place row lines h one)

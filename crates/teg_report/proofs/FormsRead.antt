@@ -2,15 +2,15 @@
 use Rattle.std.proofs.Common.{◌<◌, All, refl, length, map}
 use Rattle.teg_form.specs.declared.form.Entry.{Entry}
 use Rattle.teg_form.specs.declared.form.StarEntry.{StarEntry}
-use Rattle.teg_form.specs.Forms.{FormLists}
+use Rattle.teg_form.specs.StandardForms.{FormLists}
 use Rattle.teg_net.specs.Nets.{NetLists, IsNet}
-use Rattle.teg_report.specs.Forms.{star_in, entry_in, is_star, IsFormWithin, form_lines, star_line, entry_line, IsStarKept, IsEntryKept}
-use Rattle.teg_report.specs.Answers.{Form}
+use Rattle.teg_report.specs.FormLines.{star_in, entry_in, is_star, HasEndsIn, form_lines, star_line, entry_line, IsStarKept, IsEntryKept}
+use Rattle.teg_report.specs.AnswerValues.{Form}
 use Rattle.teg_report.proofs.IsRead.{IsRead}
 use Rattle.teg_text.proofs.NamesRead.{transition_back, transition_is_word}
 use Rattle.teg_text.specs.Lines.{is_line}
 use Rattle.teg_text.proofs.Back.{word32_back, word64_back}
-use Rattle.teg_text.proofs.Rows.{IsReadBack, rows, joined_back}
+use Rattle.teg_text.proofs.LineBlocks.{IsReadBack, rows, joined_back}
 use Rattle.teg_text.proofs.Words.{all_append, decimal_is_word}
 
 -- what an entry keeps is that its ends are transitions of the net, and that its numbers have their bits
@@ -37,7 +37,7 @@ entry_read net rules = record {
   back = λ e h. rw (transition_back net e.to rules h.to_in, transition_back net e.from rules h.from_in, word32_back e.tokens h.numbers.0, word64_back e.time h.numbers.1) refl;
 }
 
-pub form_read : (form : FormLists) → All IsStarKept form.stars × All IsEntryKept form.entries → (net : NetLists) → IsNet net → IsFormWithin net form → IsRead net (form_lines net form) (Form form)
+pub form_read : (form : FormLists) → All IsStarKept form.stars × All IsEntryKept form.entries → (net : NetLists) → IsNet net → HasEndsIn net form → IsRead net (form_lines net form) (Form form)
 form_read form kept net rules h =
     let stars = rows _ _ _ _ (star_read net rules) in
     let entries = rows _ _ _ _ (entry_read net rules) in

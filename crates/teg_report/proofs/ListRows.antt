@@ -9,9 +9,9 @@ use Rattle.dioid.specs.declared.dates.Date.{Date}
 use Rattle.dioid.specs.declared.dates.Date.TheVariants.{Early}
 use Rattle.teg_net.specs.Nets.{NetLists}
 use Rattle.teg_dates.specs.Passes.{IsRowOf}
-use Rattle.teg_report.specs.Lists.{dated_firing, number_line, count_line, names_line, list_lines, head_text, row_text}
+use Rattle.teg_report.specs.DateLists.{dated_firing, number_line, listed_count_line, names_line, list_lines, head_text, row_text}
 use Rattle.teg_text.specs.Lines.{line_then, written}
-use Rattle.teg_text.specs.Words.{date_word}
+use Rattle.teg_text.specs.ValueWords.{date_word}
 use Rattle.teg_text.proofs.Joining.{written_map, head_then}
 
 -- two texts of pieces that are the same, number by number
@@ -50,7 +50,7 @@ list_of_lines net x count =
     let numbers = range_with_len 1 count in
     let joined : written (map f numbers ++ []) ≡ flat_map (λ k. line_then (f k) []) numbers ++ [] = written_map f numbers [] in
     let same : written (map f numbers) ≡ flat_map (λ k. line_then (f k) []) numbers = simp append-nil at joined in
-    ap (λ (l : List ℕ). head_text net count ++ l) (sym same) ∙ head_then (count_line count) (names_line net) (map f numbers)
+    ap (λ (l : List ℕ). head_text net count ++ l) (sym same) ∙ head_then (listed_count_line count) (names_line net) (map f numbers)
 
 -- the head and the rows of the numbers 1 to count are the list
 pub list_of_rows : (net : NetLists) (x : ℕ → ℕ → Date) (count : ℕ) (rows : ℕ → List Date) → ((k : ℕ) → 1 ≤ k → k ≤ count → IsRowOf net x k (rows k)) →

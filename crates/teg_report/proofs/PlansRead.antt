@@ -18,15 +18,15 @@ use Rattle.teg_net.specs.declared.walks.Step.TheVariants.{By, Next}
 use Rattle.teg_net.specs.Circuits.{place_at, no_place}
 use Rattle.teg_net.specs.Nets.{NetLists, IsNet}
 use Rattle.teg_net.specs.Walks.{Walks}
-use Rattle.teg_report.specs.Plans.{latest_in, late_in, onward_in, planned_in, steps_in, AreLateNumbers, AreLatestKept, IsLateKept, IsLatestKept, IsLateIn, IsLateTold, IsLatestIn, IsOnwardIn, IsPlanIn, LateLists, late_line, late_lines, latest_words, onward_words, path_line, plan_lines, planned_line, planned_lines, role_word, steps_words}
-use Rattle.teg_report.specs.Answers.{Jit, Late}
+use Rattle.teg_report.specs.PlanLines.{latest_in_line, late_in, onward_in, plan_in_lines, steps_in, AreLateNumbers, AreLatestKept, IsLateKept, IsLatestKept, IsLateIn, IsLatePlanTold, IsLatestIn, IsOnwardIn, IsPlanIn, LateLists, late_line, late_lines, latest_words, onward_words, path_line, plan_lines, planned_line, planned_lines, role_word, steps_words}
+use Rattle.teg_report.specs.AnswerValues.{Jit, Late}
 use Rattle.teg_report.proofs.IsRead.{IsRead}
 use Rattle.teg_text.proofs.NamesRead.{place_back, place_is_word, transition_back, transition_is_word}
 use Rattle.teg_text.specs.Lines.{is_line, is_word}
 use Rattle.teg_text.proofs.Back.{number_back, word32_back, word64_back}
-use Rattle.teg_text.proofs.Rows.{positive_width, grid_passes, numbered_back}
+use Rattle.teg_text.proofs.LineBlocks.{positive_width, grid_passes, numbered_back}
 use Rattle.teg_text.proofs.Words.{decimal_is_word, decimal_is_numeral}
-use Rattle.teg_text.specs.Names.{name_of_transition, no_transition}
+use Rattle.teg_text.specs.WordsOfNames.{name_of_transition, no_transition}
 
 -- latest dates
 
@@ -42,14 +42,14 @@ onward_read net (ByPlace place) a b c d rules h = (rw (place_is_word net place r
 onward_read net ToNext a b c d rules h = (refl, refl)
 
 latest_read : (net : NetLists) (latest : LatestDate) (a b c : List ℕ) → IsNet net → IsLatestIn net latest → IsLatestKept latest →
-    (list_all is_word (latest_words net latest) ≡ true) × (latest_in net (a ∷ b ∷ c ∷ latest_words net latest) ≡ latest)
+    (list_all is_word (latest_words net latest) ≡ true) × (latest_in_line net (a ∷ b ∷ c ∷ latest_words net latest) ≡ latest)
 latest_read net Free a b c rules h kept = (refl, refl)
 latest_read net (At date onward) a b c rules h kept =
     let read = onward_read net onward a b c (decimal date) rules h in
     (rw (decimal_is_word date, read.0) refl, rw (decimal_is_numeral date, word64_back date kept, read.1) refl)
 
 planned_read : (net : NetLists) (plan : PlanDates) (t k : ℕ) → IsNet net → IsPlanIn net plan → AreLatestKept plan → t < length net.transitions → k < plan.numbers →
-    (is_line (planned_line net plan t k) ≡ true) × (latest_in net (planned_line net plan t k) ≡ latest_at plan t (k + 1))
+    (is_line (planned_line net plan t k) ≡ true) × (latest_in_line net (planned_line net plan t k) ≡ latest_at plan t (k + 1))
 planned_read net plan t k rules h kept l m =
     let within : t < plan.width = omega (arith, l, h.width) in
     let read = latest_read net (latest_at plan t (k + 1)) (role_word (get_or net.transitions t no_transition).role) (name_of_transition net (record { index = t })) (decimal (k + 1)) rules
@@ -76,19 +76,19 @@ grid_at f a (suc width) count (suc t) k d l m =
     ∙ (get_or-append-add row rest (t * count + k) d ∙ (grid_at f (a + 1) width count t k d (omega (arith, l)) m ∙ ap (λ (b : ℕ). f b k) next))
 
 planned_back : (net : NetLists) (plan : PlanDates) → IsNet net → IsPlanIn net plan → AreLatestKept plan →
-    (planned_in net plan.numbers (flat_map (planned_lines net plan) (range_with_len 0 (length net.transitions)))).dates ≡ plan.dates
+    (plan_in_lines net plan.numbers (flat_map (planned_lines net plan) (range_with_len 0 (length net.transitions)))).dates ≡ plan.dates
 planned_back net plan rules h kept =
     let width = length net.transitions in
     let numbers = plan.numbers in
     let lines = flat_map (planned_lines net plan) (range_with_len 0 width) in
     let full : length plan.dates ≡ numbers * width = kept.sizes.full ∙ ap (λ (w : ℕ). numbers * w) h.width in
-    numbered_back (λ i. latest_in net (get_or lines (i % width * numbers + i / width) [])) (numbers * width) plan.dates Free full
+    numbered_back (λ i. latest_in_line net (get_or lines (i % width * numbers + i / width) [])) (numbers * width) plan.dates Free full
     (λ i l.
     let positive = positive_width i numbers width l in
     let row : i / width < numbers = (div-lt_iff_lt-mul positive).1 l in
     let column : i % width < width = mod-lt i positive in
     let here : (i / width + 1 - 1) * width + i % width ≡ i = ap (λ (q : ℕ). q * width + i % width) (omega arith) ∙ div-add-mod' i width in
-    ap (latest_in net) (grid_at (planned_line net plan) 0 width numbers (i % width) (i / width) [] column row ∙ ap (λ (t : ℕ). planned_line net plan t (i / width)) (omega arith))
+    ap (latest_in_line net) (grid_at (planned_line net plan) 0 width numbers (i % width) (i / width) [] column row ∙ ap (λ (t : ℕ). planned_line net plan t (i / width)) (omega arith))
     ∙ ((planned_read net plan (i % width) (i / width) rules h kept column row).1
     ∙ (ap (λ (w : ℕ). slice_index_or plan.dates ((i / width + 1 - 1) * w + i % width) Free) h.width ∙ ap (λ (j : ℕ). slice_index_or plan.dates j Free) here)))
 
@@ -100,7 +100,7 @@ plan_read plan kept net rules h =
     let width : length net.transitions ≡ plan.width = sym h.width in
     record {
       words = rw (decimal_is_word plan.numbers) (grid_passes is_line (planned_line net plan) (length net.transitions) plan.numbers (λ t k l m. (planned_read net plan t k rules h kept l m).0));
-      back = ap (λ (n : ℕ). Jit (planned_in net n lines)) numbers ∙ (λ i. Jit (record { width = width i; numbers = plan.numbers; dates = dates i }));
+      back = ap (λ (n : ℕ). Jit (plan_in_lines net n lines)) numbers ∙ (λ i. Jit (record { width = width i; numbers = plan.numbers; dates = dates i }));
     }
 
 -- walks
@@ -169,7 +169,7 @@ late_back net late rules h kept =
     })
     (cases_Bool (late.start == 0))
 
-pub late_read : (late : Option LateLists) → IsLateKept late → (net : NetLists) → IsNet net → IsLateTold net late → IsRead net (late_lines net late) (Late late)
+pub late_read : (late : Option LateLists) → IsLateKept late → (net : NetLists) → IsNet net → IsLatePlanTold net late → IsRead net (late_lines net late) (Late late)
 late_read None kept net rules h = absurd h
 late_read (Some late) kept net rules h =
     let read = late_back net late rules h kept in

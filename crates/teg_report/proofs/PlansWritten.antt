@@ -9,10 +9,10 @@ use Rattle.teg_net.specs.declared.entries.TransitionId.{TransitionId}
 use Rattle.teg_net.specs.declared.walks.Step.{Step}
 use Rattle.teg_net.specs.declared.walks.Step.TheVariants.{By, Next}
 use Rattle.teg_net.specs.Circuits.{place_at, no_place}
-use Rattle.teg_net.specs.Limits.{greatest_number}
+use Rattle.teg_net.specs.Limits.{greatest_firing_number}
 use Rattle.teg_net.specs.Nets.{NetLists, IsNet}
 use Rattle.teg_net.specs.Walks.{numbers_of, IsStepOf}
-use Rattle.teg_report.specs.Plans.{IsPathIn, step_number, step_to, step_words, steps_words}
+use Rattle.teg_report.specs.PlanLines.{IsPathIn, step_number, step_to, step_words, steps_words}
 use Rattle.teg_text.specs.Lines.{further_then, line_then, written}
 use Rattle.teg_text.proofs.Joining.{line_append, written_append}
 
@@ -27,7 +27,7 @@ pub record IsLeft (net : NetLists) (from : TransitionId) (first : ℕ) (steps : 
   pub told : text ++ further_then (steps_words net at number (drop i steps)) [] ≡ before ++ further_then (steps_words net from first steps) []
   pub path : IsPathIn net at number (drop i steps)
 
-pub path_small : (net : NetLists) (at : TransitionId) (number : ℕ) (steps : List Step) → IsPathIn net at number steps → number ≤ greatest_number
+pub path_small : (net : NetLists) (at : TransitionId) (number : ℕ) (steps : List Step) → IsPathIn net at number steps → number ≤ greatest_firing_number
 path_small net at number [] h = h.numbers 0 0 (omega arith)
 path_small net at number (By p ∷ steps) h = h.numbers 0 0 (omega arith)
 path_small net at number (Next ∷ steps) h = h.numbers 0 0 (omega arith)
@@ -41,12 +41,12 @@ more_path : (net : NetLists) (at : TransitionId) (number : ℕ) (step : Step) (s
 more_path net at number (By p) steps rules h = record {
   inside = (rules.each_place p.index no_place h.walks.2.0).to_in;
   walks = (h.walks.0, h.walks.1, h.walks.2.2);
-  numbers = All-tail (λ x. x ≤ greatest_number) number (numbers_of net (number + (place_at net p).tokens) steps) h.numbers;
+  numbers = All-tail (λ x. x ≤ greatest_firing_number) number (numbers_of net (number + (place_at net p).tokens) steps) h.numbers;
 }
 more_path net at number Next steps rules h = record {
   inside = h.inside;
   walks = h.walks;
-  numbers = All-tail (λ x. x ≤ greatest_number) number (numbers_of net (number + 1) steps) h.numbers;
+  numbers = All-tail (λ x. x ≤ greatest_firing_number) number (numbers_of net (number + 1) steps) h.numbers;
 }
 
 -- a step of what is left is one of the net

@@ -2,9 +2,9 @@
 use Rattle.std.proofs.Common.{IsSomeAnd, IfSome, ◌≡◌, refl, Option, None, Some}
 use Rattle.teg_net.specs.Nets.{NetLists, IsNet}
 use Rattle.teg_report.specs.Answering.{answer_of, answer_in, AreOfOneNet, IsNamedBy}
-use Rattle.teg_report.specs.Answers.{Answer, Usage, Live, Listed, Form, NoCircuit, Cycle, Dates, Date, Jit, Late, Slack, Transfer, Replayed, Refused, Calc, Trial, Read, TooLarge, TokenFree, NoTransition, Due, Log, TooLong, Parse, Series, Fault}
-use Rattle.teg_report.specs.Kept.{IsTold}
-use Rattle.teg_report.specs.Reports.{lines_of, names_of, text_of}
+use Rattle.teg_report.specs.AnswerValues.{Answer, Usage, Live, Listed, Form, NoCircuit, Cycle, Dates, Date, Jit, Late, Slack, Transfer, Replayed, Refused, Calc, Trial, Read, TooLarge, TokenFree, NoTransition, Due, Log, TooLong, Parse, Series, Fault}
+use Rattle.teg_report.specs.KeptAnswers.{IsAnswerTold}
+use Rattle.teg_report.specs.Reports.{lines_of, names_from, text_of}
 use Rattle.teg_report.proofs.IsRead.{IsRead, with_net}
 use Rattle.teg_report.proofs.CyclesRead.{cycle_read}
 use Rattle.teg_report.proofs.FormsRead.{form_read}
@@ -20,10 +20,10 @@ use Rattle.teg_text.proofs.Telling.{text_back}
 
 -- an answer that names things of the net, which is then given
 by_net : (P : NetLists → Type 0) (answer : Answer) (net : Option NetLists) (names : NetLists) → IsNamedBy net names → IfSome net IsNet → IsSomeAnd net P →
-    ((n : NetLists) → IsNet n → P n → IsRead n (lines_of n answer) answer) → IsRead names (lines_of (names_of net) answer) answer
+    ((n : NetLists) → IsNet n → P n → IsRead n (lines_of n answer) answer) → IsRead names (lines_of (names_from net) answer) answer
 by_net P answer net names e rules about read = with_net P (λ names n. IsRead names (lines_of n answer) answer) net names e rules about read
 
-lines_read : (net : Option NetLists) (names : NetLists) → IsNamedBy net names → (answer : Answer) → IsTold net answer → IsRead names (lines_of (names_of net) answer) answer
+lines_read : (net : Option NetLists) (names : NetLists) → IsNamedBy net names → (answer : Answer) → IsAnswerTold net answer → IsRead names (lines_of (names_from net) answer) answer
 lines_read net names e Usage h = record { words = refl; back = refl }
 lines_read net names e (Live transitions places) h = live_read names transitions places h.kept
 lines_read net names e (Listed table) h = by_net _ (Listed table) net names e h.keeps_rules h.about (list_read table h.kept.0 h.kept.1)
@@ -51,12 +51,12 @@ lines_read net names e (Parse refusal) h = parse_read names refusal h.kept
 lines_read net names e (Series refusal) h = series_refused_read names refusal h.kept
 lines_read net names e (Fault file) h = fault_read names file
 
-pub told_read : (net : Option NetLists) (names : NetLists) → IsNamedBy net names → (answer : Answer) → IsTold net answer → answer_in names (text_of net answer) ≡ answer
-told_read net names e answer h = text_back (answer_of names) (lines_of (names_of net) answer) answer (lines_read net names e answer h)
+pub told_read : (net : Option NetLists) (names : NetLists) → IsNamedBy net names → (answer : Answer) → IsAnswerTold net answer → answer_in names (text_of net answer) ≡ answer
+told_read net names e answer h = text_back (answer_of names) (lines_of (names_from net) answer) answer (lines_read net names e answer h)
 
 -- the one net of two answers
 pub one_net : (one two : Option NetLists) → AreOfOneNet one two → (names : NetLists) × IsNamedBy one names × IsNamedBy two names
-one_net None None h = (names_of None, tt, tt)
+one_net None None h = (names_from None, tt, tt)
 one_net None (Some net) h = (net, tt, refl)
 one_net (Some net) None h = (net, refl, tt)
 one_net (Some net) (Some other) h = (net, refl, h)

@@ -9,15 +9,16 @@ use Rattle.std.proofs.lemmas.List.FromFn.{get_or-range_with_len, length-range_wi
 use Rattle.std.specs.List.{flat_map, list_all, range_with_len}
 use Rattle.teg_net.specs.declared.rounds.Choice.{Choice}
 use Rattle.teg_net.specs.Nets.{NetLists, IsNet}
-use Rattle.teg_report.specs.Rounds.{choice_in, is_first_round, round_in, some_runs, IsChoiceKept, IsRoundKept, IsRunKept, RoundLists, Run, no_round, choice_line, round_lines, run_lines, runs_lines, circuits_in, runs_from, told_runs, IsChoiceIn, IsRoundIn, IsRunIn, AreRoundsTold}
-use Rattle.teg_report.specs.Cycles.{is_part, is_part_line, PartLists, NoCircuitIn, BestOf}
+use Rattle.teg_report.specs.RoundLines.{choice_in_line, is_first_round, round_in, some_runs, IsChoiceKept, IsRoundKept, IsRunKept, RoundLists, Run, no_round, choice_line, round_lines, run_lines, runs_lines, circuits_in, runs_from, told_runs, IsChoiceIn, IsRoundIn, IsRunIn, AreRoundsTold}
+use Rattle.teg_report.specs.Cycles.{is_part, is_part_line, ToldPart, NoCircuitIn, BestOf}
 use Rattle.teg_text.proofs.NamesRead.{circuits, place_back, place_is_word, ratio_back, transition_back, transition_is_word}
 use Rattle.teg_text.specs.Lines.{is_line, are_lines}
-use Rattle.teg_text.specs.Reading.{number_in}
-use Rattle.teg_text.specs.Rows.{Blocks, is_block, blocks_in, those}
+use Rattle.teg_text.specs.WordReading.{number_in}
+use Rattle.teg_text.specs.LineBlocks.{LineBlocks, blocks_in, those}
 use Rattle.teg_text.proofs.Back.{number_back, signed_back, ratio_is_word}
-use Rattle.teg_text.proofs.Rows.{IsReadBack, rows, map_passes, blocks_back, flat_passes, range_all, row_back}
+use Rattle.teg_text.proofs.LineBlocks.{IsReadBack, rows, map_passes, blocks_back, flat_passes, range_all, row_back}
 use Rattle.teg_text.proofs.Words.{decimal_is_word, signed_is_word}
+use Rattle.teg_text.proofs.HeadedBlocks.{is_block}
 
 -- lists of which each element passes a test
 
@@ -52,7 +53,7 @@ record IsChoiceTold (net : NetLists) (c : Choice) : Type 0 where
   inside : IsChoiceIn net c
   kept : IsChoiceKept c
 
-choice_read : (net : NetLists) → IsNet net → IsReadBack (IsChoiceTold net) is_line (choice_line net) (choice_in net)
+choice_read : (net : NetLists) → IsNet net → IsReadBack (IsChoiceTold net) is_line (choice_line net) (choice_in_line net)
 choice_read net rules = record {
   passes = λ c h. rw (transition_is_word net c.transition rules h.inside.transition, place_is_word net c.place rules h.inside.place, signed_is_word c.value) refl;
   back = λ c h. rw (transition_back net c.transition rules h.inside.transition, place_back net c.place rules h.inside.place, signed_back c.value h.kept) refl;
@@ -146,14 +147,14 @@ runs_read net runs rules h =
       blocks = flat_passes (IsRunTold net) (is_block is_part_line) (round_blocks net) (λ run t. run_passes net run (is_block is_part_line) (λ k l. (each_round net run k rules t l).block)) runs h;
       rounds = flat_passes (IsRunTold net) (λ b. not (is_part b)) (round_blocks net) (λ run t. run_passes net run (λ b. not (is_part b)) (λ k l. refl)) runs h;
       back =
-          ap (λ (b : Blocks (List (List (List ℕ)))). map (map (round_in net)) b.blocks) (blocks_back is_first_round (IsRunTold net) (round_blocks net) (λ run t. run_block net run t) runs h)
+          ap (λ (b : LineBlocks (List (List (List ℕ)))). map (map (round_in net)) b.blocks) (blocks_back is_first_round (IsRunTold net) (round_blocks net) (λ run t. run_block net run t) runs h)
           ∙ (map-map (map (round_in net)) (round_blocks net) runs
           ∙ map_same (IsRunTold net) (λ run. map (round_in net) (round_blocks net run)) (λ run. run.rounds) (λ run t. run_back net run rules t) runs h);
     }
 
 -- the parts with a circuit and their rounds
 
-all_runs : (net : NetLists) (n : ℕ) (parts : List PartLists) (runs : List (List RoundLists)) → All (IsRunIn net) runs → All IsRunKept runs → All (IsRunTold net) (runs_from n parts runs)
+all_runs : (net : NetLists) (n : ℕ) (parts : List ToldPart) (runs : List (List RoundLists)) → All (IsRunIn net) runs → All IsRunKept runs → All (IsRunTold net) (runs_from n parts runs)
 all_runs net n [] runs h kept = λ i d l. absurd (omega (arith, l))
 all_runs net n (NoCircuitIn ∷ parts) runs h kept = all_runs net (n + 1) parts runs h kept
 all_runs net n (BestOf ratio circuit potentials ∷ parts) [] h kept = λ i d l. absurd (omega (arith, l))
@@ -162,7 +163,7 @@ all_runs net n (BestOf ratio circuit potentials ∷ parts) (rounds ∷ runs) h k
     (record { inside = All-head (IsRunIn net) rounds runs h; kept = All-head IsRunKept rounds runs kept })
     (all_runs net (n + 1) parts runs (All-tail (IsRunIn net) rounds runs h) (All-tail IsRunKept rounds runs kept))
 
-rounds_of : (n : ℕ) (parts : List PartLists) (runs : List (List RoundLists)) → length runs ≡ circuits_in parts → map (λ run. run.rounds) (runs_from n parts runs) ≡ runs
+rounds_of : (n : ℕ) (parts : List ToldPart) (runs : List (List RoundLists)) → length runs ≡ circuits_in parts → map (λ run. run.rounds) (runs_from n parts runs) ≡ runs
 rounds_of n [] [] full = refl
 rounds_of n [] (rounds ∷ runs) full = absurd (omega (arith, full))
 rounds_of n (NoCircuitIn ∷ parts) runs full = rounds_of (n + 1) parts runs full
@@ -175,12 +176,12 @@ some_back [] h = absurd (omega (arith, h))
 some_back (rounds ∷ runs) h = refl
 
 -- what is told of rounds that are given or not, where some part has a circuit
-pub rounds_told : (net : NetLists) (parts : List PartLists) (rounds : Option (List (List RoundLists))) → AreRoundsTold net parts rounds → IfSome rounds (λ runs. All IsRunKept runs) →
+pub rounds_told : (net : NetLists) (parts : List ToldPart) (rounds : Option (List (List RoundLists))) → AreRoundsTold net parts rounds → IfSome rounds (λ runs. All IsRunKept runs) →
     All (IsRunTold net) (told_runs parts rounds)
 rounds_told net parts None h kept = λ i d l. absurd (omega (arith, l))
 rounds_told net parts (Some runs) h kept = all_runs net 0 parts runs h.each kept
 
-pub rounds_back : (net : NetLists) (parts : List PartLists) (rounds : Option (List (List RoundLists))) → 1 ≤ circuits_in parts → AreRoundsTold net parts rounds →
+pub rounds_back : (net : NetLists) (parts : List ToldPart) (rounds : Option (List (List RoundLists))) → 1 ≤ circuits_in parts → AreRoundsTold net parts rounds →
     some_runs (map (λ run. run.rounds) (told_runs parts rounds)) ≡ rounds
 rounds_back net parts None some h = refl
 rounds_back net parts (Some runs) some h = ap some_runs (rounds_of 0 parts runs h.full) ∙ some_back runs (omega (arith, some, h.full))

@@ -6,22 +6,22 @@ use Rattle.std.proofs.lemmas.Bool.{and_from}
 use Rattle.std.proofs.lemmas.List.{get_or_default, length-append}
 use Rattle.dioid.specs.declared.dates.Date.{Date}
 use Rattle.dioid.specs.declared.dates.Date.TheVariants.{Early, At, Never}
-use Rattle.series_form.specs.Bounds.{IsSeries, IsSmallDate}
+use Rattle.series_form.specs.NumberBounds.{IsSeries, IsSmallDate}
 use Rattle.series_form.specs.declared.forms.SeriesRefused.{SeriesRefused}
 use Rattle.series_form.specs.declared.forms.SeriesRefused.TheVariants.{TooLong, TooGreat, OutOfMemory as NoRoom}
-use Rattle.series_laws.specs.Forms.{Form as SeriesForm}
+use Rattle.series_laws.specs.SeriesForms.{Form as SeriesForm}
 use Rattle.teg_calc.specs.declared.refusals.ParseRefused.{ParseRefused}
 use Rattle.teg_calc.specs.declared.refusals.ParseRefused.TheVariants.{Syntax, TooDeep, OutOfMemory as NoText}
 use Rattle.teg_calc.specs.Printing.{series_line}
 use Rattle.teg_net.specs.Nets.{NetLists}
 use Rattle.teg_report.specs.Series.{series_in, IsSeriesKept, IsParseKept, IsSeriesRefusalKept, parse_line, series_refused_line}
-use Rattle.teg_report.specs.Answers.{Calc, Parse, Series}
+use Rattle.teg_report.specs.AnswerValues.{Calc, Parse, Series}
 use Rattle.teg_report.proofs.IsRead.{IsRead}
 use Rattle.teg_text.specs.Lines.{is_word}
-use Rattle.teg_text.specs.Reading.{date_in, number_in, signed_in}
-use Rattle.teg_text.specs.Words.{IsDate, date_word}
+use Rattle.teg_text.specs.WordReading.{date_of_word, number_in, signed_in}
+use Rattle.teg_text.specs.ValueWords.{IsDate, date_word}
 use Rattle.teg_text.proofs.Back.{number_back, word32_back, word64_back, signed_back, date_back}
-use Rattle.teg_text.proofs.Rows.{before_back, behind_back, map_back, map_passes}
+use Rattle.teg_text.proofs.LineBlocks.{before_back, behind_back, map_back, map_passes}
 use Rattle.teg_text.proofs.Words.{all_append, decimal_is_word, date_is_word, signed_is_word}
 
 abbrev told_values : SeriesForm → List (List ℕ)
@@ -36,9 +36,9 @@ series_back f h =
     let first : length (series_line f) - 5 ≡ length (told_values f) = omega (arith, n) in
     let third : length (series_line f) - 3 ≡ suc (length (told_values f) + 1) = omega (arith, n) in
     let last : length (series_line f) - 1 ≡ suc (length (told_values f) + 3) = omega (arith, n) in
-    let values : map date_in (take (length (series_line f) - 5) (told_values f ++ told_numbers f)) ≡ f.values =
-    ap (λ (k : ℕ). map date_in (take k (told_values f ++ told_numbers f))) first
-    ∙ (ap (map date_in) (before_back (told_values f) (told_numbers f)) ∙ map_back IsDate date_word date_in date_back f.values h.values) in
+    let values : map date_of_word (take (length (series_line f) - 5) (told_values f ++ told_numbers f)) ≡ f.values =
+    ap (λ (k : ℕ). map date_of_word (take k (told_values f ++ told_numbers f))) first
+    ∙ (ap (map date_of_word) (before_back (told_values f) (told_numbers f)) ∙ map_back IsDate date_word date_of_word date_back f.values h.values) in
     let period : number_in (get_or (series_line f) (length (series_line f) - 3) []) ≡ f.period =
     ap (λ (k : ℕ). number_in (get_or (series_line f) k [])) third
     ∙ (ap number_in (behind_back (told_values f) (told_numbers f) 1 []) ∙ word64_back f.period h.period) in

@@ -6,20 +6,21 @@ use Rattle.std.specs.Prelude.{⊤}
 use Rattle.std.proofs.lemmas.Bool.{and_from}
 use Rattle.std.proofs.lemmas.List.{length-append}
 use Rattle.dioid.specs.declared.dates.Date.{Date}
-use Rattle.settled_laws.specs.Forms.{SettledForm, row_of, step_of}
+use Rattle.settled_laws.specs.SettledForms.{SettledForm, row_of, step_of_form}
 use Rattle.teg_net.specs.Nets.{NetLists, IsNet}
 use Rattle.teg_report.specs.SettledTexts.{is_from, row_dates_in, row_step_in, times_to_in, times_from_in, AreTimesKept, AreTimesToKept, IsSettledKept, AreTimesIn, TimesFrom, TimesTo, from_line, from_lines, output_count, row_words, settled_line, settled_lines, to_line, transfer_lines}
-use Rattle.teg_report.specs.Answers.{Dates, Transfer}
+use Rattle.teg_report.specs.AnswerValues.{Dates, Transfer}
 use Rattle.teg_report.proofs.IsRead.{IsRead}
 use Rattle.teg_text.proofs.NamesRead.{settled_are_words, transition_back, transition_is_word}
 use Rattle.teg_text.specs.Lines.{is_line, is_word}
-use Rattle.teg_text.specs.Names.{name_of_transition}
-use Rattle.teg_text.specs.Reading.{date_in, signed_in}
-use Rattle.teg_text.specs.Rows.{Blocks, blocks_in, is_block}
-use Rattle.teg_text.specs.Words.{IsDate, date_word}
+use Rattle.teg_text.specs.WordsOfNames.{name_of_transition}
+use Rattle.teg_text.specs.WordReading.{date_of_word, signed_in}
+use Rattle.teg_text.specs.LineBlocks.{LineBlocks, blocks_in}
+use Rattle.teg_text.specs.ValueWords.{IsDate, date_word}
 use Rattle.teg_text.proofs.Back.{date_back, signed_back, word64_back}
-use Rattle.teg_text.proofs.Rows.{IsReadBack, before_back, behind_back, blocks_back, flat_passes, map_back, map_passes, range_all, row_back, rows}
+use Rattle.teg_text.proofs.LineBlocks.{IsReadBack, before_back, behind_back, blocks_back, flat_passes, map_back, map_passes, range_all, row_back, rows}
 use Rattle.teg_text.proofs.Words.{all_append, date_is_word, decimal_is_word, signed_is_word}
+use Rattle.teg_text.proofs.HeadedBlocks.{is_block}
 
 -- dates and a step
 
@@ -33,8 +34,8 @@ dates_back a b dates step h =
     let told = map date_word dates in
     let more = codes "step" ∷ signed_decimal step ∷ [] in
     let long : length (a ∷ b ∷ (told ++ more)) - 4 ≡ length told = omega (arith, length-append told more) in
-    ap (λ (n : ℕ). map date_in (take n (told ++ more))) long
-    ∙ (ap (map date_in) (before_back told more) ∙ map_back IsDate date_word date_in date_back dates h)
+    ap (λ (n : ℕ). map date_of_word (take n (told ++ more))) long
+    ∙ (ap (map date_of_word) (before_back told more) ∙ map_back IsDate date_word date_of_word date_back dates h)
 
 step_back : (a b : List ℕ) (dates : List Date) (step : ℤ) → unsigned_abs step < 2 ^ 128 → row_step_in (a ∷ b ∷ row_words dates step) ≡ step
 step_back a b dates step h =
@@ -47,7 +48,7 @@ step_back a b dates step h =
 -- a settled form
 
 settled_is_line : (net : NetLists) (f : SettledForm) (t : ℕ) → IsNet net → t < length net.transitions → is_line (settled_line net f t) ≡ true
-settled_is_line net f t rules l = rw (transition_is_word net (record { index = t }) rules l, row_is_words (row_of f t) (step_of f t)) refl
+settled_is_line net f t rules l = rw (transition_is_word net (record { index = t }) rules l, row_is_words (row_of f t) (step_of_form f t)) refl
 
 pub settled_read : (f : SettledForm) → IsSettledKept f → (net : NetLists) → IsNet net → length f.rows ≡ length net.transitions → IsRead net (settled_lines net f) (Dates f)
 settled_read f h net rules full =
@@ -55,9 +56,9 @@ settled_read f h net rules full =
     let all : list_all is_line (map (settled_line net f) (range_with_len 0 count)) ≡ true =
     map_passes (λ t. t < count) is_line (settled_line net f) (λ t l. settled_is_line net f t rules l) (range_with_len 0 count) (range_all (λ t. t < count) count (λ t l. l)) in
     let dates : map row_dates_in (map (settled_line net f) (range_with_len 0 count)) ≡ f.rows =
-    row_back row_dates_in (settled_line net f) count f.rows [] full (λ t l. dates_back (codes "transition") (name_of_transition net (record { index = t })) (row_of f t) (step_of f t) (h.dates t [] (omega (arith, l, full)))) in
+    row_back row_dates_in (settled_line net f) count f.rows [] full (λ t l. dates_back (codes "transition") (name_of_transition net (record { index = t })) (row_of f t) (step_of_form f t) (h.dates t [] (omega (arith, l, full)))) in
     let steps : map row_step_in (map (settled_line net f) (range_with_len 0 count)) ≡ f.steps =
-    row_back row_step_in (settled_line net f) count f.steps (pos 0) (h.full ∙ full) (λ t l. step_back (codes "transition") (name_of_transition net (record { index = t })) (row_of f t) (step_of f t) (h.steps t (pos 0) (omega (arith, l, full, h.full)))) in
+    row_back row_step_in (settled_line net f) count f.steps (pos 0) (h.full ∙ full) (λ t l. step_back (codes "transition") (name_of_transition net (record { index = t })) (row_of f t) (step_of_form f t) (h.steps t (pos 0) (omega (arith, l, full, h.full)))) in
     let after = word64_back f.after h.after in
     let period = word64_back f.period h.period in
     record {
@@ -115,7 +116,7 @@ transfer_read inputs kept net rules within =
     let each : All (IsFromOf net) inputs = λ i d l. record { inside = within i d l; numbers = kept i d l } in
     let read = from_read net rules in
     let blocks : (blocks_in is_from (flat_map (from_lines net) inputs)).blocks ≡ map (from_lines net) inputs =
-    ap (λ (b : Blocks (List (List ℕ))). b.blocks) (blocks_back is_from (IsFromOf net) (from_lines net) (λ t _. from_block net t) inputs each) in
+    ap (λ (b : LineBlocks (List (List ℕ))). b.blocks) (blocks_back is_from (IsFromOf net) (from_lines net) (λ t _. from_block net t) inputs each) in
     record {
       words = rw (decimal_is_word (length inputs), decimal_is_word (output_count net)) (flat_passes (IsFromOf net) is_line (from_lines net) read.passes inputs each);
       back = ap Transfer (ap (map (times_from_in net)) blocks ∙ map_back (IsFromOf net) (from_lines net) (times_from_in net) read.back inputs each);

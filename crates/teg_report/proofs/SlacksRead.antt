@@ -7,15 +7,15 @@ use Rattle.teg_critical.specs.declared.slacks.Slack.TheVariants.{NoCircuit, Crit
 use Rattle.teg_net.specs.Nets.{NetLists, IsNet}
 use Rattle.teg_net.specs.Ratios.{Fraction}
 use Rattle.teg_report.specs.Answering.{answer_of}
-use Rattle.teg_report.specs.Slacks.{slack_in, IsRatioKept, IsSlackKept, IsTrialKept, slack_line, slack_lines, slack_words, trial_lines}
-use Rattle.teg_report.specs.Answers.{Slack as SlackAnswer, Trial}
+use Rattle.teg_report.specs.SlackLines.{slack_in, IsRatioKept, IsSlackKept, IsTrialKept, slack_line, slack_lines, slack_words, trial_lines}
+use Rattle.teg_report.specs.AnswerValues.{Slack as SlackAnswer, Trial}
 use Rattle.teg_report.proofs.IsRead.{IsRead}
 use Rattle.teg_text.proofs.NamesRead.{place_is_word, ratio_back}
 use Rattle.teg_text.specs.Lines.{is_line, is_word}
-use Rattle.teg_text.specs.Names.{ratio_in}
-use Rattle.teg_text.specs.Words.{ratio_word}
+use Rattle.teg_text.specs.WordsOfNames.{ratio_of_word}
+use Rattle.teg_text.specs.ValueWords.{ratio_word}
 use Rattle.teg_text.proofs.Back.{word32_back, word64_back, date_back, ratio_is_word}
-use Rattle.teg_text.proofs.Rows.{map_passes, range_all, row_back}
+use Rattle.teg_text.proofs.LineBlocks.{map_passes, range_all, row_back}
 use Rattle.teg_text.proofs.Words.{decimal_is_word, date_is_word}
 
 words_are_words : (slack : Slack) → list_all is_word (slack_words slack) ≡ true
@@ -33,7 +33,7 @@ slack_back net i (Rise by) h = rw (word64_back by h) refl
 
 -- the second line is not that of a circuit
 timed_back : (net : NetLists) (ratio : Fraction) (slacks : List Slack) →
-    answer_of net (slack_lines net ratio slacks) ≡ SlackAnswer (ratio_in (ratio_word ratio.time ratio.tokens)) (map slack_in (drop 1 (slack_lines net ratio slacks)))
+    answer_of net (slack_lines net ratio slacks) ≡ SlackAnswer (ratio_of_word (ratio_word ratio.time ratio.tokens)) (map slack_in (drop 1 (slack_lines net ratio slacks)))
 timed_back net ratio [] = refl
 timed_back net ratio (slack ∷ slacks) = refl
 

@@ -5,13 +5,13 @@ use Rattle.teg_net.specs.declared.entries.TransitionId.{TransitionId}
 use Rattle.teg_net.specs.Nets.{NetLists, IsNet}
 use Rattle.teg_report.specs.declared.answer.Which.{Which}
 use Rattle.teg_report.specs.declared.answer.Which.TheVariants.{Net as NetFile, Due as DueFile, Log as LogFile, Timetable as TimetableFile}
-use Rattle.teg_report.specs.Answers.{Live, Date, TooLarge, TokenFree, NoTransition, TooLong, Fault}
+use Rattle.teg_report.specs.AnswerValues.{Live, Date, TooLarge, TokenFree, NoTransition, TooLong, Fault}
 use Rattle.teg_report.specs.Widths.{IsWord64, IsWord32}
-use Rattle.teg_report.specs.Texts.{date_line, token_free_line, live_lines, too_large_line, read_fault_line, no_transition_line, too_long_line}
+use Rattle.teg_report.specs.ShortAnswers.{date_line, token_free_line, live_lines, too_large_line, read_fault_line, no_transition_line, too_long_line}
 use Rattle.teg_report.proofs.IsRead.{IsRead}
 use Rattle.teg_text.proofs.NamesRead.{transition_back, transition_is_word, circuits}
-use Rattle.teg_text.specs.Names.{name_of_transition}
-use Rattle.teg_text.specs.Words.{IsDate, AreBytes}
+use Rattle.teg_text.specs.WordsOfNames.{name_of_transition}
+use Rattle.teg_text.specs.ValueWords.{IsDate, AreBytes}
 use Rattle.teg_text.proofs.Back.{word32_back, word64_back, date_back, label_back}
 use Rattle.teg_text.proofs.Words.{decimal_is_word, date_is_word, label_is_word}
 use Rattle.teg_net.specs.declared.entries.PlaceId.{PlaceId}

@@ -1,7 +1,6 @@
 -- Due files and logs that are refused, and recorded runs: their lines, what they keep, and how they are read back.
-use Rattle.std.specs.Prelude.{ℕ, ◌≡◌, ◌==◌, ◌<◌, false, List, [], ◌∷◌, Option, IsSomeAnd, map, length, codes, ⊤, drop, if◌then◌else◌}
+use Rattle.std.specs.Prelude.{ℕ, ◌<◌, List, [], ◌∷◌, Option, IsSomeAnd, map, length, codes, ⊤, drop, if◌then◌else◌}
 use Rattle.std.specs.Fmt.{decimal}
-use Rattle.std.specs.List.{list_any}
 use Rattle.teg_due.specs.declared.rows.DueRefusal.{DueRefusal}
 use Rattle.teg_due.specs.declared.rows.DueRefusal.TheVariants.{BadRow as BadDueRow, UnknownTransition as UnknownDue, NotDue, RepeatedDue, OutOfRange as DueOutOfRange, OutOfMemory as NoDueRoom}
 use Rattle.teg_due.specs.declared.rows.LogRefusal.{LogRefusal}
@@ -11,9 +10,9 @@ use Rattle.teg_report.specs.declared.answer.Failure.{Failure}
 use Rattle.teg_report.specs.declared.answer.Failure.TheVariants.{Illegal, BackInTime, BeforeRelease}
 use Rattle.teg_text.specs.Faults.{row_line}
 use Rattle.teg_text.specs.Lines.{phrase}
-use Rattle.teg_text.specs.Names.{name_of_place, place_in}
-use Rattle.teg_report.specs.Answers.{Answer, Replayed, Refused, Log}
-use Rattle.teg_text.specs.Reading.{line_at, word, stands_at, number_in, phrase_in}
+use Rattle.teg_text.specs.WordsOfNames.{name_of_place, place_named}
+use Rattle.teg_report.specs.AnswerValues.{Answer, Replayed, Refused, Log}
+use Rattle.teg_text.specs.WordReading.{line_at, word, stands_at, number_in, phrase_in}
 use Rattle.teg_report.specs.Widths.{IsWord32}
 
 -- why a file is no due file; nothing is told of want of memory
@@ -46,10 +45,6 @@ replayed_lines accepted lines = (codes "replayed" ∷ decimal accepted ∷ codes
 abbrev pub refused_lines : NetLists → ℕ → Failure → List (List ℕ) → List (List (List ℕ))
 refused_lines net row failure lines = row_line (codes "log") row (failure_words net failure) ∷ map phrase lines
 
--- no byte of the text is a line feed
-abbrev pub IsOneLine : List ℕ → Type 0
-IsOneLine text = list_any (λ byte. byte == 10) text ≡ false
-
 -- a place that is named is one of the net, which is then given
 abbrev pub IsFailureIn : Option NetLists → Failure → Type 0
 IsFailureIn net (Illegal place) = IsSomeAnd net (λ n. place.index < length n.places)
@@ -73,8 +68,8 @@ IsLogKept (LogOutOfRange row) = IsWord32 row
 IsLogKept NoLogRoom = ⊥
 
 -- a refused due file
-abbrev pub due_in : List (List ℕ) → DueRefusal
-due_in line =
+abbrev pub due_refusal_in : List (List ℕ) → DueRefusal
+due_refusal_in line =
     if stands_at 4 line (codes "is") then BadDueRow (number_in (word 3 line))
     else if stands_at 4 line (codes "unknown") then UnknownDue (number_in (word 3 line))
     else if stands_at 4 line (codes "input") then NotDue (number_in (word 3 line))
@@ -87,7 +82,7 @@ replayed_in lines = Replayed (number_in (word 1 (line_at 0 lines))) (map phrase_
 
 -- why a recorded firing was refused
 abbrev pub failure_in : NetLists → List (List ℕ) → Failure
-failure_in net line = if stands_at 4 line (codes "illegal") then Illegal (place_in net (word 6 line)) else if stands_at 4 line (codes "back") then BackInTime else BeforeRelease
+failure_in net line = if stands_at 4 line (codes "illegal") then Illegal (place_named net (word 6 line)) else if stands_at 4 line (codes "back") then BackInTime else BeforeRelease
 
 -- a refused log, or a refused row of a log
 abbrev pub log_in : NetLists → List (List (List ℕ)) → Answer

@@ -1,33 +1,34 @@
 -- The text of an answer, and what an answer about a net meets.
 use Rattle.std.specs.Prelude.{ℕ, ◌<◌, ◌≡◌, ◌≢◌, List, [], ◌∷◌, ◌++◌, Option, Some, None, IsSomeAnd, length, All, ⊤}
-use Rattle.teg_dates.specs.Tables.{date_at}
+use Rattle.teg_dates.specs.DateTables.{date_at}
 use Rattle.teg_net.specs.Circuits.{AreInRange}
 use Rattle.teg_net.specs.Nets.{NetLists}
 use Rattle.series_form.specs.declared.forms.SeriesRefused.TheVariants.{OutOfMemory as NoRoom}
+use Rattle.teg_outside.specs.Monitors.{IsOneLine}
 use Rattle.teg_calc.specs.declared.refusals.ParseRefused.TheVariants.{OutOfMemory as NoText}
 use Rattle.teg_calc.specs.Printing.{series_line}
 use Rattle.teg_due.specs.declared.rows.DueRefusal.TheVariants.{OutOfMemory as NoDueRoom}
 use Rattle.teg_due.specs.declared.rows.LogRefusal.TheVariants.{OutOfMemory as NoLogRoom}
 use Rattle.teg_reader.specs.declared.refusals.ReadRefusal.TheVariants.{OutOfMemory}
 use Rattle.teg_report.specs.Series.{parse_line, series_refused_line}
-use Rattle.teg_report.specs.Answers.{Answer, Usage, Live, Listed, Form, NoCircuit, Cycle, Dates, Date, Jit, Late, Slack, Transfer, Replayed, Refused, Calc, Trial, Read, TooLarge, TokenFree, NoTransition, Due, Log, TooLong, Parse, Series, Fault}
+use Rattle.teg_report.specs.AnswerValues.{Answer, Usage, Live, Listed, Form, NoCircuit, Cycle, Dates, Date, Jit, Late, Slack, Transfer, Replayed, Refused, Calc, Trial, Read, TooLarge, TokenFree, NoTransition, Due, Log, TooLong, Parse, Series, Fault}
 use Rattle.teg_report.specs.Cycles.{IsCycleTold, cycle_lines}
-use Rattle.teg_report.specs.Rounds.{AreRoundsTold, runs_lines, told_runs}
-use Rattle.teg_report.specs.FileRows.{IsFailureIn, IsOneLine, due_line, log_line, refused_lines, replayed_lines}
-use Rattle.teg_report.specs.Forms.{IsFormWithin, form_lines}
-use Rattle.teg_report.specs.Plans.{IsLateTold, IsPlanIn, late_lines, plan_lines}
+use Rattle.teg_report.specs.RoundLines.{AreRoundsTold, runs_lines, told_runs}
+use Rattle.teg_report.specs.FileRows.{IsFailureIn, due_line, log_line, refused_lines, replayed_lines}
+use Rattle.teg_report.specs.FormLines.{HasEndsIn, form_lines}
+use Rattle.teg_report.specs.PlanLines.{IsLatePlanTold, IsPlanIn, late_lines, plan_lines}
 use Rattle.teg_report.specs.SettledTexts.{AreTimesIn, settled_lines, transfer_lines}
-use Rattle.teg_report.specs.Slacks.{slack_lines, trial_lines}
+use Rattle.teg_report.specs.SlackLines.{slack_lines, trial_lines}
 use Rattle.teg_text.specs.Lines.{written}
-use Rattle.teg_text.specs.Names.{name_of_transition}
-use Rattle.teg_report.specs.Lists.{list_lines}
-use Rattle.teg_report.specs.Refusals.{read_line}
-use Rattle.teg_report.specs.Texts.{usage_lines, live_lines, no_circuit_line, too_large_line, read_fault_line, token_free_line, no_transition_line, too_long_line, date_line}
+use Rattle.teg_text.specs.WordsOfNames.{name_of_transition}
+use Rattle.teg_report.specs.DateLists.{list_lines}
+use Rattle.teg_report.specs.FileRefusalLines.{read_line}
+use Rattle.teg_report.specs.ShortAnswers.{usage_lines, live_lines, no_circuit_line, too_large_line, read_fault_line, token_free_line, no_transition_line, too_long_line, date_line}
 
 -- the net whose names are told; no names where none is given
-abbrev pub names_of : Option NetLists → NetLists
-names_of None = record { transitions = []; places = []; inputs = [] }
-names_of (Some net) = net
+abbrev pub names_from : Option NetLists → NetLists
+names_from None = record { transitions = []; places = []; inputs = [] }
+names_from (Some net) = net
 
 -- the lines of an answer, with the names of this net
 abbrev pub lines_of : NetLists → Answer → List (List (List ℕ))
@@ -60,20 +61,20 @@ lines_of net (Fault file) = read_fault_line file ∷ []
 
 -- the text of an answer, with the names of the net where one is given
 abbrev pub text_of : Option NetLists → Answer → List ℕ
-text_of net answer = written (lines_of (names_of net) answer)
+text_of net answer = written (lines_of (names_from net) answer)
 
 -- what an answer speaks of is there: the net, where its names are told, and the transitions and places that the answer names
 abbrev pub IsAbout : Option NetLists → Answer → Type 0
 IsAbout net Usage = ⊤
 IsAbout net (Live transitions places) = ⊤
 IsAbout net (Listed table) = IsSomeAnd net (λ n. table.width ≡ length n.transitions)
-IsAbout net (Form form) = IsSomeAnd net (λ n. IsFormWithin n form)
+IsAbout net (Form form) = IsSomeAnd net (λ n. HasEndsIn n form)
 IsAbout net NoCircuit = ⊤
 IsAbout net (Cycle answer rounds) = IsSomeAnd net (λ n. IsCycleTold n answer × AreRoundsTold n answer.parts rounds)
 IsAbout net (Dates settled) = IsSomeAnd net (λ n. length settled.rows ≡ length n.transitions)
 IsAbout net (Date transition number date) = IsSomeAnd net (λ n. transition.index < length n.transitions)
 IsAbout net (Jit plan) = IsSomeAnd net (λ n. IsPlanIn n plan)
-IsAbout net (Late late) = IsSomeAnd net (λ n. IsLateTold n late)
+IsAbout net (Late late) = IsSomeAnd net (λ n. IsLatePlanTold n late)
 IsAbout net (Slack ratio slacks) = IsSomeAnd net (λ n. length slacks ≡ length n.places)
 IsAbout net (Transfer inputs) = IsSomeAnd net (λ n. All (AreTimesIn n) inputs)
 IsAbout net (Replayed accepted lines) = All IsOneLine lines

@@ -6,10 +6,10 @@ use Rattle.series_form.specs.declared.forms.SeriesRefused.TheVariants.{TooLong, 
 use Rattle.teg_calc.specs.declared.refusals.ParseRefused.{ParseRefused}
 use Rattle.teg_calc.specs.declared.refusals.ParseRefused.TheVariants.{Syntax, TooDeep, OutOfMemory}
 use Rattle.teg_text.specs.Lines.{phrase}
-use Rattle.series_laws.specs.Forms.{Form as SeriesForm}
-use Rattle.teg_text.specs.Reading.{word, stands_at, number_in, signed_in, date_in}
+use Rattle.series_laws.specs.SeriesForms.{Form as SeriesForm}
+use Rattle.teg_text.specs.WordReading.{word, stands_at, number_in, signed_in, date_of_word}
 use Rattle.std.specs.Int.RustNames.{unsigned_abs}
-use Rattle.teg_text.specs.Words.{IsDate}
+use Rattle.teg_text.specs.ValueWords.{IsDate}
 use Rattle.teg_report.specs.Widths.{IsWord32, IsWord64}
 
 -- where a text is no expression, or too deep; nothing is told of want of memory
@@ -45,7 +45,7 @@ IsSeriesRefusalKept NoRoom = ⊥
 -- a series: behind its values stand four words
 abbrev pub series_in : List (List ℕ) → SeriesForm
 series_in line = record {
-  values = map date_in (take (length line - 5) (drop 1 line));
+  values = map date_of_word (take (length line - 5) (drop 1 line));
   period = number_in (word (length line - 3) line);
   step = signed_in (word (length line - 1) line);
 }

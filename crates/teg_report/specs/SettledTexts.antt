@@ -4,15 +4,15 @@ use Rattle.std.specs.Prelude.{ℕ, ℤ, Bool, true, false, ◌<◌, List, [], �
 use Rattle.std.specs.Fmt.{decimal, signed_decimal}
 use Rattle.std.specs.List.{range_with_len}
 use Rattle.dioid.specs.declared.dates.Date.{Date}
-use Rattle.settled_laws.specs.Forms.{SettledForm, row_of, step_of}
+use Rattle.settled_laws.specs.SettledForms.{SettledForm, row_of, step_of_form}
 use Rattle.teg_net.specs.declared.entries.Role.{Role}
 use Rattle.teg_net.specs.declared.entries.Role.TheVariants.{Internal, Input, Output}
 use Rattle.teg_net.specs.declared.entries.TransitionId.{TransitionId}
 use Rattle.teg_net.specs.Nets.{NetLists}
-use Rattle.teg_text.specs.Names.{name_of_transition, settled_words, transition_in}
-use Rattle.teg_text.specs.Words.{date_word, IsDate}
-use Rattle.teg_text.specs.Reading.{line_at, word, stands_at, number_in, signed_in, date_in}
-use Rattle.teg_text.specs.Rows.{blocks_in}
+use Rattle.teg_text.specs.WordsOfNames.{name_of_transition, settled_words, transition_in}
+use Rattle.teg_text.specs.ValueWords.{date_word, IsDate}
+use Rattle.teg_text.specs.WordReading.{line_at, word, stands_at, number_in, signed_in, date_of_word}
+use Rattle.teg_text.specs.LineBlocks.{blocks_in}
 use Rattle.std.specs.Int.RustNames.{unsigned_abs}
 use Rattle.teg_report.specs.Widths.{IsWord64}
 
@@ -35,7 +35,7 @@ row_words dates step = map date_word dates ++ codes "step" ∷ signed_decimal st
 
 -- the line of the transition of this number, counted from 0
 abbrev pub settled_line : NetLists → SettledForm → ℕ → List (List ℕ)
-settled_line net f t = codes "transition" ∷ name_of_transition net (record { index = t }) ∷ row_words (row_of f t) (step_of f t)
+settled_line net f t = codes "transition" ∷ name_of_transition net (record { index = t }) ∷ row_words (row_of f t) (step_of_form f t)
 
 -- a settled form, with a line for each transition
 abbrev pub settled_lines : NetLists → SettledForm → List (List (List ℕ))
@@ -98,7 +98,7 @@ pub record AreTimesKept (times : TimesFrom) : Type 0 where
 
 -- the dates of a row: behind two words, and before two
 abbrev pub row_dates_in : List (List ℕ) → List Date
-row_dates_in line = map date_in (take (length line - 4) (drop 2 line))
+row_dates_in line = map date_of_word (take (length line - 4) (drop 2 line))
 
 -- the step of a row: its last word
 abbrev pub row_step_in : List (List ℕ) → ℤ

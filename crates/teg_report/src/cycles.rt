@@ -2,9 +2,9 @@
 //! part, and then the rounds that led to them, where they are given.
 ghost use Rattle.std.specs.Prelude.{◌≡◌, ◌++◌, ◌<◌, ◌^◌, [], All, IfOk, IfSome, length, map, string_bytes, ⊤};
 ghost use Rattle.std.specs.Option.{option_copied, option_map};
-ghost use Rattle.teg_report.specs.Cycles.{HasCircuitIn, IsCycleTold, IsPartTold, IsPotentialIn, best_lines, best_of, cycle_lines, member_line, members_from, part_lines, potential_line, ratio_line};
-ghost use Rattle.teg_report.specs.Meanings.{cycle_lists, part_lists, runs_lists};
-ghost use Rattle.teg_report.specs.Rounds.{AreRoundsTold, IsRunKept, runs_lines as runs_text, told_runs};
+ghost use Rattle.teg_report.specs.Cycles.{HasPartCircuitIn, IsCycleTold, IsPartTold, IsPotentialIn, best_lines, best_of, cycle_lines, member_line, members_from, part_lines, potential_line, ratio_line};
+ghost use Rattle.teg_report.specs.AnswerMeanings.{cycle_lists, part_lists, runs_lists};
+ghost use Rattle.teg_report.specs.RoundLines.{AreRoundsTold, IsRunKept, runs_lines as runs_text, told_runs};
 ghost use Rattle.teg_text.specs.Lines.{line_then, written};
 
 use crate::rounds::push_runs;
@@ -105,7 +105,7 @@ fn push_part(
 
 // The lines of the greatest ratio, that of this part.
 fn best(alloc: Global, net: &Net, part: &PartAnswer) -> Result<String, AllocError>
-    requires { HasCircuitIn net.now (part_lists part.now) }
+    requires { HasPartCircuitIn net.now (part_lists part.now) }
     ensures { IfOk result (λ text. string_bytes text ≡ written
         (best_lines net.now (part_lists part.now))) }
 {

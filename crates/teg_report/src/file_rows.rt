@@ -4,7 +4,7 @@ ghost use Rattle.std.specs.Option.{option_copied};
 ghost use Rattle.teg_due.specs.declared.rows.DueRefusal.TheVariants.{OutOfMemory as NoDueRoom};
 ghost use Rattle.teg_due.specs.declared.rows.LogRefusal.TheVariants.{OutOfMemory as NoLogRoom};
 ghost use Rattle.teg_report.specs.FileRows.{IsDueKept, IsFailureIn, IsLogKept, due_line, failure_words, log_line, refused_lines, replayed_lines};
-ghost use Rattle.teg_report.specs.Reports.{names_of};
+ghost use Rattle.teg_report.specs.Reports.{names_from};
 ghost use Rattle.teg_report.specs.Widths.{IsWord32, IsWord64};
 ghost use Rattle.teg_text.specs.Faults.{row_line};
 ghost use Rattle.teg_text.specs.Lines.{line_then, phrase, written};
@@ -87,7 +87,7 @@ fn failure_at(
 ) -> Result<String, AllocError>
     requires { IsFailureIn (option_copied net) failure }
     ensures text { IfOk result (λ text. string_bytes text ≡
-        line_then (row_line (codes "log") row (failure_words (names_of (option_copied net.entry)) failure)) []) }
+        line_then (row_line (codes "log") row (failure_words (names_from (option_copied net.entry)) failure)) []) }
     ensures kept { IsWord32 row }
 {
     match (failure, net) {
@@ -111,7 +111,7 @@ pub(crate) fn refused(
 ) -> Result<Vec<u8>, OutOfMemory>
     requires { IsFailureIn (option_copied net) failure }
     ensures text { IfOk result (λ text. text.items ≡
-        written (refused_lines (names_of (option_copied net.entry)) row failure (map string_bytes lines.now))) }
+        written (refused_lines (names_from (option_copied net.entry)) row failure (map string_bytes lines.now))) }
     ensures kept { IsWord32 row }
 {
     let mut text = failure_at(alloc, net, row, failure)?;

@@ -1,6 +1,6 @@
 //! The laws of answers. They are functions that do nothing when they run: their contracts are the
 //! laws.
-ghost use Rattle.teg_report.specs.Laws.{AnswersAreRead, CertificatesAreTold, SeriesAreTold, SizesAreTold, TextsOfAnswersDiffer, TokenFreeIsTold};
+ghost use Rattle.teg_report.specs.TextsTellAnswers.{AnswersAreRead, CertificatesAreTold, SeriesAreTold, SizesAreTold, TextsOfAnswersDiffer, TokenFreeIsTold};
 
 /// The law that the text of an answer tells it: an answer is read back from its text, by the names
 /// of the net that it is about, or of any net where it was told without one; and two answers about

@@ -1,8 +1,8 @@
 //! The text of a list of dates in pieces: its head, and its rows one after another.
 ghost use Rattle.std.specs.Prelude.{◌≡◌, ◌+◌, ◌*◌, ◌++◌, ◌∷◌, ◌≤◌, ◌^◌, IfOk, drop, length, map, take};
 ghost use Rattle.std.specs.Fmt.{decimal};
-ghost use Rattle.teg_report.specs.Lists.{ListsAreJoined, head_text, row_text};
-ghost use Rattle.teg_text.specs.Words.{date_word};
+ghost use Rattle.teg_report.specs.DateLists.{ListsAreJoined, head_text, row_text};
+ghost use Rattle.teg_text.specs.ValueWords.{date_word};
 
 use crate::lists::head;
 use dioid::Date;

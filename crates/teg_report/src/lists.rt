@@ -1,10 +1,10 @@
 //! The text of a list of dates: two lines before the dates, and one line for each number.
 ghost use Rattle.std.specs.Prelude.{ℕ, ◌≡◌, ◌++◌, ◌<◌, ◌≤◌, [], All, IfOk, length, string_bytes};
 ghost use Rattle.teg_net.specs.Limits.{most_transitions};
-ghost use Rattle.teg_dates.specs.Tables.{IsTable, date_at};
-ghost use Rattle.teg_report.specs.Lists.{count_line, list_lines, names_line, number_line};
+ghost use Rattle.teg_dates.specs.DateTables.{IsDateTable, date_at};
+ghost use Rattle.teg_report.specs.DateLists.{listed_count_line, list_lines, names_line, number_line};
 ghost use Rattle.teg_text.specs.Lines.{line_then, written};
-ghost use Rattle.teg_text.specs.Words.{IsDate};
+ghost use Rattle.teg_text.specs.ValueWords.{IsDate};
 
 use std::alloc::{AllocError, Global};
 use teg_dates::Table;
@@ -37,7 +37,7 @@ fn push_line(text: &mut String, table: &Table, width: usize, number: u64) -> Res
 // The lines before the dates.
 #[tactic(auto, using(teg_text::proofs::Joining::further_map))]
 pub(crate) fn head(alloc: Global, net: &Net, count: u32) -> Result<String, AllocError>
-    ensures { IfOk result (λ text. string_bytes text ≡ line_then (count_line count)
+    ensures { IfOk result (λ text. string_bytes text ≡ line_then (listed_count_line count)
         (line_then (names_line net.now) [])) }
 {
     let mut text = format!(in alloc; "dates of {count} firings\ntransition")?;
@@ -55,7 +55,7 @@ pub(crate) fn list(alloc: Global, net: &Net, table: &Table) -> Result<Vec<u8>, O
     requires { table.now.width ≡ length net.now.transitions }
     ensures text { IfOk result (λ text. text.items ≡ written
         (list_lines net.now (date_at table.now) table.now.count)) }
-    ensures limits { IfOk result (λ _. IsTable table.now) }
+    ensures limits { IfOk result (λ _. IsDateTable table.now) }
     ensures kept { IfOk result (λ _. All IsDate table.now.dates) }
 {
     let width = net.transitions().len();

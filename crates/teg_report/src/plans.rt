@@ -1,10 +1,10 @@
 //! The texts of latest dates, and of due dates that no inputs can meet.
 ghost use Rattle.std.specs.Prelude.{ℕ, ◌≡◌, ◌++◌, ◌<◌, ◌≤◌, ◌^◌, ◌∷◌, ◌+◌, [], IfOk, flat_map, length, string_bytes};
 ghost use Rattle.teg_jit.specs.Plans.{latest_at};
-ghost use Rattle.teg_net.specs.Limits.{greatest_number};
+ghost use Rattle.teg_net.specs.Limits.{greatest_firing_number};
 ghost use Rattle.teg_net.specs.Walks.{IsStepOf};
-ghost use Rattle.teg_report.specs.Meanings.{late_lists};
-ghost use Rattle.teg_report.specs.Plans.{AreLatestKept, IsLateKept, IsLateTold, IsLatestIn, IsLatestKept, IsOnwardIn, IsPathIn, IsPlanIn, late_line, late_lines, latest_line, onward_words, path_line, plan_lines, planned_lines, role_word, start_lines, step_number, step_to, step_words, steps_words};
+ghost use Rattle.teg_report.specs.AnswerMeanings.{late_lists};
+ghost use Rattle.teg_report.specs.PlanLines.{AreLatestKept, IsLateKept, IsLatePlanTold, IsLatestIn, IsLatestKept, IsOnwardIn, IsPathIn, IsPlanIn, late_line, late_lines, latest_line, onward_words, path_line, plan_lines, planned_lines, role_word, start_lines, step_number, step_to, step_words, steps_words};
 ghost use Rattle.teg_report.specs.Widths.{IsWord32, IsWord64};
 ghost use Rattle.teg_text.specs.Lines.{further_then, line_then, written};
 
@@ -113,7 +113,7 @@ fn push_step(
     step: Step,
 ) -> Result<(TransitionId, u64), AllocError>
     requires at { at.index < length net.now.transitions }
-    requires few { number ≤ greatest_number }
+    requires few { number ≤ greatest_firing_number }
     requires step { IsStepOf net.now step }
     ensures to { IfOk result (λ end. end.0 ≡ step_to net.now at step) }
     ensures number { IfOk result (λ end. end.1 ≡ step_number net.now number step) }
@@ -201,7 +201,7 @@ fn late_line(
 
 // A firing that is later than due, and a walk that shows it.
 pub(crate) fn late(alloc: Global, net: &Net, refusal: &JitRefusal) -> Result<Vec<u8>, OutOfMemory>
-    requires { IsLateTold net.now (late_lists refusal.now) }
+    requires { IsLatePlanTold net.now (late_lists refusal.now) }
     ensures text { IfOk result (λ text. text.items ≡ written
         (late_lines net.now (late_lists refusal.now))) }
     ensures kept { IfOk result (λ _. IsLateKept (late_lists refusal.now)) }

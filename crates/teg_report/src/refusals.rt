@@ -1,12 +1,12 @@
 //! The texts of refused net files.
 ghost use Rattle.std.specs.Prelude.{◌≡◌, [], ◌∷◌, IfOk, IsTrue, string_bytes};
 ghost use Rattle.teg_net.specs.Names.{is_name};
-ghost use Rattle.teg_reader.specs.Spots.{HasPlainSpot};
-ghost use Rattle.teg_report.specs.Refusals.{IsRefusal, ends_line, entered_line, fault_line, hold_line, input_line, read_line, ready_line};
-ghost use Rattle.teg_report.specs.Spots.{spot_text};
+ghost use Rattle.teg_reader.specs.RefusalSpots.{HasPlainSpot};
+ghost use Rattle.teg_report.specs.FileRefusalLines.{IsReadRefusalKept, ends_line, entered_line, fault_line, hold_line, input_line, read_line, ready_line};
+ghost use Rattle.teg_report.specs.SpotWords.{spot_text};
 ghost use Rattle.teg_report.specs.Widths.{IsWord32};
 ghost use Rattle.teg_text.specs.Lines.{written};
-ghost use Rattle.teg_text.specs.Words.{AreBytes, label_word};
+ghost use Rattle.teg_text.specs.ValueWords.{AreBytes, label_word};
 
 use crate::texts::bytes_of;
 use std::alloc::Global;
@@ -137,7 +137,7 @@ fn hold(alloc: Global, place: &Name) -> Result<Vec<u8>, OutOfMemory>
 // Why the bytes of a file say no net.
 pub(crate) fn read(alloc: Global, refusal: &ReadRefusal) -> Result<Vec<u8>, OutOfMemory>
     ensures text { IfOk result (λ text. text.items ≡ written (read_line refusal.now ∷ [])) }
-    ensures kept { IfOk result (λ _. HasPlainSpot refusal.now → IsRefusal refusal.now) }
+    ensures kept { IfOk result (λ _. HasPlainSpot refusal.now → IsReadRefusalKept refusal.now) }
 {
     match refusal {
         ReadRefusal::NotToml => bytes_of(alloc, "refused: not TOML\n"),

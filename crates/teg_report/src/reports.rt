@@ -3,8 +3,8 @@ ghost use Rattle.std.specs.Prelude.{◌≡◌, None, Some, IfOk, IfSome};
 ghost use Rattle.std.specs.Option.{option_copied};
 ghost use Rattle.teg_net.specs.Nets.{IsNet};
 ghost use Rattle.teg_report.specs.Answering.{AreOfOneNet, IsReadFrom};
-ghost use Rattle.teg_report.specs.Kept.{IsKept, IsPlain, IsTold};
-ghost use Rattle.teg_report.specs.Meanings.{meant};
+ghost use Rattle.teg_report.specs.KeptAnswers.{IsAnswerKept, IsPlain, IsAnswerTold};
+ghost use Rattle.teg_report.specs.AnswerMeanings.{meant};
 ghost use Rattle.teg_report.specs.Reports.{IsAbout, text_of};
 
 use crate::answer::Answer;
@@ -18,7 +18,7 @@ use teg_net::{Net, OutOfMemory};
 fn alone(alloc: Global, answer: &Answer<'_>) -> Result<Vec<u8>, OutOfMemory>
     requires { IsAbout None (meant answer.now) }
     ensures text { IfOk result (λ text. text.items ≡ text_of None (meant answer.now)) }
-    ensures kept { IfOk result (λ _. IsPlain (meant answer.now) → IsKept (meant answer.now)) }
+    ensures kept { IfOk result (λ _. IsPlain (meant answer.now) → IsAnswerKept (meant answer.now)) }
 {
     match answer {
         Answer::Usage => usage::usage(alloc),
@@ -58,7 +58,7 @@ fn alone(alloc: Global, answer: &Answer<'_>) -> Result<Vec<u8>, OutOfMemory>
 fn about(alloc: Global, net: &Net, answer: &Answer<'_>) -> Result<Vec<u8>, OutOfMemory>
     requires { IsAbout (Some net.now) (meant answer.now) }
     ensures text { IfOk result (λ text. text.items ≡ text_of (Some net.now) (meant answer.now)) }
-    ensures kept { IfOk result (λ _. IsPlain (meant answer.now) → IsKept (meant answer.now)) }
+    ensures kept { IfOk result (λ _. IsPlain (meant answer.now) → IsAnswerKept (meant answer.now)) }
 {
     match answer {
         Answer::List { table } => lists::list(alloc, net, table),
@@ -89,7 +89,7 @@ fn text(alloc: Global, net: Option<&Net>, answer: &Answer<'_>) -> Result<Vec<u8>
     requires { IsAbout (option_copied net) (meant answer.now) }
     ensures text { IfOk result (λ text. text.items ≡ text_of (option_copied net.entry)
         (meant answer.now)) }
-    ensures kept { IfOk result (λ _. IsPlain (meant answer.now) → IsKept (meant answer.now)) }
+    ensures kept { IfOk result (λ _. IsPlain (meant answer.now) → IsAnswerKept (meant answer.now)) }
 {
     match net {
         Some(net) => about(alloc, net, answer),
@@ -125,7 +125,7 @@ pub fn report(alloc: Global, net: Option<&Net>, answer: &Answer<'_>) -> Result<V
         (meant answer.now)) }
     // The answer is told: the net keeps its rules, and its numbers have the bits of their types.
     ensures told { IfOk result (λ _. IsPlain (meant answer.now)
-        → IsTold (option_copied net.entry) (meant answer.now)) }
+        → IsAnswerTold (option_copied net.entry) (meant answer.now)) }
     // The answer is read back from its bytes, by the names of its net: so answers with the same bytes are one.
     ensures read_back { IfOk result (λ text. IsPlain (meant answer.now) →
         IsReadFrom (option_copied net.entry) (meant answer.now) text.items) }

@@ -1,8 +1,8 @@
 //! The text of the rounds of policy iteration, behind that of cycle times: for each part with a
 //! circuit one block of lines a round.
 ghost use Rattle.std.specs.Prelude.{◌≡◌, ◌++◌, ◌<◌, ◌^◌, [], All, IfOk, map, string_bytes};
-ghost use Rattle.teg_report.specs.Meanings.{part_lists, round_lists, runs_lists};
-ghost use Rattle.teg_report.specs.Rounds.{AreRunsTold, IsChoiceIn, IsChoiceKept, IsRoundIn, IsRoundKept, IsRunIn, IsRunKept, choice_line, round_lines, run_lines, runs_from, runs_lines as runs_text, turn_line};
+ghost use Rattle.teg_report.specs.AnswerMeanings.{part_lists, round_lists, runs_lists};
+ghost use Rattle.teg_report.specs.RoundLines.{AreRunsTold, IsChoiceIn, IsChoiceKept, IsRoundIn, IsRoundKept, IsRunIn, IsRunKept, choice_line, round_lines, run_lines, runs_from, runs_lines as runs_text, turn_line};
 ghost use Rattle.teg_report.specs.Widths.{IsWord64};
 ghost use Rattle.teg_text.specs.Lines.{line_then, written};
 

@@ -2,13 +2,13 @@
 //! outputs.
 ghost use Rattle.std.specs.Prelude.{◌≡◌, ◌++◌, ◌∷◌, ◌<◌, ◌^◌, [], All, IfOk, length, map, string_bytes};
 ghost use Rattle.std.specs.Int.RustNames.{unsigned_abs};
-ghost use Rattle.settled_laws.specs.Forms.{row_of, step_of};
-ghost use Rattle.teg_report.specs.Meanings.{times_from, times_to};
+ghost use Rattle.settled_laws.specs.SettledForms.{row_of, step_of_form};
+ghost use Rattle.teg_report.specs.AnswerMeanings.{times_from, times_to};
 ghost use Rattle.teg_report.specs.SettledTexts.{AreTimesIn, AreTimesKept, AreTimesToKept, IsSettledKept, from_line, from_lines, output_count, row_words, settled_line, settled_lines, to_line, transfer_lines};
 ghost use Rattle.teg_report.specs.Widths.{IsWord64};
 ghost use Rattle.teg_text.specs.Lines.{further_then, line_then, written};
-ghost use Rattle.teg_text.specs.Names.{name_of_transition};
-ghost use Rattle.teg_text.specs.Words.{IsDate};
+ghost use Rattle.teg_text.specs.WordsOfNames.{name_of_transition};
+ghost use Rattle.teg_text.specs.ValueWords.{IsDate};
 
 use crate::answer::{TransferFrom, TransferLine};
 use crate::told::{Told, push_each};
@@ -52,7 +52,7 @@ fn push_row(text: &mut String, net: &Net, settled: &Settled, index: usize) -> Re
     ensures text { IfOk result (λ _. string_bytes text.new ≡
         string_bytes text.old ++ line_then (settled_line net.now settled.now index) []) }
     ensures dates { IfOk result (λ _. All IsDate (row_of settled.now index)) }
-    ensures step { IfOk result (λ _. unsigned_abs (step_of settled.now index) < 2 ^ 128) }
+    ensures step { IfOk result (λ _. unsigned_abs (step_of_form settled.now index) < 2 ^ 128) }
 {
     // That the net keeps its rules, and so has few transitions.
     net.transitions();

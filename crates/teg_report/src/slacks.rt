@@ -1,6 +1,6 @@
 //! The texts of slack, and of nets that were made.
 ghost use Rattle.std.specs.Prelude.{◌≡◌, ◌++◌, ◌<◌, [], All, IfOk, length, string_bytes};
-ghost use Rattle.teg_report.specs.Slacks.{IsRatioKept, IsSlackKept, IsTrialKept, cycle_time_line, slack_line, slack_lines, trial_lines};
+ghost use Rattle.teg_report.specs.SlackLines.{IsRatioKept, IsSlackKept, IsTrialKept, cycle_time_line, slack_line, slack_lines, trial_lines};
 ghost use Rattle.teg_text.specs.Lines.{line_then, written};
 
 use dioid::Date;

@@ -1,11 +1,11 @@
 //! The texts of the short answers. Each line ends with a line feed.
 ghost use Rattle.std.specs.Prelude.{◌≡◌, ◌<◌, [], ◌∷◌, IfOk, length};
 ghost use Rattle.teg_net.specs.Circuits.{AreInRange};
-ghost use Rattle.teg_report.specs.Texts.{date_line, live_lines, no_circuit_line, no_transition_line, read_fault_line, token_free_line, too_large_line, too_long_line};
+ghost use Rattle.teg_report.specs.ShortAnswers.{date_line, live_lines, no_circuit_line, no_transition_line, read_fault_line, token_free_line, too_large_line, too_long_line};
 ghost use Rattle.teg_report.specs.Widths.{IsWord32, IsWord64};
 ghost use Rattle.teg_text.specs.Lines.{written};
-ghost use Rattle.teg_text.specs.Names.{name_of_transition};
-ghost use Rattle.teg_text.specs.Words.{AreBytes, IsDate};
+ghost use Rattle.teg_text.specs.WordsOfNames.{name_of_transition};
+ghost use Rattle.teg_text.specs.ValueWords.{AreBytes, IsDate};
 
 use crate::answer::Which;
 use dioid::Date;

@@ -1,6 +1,6 @@
 //! How the commands are used: one table, from which the usage is written.
 ghost use Rattle.std.specs.Prelude.{◌≡◌, ◌++◌, ◌∷◌, [], IfOk, codes, map, string_bytes};
-ghost use Rattle.teg_report.specs.Texts.{usage_from, usage_lines};
+ghost use Rattle.teg_report.specs.ShortAnswers.{usage_from, usage_lines};
 ghost use Rattle.teg_text.specs.Lines.{line_then, phrase, written};
 
 use std::alloc::{AllocError, Global};

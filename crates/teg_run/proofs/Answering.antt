@@ -5,13 +5,13 @@ use Rattle.teg_outside.specs.declared.shelf.ShelfFault.{ShelfFault}
 use Rattle.teg_outside.specs.Shelves.{ShelfState}
 use Rattle.teg_run.specs.declared.status.Status.{Status}
 use Rattle.teg_commands.specs.declared.outcome.Verdict.{Verdict}
-use Rattle.teg_commands.specs.Outcomes.{Tells}
+use Rattle.teg_commands.specs.CommandOutcomes.{Tells}
 use Rattle.teg_report.specs.declared.answer.Which.{Which}
 use Rattle.teg_report.specs.declared.answer.Which.TheVariants.{Net as NetFile}
 use Rattle.teg_run.specs.Endings.{Ending, Whole, Lost, ending_of}
 use Rattle.teg_run.specs.Openings.{Opening, Accepted, Refused, OpensNet}
-use Rattle.teg_run.specs.Reads.{GoesOn, ReadsAll, OpenedBy}
-use Rattle.teg_run.specs.Runs.{Answered}
+use Rattle.teg_run.specs.Reads.{ReadsOnIfTaken, ReadsAll, OpenedBy}
+use Rattle.teg_run.specs.WholeCalls.{Answered}
 use Rattle.teg_run.specs.Says.{SaysFile, SaysOutcome}
 
 -- memory ran out at the first file
@@ -28,14 +28,14 @@ refused_at opens goes_on which name files old new status text h =
     (h.0 ∷ [], (new, h.1, tt, refl), (Refused status text, h.2, (refl, (refl, refl))))
 
 -- after an accepted net more may be read
-pub after_net : (reply : Result (List ℕ) ShelfFault) (net : NetLists) (replies : List (Result (List ℕ) ShelfFault)) → OpensNet reply (Accepted net) → GoesOn NetFile reply replies
+pub after_net : (reply : Result (List ℕ) ShelfFault) (net : NetLists) (replies : List (Result (List ℕ) ShelfFault)) → OpensNet reply (Accepted net) → ReadsOnIfTaken NetFile reply replies
 after_net reply net [] h = tt
 after_net reply net (next ∷ replies) h = (net, h)
 
 -- the first file is accepted, and the ending goes on with it
 pub accepted_at : {A : Type 0} (opens : Result (List ℕ) ShelfFault → Opening A → Type 0) (goes_on : A → List (Result (List ℕ) ShelfFault) → Status → List ℕ → Type 0)
     (which : Which) (name : List ℕ) (file : A) (files : List (Which × List ℕ)) (old mid new : ShelfState) (ending : Ending) →
-    ((reply : Result (List ℕ) ShelfFault) (replies : List (Result (List ℕ) ShelfFault)) → opens reply (Accepted file) → ReadsAll mid new files replies → GoesOn which reply replies) →
+    ((reply : Result (List ℕ) ShelfFault) (replies : List (Result (List ℕ) ShelfFault)) → opens reply (Accepted file) → ReadsAll mid new files replies → ReadsOnIfTaken which reply replies) →
     OpenedBy opens name old mid (Some (Accepted file)) →
     Answered (goes_on file) files mid new ending → Answered (SaysFile opens goes_on) ((which, name) ∷ files) old new ending
 accepted_at opens goes_on which name file files old mid new Lost more h k =

@@ -9,12 +9,12 @@ use Rattle.teg_outside.specs.declared.monitor.Firing.{Firing}
 use Rattle.teg_outside.specs.declared.shelf.ShelfFault.{ShelfFault}
 use Rattle.teg_outside.specs.declared.shelf.ShelfFault.TheVariants.{Failed, TooLarge, OutOfMemory}
 use Rattle.teg_outside.specs.Shelves.{ShelfState, Reads}
+use Rattle.csv_records.specs.Records.{most_file_bytes}
 use Rattle.teg_report.specs.declared.answer.Which.{Which}
 use Rattle.teg_report.specs.declared.answer.Which.TheVariants.{Net as NetFile}
 use Rattle.teg_run.specs.declared.status.Status.{Status}
 use Rattle.teg_run.specs.declared.status.Status.TheVariants.{Text, ReadFault}
 use Rattle.teg_run.specs.Headline.{Opens, Holds, IsSaidOf}
-use Rattle.teg_run.specs.Limits.{most_bytes}
 use Rattle.teg_run.specs.Openings.{Opening, Accepted, Refused, OpensNet, OpensDocument, OpensBytes, read_status}
 use Rattle.teg_run.specs.Reads.{ReadsAll}
 use Rattle.teg_run.specs.declared.request.Request.{Request}
@@ -31,7 +31,7 @@ document_accepted (Ok found) net h = (ap (λ (n : NetLists). Ok n) (sym h.0), su
 document_accepted (Err refusal) net h = absurd (let bad : ⊥ = cc in bad)
 
 pub net_opened : (files : List (List ℕ × List ℕ)) (old mid : ShelfState) (name : List ℕ) (reply : Result (List ℕ) ShelfFault) (net : NetLists) → old.files ≡ Some files →
-    Reads old mid name most_bytes reply → OpensNet reply (Accepted net) → Opens files name net
+    Reads old mid name most_file_bytes reply → OpensNet reply (Accepted net) → Opens files name net
 net_opened files old mid name (Ok bytes) net told read opens =
     let is = document_accepted (document bytes) net opens in (bytes, (told_file files old.files name bytes told read.answer.3, read.answer.2), is.0, is.1)
 net_opened files old mid name (Err TooLarge) net told read opens = absurd (let bad : ⊥ = cc in bad)
@@ -58,7 +58,7 @@ bytes_refused which (Err Failed) status text h own = let e : status ≡ ReadFaul
 bytes_refused which (Err OutOfMemory) status text h own = h
 
 bytes_held : (files : List (List ℕ × List ℕ)) (old mid : ShelfState) (which : Which) (name : List ℕ) (reply : Result (List ℕ) ShelfFault) (bytes : List ℕ) → old.files ≡ Some files →
-    Reads old mid name most_bytes reply → OpensBytes which reply (Accepted bytes) → Holds files name bytes
+    Reads old mid name most_file_bytes reply → OpensBytes which reply (Accepted bytes) → Holds files name bytes
 bytes_held files old mid which name (Ok given) bytes told read opens =
     let same : given ≡ bytes = cc in subst (λ (b : List ℕ). Holds files name b) same (told_file files old.files name given told read.answer.3, read.answer.2)
 bytes_held files old mid which name (Err TooLarge) bytes told read opens = absurd (let bad : ⊥ = cc in bad)
@@ -76,7 +76,7 @@ GoesOnWith files new name named goes_on status text =
 
 net_goes_on_by : (files : List (List ℕ × List ℕ)) (old mid new : ShelfState) (name : List ℕ) (named : List (Which × List ℕ))
     (goes_on : NetLists → List (Result (List ℕ) ShelfFault) → Status → List ℕ → Type 0) (reply : Result (List ℕ) ShelfFault) (replies : List (Result (List ℕ) ShelfFault))
-    (status : Status) (text : List ℕ) (opening : Opening NetLists) → old.files ≡ Some files → IsOwn status → Reads old mid name most_bytes reply → ReadsAll mid new named replies →
+    (status : Status) (text : List ℕ) (opening : Opening NetLists) → old.files ≡ Some files → IsOwn status → Reads old mid name most_file_bytes reply → ReadsAll mid new named replies →
     OpensNet reply opening → SaysOpening goes_on opening replies status text → GoesOnWith files new name named goes_on status text
 net_goes_on_by files old mid new name named goes_on reply replies status text (Accepted net) told own read rest opens h =
     (net, net_opened files old mid name reply net told read opens, (mid, replies, read.files ∙ told, rest, h))
@@ -98,7 +98,7 @@ GoesOnWithBytes files name goes_on status text =
 
 bytes_go_on_by : (files : List (List ℕ × List ℕ)) (old mid : ShelfState) (which : Which) (name : List ℕ)
     (goes_on : List ℕ → List (Result (List ℕ) ShelfFault) → Status → List ℕ → Type 0) (reply : Result (List ℕ) ShelfFault) (replies : List (Result (List ℕ) ShelfFault))
-    (status : Status) (text : List ℕ) (opening : Opening (List ℕ)) → old.files ≡ Some files → IsOwn status → Reads old mid name most_bytes reply →
+    (status : Status) (text : List ℕ) (opening : Opening (List ℕ)) → old.files ≡ Some files → IsOwn status → Reads old mid name most_file_bytes reply →
     OpensBytes which reply opening → SaysOpening goes_on opening replies status text → GoesOnWithBytes files name goes_on status text
 bytes_go_on_by files old mid which name goes_on reply replies status text (Accepted bytes) told own read opens h =
     (bytes, bytes_held files old mid which name reply bytes told read opens, (replies, h))

@@ -9,11 +9,11 @@ use Rattle.teg_outside.specs.declared.shelf.ShelfFault.TheVariants.{Failed, TooL
 use Rattle.teg_outside.specs.Causes.{Rested}
 use Rattle.teg_outside.specs.Shelves.{ShelfState, Reads, file_of}
 use Rattle.teg_outside.proofs.Counts.{rose_not_rested, rested_then}
+use Rattle.csv_records.specs.Records.{most_file_bytes}
 use Rattle.teg_report.specs.declared.answer.Which.{Which}
 use Rattle.teg_report.specs.declared.answer.Which.TheVariants.{Net as NetFile}
 use Rattle.teg_run.specs.declared.status.Status.{Status}
 use Rattle.teg_run.specs.Headline.{Opens, Holds}
-use Rattle.teg_run.specs.Limits.{most_bytes}
 use Rattle.teg_run.specs.Openings.{Opening, Accepted, Refused, OpensNet, OpensDocument, OpensBytes}
 use Rattle.teg_run.specs.Reads.{ReadsAll}
 use Rattle.teg_run.specs.Says.{SaysFile, SaysOpening}
@@ -35,7 +35,7 @@ live_bytes net goes_on replies status text (Err refusal) opening live is opens h
 pub live_reply : (files : List (List ℕ × List ℕ)) (old mid new : ShelfState) (name : List ℕ) (named : List (Which × List ℕ)) (net : NetLists)
     (goes_on : NetLists → List (Result (List ℕ) ShelfFault) → Status → List ℕ → Type 0) (reply : Result (List ℕ) ShelfFault)
     (replies : List (Result (List ℕ) ShelfFault)) (status : Status) (text : List ℕ) (opening : Opening NetLists) →
-    old.files ≡ Some files → Rested old.faults new.faults → Opens files name net → Reads old mid name most_bytes reply →
+    old.files ≡ Some files → Rested old.faults new.faults → Opens files name net → Reads old mid name most_file_bytes reply →
     ReadsAll mid new named replies → OpensNet reply opening → SaysOpening goes_on opening replies status text → goes_on net replies status text
 live_reply files old mid new name named net goes_on (Ok bytes) replies status text opening told calm opens read rest opened h =
     let is = same_document files name bytes opens.0 (Ok net) (told_file files old.files name bytes told read.answer.3) opens.1.0 opens.2 in
@@ -74,7 +74,7 @@ same_held files name xs ys h k = cc
 held_reply : (files : List (List ℕ × List ℕ)) (old mid new : ShelfState) (which : Which) (name bytes : List ℕ)
     (goes_on : List ℕ → List (Result (List ℕ) ShelfFault) → Status → List ℕ → Type 0) (reply : Result (List ℕ) ShelfFault)
     (replies : List (Result (List ℕ) ShelfFault)) (status : Status) (text : List ℕ) (opening : Opening (List ℕ)) →
-    old.files ≡ Some files → Rested old.faults new.faults → Holds files name bytes → Reads old mid name most_bytes reply →
+    old.files ≡ Some files → Rested old.faults new.faults → Holds files name bytes → Reads old mid name most_file_bytes reply →
     ReadsAll mid new [] replies → OpensBytes which reply opening → SaysOpening goes_on opening replies status text → goes_on bytes replies status text
 held_reply files old mid new which name bytes goes_on (Ok read_bytes) replies status text opening told calm holds read rest opened h =
     let same = same_held files name read_bytes bytes (told_file files old.files name read_bytes told read.answer.3) holds.0 in

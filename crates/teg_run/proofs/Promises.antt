@@ -15,17 +15,17 @@ use Rattle.teg_run.specs.declared.status.Status.TheVariants.{Words, Text, Net, R
 use Rattle.teg_commands.specs.declared.outcome.Verdict.{Verdict}
 use Rattle.teg_run.specs.Calls.{Call}
 use Rattle.teg_run.specs.Endings.{Ending, Whole, Lost}
-use Rattle.teg_run.specs.Headline.{Ends, EndsLost, IsSaidOf, OwnOnly, Follows, ComesOnly, CountsAsNoText, ReadsAreCalm, WritesAreCalm, OverlongRose, WroteWhole, WrotePrefix, ReadsFirstOf, NamesLastRead, EndsAsSaid, Concerns, ConcernsBoth, SaysOfNet, SaysOfBoth, SaysOfWords, KeepsPromises}
+use Rattle.teg_run.specs.Headline.{Ends, EndsLost, IsSaidOf, OwnOnly, EndsWithFault, ComesOnly, CountsAsNoText, ReadsAreCalm, WritesAreCalm, OverlongRose, WroteWhole, WrotePrefix, ReadsFirstOf, NamesLastRead, EndsAsSaid, Concerns, ConcernsBoth, SaysOfNet, SaysOfBoth, SaysOfWords, KeepsPromises}
 use Rattle.teg_run.specs.declared.request.NetCommand.{NetCommand}
 use Rattle.teg_run.specs.declared.request.FileCommand.{FileCommand}
 use Rattle.teg_run.specs.declared.request.Request.{Request}
 use Rattle.teg_run.specs.declared.request.Request.TheVariants.{OfNet, OfFiles, ValueOf, TrialOf}
 use Rattle.teg_run.specs.Requests.{request_of, files_of, asked_files, second_of}
-use Rattle.teg_run.specs.Runs.{Answered, CarriesOut, Finished, Runs}
+use Rattle.teg_run.specs.WholeCalls.{Answered, CarriesOut, Finished, Runs}
 use Rattle.teg_run.specs.Openings.{OpensBytes}
 use Rattle.teg_run.specs.Says.{Asked, Says, SaysFile, SaysFiles, SaysNet, SaysOutcome}
 use Rattle.teg_run.specs.Statuses.{IsOwn, status_of}
-use Rattle.teg_commands.specs.Texts.{usage, too_large_text}
+use Rattle.teg_commands.specs.CommandTexts.{usage, too_large_text}
 use Rattle.teg_run.proofs.Causes.{said_of}
 use Rattle.teg_run.proofs.Faults.{IsFaultOf, text_is_fault, net_is_fault, comes_only, counted_only, follows, way_is_said, overlong_way, fault_way}
 use Rattle.teg_run.proofs.LiveNets.{live_goes_on, held_goes_on}
@@ -111,7 +111,7 @@ fault_only wanted fault is wordless other memory call calm runs files told e =
 
 -- a fault of a file leads to its status
 fault_follows : (wanted : Status) (fault : List (List ℕ × List ℕ) → Which → List ℕ → List ℕ → Type 0) → IsFaultOf wanted fault →
-    (call : Call) → Runs call → Follows fault wanted call
+    (call : Call) → Runs call → EndsWithFault fault wanted call
 fault_follows wanted fault is call runs files request told calm asks cause =
     ⊎_elim
     (λ (said : _). let way = follows wanted fault is files call.shelf_before call.shelf_after (files_of request) said.0 said.1 cause.0 told calm cause.1 said.2 in

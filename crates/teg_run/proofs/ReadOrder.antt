@@ -4,12 +4,12 @@ use Rattle.teg_outside.specs.declared.shelf.ShelfFault.{ShelfFault}
 use Rattle.teg_outside.specs.declared.shelf.ShelfFault.TheVariants.{Failed, TooLarge, OutOfMemory}
 use Rattle.teg_outside.specs.Shelves.{ShelfState, Reads, ReadsGrow}
 use Rattle.teg_outside.proofs.Growth.{reads_grow_none, reads_grow_then}
+use Rattle.csv_records.specs.Records.{most_file_bytes}
 use Rattle.teg_report.specs.declared.answer.Which.{Which}
 use Rattle.teg_report.specs.declared.answer.Which.TheVariants.{Net as NetFile, Due as DueFile, Log as LogFile, Timetable as TimetableFile}
 use Rattle.teg_run.specs.Headline.{as_told, ReadsFirstOf}
-use Rattle.teg_run.specs.Limits.{most_bytes}
 use Rattle.teg_run.specs.Openings.{IsTaken}
-use Rattle.teg_run.specs.Reads.{GoesOn, ReadsAll}
+use Rattle.teg_run.specs.Reads.{ReadsOnIfTaken, ReadsAll}
 
 -- without replies nothing was read
 pub none_left : (old new : ShelfState) (files : List (Which × List ℕ)) (replies : List (Result (List ℕ) ShelfFault)) → replies ≡ [] →
@@ -22,8 +22,8 @@ none_read old new [] h = h
 none_read old new (reply ∷ replies) h = absurd h
 
 -- a read is told, but for one that found no memory
-read_grows : (old new : ShelfState) (name : List ℕ) (reply : Result (List ℕ) ShelfFault) → Reads old new name most_bytes reply →
-    ReadsGrow old.reads new.reads ((name, most_bytes) ∷ []) ⊎ ((reply ≡ Err OutOfMemory) × ReadsGrow old.reads new.reads [])
+read_grows : (old new : ShelfState) (name : List ℕ) (reply : Result (List ℕ) ShelfFault) → Reads old new name most_file_bytes reply →
+    ReadsGrow old.reads new.reads ((name, most_file_bytes) ∷ []) ⊎ ((reply ≡ Err OutOfMemory) × ReadsGrow old.reads new.reads [])
 read_grows old new name (Ok bytes) h = inl h.answer.4
 read_grows old new name (Err TooLarge) h = inl h.answer.2
 read_grows old new name (Err Failed) h = inl h.answer.1
@@ -38,7 +38,7 @@ not_taken TimetableFile h = h
 -- after a read that found no memory nothing is read
 lost_last : (old mid new : ShelfState) (which : Which) (files : List (Which × List ℕ)) (reply : Result (List ℕ) ShelfFault)
     (replies : List (Result (List ℕ) ShelfFault)) (named : List (Which × List ℕ)) →
-    reply ≡ Err OutOfMemory → ReadsGrow old.reads mid.reads [] → GoesOn which reply replies → ReadsAll mid new files replies → ReadsFirstOf old new named
+    reply ≡ Err OutOfMemory → ReadsGrow old.reads mid.reads [] → ReadsOnIfTaken which reply replies → ReadsAll mid new files replies → ReadsFirstOf old new named
 lost_last old mid new which files reply [] named lost grew goes rest =
     (0, omega arith, subst (λ (s : ShelfState). ReadsGrow old.reads s.reads []) (sym rest) grew)
 lost_last old mid new which files reply (next ∷ replies) named lost grew goes rest =

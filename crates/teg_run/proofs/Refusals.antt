@@ -9,27 +9,27 @@ use Rattle.teg_reader.specs.Documents.{document}
 use Rattle.teg_outside.specs.Causes.{Rose, Rested}
 use Rattle.teg_outside.specs.Shelves.{ShelfState, IsFile, IsLongFile, ReadsGrow, file_of}
 use Rattle.teg_outside.proofs.Counts.{rose_not_rested}
+use Rattle.csv_records.specs.Records.{most_file_bytes}
 use Rattle.teg_report.specs.declared.answer.Which.{Which}
 use Rattle.teg_report.specs.declared.answer.Which.TheVariants.{Net as NetFile, Due as DueFile, Log as LogFile, Timetable as TimetableFile}
 use Rattle.teg_run.specs.declared.status.Status.{Status}
 use Rattle.teg_run.specs.declared.status.Status.TheVariants.{Text, Net, ReadFault}
-use Rattle.teg_run.specs.Headline.{IsTooLong, NetIsNoText, NetIsRefused, IsAccepted, IsNoText, IsNoNet}
-use Rattle.teg_run.specs.Limits.{most_bytes}
-use Rattle.teg_commands.specs.Texts.{read_text, token_free_text, too_large_text, fault_text}
+use Rattle.teg_run.specs.Headline.{IsFileTooLong, NetIsNoText, NetIsRefused, IsAccepted, IsNoText, IsNoNet}
+use Rattle.teg_commands.specs.CommandTexts.{read_text, token_free_text, too_large_text, fault_text}
 use Rattle.teg_run.proofs.Verdicts.{IsSaid}
 
 -- how the file is refused, with this status and text
 pub data Refusal (old new : ShelfState) (which : Which) (name : List ℕ) (status : Status) (text : List ℕ) : Type 0 where
   Unread : (is : status ≡ ReadFault) (said : text ≡ fault_text which) (rose : Rose old.faults new.faults)
-      (told : ReadsGrow old.reads new.reads ((name, most_bytes) ∷ [])) → Refusal old new which name status text
+      (told : ReadsGrow old.reads new.reads ((name, most_file_bytes) ∷ [])) → Refusal old new which name status text
   Overlong : (is : status ≡ Text) (said : text ≡ too_large_text which) (rose : Rose old.overlong new.overlong)
-      (long : Rested old.faults new.faults → IsLongFile old.files name most_bytes) → Refusal old new which name status text
+      (long : Rested old.faults new.faults → IsLongFile old.files name most_file_bytes) → Refusal old new which name status text
   NoToml : (of_net : which ≡ NetFile) (is : status ≡ Text) (said : text ≡ read_text NotToml) (bytes : List ℕ) (file : IsFile old.files name bytes)
-      (short : length bytes ≤ most_bytes) (reads_as : document bytes ≡ Err NotToml) → Refusal old new which name status text
+      (short : length bytes ≤ most_file_bytes) (reads_as : document bytes ≡ Err NotToml) → Refusal old new which name status text
   NoNet : (of_net : which ≡ NetFile) (is : status ≡ Net) (refusal : ReadRefusal) (said : text ≡ read_text refusal) (bytes : List ℕ) (file : IsFile old.files name bytes)
-      (short : length bytes ≤ most_bytes) (reads_as : document bytes ≡ Err refusal) (other : refusal ≢ NotToml) → Refusal old new which name status text
+      (short : length bytes ≤ most_file_bytes) (reads_as : document bytes ≡ Err refusal) (other : refusal ≢ NotToml) → Refusal old new which name status text
   NotLive : (of_net : which ≡ NetFile) (is : status ≡ Net) (net : NetLists) (circuit : List PlaceId) (said : text ≡ token_free_text net circuit) (bytes : List ℕ)
-      (file : IsFile old.files name bytes) (short : length bytes ≤ most_bytes) (reads_as : document bytes ≡ Ok net)
+      (file : IsFile old.files name bytes) (short : length bytes ≤ most_file_bytes) (reads_as : document bytes ≡ Ok net)
       (free : IsTokenFree net circuit) → Refusal old new which name status text
 
 -- what bytes are accepted as
@@ -46,13 +46,13 @@ pub told_file : (files : List (List ℕ × List ℕ)) (told : Option (List (List
 told_file files told name bytes e h = subst (λ (o : Option (List (List ℕ × List ℕ))). IsFile o name bytes) e h
 
 pub told_long : (files : List (List ℕ × List ℕ)) (told : Option (List (List ℕ × List ℕ))) (name : List ℕ) → told ≡ Some files →
-    IsLongFile told name most_bytes → IsTooLong files name
-told_long files told name e h = subst (λ (o : Option (List (List ℕ × List ℕ))). IsLongFile o name most_bytes) e h
+    IsLongFile told name most_file_bytes → IsFileTooLong files name
+told_long files told name e h = subst (λ (o : Option (List (List ℕ × List ℕ))). IsLongFile o name most_file_bytes) e h
 
 same_bytes : (files : List (List ℕ × List ℕ)) (name xs ys : List ℕ) → file_of files name ≡ Some xs → file_of files name ≡ Some ys → xs ≡ ys
 same_bytes files name xs ys h k = cc
 
-pub not_long : (files : List (List ℕ × List ℕ)) (name bytes : List ℕ) → file_of files name ≡ Some bytes → length bytes ≤ most_bytes → IsTooLong files name → ⊥
+pub not_long : (files : List (List ℕ × List ℕ)) (name bytes : List ℕ) → file_of files name ≡ Some bytes → length bytes ≤ most_file_bytes → IsFileTooLong files name → ⊥
 not_long files name bytes file short long = omega (arith, ap length (same_bytes files name bytes long.0 file long.1), long.2)
 
 pub same_document : (files : List (List ℕ × List ℕ)) (name xs ys : List ℕ) (said : Result NetLists ReadRefusal) →
@@ -60,7 +60,7 @@ pub same_document : (files : List (List ℕ × List ℕ)) (name xs ys : List ℕ
 same_document files name xs ys said h k e = ap document (same_bytes files name xs ys h k) ∙ e
 
 -- accepted bytes of a told file
-pub accepted_told : (files : List (List ℕ × List ℕ)) (which : Which) (name bytes : List ℕ) → file_of files name ≡ Some bytes → length bytes ≤ most_bytes →
+pub accepted_told : (files : List (List ℕ × List ℕ)) (which : Which) (name bytes : List ℕ) → file_of files name ≡ Some bytes → length bytes ≤ most_file_bytes →
     Accepts which bytes → IsAccepted files which name
 accepted_told files NetFile name bytes file short accepts = (accepts.0, (bytes, (file, short), accepts.1, accepts.2))
 accepted_told files DueFile name bytes file short accepts = (bytes, (file, short))
@@ -115,7 +115,7 @@ file_faults_differ files TimetableFile name text said no_text refused = refused
 -- ---- which fault a refusal tells
 
 -- a file that is too long is no text
-long_is_no_text : (files : List (List ℕ × List ℕ)) (which : Which) (name text : List ℕ) → IsTooLong files name → text ≡ too_large_text which → IsNoText files which name text
+long_is_no_text : (files : List (List ℕ × List ℕ)) (which : Which) (name text : List ℕ) → IsFileTooLong files name → text ≡ too_large_text which → IsNoText files which name text
 long_is_no_text files NetFile name text long said = inl (long, said)
 long_is_no_text files DueFile name text long said = (long, said)
 long_is_no_text files LogFile name text long said = (long, said)
@@ -124,7 +124,7 @@ long_is_no_text files TimetableFile name text long said = (long, said)
 -- a refusal with the status Text is of a file that is no text, or of one that counted as too long, which it is where no read failed
 pub no_text_counted : (files : List (List ℕ × List ℕ)) (old new : ShelfState) (which : Which) (name : List ℕ) (status : Status) (text : List ℕ) →
     old.files ≡ Some files → status ≡ Text → Refusal old new which name status text →
-    IsNoText files which name text ⊎ ((text ≡ too_large_text which) × Rose old.overlong new.overlong × (Rested old.faults new.faults → IsTooLong files name))
+    IsNoText files which name text ⊎ ((text ≡ too_large_text which) × Rose old.overlong new.overlong × (Rested old.faults new.faults → IsFileTooLong files name))
 no_text_counted files old new which name status text told e (Unread is said rose grew) = absurd (let bad : ⊥ = cc in bad)
 no_text_counted files old new which name status text told e (Overlong is said rose long) = inr (said, rose, λ rested. told_long files old.files name told (long rested))
 no_text_counted files old new which name status text told e (NoToml of_net is said bytes file short reads_as) =
@@ -210,7 +210,7 @@ overlong_told old new which other name status text e t (NotLive of_net is net ci
 
 -- a fault of a read tells a count that rose, and names the file
 pub fault_told : (old new : ShelfState) (which : Which) (name : List ℕ) (status : Status) (text : List ℕ) → status ≡ ReadFault → Refusal old new which name status text →
-    Rose old.faults new.faults × (text ≡ fault_text which) × ReadsGrow old.reads new.reads ((name, most_bytes) ∷ [])
+    Rose old.faults new.faults × (text ≡ fault_text which) × ReadsGrow old.reads new.reads ((name, most_file_bytes) ∷ [])
 fault_told old new which name status text e (Unread is said rose grew) = (rose, said, grew)
 fault_told old new which name status text e (Overlong is said rose long) = absurd (let bad : ⊥ = cc in bad)
 fault_told old new which name status text e (NoToml of_net is said bytes file short reads_as) = absurd (let bad : ⊥ = cc in bad)

@@ -4,16 +4,16 @@ use Rattle.std.proofs.lemmas.List.{append_cancel_left, length-map, length-take-l
 use Rattle.teg_net.specs.Nets.{NetLists}
 use Rattle.teg_outside.specs.declared.shelf.ShelfFault.{ShelfFault}
 use Rattle.teg_outside.specs.Shelves.{ShelfState, ReadsGrow}
+use Rattle.csv_records.specs.Records.{most_file_bytes}
 use Rattle.teg_report.specs.declared.answer.Which.{Which}
 use Rattle.teg_report.specs.declared.answer.Which.TheVariants.{Net as NetFile}
 use Rattle.teg_run.specs.Calls.{Call}
 use Rattle.teg_run.specs.Endings.{Ending, Whole, Lost}
 use Rattle.teg_run.specs.Headline.{Opens, ReadsFirstOf, SecondOnlyOfLive, as_told}
-use Rattle.teg_run.specs.Limits.{most_bytes}
 use Rattle.teg_run.specs.Reads.{ReadsAll}
 use Rattle.teg_run.specs.declared.request.Request.{Request}
 use Rattle.teg_run.specs.Requests.{request_of, asked_files, second_of}
-use Rattle.teg_run.specs.Runs.{Answered, Runs}
+use Rattle.teg_run.specs.WholeCalls.{Answered, Runs}
 use Rattle.teg_run.specs.Says.{Asked}
 use Rattle.teg_run.proofs.Causes.{net_opened}
 use Rattle.teg_run.proofs.ReadOrder.{reads_first}
@@ -32,12 +32,12 @@ not_by_two old new named reads a b few told grown h =
 
 second_after : (files : List (List ℕ × List ℕ)) (old new : ShelfState) (reads : List (List ℕ × ℕ)) (name : List ℕ) (second : Which × List ℕ)
     (replies : List (Result (List ℕ) ShelfFault)) → old.files ≡ Some files → old.reads ≡ Some reads →
-    new.reads ≡ Some (reads ++ (name, most_bytes) ∷ (second.1, most_bytes) ∷ []) → ReadsAll old new ((NetFile, name) ∷ second ∷ []) replies →
+    new.reads ≡ Some (reads ++ (name, most_file_bytes) ∷ (second.1, most_file_bytes) ∷ []) → ReadsAll old new ((NetFile, name) ∷ second ∷ []) replies →
     (net : NetLists) × Opens files name net
 second_after files old new reads name second [] told told_reads grown h =
-    absurd (not_by_two old new [] reads (name, most_bytes) (second.1, most_bytes) (omega arith) told_reads grown (reads_first old new [] [] h))
+    absurd (not_by_two old new [] reads (name, most_file_bytes) (second.1, most_file_bytes) (omega arith) told_reads grown (reads_first old new [] [] h))
 second_after files old new reads name second (reply ∷ []) told told_reads grown h =
-    absurd (not_by_two old new ((NetFile, name) ∷ []) reads (name, most_bytes) (second.1, most_bytes) (omega arith) told_reads grown
+    absurd (not_by_two old new ((NetFile, name) ∷ []) reads (name, most_file_bytes) (second.1, most_file_bytes) (omega arith) told_reads grown
     (reads_first old new ((NetFile, name) ∷ []) (reply ∷ []) h))
 second_after files old new reads name second (reply ∷ next ∷ replies) told told_reads grown h =
     (h.2.0, net_opened files old h.0 name reply h.2.0 told h.1 h.2.1)

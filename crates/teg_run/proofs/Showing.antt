@@ -8,9 +8,10 @@ use Rattle.teg_outside.specs.declared.shelf.ShelfFault.{ShelfFault}
 use Rattle.teg_outside.specs.declared.shelf.ShelfFault.TheVariants.{Failed, TooLarge, OutOfMemory}
 use Rattle.teg_outside.specs.Shelves.{ShelfState, Reads}
 use Rattle.teg_outside.specs.Sinks.{SinkState}
+use Rattle.csv_records.specs.Records.{most_file_bytes}
 use Rattle.teg_commands.specs.declared.outcome.Outcome.{Outcome}
 use Rattle.teg_commands.specs.declared.outcome.Verdict.{Verdict}
-use Rattle.teg_commands.specs.Outcomes.{Tells, outcome_of}
+use Rattle.teg_commands.specs.CommandOutcomes.{Tells, outcome_of}
 use Rattle.teg_commands.proofs.Replayed.{nothing_shown, replay_unshown}
 use Rattle.teg_report.specs.declared.answer.Which.{Which}
 use Rattle.teg_report.specs.declared.answer.Which.TheVariants.{Net as NetFile}
@@ -20,13 +21,12 @@ use Rattle.teg_run.specs.declared.request.Request.{Request}
 use Rattle.teg_run.specs.declared.request.Request.TheVariants.{OfNet, OfFiles, ValueOf, TrialOf}
 use Rattle.teg_run.specs.declared.status.Status.{Status}
 use Rattle.teg_run.specs.Endings.{Ending, Whole, Lost, EndsWith, ending_of, is_whole}
-use Rattle.teg_run.specs.Limits.{most_bytes}
 use Rattle.teg_run.specs.Openings.{Opening, Accepted, Refused, OpensNet, OpensBytes}
 use Rattle.teg_run.specs.Reads.{OpenedBy, ReadsAll}
-use Rattle.teg_run.specs.Runs.{Answered, Finished, Serves}
+use Rattle.teg_run.specs.WholeCalls.{Answered, Finished, Serves}
 use Rattle.teg_run.specs.Says.{Asked, SaysFile, SaysOutcome}
 use Rattle.teg_run.specs.Requests.{asked_files}
-use Rattle.teg_run.specs.Shown.{AnsweredAndShown, ServesAndShows, Shows, ShowsAsked, ShowsBoth, ShowsFiles, ShowsSecond}
+use Rattle.teg_run.specs.ShownFirings.{AnsweredAndShown, ServesAndShows, Shows, ShowsAsked, ShowsBoth, ShowsFiles, ShowsSecond}
 
 -- ---- with and without what was shown
 
@@ -101,7 +101,7 @@ outcome_shown command net before now given bytes (Err e) same h = subst (λ (b :
 -- the second file is accepted, and nothing more is read
 second_accepted_by : (which : Which) (command : FileCommand) (net : NetLists) (before now : List Firing → List (List ℕ)) (name : List ℕ) (old new : ShelfState)
     (says : List ℕ → Verdict → List ℕ → Type 0) (bytes : List ℕ) (reply : Result (List ℕ) ShelfFault) (outcome : Result Outcome NoMemory) →
-    Reads old new name most_bytes reply → OpensBytes which reply (Accepted bytes) → Tells (says bytes) (outcome_of outcome) →
+    Reads old new name most_file_bytes reply → OpensBytes which reply (Accepted bytes) → Tells (says bytes) (outcome_of outcome) →
     ShowsFiles command net bytes before now (is_ok outcome) →
     AnsweredAndShown (SaysFile (OpensBytes which) (λ b. SaysOutcome (says b))) (ShowsSecond command net before now) ((which, name) ∷ []) old new (ending_of (outcome_of outcome))
 second_accepted_by which command net before now name old new says bytes (Ok given) outcome read opens h shown =
@@ -144,7 +144,7 @@ goes_with goes_on net reply replies Lost opens h = tt
 
 both_accepted_by : (command : FileCommand) (net : NetLists) (before now : List Firing → List (List ℕ)) (name : List ℕ) (files : List (Which × List ℕ)) (old mid new : ShelfState)
     (goes_on : NetLists → List (Result (List ℕ) ShelfFault) → Status → List ℕ → Type 0) (reply : Result (List ℕ) ShelfFault) (replies : List (Result (List ℕ) ShelfFault)) (ending : Ending) →
-    Reads old mid name most_bytes reply → OpensNet reply (Accepted net) → ReadsAll mid new files replies → EndsWith (goes_on net replies) ending →
+    Reads old mid name most_file_bytes reply → OpensNet reply (Accepted net) → ReadsAll mid new files replies → EndsWith (goes_on net replies) ending →
     ShowsSecond command net before now replies (is_whole ending) →
     AnsweredAndShown (SaysFile OpensNet goes_on) (ShowsBoth command before now) ((NetFile, name) ∷ files) old new ending
 both_accepted_by command net before now name files old mid new goes_on reply [] ending read opens rest h shown =

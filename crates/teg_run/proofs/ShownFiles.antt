@@ -7,6 +7,7 @@ use Rattle.teg_outside.specs.declared.shelf.ShelfFault.TheVariants.{Failed, TooL
 use Rattle.teg_outside.specs.Causes.{Rested}
 use Rattle.teg_outside.specs.Shelves.{ShelfState, Reads}
 use Rattle.teg_outside.proofs.Counts.{rose_not_rested, rested_then}
+use Rattle.csv_records.specs.Records.{most_file_bytes}
 use Rattle.teg_commands.specs.declared.outcome.Verdict.{Verdict}
 use Rattle.teg_commands.specs.Replay.{ShowsNothing, ShowsReplay}
 use Rattle.teg_commands.proofs.Replayed.{replay_unshown}
@@ -21,13 +22,12 @@ use Rattle.teg_run.specs.declared.status.Status.TheVariants.{NoMemory, WriteFaul
 use Rattle.teg_run.specs.Calls.{Call}
 use Rattle.teg_run.specs.Endings.{Ending, Whole, Lost}
 use Rattle.teg_run.specs.Headline.{AcceptsFiles, ConcernsBoth, Holds, Opens}
-use Rattle.teg_run.specs.Limits.{most_bytes}
 use Rattle.teg_run.specs.Openings.{Opening, Accepted, Refused, OpensBytes, OpensNet}
 use Rattle.teg_run.specs.Reads.{ReadsAll}
 use Rattle.teg_run.specs.Requests.{asked_files, request_of, second_of}
-use Rattle.teg_run.specs.Runs.{Finished}
+use Rattle.teg_run.specs.WholeCalls.{Finished}
 use Rattle.teg_run.specs.Says.{Asked, SaysFile, SaysFiles, SaysOpening, SaysOutcome}
-use Rattle.teg_run.specs.Shown.{AnsweredAndShown, ShowsAsked, ShowsBoth, ShowsFiles, ShowsFor, ShowsJust, ShowsSecond, ShowsTold}
+use Rattle.teg_run.specs.ShownFirings.{AnsweredAndShown, ShowsAsked, ShowsBoth, ShowsFiles, ShowsFor, ShowsJust, ShowsSecond, ShowsTold}
 use Rattle.teg_run.specs.Statuses.{IsOwn}
 use Rattle.teg_run.proofs.Causes.{net_opened}
 use Rattle.teg_run.proofs.LiveNets.{live_reply}
@@ -156,7 +156,7 @@ lost_shows files old new name log net bytes before now (reply ∷ Err fault ∷ 
 
 -- a read of a told file within the limit that did not fail gives its bytes, or finds no memory
 read_held : (files : List (List ℕ × List ℕ)) (old new : ShelfState) (name bytes : List ℕ) (reply : Reply) → old.files ≡ Some files → Rested old.faults new.faults →
-    Holds files name bytes → Reads old new name most_bytes reply → (reply ≡ Ok bytes) ⊎ (reply ≡ Err OutOfMemory)
+    Holds files name bytes → Reads old new name most_file_bytes reply → (reply ≡ Ok bytes) ⊎ (reply ≡ Err OutOfMemory)
 read_held files old new name bytes (Ok given) told calm holds read =
     let there = told_file files old.files name given told read.answer.3 in
     let held = holds.0 in
@@ -175,7 +175,7 @@ unsaid which fault goes_on replies status text lost h =
 -- a reply for the log that gives no bytes is not the last word of a call that says something
 log_given : (files : List (List ℕ × List ℕ)) (old mid new : ShelfState) (log bytes : List ℕ) (fault : ShelfFault) (replies : List Reply)
     (goes_on : List ℕ → List Reply → Status → List ℕ → Type 0) (status : Status) (text : List ℕ) → old.files ≡ Some files → Rested old.faults new.faults → Holds files log bytes →
-    Reads old mid log most_bytes (Err fault) → ReadsAll mid new [] replies → SaysFile (OpensBytes LogFile) goes_on (Err fault ∷ replies) status text → ⊥
+    Reads old mid log most_file_bytes (Err fault) → ReadsAll mid new [] replies → SaysFile (OpensBytes LogFile) goes_on (Err fault ∷ replies) status text → ⊥
 log_given files old mid new log bytes fault replies goes_on status text told calm holds read rest said =
     let last : new ≡ mid = none_read mid new replies rest in
     let calm' = subst (λ (s : ShelfState). Rested old.faults s.faults) last calm in

@@ -8,11 +8,11 @@ use Rattle.teg_outside.specs.declared.monitor.Firing.{Firing}
 use Rattle.teg_outside.specs.declared.shelf.ShelfFault.{ShelfFault}
 use Rattle.teg_outside.specs.declared.shelf.ShelfFault.TheVariants.{Failed, TooLarge, OutOfMemory}
 use Rattle.teg_outside.specs.Shelves.{ShelfState, IsFile, Reads}
+use Rattle.csv_records.specs.Records.{most_file_bytes}
 use Rattle.teg_report.specs.declared.answer.Which.{Which}
 use Rattle.teg_report.specs.declared.answer.Which.TheVariants.{Net as NetFile}
 use Rattle.teg_run.specs.declared.status.Status.{Status}
 use Rattle.teg_commands.specs.declared.outcome.Verdict.{Verdict}
-use Rattle.teg_run.specs.Limits.{most_bytes}
 use Rattle.teg_run.specs.Openings.{Opening, Accepted, Refused, OpensNet, OpensDocument, OpensBytes, read_status}
 use Rattle.teg_run.specs.Reads.{ReadsAll}
 use Rattle.teg_run.specs.declared.request.FileCommand.{FileCommand}
@@ -23,7 +23,7 @@ use Rattle.teg_run.specs.Requests.{files_of, second_of}
 use Rattle.teg_run.specs.Says.{Says, SaysFile, SaysFiles, SaysNet, SaysOpening, SaysOutcome}
 use Rattle.teg_commands.specs.Trial.{SaysTrial}
 use Rattle.teg_commands.specs.Calc.{SaysCalc}
-use Rattle.teg_commands.specs.Texts.{read_text}
+use Rattle.teg_commands.specs.CommandTexts.{read_text}
 use Rattle.teg_run.specs.Statuses.{IsOwn}
 use Rattle.teg_run.proofs.ReadOrder.{none_left}
 use Rattle.teg_run.proofs.Refusals.{Accepts, Refusal, Unread, Overlong, NoToml, NoNet, NotLive}
@@ -32,7 +32,7 @@ use Rattle.teg_run.proofs.Verdicts.{verdict_is_own}
 -- the bytes of a file that was read and accepted
 pub record Taken (old mid : ShelfState) (which : Which) (name : List ℕ) : Type 0 where
   pub bytes : List ℕ
-  pub read : Reads old mid name most_bytes (Ok bytes)
+  pub read : Reads old mid name most_file_bytes (Ok bytes)
   pub accepts : Accepts which bytes
 
 -- one of these files is refused after those before it were accepted, or all are and the command has its own status
@@ -52,13 +52,13 @@ said_of_refused goes_on opening replies status status' text text' e h =
     let k = subst (λ (o : Opening _). SaysOpening goes_on o replies status text) e h in (k.0, k.1.0, k.1.1)
 
 -- the shelf after the one read is that at the end, where nothing more was read
-pub ends_here : (old mid new : ShelfState) (name : List ℕ) (reply : Result (List ℕ) ShelfFault) → new ≡ mid → Reads old mid name most_bytes reply →
-    Reads old new name most_bytes reply
-ends_here old mid new name reply e read = subst (λ (s : ShelfState). Reads old s name most_bytes reply) (sym e) read
+pub ends_here : (old mid new : ShelfState) (name : List ℕ) (reply : Result (List ℕ) ShelfFault) → new ≡ mid → Reads old mid name most_file_bytes reply →
+    Reads old new name most_file_bytes reply
+ends_here old mid new name reply e read = subst (λ (s : ShelfState). Reads old s name most_file_bytes reply) (sym e) read
 
 -- bytes that say no net
 refused_bytes : (old new : ShelfState) (name bytes : List ℕ) (status : Status) (text : List ℕ) (refusal : ReadRefusal) →
-    IsFile old.files name bytes → length bytes ≤ most_bytes → document bytes ≡ Err refusal →
+    IsFile old.files name bytes → length bytes ≤ most_file_bytes → document bytes ≡ Err refusal →
     status ≡ read_status refusal → text ≡ read_text refusal → Refusal old new NetFile name status text
 refused_bytes old new name bytes status text NotToml file short is s t = NoToml refl s t bytes file short is
 refused_bytes old new name bytes status text refusal file short is s t = NoNet refl s refusal t bytes file short is (λ e. cc)
@@ -68,7 +68,7 @@ refused_bytes old new name bytes status text refusal file short is s t = NoNet r
 net_way_bytes : (old mid new : ShelfState) (name bytes : List ℕ) (files : List (Which × List ℕ))
     (goes_on : NetLists → List (Result (List ℕ) ShelfFault) → Status → List ℕ → Type 0) (replies : List (Result (List ℕ) ShelfFault))
     (status : Status) (text : List ℕ) (said : Result NetLists ReadRefusal) (opening : Opening NetLists) →
-    Reads old mid name most_bytes (Ok bytes) → ReadsAll mid new files replies → document bytes ≡ said → OpensDocument said opening →
+    Reads old mid name most_file_bytes (Ok bytes) → ReadsAll mid new files replies → document bytes ≡ said → OpensDocument said opening →
     SaysOpening goes_on opening replies status text → ((net : NetLists) → goes_on net replies status text → Way mid new files status text) →
     Way old new ((NetFile, name) ∷ files) status text
 net_way_bytes old mid new name bytes files goes_on replies status text (Ok net) (Accepted file) read rest is opens h way =
@@ -82,7 +82,7 @@ net_way_bytes old mid new name bytes files goes_on replies status text (Err refu
 net_way_reply : (old mid new : ShelfState) (name : List ℕ) (files : List (Which × List ℕ))
     (goes_on : NetLists → List (Result (List ℕ) ShelfFault) → Status → List ℕ → Type 0) (reply : Result (List ℕ) ShelfFault)
     (replies : List (Result (List ℕ) ShelfFault)) (status : Status) (text : List ℕ) (opening : Opening NetLists) →
-    Reads old mid name most_bytes reply → ReadsAll mid new files replies → OpensNet reply opening →
+    Reads old mid name most_file_bytes reply → ReadsAll mid new files replies → OpensNet reply opening →
     SaysOpening goes_on opening replies status text → ((net : NetLists) → goes_on net replies status text → Way mid new files status text) →
     Way old new ((NetFile, name) ∷ files) status text
 net_way_reply old mid new name files goes_on (Ok bytes) replies status text opening read rest opens h way =
@@ -112,7 +112,7 @@ net_way old new name files goes_on (reply ∷ replies) status text reads h way =
 bytes_way_reply : (old mid new : ShelfState) (which : Which) (name : List ℕ) (accepts : (bytes : List ℕ) → Accepts which bytes)
     (goes_on : List ℕ → List (Result (List ℕ) ShelfFault) → Status → List ℕ → Type 0) (reply : Result (List ℕ) ShelfFault)
     (replies : List (Result (List ℕ) ShelfFault)) (status : Status) (text : List ℕ) (opening : Opening (List ℕ)) →
-    Reads old mid name most_bytes reply → ReadsAll mid new [] replies → OpensBytes which reply opening →
+    Reads old mid name most_file_bytes reply → ReadsAll mid new [] replies → OpensBytes which reply opening →
     SaysOpening goes_on opening replies status text → ((bytes : List ℕ) → goes_on bytes replies status text → Way mid new [] status text) →
     Way old new ((which, name) ∷ []) status text
 bytes_way_reply old mid new which name accepts goes_on (Ok bytes) replies status text opening read rest opens h way =

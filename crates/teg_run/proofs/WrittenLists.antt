@@ -9,7 +9,7 @@ use Rattle.std.proofs.lemmas.List.FromFn.{take-map-range_with_len}
 use Rattle.dioid.specs.declared.dates.Date.{Date}
 use Rattle.teg_commands.specs.declared.outcome.Verdict.TheVariants.{Done as VerdictDone}
 use Rattle.teg_commands.specs.List.{SaysList}
-use Rattle.teg_commands.specs.Texts.{list_text}
+use Rattle.teg_commands.specs.CommandTexts.{list_text}
 use Rattle.teg_dates.specs.Passes.{IsRowOf}
 use Rattle.teg_model.specs.Datings.{IsLeastDating}
 use Rattle.teg_net.specs.Nets.{NetLists}
@@ -18,11 +18,11 @@ use Rattle.teg_outside.specs.declared.sink.SinkFault.{SinkFault}
 use Rattle.teg_outside.specs.declared.sink.SinkFault.TheVariants.{Failed}
 use Rattle.teg_outside.specs.Sinks.{SinkState, BytesGrow}
 use Rattle.teg_outside.proofs.Growth.{bytes_grow_none, bytes_grow_then}
-use Rattle.teg_report.specs.Lists.{head_text, number_line, row_text}
+use Rattle.teg_report.specs.DateLists.{head_text, number_line, row_text}
 use Rattle.teg_report.proofs.ListRows.{row_is_line, list_of_lines}
 use Rattle.teg_run.specs.declared.status.Status.TheVariants.{Done, WriteFault}
-use Rattle.teg_run.specs.Lists.{WritesFull, lines_text, piece}
-use Rattle.teg_run.specs.Runs.{WritesOutcome}
+use Rattle.teg_run.specs.WrittenLists.{WritesFull, lines_text, piece}
+use Rattle.teg_run.specs.WholeCalls.{WritesOutcome}
 use Rattle.teg_run.specs.Writing.{WritesText}
 use Rattle.teg_text.specs.Lines.{line_then}
 use Rattle.teg_text.proofs.Listing.{more_after}

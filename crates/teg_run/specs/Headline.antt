@@ -17,20 +17,20 @@ use Rattle.teg_run.specs.declared.status.Status.TheVariants.{Words, Text, Net, R
 use Rattle.teg_commands.specs.declared.outcome.Verdict.{Verdict}
 use Rattle.teg_run.specs.Calls.{Call}
 use Rattle.teg_run.specs.Endings.{Whole, Lost}
-use Rattle.teg_run.specs.Limits.{most_bytes}
 use Rattle.teg_run.specs.Reads.{ReadsAll}
 use Rattle.teg_run.specs.declared.request.NetCommand.{NetCommand}
 use Rattle.teg_run.specs.declared.request.FileCommand.{FileCommand}
 use Rattle.teg_run.specs.declared.request.Request.{Request}
 use Rattle.teg_run.specs.declared.request.Request.TheVariants.{OfNet, OfFiles, ValueOf, TrialOf}
 use Rattle.teg_run.specs.Requests.{request_of, files_of, asked_files}
-use Rattle.teg_run.specs.Runs.{Finished, Runs}
+use Rattle.teg_run.specs.WholeCalls.{Finished, Runs}
 use Rattle.teg_run.specs.Says.{Asked, Says, SaysFiles, SaysNet}
 use Rattle.teg_run.specs.Statuses.{IsOwn, status_of}
 use Rattle.teg_outside.specs.declared.monitor.Firing.{Firing}
+use Rattle.csv_records.specs.Records.{most_file_bytes}
 use Rattle.teg_commands.specs.Trial.{SaysTrial}
 use Rattle.teg_commands.specs.Calc.{SaysCalc}
-use Rattle.teg_commands.specs.Texts.{usage, read_text, token_free_text, too_large_text, fault_text}
+use Rattle.teg_commands.specs.CommandTexts.{usage, read_text, token_free_text, too_large_text, fault_text}
 
 -- ---- how a call ended
 
@@ -54,11 +54,11 @@ WritesAreCalm call = Rested call.sink_before.faults call.sink_after.faults
 
 -- the file of that name has these bytes, at most as many as a file may have
 abbrev pub Holds : List (List ℕ × List ℕ) → List ℕ → List ℕ → Type 0
-Holds files name bytes = (file_of files name ≡ Some bytes) × (length bytes ≤ most_bytes)
+Holds files name bytes = (file_of files name ≡ Some bytes) × (length bytes ≤ most_file_bytes)
 
 -- the file of that name has more bytes than a file may have
-abbrev pub IsTooLong : List (List ℕ × List ℕ) → List ℕ → Type 0
-IsTooLong files name = (bytes : List ℕ) × (file_of files name ≡ Some bytes) × (most_bytes < length bytes)
+abbrev pub IsFileTooLong : List (List ℕ × List ℕ) → List ℕ → Type 0
+IsFileTooLong files name = (bytes : List ℕ) × (file_of files name ≡ Some bytes) × (most_file_bytes < length bytes)
 
 -- the file of that name says this net, and it is live
 abbrev pub Opens : List (List ℕ × List ℕ) → List ℕ → NetLists → Type 0
@@ -67,7 +67,7 @@ Opens files name net = (bytes : List ℕ) × Holds files name bytes × (document
 -- the net file is too long or no TOML, and this text says so
 abbrev pub NetIsNoText : List (List ℕ × List ℕ) → List ℕ → List ℕ → Type 0
 NetIsNoText files name text =
-    (IsTooLong files name × (text ≡ too_large_text NetFile))
+    (IsFileTooLong files name × (text ≡ too_large_text NetFile))
     ⊎ ((bytes : List ℕ) × Holds files name bytes × (document bytes ≡ Err NotToml) × (text ≡ read_text NotToml))
 
 -- the net file says no net for another cause, or a net with a token-free circuit, and this text says so
@@ -80,7 +80,7 @@ NetIsRefused files name text =
 
 -- a file that is not the net is too long, and this text says so
 abbrev pub SecondIsNoText : Which → List (List ℕ × List ℕ) → List ℕ → List ℕ → Type 0
-SecondIsNoText which files name text = IsTooLong files name × (text ≡ too_large_text which)
+SecondIsNoText which files name text = IsFileTooLong files name × (text ≡ too_large_text which)
 
 -- the file of that name has bytes, at most as many as a file may have
 abbrev pub IsThere : List (List ℕ × List ℕ) → List ℕ → Type 0
@@ -116,8 +116,8 @@ HasFault fault files (file ∷ named) text =
     fault files file.0 file.1 text ⊎ (IsAccepted files file.0 file.1 × HasFault fault files named text)
 
 -- over told files, where a file of the request has this fault and no read failed, the call ends with this status and a text of the fault
-abbrev pub Follows : (List (List ℕ × List ℕ) → Which → List ℕ → List ℕ → Type 0) → Status → Call → Type 0
-Follows fault wanted call =
+abbrev pub EndsWithFault : (List (List ℕ × List ℕ) → Which → List ℕ → List ℕ → Type 0) → Status → Call → Type 0
+EndsWithFault fault wanted call =
     (files : List (List ℕ × List ℕ)) (request : Request) → call.shelf_before.files ≡ Some files → ReadsAreCalm call →
     request_of call.words ≡ Some request → ((text : List ℕ) × HasFault fault files (files_of request) text) →
     (text : List ℕ) × HasFault fault files (files_of request) text × Ends call wanted text
@@ -161,7 +161,7 @@ WrotePrefix call =
 
 -- a read of a file as it is told
 abbrev pub as_told : Which × List ℕ → List ℕ × ℕ
-as_told file = (file.1, most_bytes)
+as_told file = (file.1, most_file_bytes)
 
 -- where reads are told, they grew by a first part of the reads of these files, in order, each once
 abbrev pub ReadsFirstOf : ShelfState → ShelfState → List (Which × List ℕ) → Type 0
@@ -172,7 +172,7 @@ abbrev pub SecondOnlyOfLive : Call → Type 0
 SecondOnlyOfLive call =
     (files : List (List ℕ × List ℕ)) (reads : List (List ℕ × ℕ)) (command : FileCommand) (name second : List ℕ) →
     call.shelf_before.files ≡ Some files → call.shelf_before.reads ≡ Some reads → request_of call.words ≡ Some (OfFiles command name second) →
-    call.shelf_after.reads ≡ Some (reads ++ (name, most_bytes) ∷ (second, most_bytes) ∷ []) → (net : NetLists) × Opens files name net
+    call.shelf_after.reads ≡ Some (reads ++ (name, most_file_bytes) ∷ (second, most_file_bytes) ∷ []) → (net : NetLists) × Opens files name net
 
 -- the file that the text names as unreadable is the last of these that was read
 abbrev pub NamesLastRead : Call → List (Which × List ℕ) → Type 0
@@ -262,12 +262,12 @@ pub record KeepsPromises (call : Call) : Type 0 where
   pub words : request_of call.words ≡ None → (call.shelf_after ≡ call.shelf_before) × Ends call Words usage
   pub words_only : call.status ≡ Words → request_of call.words ≡ None
   -- A file that is too long, or a net file that is no TOML: exactly then, where files are told.
-  pub text : Follows IsNoText Text call
+  pub text : EndsWithFault IsNoText Text call
   pub text_only : ReadsAreCalm call → ComesOnly IsNoText Text call
   pub text_counted : ComesOnly (CountsAsNoText call) Text call
   pub overlong : call.status ≡ Text → OverlongRose call
   -- A net file that says no net, or one with a token-free circuit: exactly then, where files are told.
-  pub net : Follows IsNoNet Net call
+  pub net : EndsWithFault IsNoNet Net call
   pub net_only : ComesOnly IsNoNet Net call
   -- A status of a command comes only where it says so of accepted files.
   pub own_only : OwnOnly call

@@ -12,7 +12,7 @@ use Rattle.teg_run.specs.declared.status.Status.{Status}
 use Rattle.teg_run.specs.declared.status.Status.TheVariants.{Text, Net, ReadFault}
 use Rattle.teg_report.specs.declared.answer.Which.{Which}
 use Rattle.teg_report.specs.declared.answer.Which.TheVariants.{Net as NetFile, Due as DueFile, Log as LogFile, Timetable as TimetableFile}
-use Rattle.teg_commands.specs.Texts.{read_text, token_free_text, too_large_text, fault_text}
+use Rattle.teg_commands.specs.CommandTexts.{read_text, token_free_text, too_large_text, fault_text}
 
 -- what the file says, or the status and the text of its refusal
 pub data Opening (A : Type 0) : Type 0 where

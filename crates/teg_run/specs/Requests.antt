@@ -2,20 +2,20 @@
 use Rattle.std.specs.Prelude.{ℕ, Bool, List, [], ◌∷◌, Option, Some, None, codes, bytes_eq, nat_le, length, if◌then◌else◌, is_some, option_and_then, ◌==◌}
 use Rattle.std.specs.Option.{option_map}
 use Rattle.std.specs.List.{before_first, after_first}
-use Rattle.teg_dates.specs.Tables.{most_numbers}
-use Rattle.teg_net.specs.Limits.{greatest_number}
-use Rattle.teg_settle.specs.Refusals.{greatest_limit}
+use Rattle.teg_dates.specs.DateTables.{most_numbers}
+use Rattle.teg_net.specs.Limits.{greatest_firing_number, greatest_target_time, most_target_tokens}
+use Rattle.teg_settle.specs.LimitRefusals.{greatest_limit}
 use Rattle.teg_timetable.specs.Spreads.{greatest_period}
-use Rattle.teg_words.specs.Numbers.{number_of}
-use Rattle.teg_words.specs.Words.{Given, given_of}
-use Rattle.teg_commands.specs.Limits.{greatest_target_time, most_expression, most_machines, most_target_tokens}
+use Rattle.teg_words.specs.NumberWords.{number_of_word}
+use Rattle.teg_words.specs.CommandLineWords.{Given, given_of}
+use Rattle.teg_commands.specs.CommandLimits.{most_expression, most_machines}
 use Rattle.teg_run.specs.declared.request.NetCommand.{NetCommand}
 use Rattle.teg_run.specs.declared.request.NetCommand.TheVariants.{Check as CheckNet, List as ListNet, Form as FormNet, Cycle as CycleNet, Slack as SlackNet, Dates as DatesNet, Date as DateNet, Transfer as TransferNet, Migrate as MigrateNet, Size as SizeNet, Bound as BoundNet}
 use Rattle.teg_run.specs.declared.request.FileCommand.{FileCommand}
 use Rattle.teg_run.specs.declared.request.FileCommand.TheVariants.{Jit as JitNet, Replay as ReplayNet, Forever as ForeverNet, Timetable as TimetableNet}
 use Rattle.teg_run.specs.declared.request.Request.{Request}
 use Rattle.teg_run.specs.declared.request.Request.TheVariants.{OfNet, OfFiles, ValueOf, TrialOf}
-use Rattle.teg_run.specs.Limits.{usual_limit}
+use Rattle.teg_run.specs.UsualLimits.{usual_limit}
 use Rattle.teg_report.specs.declared.answer.Which.{Which}
 use Rattle.teg_report.specs.declared.answer.Which.TheVariants.{Net as NetFile, Due as DueFile, Log as LogFile, Timetable as TimetableFile}
 
@@ -31,32 +31,32 @@ net_and_file command rest = None
 
 -- `list NET K`, with K from 1 to the most numbers of a table
 abbrev pub list_asked : List (List ℕ) → Option Request
-list_asked (net ∷ word ∷ []) = option_map (λ count. OfNet (ListNet count) net) (number_of 1 most_numbers word)
+list_asked (net ∷ word ∷ []) = option_map (λ count. OfNet (ListNet count) net) (number_of_word 1 most_numbers word)
 list_asked rest = None
 
 -- the limit of a settled form: a number, or the usual one
 abbrev pub number_limit : Option (List ℕ) → Option ℕ
 number_limit None = Some usual_limit
-number_limit (Some word) = number_of 1 greatest_limit word
+number_limit (Some word) = number_of_word 1 greatest_limit word
 
 -- the same, or no limit where the word is `none`
 abbrev pub limit_asked : Option (List ℕ) → Option (Option ℕ)
 limit_asked None = Some (Some usual_limit)
-limit_asked (Some word) = if bytes_eq word (codes "none") then Some None else option_map (λ limit. Some limit) (number_of 1 greatest_limit word)
+limit_asked (Some word) = if bytes_eq word (codes "none") then Some None else option_map (λ limit. Some limit) (number_of_word 1 greatest_limit word)
 
 -- `date NET TRANSITION K`, with K from 1 to 10^18, by this limit
 abbrev pub date_asked : List (List ℕ) → Option ℕ → Option Request
-date_asked (net ∷ word ∷ count ∷ []) most = option_map (λ number. OfNet (DateNet word number most) net) (number_of 1 greatest_number count)
+date_asked (net ∷ word ∷ count ∷ []) most = option_map (λ number. OfNet (DateNet word number most) net) (number_of_word 1 greatest_firing_number count)
 date_asked rest most = None
 
 -- `timetable NET A FILE`, with A from 1 to 10^6, by this limit
 abbrev pub timetable_asked : List (List ℕ) → Option ℕ → Option Request
-timetable_asked (net ∷ word ∷ table ∷ []) most = option_map (λ period. OfFiles (TimetableNet period most) net table) (number_of 1 greatest_period word)
+timetable_asked (net ∷ word ∷ table ∷ []) most = option_map (λ period. OfFiles (TimetableNet period most) net table) (number_of_word 1 greatest_period word)
 timetable_asked rest most = None
 
 -- `trial N`, with N from 1 to 400
 abbrev pub trial_asked : List (List ℕ) → Option Request
-trial_asked (count ∷ []) = option_map (λ machines. TrialOf machines) (number_of 1 most_machines count)
+trial_asked (count ∷ []) = option_map (λ machines. TrialOf machines) (number_of_word 1 most_machines count)
 trial_asked rest = None
 
 -- whether a byte is `/`
@@ -66,8 +66,8 @@ is_slash byte = byte == 47
 -- the time and the tokens of a target ratio: a number, `/`, and a number from 1 on
 abbrev pub target_asked : List ℕ → Option (ℕ × ℕ)
 target_asked word =
-    option_and_then (λ time. option_map (λ tokens. (time, tokens)) (number_of 1 most_target_tokens (after_first is_slash word)))
-    (number_of 0 greatest_target_time (before_first is_slash word))
+    option_and_then (λ time. option_map (λ tokens. (time, tokens)) (number_of_word 1 most_target_tokens (after_first is_slash word)))
+    (number_of_word 0 greatest_target_time (before_first is_slash word))
 
 -- `size NET PLACE A/B`
 abbrev pub size_asked : List (List ℕ) → Option Request

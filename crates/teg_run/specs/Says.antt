@@ -15,7 +15,7 @@ use Rattle.teg_commands.specs.List.{SaysList}
 use Rattle.teg_commands.specs.Forever.{SaysForever}
 use Rattle.teg_commands.specs.Jit.{SaysJit}
 use Rattle.teg_commands.specs.Replay.{SaysReplay}
-use Rattle.teg_commands.specs.Dates.{SaysDate, SaysDates}
+use Rattle.teg_commands.specs.CommandDates.{SaysDate, SaysDates}
 use Rattle.teg_commands.specs.Size.{SaysSize}
 use Rattle.teg_commands.specs.Slack.{SaysSlack}
 use Rattle.teg_commands.specs.Trial.{SaysTrial}
@@ -31,7 +31,7 @@ use Rattle.teg_run.specs.declared.request.Request.TheVariants.{OfNet, OfFiles, V
 use Rattle.teg_run.specs.Requests.{second_of}
 use Rattle.teg_run.specs.Openings.{Opening, Accepted, Refused, OpensNet, OpensBytes}
 use Rattle.teg_run.specs.Statuses.{status_of}
-use Rattle.teg_commands.specs.Texts.{usage}
+use Rattle.teg_commands.specs.CommandTexts.{usage}
 
 -- what a command says of a live net
 abbrev pub SaysNet : NetCommand → NetLists → Verdict → List ℕ → Type 0

@@ -1,8 +1,8 @@
 //! The request that the words of the command line give.
 ghost use Rattle.std.specs.Prelude.{◌≡◌, IfOk, Some, map, string_bytes};
 ghost use Rattle.std.specs.Option.{option_copied};
-ghost use Rattle.teg_words.specs.Meanings.{told, texts};
-ghost use Rattle.teg_words.specs.Numbers.{number_of};
+ghost use Rattle.teg_words.specs.WordMeanings.{given_by, texts};
+ghost use Rattle.teg_words.specs.NumberWords.{number_of_word};
 ghost use Rattle.teg_run.specs.declared.request.Request.TheVariants.{OfFiles, OfNet};
 ghost use Rattle.teg_run.specs.Requests.{asked_for, calc_asked, date_asked, file_asked, further_asked, limit_asked, limited_asked, list_asked, net_and_file, number_limit, only_net, plain_asked, request_of, size_asked, target_asked, timetable_asked, trial_asked};
 
@@ -28,7 +28,7 @@ const MOST_TOKENS: u64 = 1_000_000;
 
 // A number from 1 to the most.
 fn up_to<const MOST: u64>(word: &str) -> Option<UpTo<MOST>>
-    ensures { result ≡ number_of 1 MOST word.now }
+    ensures { result ≡ number_of_word 1 MOST word.now }
 {
     let number = number(word, 1, MOST)?;
     Some(UpTo::new(number))
@@ -311,7 +311,7 @@ fn limited_asked(
 
 // The request of a command with what is given to it. `--rounds` goes with `cycle` alone.
 fn asked_for(alloc: Global, given: &GivenWords<'_>) -> Result<Option<Request>, OutOfMemory>
-    ensures { IfOk result (λ request. request ≡ asked_for (told given.now)) }
+    ensures { IfOk result (λ request. request ≡ asked_for (given_by given.now)) }
 {
     let rest = given.rest.as_slice();
     let rounds = given.rounds;

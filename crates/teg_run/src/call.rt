@@ -2,11 +2,11 @@
 ghost use Rattle.std.specs.Prelude.{map, string_bytes};
 ghost use Rattle.teg_run.specs.Endings.{EndsWith};
 ghost use Rattle.teg_run.specs.Headline.{KeepsPromises};
-ghost use Rattle.teg_run.specs.Meanings.{ended};
+ghost use Rattle.teg_run.specs.CallMeanings.{ended};
 ghost use Rattle.teg_run.specs.Requests.{request_of, asked_files};
-ghost use Rattle.teg_run.specs.Shown.{ServesAndShows, ShowsAsked, ShowsJust, ShowsTold};
+ghost use Rattle.teg_run.specs.ShownFirings.{ServesAndShows, ShowsAsked, ShowsJust, ShowsTold};
 ghost use Rattle.teg_run.specs.Says.{Said, Asked};
-ghost use Rattle.teg_commands.specs.Texts.{usage};
+ghost use Rattle.teg_commands.specs.CommandTexts.{usage};
 
 use crate::asked::read_request;
 use crate::carry_out::serve_request;

@@ -1,12 +1,12 @@
 //! How a request is carried out: its files are opened one after another, its command answers, and the
 //! answer is written.
 ghost use Rattle.std.specs.Prelude.{[], ◌∷◌, map};
-ghost use Rattle.teg_run.specs.Meanings.{ended};
+ghost use Rattle.teg_run.specs.CallMeanings.{ended};
 ghost use Rattle.teg_run.specs.Openings.{OpensBytes, OpensNet};
 ghost use Rattle.teg_run.specs.Requests.{files_of, second_of};
-ghost use Rattle.teg_run.specs.Runs.{Serves};
+ghost use Rattle.teg_run.specs.WholeCalls.{Serves};
 ghost use Rattle.teg_run.specs.Says.{Says, SaysFile, SaysFiles, SaysNet, SaysOutcome};
-ghost use Rattle.teg_run.specs.Shown.{AnsweredAndShown, ServesAndShows, Shows, ShowsBoth, ShowsSecond};
+ghost use Rattle.teg_run.specs.ShownFirings.{AnsweredAndShown, ServesAndShows, Shows, ShowsBoth, ShowsSecond};
 
 use crate::ending::{Ending, closed};
 use crate::file_commands::{of_files, second_of};

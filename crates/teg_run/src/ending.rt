@@ -1,8 +1,8 @@
 //! How the work on a request ends, before anything is written.
 ghost use Rattle.std.specs.Prelude.{◌≡◌};
 ghost use Rattle.teg_run.specs.Endings.{ending_of};
-ghost use Rattle.teg_commands.specs.Outcomes.{outcome_of};
-ghost use Rattle.teg_run.specs.Meanings.{ended};
+ghost use Rattle.teg_commands.specs.CommandOutcomes.{outcome_of};
+ghost use Rattle.teg_run.specs.CallMeanings.{ended};
 
 use crate::status::{Status, status_of};
 use teg_commands::Outcome;

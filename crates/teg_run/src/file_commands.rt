@@ -1,9 +1,9 @@
 //! The commands on a net and a second file.
 ghost use Rattle.std.specs.Prelude.{◌≡◌, is_ok, map};
-ghost use Rattle.teg_commands.specs.Outcomes.{Tells, outcome_of};
+ghost use Rattle.teg_commands.specs.CommandOutcomes.{Tells, outcome_of};
 ghost use Rattle.teg_run.specs.Requests.{second_of};
 ghost use Rattle.teg_run.specs.Says.{SaysFiles};
-ghost use Rattle.teg_run.specs.Shown.{ShowsFiles};
+ghost use Rattle.teg_run.specs.ShownFirings.{ShowsFiles};
 
 use crate::request::FileCommand;
 use crate::second_file::FileBytes;

@@ -2,15 +2,15 @@
 ghost use Rattle.std.specs.Prelude.{ℕ, ◌≡◌, ◌+◌, ◌*◌, ◌<◌, ◌≤◌, length, map, IfOk};
 ghost use Rattle.dioid.specs.declared.dates.Date.{Date};
 ghost use Rattle.teg_model.specs.Datings.{IsLeastDating};
-ghost use Rattle.teg_dates.specs.DateCells.{date_of};
+ghost use Rattle.teg_dates.specs.DateCells.{date_of_cell};
 ghost use Rattle.teg_dates.specs.Streams.{AreFirstRowsOf, IsLeastRow, first_rows_given};
-ghost use Rattle.teg_dates.specs.Tables.{most_numbers};
+ghost use Rattle.teg_dates.specs.DateTables.{most_numbers};
 ghost use Rattle.teg_commands.specs.List.{SaysList};
-ghost use Rattle.teg_commands.specs.Texts.{list_text};
-ghost use Rattle.teg_report.specs.Lists.{head_text};
+ghost use Rattle.teg_commands.specs.CommandTexts.{list_text};
+ghost use Rattle.teg_report.specs.DateLists.{head_text};
 ghost use Rattle.teg_net.specs.Limits.{most_transitions};
-ghost use Rattle.teg_run.specs.Lists.{HasRoom, IsListingOf, WritesFull, lines_text};
-ghost use Rattle.teg_run.specs.Runs.{WritesOutcome};
+ghost use Rattle.teg_run.specs.WrittenLists.{HasRoom, IsListingOf, WritesFull, lines_text};
+ghost use Rattle.teg_run.specs.WholeCalls.{WritesOutcome};
 ghost use Rattle.teg_run.specs.Writing.{WritesText};
 
 use crate::status::Status;
@@ -99,7 +99,7 @@ fn next_row(net: &Net, rows: &mut FirstRows, row: &mut [u64])
     requires stands { AreFirstRowsOf net.now rows.old }
     requires few { first_rows_given rows.old < most_numbers }
     requires full { length row.old ≡ length net.now.transitions }
-    ensures row { IsLeastRow net.now (first_rows_given rows.old + 1) (map date_of row.new) }
+    ensures row { IsLeastRow net.now (first_rows_given rows.old + 1) (map date_of_cell row.new) }
     ensures number { first_rows_given rows.new ≡ first_rows_given rows.old + 1 }
     ensures stands { AreFirstRowsOf net.now rows.new }
 {

@@ -1,8 +1,8 @@
 //! The commands on a net.
 ghost use Rattle.std.specs.Prelude.{◌≡◌, None};
-ghost use Rattle.teg_commands.specs.Outcomes.{Tells, outcome_of};
-ghost use Rattle.teg_run.specs.Listed.{listed};
-ghost use Rattle.teg_run.specs.Runs.{WritesOutcome};
+ghost use Rattle.teg_commands.specs.CommandOutcomes.{Tells, outcome_of};
+ghost use Rattle.teg_run.specs.ListCommand.{numbers_asked};
+ghost use Rattle.teg_run.specs.WholeCalls.{WritesOutcome};
 ghost use Rattle.teg_run.specs.Says.{SaysNet};
 
 use crate::ending::closed;
@@ -20,7 +20,7 @@ use teg_outside::Sink;
 
 // What the command comes to on a live net, but for a list of dates.
 fn of_net(alloc: Global, command: NetCommand, net: &LiveNet) -> Result<Outcome, OutOfMemory>
-    requires { listed command ≡ None }
+    requires { numbers_asked command ≡ None }
     ensures { Tells (SaysNet command net.now) (outcome_of result) }
 {
     match command {

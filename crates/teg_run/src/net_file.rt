@@ -2,8 +2,8 @@
 ghost use Rattle.std.specs.Prelude.{◌≡◌, IfSome};
 ghost use Rattle.teg_outside.specs.Shelves.{replied};
 ghost use Rattle.teg_reader.specs.Documents.{document};
-ghost use Rattle.teg_reader.specs.Walks.{is_memory};
-ghost use Rattle.teg_run.specs.Meanings.{opened};
+ghost use Rattle.teg_reader.specs.PassWalks.{is_memory};
+ghost use Rattle.teg_run.specs.CallMeanings.{opening_of};
 ghost use Rattle.teg_run.specs.Openings.{OpensNet, OpensDocument, OpensNetLists, read_status};
 ghost use Rattle.teg_run.specs.Reads.{OpenedBy};
 
@@ -20,7 +20,7 @@ use teg_report::{Answer, Which, report};
 
 // A live net, or the refusal of one that has a circuit without tokens.
 fn open_live(alloc: Global, net: Net) -> Opened<LiveNet>
-    ensures { IfSome (opened result) (OpensNetLists net) }
+    ensures { IfSome (opening_of result) (OpensNetLists net) }
 {
     match check(alloc, &net) {
         Ok(live) => Opened::Accepted(LiveNet::new(net, live)),
@@ -51,7 +51,7 @@ fn is_memory(refusal: &ReadRefusal) -> bool
 
 // The live net that the bytes of a file say, or their refusal.
 fn open_document(alloc: Global, bytes: &[u8]) -> Opened<LiveNet>
-    ensures { IfSome (opened result) (OpensDocument (document bytes.now)) }
+    ensures { IfSome (opening_of result) (OpensDocument (document bytes.now)) }
 {
     match read_net(alloc, bytes) {
         Ok(net) => open_live(alloc, net),
@@ -68,7 +68,7 @@ fn open_document(alloc: Global, bytes: &[u8]) -> Opened<LiveNet>
 
 // The live net of the file that was read, or its refusal.
 fn judge_net(alloc: Global, reply: Result<Vec<u8>, ShelfFault>) -> Opened<LiveNet>
-    ensures { IfSome (opened result) (OpensNet (replied reply)) }
+    ensures { IfSome (opening_of result) (OpensNet (replied reply)) }
 {
     match reply {
         Ok(bytes) => open_document(alloc, &bytes),
@@ -78,7 +78,8 @@ fn judge_net(alloc: Global, reply: Result<Vec<u8>, ShelfFault>) -> Opened<LiveNe
 
 /// The live net in the file of that name, or the refusal of that file.
 pub fn open_net<S: Shelf>(alloc: Global, name: &str, shelf: &mut S) -> Opened<LiveNet>
-    ensures { OpenedBy OpensNet name.now (S.state shelf.old) (S.state shelf.new) (opened result) }
+    ensures { OpenedBy OpensNet name.now (S.state shelf.old) (S.state shelf.new) (opening_of
+        result) }
 {
     let reply = fetch(alloc, name, shelf);
     judge_net(alloc, reply)

@@ -1,6 +1,6 @@
 //! What a file opens: a value that the request goes on with, or a refusal.
 ghost use Rattle.std.specs.Prelude.{IfSome};
-ghost use Rattle.teg_run.specs.Meanings.{RefusesWith, opened};
+ghost use Rattle.teg_run.specs.CallMeanings.{RefusesWith, opening_of};
 ghost use Rattle.teg_run.specs.Openings.{OpensUnread};
 
 use crate::status::Status;
@@ -20,7 +20,7 @@ pub enum Opened<T: Drop> {
 
 /// A refusal, where its text found memory.
 pub fn refused<T: Drop>(status: Status, text: Result<Vec<u8>, OutOfMemory>) -> Opened<T>
-    ensures { RefusesWith status text (opened result) }
+    ensures { RefusesWith status text (opening_of result) }
 {
     match text {
         Ok(text) => Opened::Refused(status, text),
@@ -30,7 +30,7 @@ pub fn refused<T: Drop>(status: Status, text: Result<Vec<u8>, OutOfMemory>) -> O
 
 /// The refusal of a file of which no bytes came.
 pub fn unread<T: Drop>(alloc: Global, file: Which, fault: ShelfFault) -> Opened<T>
-    ensures { IfSome (opened result) (OpensUnread file fault) }
+    ensures { IfSome (opening_of result) (OpensUnread file fault) }
 {
     match fault {
         ShelfFault::TooLarge => {

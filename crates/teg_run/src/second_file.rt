@@ -1,8 +1,8 @@
 //! A second file: its bytes, or why there are none.
 ghost use Rattle.std.specs.Prelude.{◌≡◌, ◌≤◌, IfOk, IfSome, length};
 ghost use Rattle.teg_outside.specs.Shelves.{replied};
-ghost use Rattle.teg_run.specs.Limits.{most_bytes};
-ghost use Rattle.teg_run.specs.Meanings.{opened};
+ghost use Rattle.csv_records.specs.Records.{most_file_bytes};
+ghost use Rattle.teg_run.specs.CallMeanings.{opening_of};
 ghost use Rattle.teg_run.specs.Openings.{OpensBytes};
 ghost use Rattle.teg_run.specs.Reads.{OpenedBy};
 
@@ -21,19 +21,18 @@ pub struct FileBytes {
 
 impl Model for FileBytes {
     ghost use Rattle.std.specs.Prelude.{◌≤◌, List, ℕ, length};
-    ghost use Rattle.teg_run.specs.Limits.{most_bytes};
 
     ghost Value = { List ℕ };
 
     ghost view = { λ b. b.bytes.items };
 
-    ghost invariant = { λ b. length b.bytes.items ≤ most_bytes };
+    ghost invariant = { λ b. length b.bytes.items ≤ most_file_bytes };
 }
 
 impl FileBytes {
     // The file with these bytes.
     fn new(bytes: Vec<u8>) -> FileBytes
-        requires { length bytes.items ≤ most_bytes }
+        requires { length bytes.items ≤ most_file_bytes }
         ensures { result ≡ bytes.items }
     {
         FileBytes { bytes }
@@ -42,7 +41,7 @@ impl FileBytes {
     /// The bytes.
     pub fn as_slice(&self) -> &[u8]
         ensures value { result.now ≡ self.now }
-        ensures few { length self.now ≤ most_bytes }
+        ensures few { length self.now ≤ most_file_bytes }
     {
         self.bytes.as_slice()
     }
@@ -50,8 +49,8 @@ impl FileBytes {
 
 // The bytes of the file that was read, or its refusal.
 fn judge_bytes(alloc: Global, which: Which, reply: Result<Vec<u8>, ShelfFault>) -> Opened<FileBytes>
-    requires { IfOk reply (λ bytes. length bytes.items ≤ most_bytes) }
-    ensures { IfSome (opened result) (OpensBytes which (replied reply)) }
+    requires { IfOk reply (λ bytes. length bytes.items ≤ most_file_bytes) }
+    ensures { IfSome (opening_of result) (OpensBytes which (replied reply)) }
 {
     match reply {
         Ok(bytes) => Opened::Accepted(FileBytes::new(bytes)),
@@ -68,7 +67,7 @@ pub fn open_bytes<S: Shelf>(
     shelf: &mut S,
 ) -> Opened<FileBytes>
     ensures { OpenedBy (OpensBytes which) name.now (S.state shelf.old) (S.state shelf.new)
-        (opened result) }
+        (opening_of result) }
 {
     let reply = fetch(alloc, name, shelf);
     judge_bytes(alloc, which, reply)

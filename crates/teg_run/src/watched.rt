@@ -1,7 +1,7 @@
 //! The call of the program: the workbench with the program's monitors, as an exit status.
 ghost use Rattle.std.specs.Prelude.{◌≡◌, ◌∷◌, ◌++◌, ◌^◌, ◌-◌, [], IfErr, IfOk, length, map, min, string_bytes};
 ghost use Rattle.std.specs.Process.{exit_status};
-ghost use Rattle.teg_outside.specs.MonitorLines.{count_line, greatest_lateness, greatest_tokens, high_water_line, lateness_line};
+ghost use Rattle.teg_outside.specs.MonitorLines.{firings_line, greatest_lateness, greatest_tokens, high_water_line, lateness_line};
 ghost use Rattle.teg_run.specs.Headline.{KeepsPromises};
 ghost use Rattle.teg_run.specs.Statuses.{code_of};
 ghost use Rattle.teg_run.specs.declared.status.Status.{Status};
@@ -29,7 +29,7 @@ fn watched<S: Shelf, W: Sink>(
 ) -> Result<Status, AllocError>
     ensures promises { IfOk result (λ status. KeepsPromises (record {
       words = map string_bytes words.now;
-      lines = λ firings. count_line (min (length firings) (2 ^ 64 - 1))
+      lines = λ firings. firings_line (min (length firings) (2 ^ 64 - 1))
           ∷ high_water_line (greatest_tokens firings)
           ∷ lateness_line (greatest_lateness firings)
           ∷ [];
@@ -63,7 +63,7 @@ pub fn run_watched<S: Shelf, W: Sink>(
     ensures { (status : Status)
         × KeepsPromises (record {
           words = map string_bytes words.now;
-          lines = λ firings. count_line (min (length firings) (2 ^ 64 - 1))
+          lines = λ firings. firings_line (min (length firings) (2 ^ 64 - 1))
               ∷ high_water_line (greatest_tokens firings)
               ∷ lateness_line (greatest_lateness firings)
               ∷ [];

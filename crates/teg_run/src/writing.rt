@@ -1,6 +1,6 @@
 //! Writing an answer.
-ghost use Rattle.teg_run.specs.Meanings.{ended};
-ghost use Rattle.teg_run.specs.Runs.{Finished};
+ghost use Rattle.teg_run.specs.CallMeanings.{ended};
+ghost use Rattle.teg_run.specs.WholeCalls.{Finished};
 ghost use Rattle.teg_run.specs.Writing.{WritesText};
 
 use crate::ending::Ending;

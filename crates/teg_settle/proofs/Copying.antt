@@ -7,17 +7,17 @@ use Rattle.dioid.specs.declared.dates.Date.{Date}
 use Rattle.dioid.specs.declared.dates.Date.TheVariants.{Early, Never}
 use Rattle.dioid.specs.Dates.{move}
 use Rattle.teg_net.specs.Nets.{NetLists, IsNet}
-use Rattle.teg_model.specs.Systems.{Dating}
-use Rattle.settled_laws.specs.Forms.{IsTail, SettledForm, row_of, step_of, HasSizes, StandsFor}
-use Rattle.settled_laws.specs.Windows.{between}
+use Rattle.teg_model.proofs.DateFunctions.{Dating}
+use Rattle.settled_laws.specs.SettledForms.{IsTail, SettledForm, row_of, step_of_form, HasSizes, StandsFor}
+use Rattle.settled_laws.specs.DateDifferences.{between}
 use Rattle.settled_laws.proofs.Shortest.{tail_on}
 use Rattle.settled_laws.proofs.Telling.{form_tells}
-use Rattle.teg_dates.specs.Tables.{TableDates, date_at}
+use Rattle.teg_dates.specs.DateTables.{TableDates, date_at}
 use Rattle.teg_settle.specs.declared.releases.Repetition.{Repetition}
-use Rattle.teg_settle.specs.Kept.{IsKept}
-use Rattle.teg_settle.specs.Copies.{AreDatesOf, IsFormOf}
+use Rattle.teg_settle.specs.KeptForms.{IsFormKept}
+use Rattle.teg_settle.specs.Copies.{AreShownDates, IsFormOf}
 use Rattle.teg_settle.specs.Stored.{stored_form}
-use Rattle.teg_settle.specs.Windows.{read_step, IsToldBy}
+use Rattle.teg_settle.specs.ComparedRows.{read_step, IsToldBy}
 
 -- a fact of each element and of one more
 pub more : {X : Type 0} (P : ℕ → X → Type 0) (d : X) (xs : List X) (y : X) → ((t : ℕ) → t < length xs → P t (get_or xs t d)) → P (length xs) y → (t : ℕ) → t < length xs + 1 → P t (get_or (xs ++ y ∷ []) t d)
@@ -36,13 +36,13 @@ pub record IsCopy (net : NetLists) (table : TableDates) (f : Repetition) (s : Se
   pub period : s.period ≡ f.period
   pub rows_count : length s.rows ≡ length net.transitions
   pub steps_count : length s.steps ≡ length net.transitions
-  pub dates : (t : ℕ) → t < length net.transitions → AreDatesOf table t (f.after + f.period) (row_of s t)
-  pub moves : (t : ℕ) → t < length net.transitions → step_of s t ≡ read_step table f.period t
+  pub dates : (t : ℕ) → t < length net.transitions → AreShownDates table t (f.after + f.period) (row_of s t)
+  pub moves : (t : ℕ) → t < length net.transitions → step_of_form s t ≡ read_step table f.period t
 
 -- the dates and the steps of all transitions, each its own
 pub copied : (net : NetLists) (table : TableDates) (f : Repetition) (rows : List (Vec Date Global)) (steps : List ℤ) (own : List ℕ)
     → length own ≡ length net.transitions → ((t : ℕ) → t < length net.transitions → get_or own t 0 ≡ t)
-    → ((t : ℕ) → t < length net.transitions → AreDatesOf table t (f.after + f.period) (get_or (map (λ r. r.items) rows) t [])) → ((t : ℕ) → t < length net.transitions → get_or steps t (pos 0) ≡ read_step table f.period t)
+    → ((t : ℕ) → t < length net.transitions → AreShownDates table t (f.after + f.period) (get_or (map (λ r. r.items) rows) t [])) → ((t : ℕ) → t < length net.transitions → get_or steps t (pos 0) ≡ read_step table f.period t)
     → IsCopy net table f (stored_form f.after f.period (map (λ r. r.items) rows) steps own)
 copied net table f rows steps own count each dates moves =
     let row : ℕ → List Date = λ i. get_or (map (λ r. r.items) rows) i [] in
@@ -52,7 +52,7 @@ copied net table f rows steps own count each dates moves =
       period = refl;
       rows_count = length-map own row ∙ count;
       steps_count = length-map own step ∙ count;
-      dates = λ t l. subst (AreDatesOf table t (f.after + f.period)) (sym (get_or-map row own t 0 [] (omega (arith, l, count)) ∙ ap row (each t l))) (dates t l);
+      dates = λ t l. subst (AreShownDates table t (f.after + f.period)) (sym (get_or-map row own t 0 [] (omega (arith, l, count)) ∙ ap row (each t l))) (dates t l);
       moves = λ t l. get_or-map step own t 0 (pos 0) (omega (arith, l, count)) ∙ (ap step (each t l) ∙ moves t l);
     }
 
@@ -96,7 +96,7 @@ copy_stands net rows f s x c told = record {
       e;
 }
 
-pub copy_kept : (net : NetLists) (rows : TableDates) (f : Repetition) (s : SettledForm) (x : Dating) → IsNet net → IsCopy net rows f s → IsToldBy net rows f x → IsKept s
+pub copy_kept : (net : NetLists) (rows : TableDates) (f : Repetition) (s : SettledForm) (x : Dating) → IsNet net → IsCopy net rows f s → IsToldBy net rows f x → IsFormKept s
 copy_kept net rows f s x ok c told =
     let stands = copy_stands net rows f s x c told in
     let few = told.window.few in

@@ -8,19 +8,20 @@ use Rattle.dioid.specs.declared.dates.Date.{Date}
 use Rattle.dioid.specs.declared.dates.Date.TheVariants.{Early, At}
 use Rattle.dioid.specs.Dates.{IsAtMostDate}
 use Rattle.dioid.proofs.DateOrder.{at_most_early}
-use Rattle.teg_net.specs.Limits.{greatest_hold, greatest_number}
+use Rattle.teg_net.specs.Limits.{greatest_hold, greatest_firing_number}
 use Rattle.teg_net.specs.Nets.{NetLists, IsNet, IsInput, IsInputOf}
 use Rattle.teg_net.specs.Circuits.{no_place}
-use Rattle.teg_model.specs.Systems.{Dating, System, IsLeastIn}
-use Rattle.teg_model.specs.Ranks.{AreRanks}
-use Rattle.teg_model.specs.Bounds.{IsWithin, IsBoundedBy, greatest_least_date}
-use Rattle.teg_model.specs.Datings.{implicit_place, extended_places, listed}
+use Rattle.teg_model.specs.Systems.{System, IsLeastIn}
+use Rattle.teg_model.specs.LiveRanks.{AreRanks}
+use Rattle.teg_model.specs.DateBounds.{IsDateWithin, IsBoundedBy, greatest_least_date}
+use Rattle.teg_model.specs.Datings.{implicit_place, extended_places, listed_releases}
 use Rattle.teg_model.proofs.LeastOver.{least_over, least_is_feasible, least_is_tight, least_over_is_least}
 use Rattle.teg_model.proofs.OfNet.{all_extended, all_extended_in, implicit_is, ranks_extended}
 use Rattle.teg_model.proofs.Tokens.{implicit_gives}
 use Rattle.teg_model.proofs.Within.{within_more, least_in_within, net_is_bounded}
 use Rattle.teg_model.proofs.ListDates.{first_bound, listed_within}
-use Rattle.teg_dates.specs.Rows.{KeepsBounds}
+use Rattle.teg_model.proofs.DateFunctions.{Dating}
+use Rattle.teg_dates.specs.KeptRows.{KeepsBounds}
 use Rattle.teg_dates.proofs.Ranking.{rank_of, ranks_of}
 use Rattle.settled_laws.proofs.Everywhere.{Climbing}
 use Rattle.settled_laws.proofs.Settling.{HasNoRelease, FollowsRelease}
@@ -30,8 +31,8 @@ use Rattle.teg_settle.specs.declared.releases.Tokens.TheVariants.{Ready, Absent}
 use Rattle.teg_settle.specs.declared.releases.Wait.{Wait}
 use Rattle.teg_settle.specs.declared.releases.Wait.TheVariants.{Nothing, Dates}
 use Rattle.teg_settle.specs.declared.releases.Releases.{Releases}
-use Rattle.teg_settle.specs.Releases.{initial_by, release_as, wait_in, release_by, system_for, OnlyInputsWait}
-use Rattle.teg_settle.specs.Windows.{IsReady}
+use Rattle.teg_settle.specs.InitialReleases.{initial_by, release_as, wait_in, release_by, system_for, OnlyInputsWait}
+use Rattle.teg_settle.specs.ComparedRows.{IsReady}
 use Rattle.teg_settle.proofs.Listing.{got_rules, dates_climb, dates_late, dates_within}
 
 pub ranks_on : (net : NetLists) (r : Releases) (most : ℕ) (h : IsReady net r most) → AreRanks (extended_places net) 400 (rank_of h.ranks)
@@ -114,17 +115,17 @@ pub releases_on : (net : NetLists) (r : Releases) (most : ℕ) (h : IsReady net 
 releases_on net r most h t = waits_on net r most h t (wait_in r.waits.items t) refl
 
 -- the bound of its dates
-release_as_within : (net : NetLists) (w : Wait) (k : ℕ) → IsNet net → IsWithin (first_bound k) (release_as net w k)
+release_as_within : (net : NetLists) (w : Wait) (k : ℕ) → IsNet net → IsDateWithin (first_bound k) (release_as net w k)
 release_as_within net Nothing k ok = tt
 release_as_within net (Dates list) k ok = dates_within net (slice_get net.inputs list) k (got_rules (IsInputOf net) net.inputs list ok.each_input)
 
-initial_within : (net : NetLists) (tokens : Tokens) → IsNet net → All (λ p. (k : ℕ) → 1 ≤ k → k ≤ p.tokens → IsWithin (first_bound k) (initial_by tokens p k)) (extended_places net)
-initial_within net Ready ok = (net_is_bounded net (listed net) first_bound ok (listed_within net ok)).initial
+initial_within : (net : NetLists) (tokens : Tokens) → IsNet net → All (λ p. (k : ℕ) → 1 ≤ k → k ≤ p.tokens → IsDateWithin (first_bound k) (initial_by tokens p k)) (extended_places net)
+initial_within net Ready ok = (net_is_bounded net (listed_releases net) first_bound ok (listed_within net ok)).initial
 initial_within net Absent ok = λ i d l k o m. tt
 
 pub bounded : (net : NetLists) (r : Releases) → IsNet net → IsBoundedBy (system_for r net) greatest_hold first_bound
 bounded net r ok = record {
-  holds = (net_is_bounded net (listed net) first_bound ok (listed_within net ok)).holds;
+  holds = (net_is_bounded net (listed_releases net) first_bound ok (listed_within net ok)).holds;
   grows = λ j k l. omega arith;
   initial = initial_within net r.tokens ok;
   release = λ t k o. release_as_within net (wait_in r.waits.items t) k ok;
@@ -134,7 +135,7 @@ pub keeps_bounds : (net : NetLists) (r : Releases) → IsNet net → KeepsBounds
 keeps_bounds net r ok = (first_bound, bounded net r ok, omega arith)
 
 pub dates_on : (net : NetLists) (r : Releases) (most : ℕ) (h : IsReady net r most) (x : Dating) → IsLeastIn (system_for r net) x
-    → (t k : ℕ) → 1 ≤ k → k ≤ greatest_number → IsWithin greatest_least_date (x t k)
+    → (t k : ℕ) → 1 ≤ k → k ≤ greatest_firing_number → IsDateWithin greatest_least_date (x t k)
 dates_on net r most h x least t k o m =
     let rr = ranks_on net r most h in
     let low = rr.below t in

@@ -4,19 +4,19 @@ use Rattle.std.specs.Prelude.{All}
 use Rattle.std.proofs.lemmas.Bool.{cases_lt}
 use Rattle.teg_net.specs.Nets.{NetLists, IsNet}
 use Rattle.teg_check.specs.Ranks.{IsRanking}
-use Rattle.teg_model.specs.Systems.{Dating}
-use Rattle.settled_laws.specs.Forms.{SettledForm}
-use Rattle.teg_dates.specs.Tables.{TableDates}
+use Rattle.teg_model.proofs.DateFunctions.{Dating}
+use Rattle.settled_laws.specs.SettledForms.{SettledForm}
+use Rattle.teg_dates.specs.DateTables.{TableDates}
 use Rattle.teg_settle.specs.declared.releases.Releases.{Releases}
 use Rattle.teg_settle.specs.declared.releases.Repetition.{Repetition}
 use Rattle.teg_settle.specs.declared.refusals.SettleRefusal.{SettleRefusal}
 use Rattle.teg_settle.specs.declared.refusals.SettleRefusal.TheVariants.{TooLong, OutOfMemory}
-use Rattle.teg_settle.specs.Refusals.{IsRightRefusal}
-use Rattle.teg_settle.specs.Releases.{OnlyInputsWait}
+use Rattle.teg_settle.specs.LimitRefusals.{IsRightSettleRefusal}
+use Rattle.teg_settle.specs.InitialReleases.{OnlyInputsWait}
 use Rattle.teg_settle.specs.declared.search.Found.{Found}
 use Rattle.teg_settle.specs.Copies.{IsFormOf}
-use Rattle.teg_settle.specs.Searches.{IsFound}
-use Rattle.teg_settle.specs.Windows.{IsReady, IsRefuted, IsSeen, IsToldBy, IsLeastForm, LeastSettlesPast}
+use Rattle.teg_settle.specs.ShortestForms.{IsFound}
+use Rattle.teg_settle.specs.ComparedRows.{IsReady, IsRefuted, IsSeen, IsToldBy, IsLeastForm, LeastSettlesPast}
 use Rattle.teg_settle.proofs.Leasts.{least, least_is, dates_on}
 use Rattle.teg_settle.proofs.Tested.{window_of}
 
@@ -81,6 +81,6 @@ module _ (net : NetLists) (r : Releases) (f : Found) (h : IsFound net r f) where
     },
   )
 
-pub refusal_weaker : (P Q : Type 0) (limit : ℕ) (e : SettleRefusal) → (P → Q) → IsRightRefusal P limit e → IsRightRefusal Q limit e
+pub refusal_weaker : (P Q : Type 0) (limit : ℕ) (e : SettleRefusal) → (P → Q) → IsRightSettleRefusal P limit e → IsRightSettleRefusal Q limit e
 refusal_weaker P Q limit (TooLong l) f h = (h.0, f h.1)
 refusal_weaker P Q limit OutOfMemory f h = tt

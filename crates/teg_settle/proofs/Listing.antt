@@ -9,11 +9,11 @@ use Rattle.dioid.specs.Dates.{IsAtMostDate, delayed}
 use Rattle.dioid.proofs.DateOrder.{never_last, delayed_rises}
 use Rattle.teg_net.specs.declared.entries.Again.{Again}
 use Rattle.teg_net.specs.declared.entries.InputList.{InputList}
-use Rattle.teg_net.specs.Limits.{greatest_date}
-use Rattle.teg_net.specs.Nets.{NetLists, IsInputOf, GoesOn, EndsOrGoesOn}
-use Rattle.teg_net.specs.Inputs.{moved_by, GoOnBy, date_by, list_date}
+use Rattle.teg_net.specs.Limits.{greatest_input_date}
+use Rattle.teg_net.specs.Nets.{NetLists, IsInputOf, ListGoesOn, EndsOrGoesOn}
+use Rattle.teg_net.specs.Inputs.{moved_by, GoOnBy, date_by_list, list_date}
 use Rattle.teg_net.proofs.InputDates.{IsInputDates-list_date, list_date-most}
-use Rattle.teg_model.specs.Bounds.{IsWithin}
+use Rattle.teg_model.specs.DateBounds.{IsDateWithin}
 use Rattle.teg_model.specs.Datings.{as_date}
 use Rattle.teg_settle.proofs.Releasing.{moved_date}
 use Rattle.teg_model.proofs.ListDates.{as_date_within}
@@ -37,7 +37,7 @@ inside dates u k own s o l =
     rw (low, high) (omega (arith, ints, up))
 
 -- past its dates the list goes on, and does not fall where it joins
-climbs_on : (dates : List ℕ) (a : Again) (u : ℕ → Option ℕ) → ((j : ℕ) → 1 ≤ j → j ≤ length dates → u j ≡ Some (get_or dates (j - 1) 0)) → IsNonDecreasing dates → GoesOn dates a → GoOnBy (length dates) (Some a) u
+climbs_on : (dates : List ℕ) (a : Again) (u : ℕ → Option ℕ) → ((j : ℕ) → 1 ≤ j → j ≤ length dates → u j ≡ Some (get_or dates (j - 1) 0)) → IsNonDecreasing dates → ListGoesOn dates a → GoOnBy (length dates) (Some a) u
     → (n k : ℕ) → k ≤ n → 1 ≤ k → IsAtMostDate (as_date (u k)) (as_date (u (k + 1)))
 climbs_on dates a u own s h g zero k l o = absurd (omega arith)
 climbs_on dates a u own s h g (suc n) k l o =
@@ -73,15 +73,15 @@ climbs_by dates None u own s h g k o =
     (cases_lt (length dates) (k + 1))
 climbs_by dates (Some a) u own s h g k o = climbs_on dates a u own s h g k k (omega arith) o
 
-pub dates_climb : (net : NetLists) (o : Option InputList) → IfSome o (IsInputOf net) → (k : ℕ) → 1 ≤ k → IsAtMostDate (as_date (date_by o k)) (as_date (date_by o (k + 1)))
+pub dates_climb : (net : NetLists) (o : Option InputList) → IfSome o (IsInputOf net) → (k : ℕ) → 1 ≤ k → IsAtMostDate (as_date (date_by_list o k)) (as_date (date_by_list o (k + 1)))
 dates_climb net None h k o = omega (arith, ints)
 dates_climb net (Some l) h k o =
     let is = IsInputDates-list_date l h.again in
     climbs_by l.dates l.again (list_date l.dates l.again) is.listed h.never_falls h.again is.past k o
 
-pub dates_late : (o : Option InputList) (k : ℕ) → IsAtMostDate (At (pos 0)) (as_date (date_by o k))
-dates_late o k = as_date_late (date_by o k)
+pub dates_late : (o : Option InputList) (k : ℕ) → IsAtMostDate (At (pos 0)) (as_date (date_by_list o k))
+dates_late o k = as_date_late (date_by_list o k)
 
-pub dates_within : (net : NetLists) (o : Option InputList) (k : ℕ) → IfSome o (IsInputOf net) → IsWithin (greatest_date * (k + 1)) (as_date (date_by o k))
+pub dates_within : (net : NetLists) (o : Option InputList) (k : ℕ) → IfSome o (IsInputOf net) → IsDateWithin (greatest_input_date * (k + 1)) (as_date (date_by_list o k))
 dates_within net None k h = (omega (arith, ints), omega (arith, ints))
-dates_within net (Some l) k h = as_date_within (list_date l.dates l.again k) (greatest_date * (k + 1)) (list_date-most l.dates l.again k h.dates_in h.again)
+dates_within net (Some l) k h = as_date_within (list_date l.dates l.again k) (greatest_input_date * (k + 1)) (list_date-most l.dates l.again k h.dates_in h.again)

@@ -10,12 +10,12 @@ use Rattle.teg_net.specs.declared.walks.Step.{Step}
 use Rattle.teg_net.specs.declared.walks.Step.TheVariants.{Next}
 use Rattle.teg_net.specs.Nets.{NetLists}
 use Rattle.teg_net.specs.Walks.{Walks, walk_time, step_time}
-use Rattle.teg_model.specs.Systems.{Dating}
 use Rattle.teg_model.proofs.WalkSteps.{walk_append, walk_time-append}
+use Rattle.teg_model.proofs.DateFunctions.{Dating}
 use Rattle.settled_laws.proofs.Shortest.{shortest_is_one}
 use Rattle.settled_laws.proofs.Alike.{AreAlike, shortest_alike, past_alike}
 use Rattle.teg_settle.specs.Transfers.{IsGreatestWalkTime, AreWalkTimes}
-use Rattle.teg_settle.specs.Laws.{TransfersAreOne, TransferLimitsAreTold}
+use Rattle.teg_settle.specs.WalkTimes.{TransfersAreOne, TransferLimitsAreTold}
 
 -- a walk goes on to the next firing of its last transition in the same time
 on_to_next : (net : NetLists) (input t k : ℕ) (steps : List Step) → Walks net input 1 steps t k → Walks net input 1 (steps ++ Next ∷ []) t (k + 1)

@@ -3,15 +3,15 @@ use Rattle.std.proofs.Common.{ℕ, ◌≡◌, List}
 use Rattle.teg_net.specs.Nets.{NetLists, IsNet}
 use Rattle.teg_check.specs.Ranks.{IsRanking}
 use Rattle.teg_check.proofs.Liveness.{ranking_is_live}
-use Rattle.settled_laws.specs.Forms.{SettledForm, step_of, IsSettledFormOf, NetSettlesPast}
+use Rattle.settled_laws.specs.SettledForms.{SettledForm, step_of_form, IsSettledFormOf, NetSettlesPast}
 use Rattle.slope_laws.proofs.FormSlopes.{settled_forms_have_slopes}
 use Rattle.teg_settle.specs.declared.refusals.SettleRefusal.{SettleRefusal}
 use Rattle.teg_settle.specs.declared.releases.Tokens.TheVariants.{Ready}
 use Rattle.teg_settle.specs.declared.releases.Releases.{Releases}
-use Rattle.teg_settle.specs.Releases.{AreWaits, wait_of}
-use Rattle.teg_settle.specs.Refusals.{IsRightRefusal}
-use Rattle.teg_settle.specs.Windows.{IsLeastForm, LeastSettlesPast}
-use Rattle.teg_settle.specs.Slopes.{HasSlopes}
+use Rattle.teg_settle.specs.InitialReleases.{AreWaits, wait_of}
+use Rattle.teg_settle.specs.LimitRefusals.{IsRightSettleRefusal}
+use Rattle.teg_settle.specs.ComparedRows.{IsLeastForm, LeastSettlesPast}
+use Rattle.teg_settle.specs.SlopesOfNets.{HasSlopes}
 use Rattle.teg_settle.proofs.Limiting.{refusal_weaker}
 use Rattle.teg_settle.proofs.Owning.{own_least}
 
@@ -19,8 +19,8 @@ module _ (net : NetLists) (r : Releases) (ready : r.tokens ≡ Ready) (waits : A
   pub own_form : (f : SettledForm) → IsLeastForm net r f → IsSettledFormOf net f
   own_form f h = (h.0, own_least net r ready waits h.0 h.1, h.2)
 
-  pub own_refusal : (limit : ℕ) (e : SettleRefusal) → IsRightRefusal (LeastSettlesPast net r limit) limit e → IsRightRefusal (NetSettlesPast net limit) limit e
-  own_refusal limit e = refusal_weaker (LeastSettlesPast net r limit) (NetSettlesPast net limit) limit e (λ h. (h.0, own_least net r ready waits h.0 h.1, λ f s. h.2 f.after f.period (step_of f) s.repeats))
+  pub own_refusal : (limit : ℕ) (e : SettleRefusal) → IsRightSettleRefusal (LeastSettlesPast net r limit) limit e → IsRightSettleRefusal (NetSettlesPast net limit) limit e
+  own_refusal limit e = refusal_weaker (LeastSettlesPast net r limit) (NetSettlesPast net limit) limit e (λ h. (h.0, own_least net r ready waits h.0 h.1, λ f s. h.2 f.after f.period (step_of_form f) s.repeats))
 
   pub own_slopes : (ranks : List ℕ) → IsNet net → IsRanking net ranks → (f : SettledForm) → IsLeastForm net r f → HasSlopes net f
   own_slopes ranks ok ranking f h =

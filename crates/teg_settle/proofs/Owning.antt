@@ -10,15 +10,16 @@ use Rattle.teg_net.specs.declared.entries.Role.{Role}
 use Rattle.teg_net.specs.declared.entries.Role.TheVariants.{Internal, Input, Output}
 use Rattle.teg_net.specs.declared.entries.Transition.{Transition}
 use Rattle.teg_net.specs.Nets.{NetLists, IsInput}
-use Rattle.teg_net.specs.Inputs.{date_by}
-use Rattle.teg_model.specs.Systems.{Dating, InitialDates, IsFeasibleIn, IsLeastIn}
-use Rattle.teg_model.specs.Datings.{as_date, listed, by_role, by_transition, at_input, system_of, system_with, IsLeastDating}
+use Rattle.teg_net.specs.Inputs.{date_by_list}
+use Rattle.teg_model.specs.Systems.{IsFeasibleIn, IsLeastIn}
+use Rattle.teg_model.specs.Datings.{as_date, listed_releases, by_role, by_transition, at_input, system_of, system_with, IsLeastDating}
 use Rattle.teg_model.proofs.OfNet.{least_of_system}
+use Rattle.teg_model.proofs.DateFunctions.{Dating, InitialDates}
 use Rattle.teg_settle.specs.declared.releases.Tokens.TheVariants.{Ready}
 use Rattle.teg_settle.specs.declared.releases.Wait.{Wait}
 use Rattle.teg_settle.specs.declared.releases.Wait.TheVariants.{Nothing, Dates}
 use Rattle.teg_settle.specs.declared.releases.Releases.{Releases}
-use Rattle.teg_settle.specs.Releases.{initial_by, date_of_list, release_as, wait_in, release_by, system_for, AreWaits, list_number, wait_by_role, wait_by, wait_of, OnlyInputsWait}
+use Rattle.teg_settle.specs.InitialReleases.{initial_by, date_of_list, release_as, wait_in, release_by, system_for, AreWaits, list_number, wait_by_role, wait_by, wait_of, OnlyInputsWait}
 
 -- releases that are one give one least dating
 feasible_same : (net : NetLists) (init : InitialDates) (rel other x : Dating) → ((t k : ℕ) → rel t k ≡ other t k) → IsFeasibleIn (system_with net init rel) x → IsFeasibleIn (system_with net init other) x
@@ -43,27 +44,27 @@ by_transition_is net None list k = refl
 by_transition_is net (Some t) list k = by_role_is net t.role list k
 
 -- each release is that of the net's lists
-own_release : (net : NetLists) (r : Releases) → AreWaits net (wait_of net) r.waits.items → (t k : ℕ) → release_by r.waits.items net t k ≡ at_input net t (listed net t k) Early
+own_release : (net : NetLists) (r : Releases) → AreWaits net (wait_of net) r.waits.items → (t k : ℕ) → release_by r.waits.items net t k ≡ at_input net t (listed_releases net t k) Early
 own_release net r w t k =
     ⊎_elim
     (λ (l : t < length net.transitions).
-    let found : date_of_list net (list_number net t) k ≡ listed net t k = ap (λ o. as_date (date_by o k)) (sym (find_at (λ l. l.transition.index == t) net.inputs)) in
+    let found : date_of_list net (list_number net t) k ≡ listed_releases net t k = ap (λ o. as_date (date_by_list o k)) (sym (find_at (λ l. l.transition.index == t) net.inputs)) in
     ap (λ z. release_as net z k) (w.each t l) ∙ (by_transition_is net (slice_get net.transitions t) (list_number net t) k ∙ ap (λ d. at_input net t d Early) found))
     (λ (l : length net.transitions ≤ t).
     let none : slice_get net.transitions t ≡ None = slice_get_past net.transitions t l in
     let past : wait_in r.waits.items t ≡ Nothing = get_or_past r.waits.items t Nothing (omega (arith, w.count)) in
-    ap (λ z. release_as net z k) past ∙ sym (ap (λ o. by_transition o (listed net t k) Early) none))
+    ap (λ z. release_as net z k) past ∙ sym (ap (λ o. by_transition o (listed_releases net t k) Early) none))
     (cases_lt t (length net.transitions))
 
 -- the least dating is that of the net's own system
-pub own_system : (net : NetLists) (r : Releases) → r.tokens ≡ Ready → AreWaits net (wait_of net) r.waits.items → (x : Dating) → IsLeastIn (system_for r net) x → IsLeastIn (system_of net (listed net)) x
+pub own_system : (net : NetLists) (r : Releases) → r.tokens ≡ Ready → AreWaits net (wait_of net) r.waits.items → (x : Dating) → IsLeastIn (system_for r net) x → IsLeastIn (system_of net (listed_releases net)) x
 own_system net r ready w x h =
     let rel : Dating = release_by r.waits.items net in
     let here : IsLeastIn (system_with net (initial_by Ready) rel) x = subst (λ t. IsLeastIn (system_with net (initial_by t) rel) x) ready h in
-    least_same net (initial_by Ready) rel (λ t k. at_input net t (listed net t k) Early) x (own_release net r w) here
+    least_same net (initial_by Ready) rel (λ t k. at_input net t (listed_releases net t k) Early) x (own_release net r w) here
 
 pub own_least : (net : NetLists) (r : Releases) → r.tokens ≡ Ready → AreWaits net (wait_of net) r.waits.items → (x : Dating) → IsLeastIn (system_for r net) x → IsLeastDating net x
-own_least net r ready w x h = least_of_system net (listed net) x (own_system net r ready w x h)
+own_least net r ready w x h = least_of_system net (listed_releases net) x (own_system net r ready w x h)
 
 waits_as_role : (r : Role) (list number : ℕ) → wait_by_role r number ≡ Dates list → r ≡ Input
 waits_as_role Internal list number e = absurd (cc)

@@ -3,11 +3,11 @@ use Rattle.std.proofs.Common.{ℕ, ◌<◌, ◌≡◌, true, List, length, get_o
 use Rattle.teg_net.specs.Nets.{NetLists, IsNet, IsInput}
 use Rattle.teg_net.specs.Circuits.{IsLive}
 use Rattle.teg_check.specs.Ranks.{IsRanking}
-use Rattle.settled_laws.specs.Forms.{SettledForm, step_of}
+use Rattle.settled_laws.specs.SettledForms.{SettledForm, step_of_form}
 use Rattle.teg_settle.specs.declared.reached.Part.{Part}
 use Rattle.teg_settle.specs.Alone.{IsAloneForm, AloneSettlesPast}
 use Rattle.teg_settle.specs.Reached.{is_marked, IsPartFrom}
-use Rattle.teg_settle.specs.Spread.{IsSpread}
+use Rattle.teg_settle.specs.Spread.{IsSpreadOut}
 use Rattle.teg_settle.specs.Transfers.{IsTransferOf, TransferSettlesPast}
 use Rattle.teg_settle.proofs.ReachedPart.{part_is_live, part_input, told_by, told_least, told_shortest, repeats_in_part}
 use Rattle.teg_settle.proofs.Transferring.{alone_times, input_within}
@@ -26,7 +26,7 @@ module _ (net : NetLists) (input : ℕ) (part : Part) (h : IsPartFrom net input 
     pub live_part : IsLive part.net
     live_part = part_is_live net part.marks.items h.old part.new.items h.numbers h.closed.leads_on part.net h.transitions h.places ok ranks ranking
 
-    pub form_told : (f g : SettledForm) → IsAloneForm part.net (get_or part.new.items input 0) f → IsSpread part.marks.items part.new.items f g → IsTransferOf net input g
+    pub form_told : (f g : SettledForm) → IsAloneForm part.net (get_or part.new.items input 0) f → IsSpreadOut part.marks.items part.new.items f g → IsTransferOf net input g
     form_told f g a spread =
         let least = told_least net part.marks.items h.old part.new.items h.numbers h.closed.leads_on part.net h.transitions h.places ok h.wide input h.closed.begins a.0 a.1 in (
           told_by net part.marks.items h.old part.new.items h.numbers h.closed.leads_on part.net h.transitions h.places ok h.wide input h.closed.begins a.0,
@@ -40,5 +40,5 @@ module _ (net : NetLists) (input : ℕ) (part : Part) (h : IsPartFrom net input 
           told_by net part.marks.items h.old part.new.items h.numbers h.closed.leads_on part.net h.transitions h.places ok h.wide input h.closed.begins a.0,
           alone_times net input ranks ok ranking given _ least,
           λ f stands. a.2 f.after f.period _
-              (repeats_in_part net part.marks.items h.old part.new.items h.numbers h.closed.leads_on part.net h.transitions h.places ok h.wide input h.closed.begins a.0 f.after f.period (step_of f) stands.repeats),
+              (repeats_in_part net part.marks.items h.old part.new.items h.numbers h.closed.leads_on part.net h.transitions h.places ok h.wide input h.closed.begins a.0 f.after f.period (step_of_form f) stands.repeats),
         )

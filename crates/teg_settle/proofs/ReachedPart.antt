@@ -18,16 +18,17 @@ use Rattle.teg_net.specs.Names.{is_name}
 use Rattle.teg_net.specs.Nets.{NetLists, IsNet, IsInput, IsInputOf, IsPlaceOf}
 use Rattle.teg_net.specs.Circuits.{no_place, place_at, IsPathBetween, IsLive, tokens_of}
 use Rattle.teg_check.specs.Ranks.{IsRanking}
-use Rattle.teg_model.specs.Systems.{Dating, available_in, IsFeasibleIn, IsLeastIn}
+use Rattle.teg_model.specs.Systems.{available_in, IsFeasibleIn, IsLeastIn}
 use Rattle.teg_model.specs.Datings.{implicit_place}
 use Rattle.teg_model.proofs.OfNet.{all_extended_in, extended_has, implicit_is}
 use Rattle.teg_model.proofs.Tokens.{available_after, available_first}
-use Rattle.settled_laws.specs.Forms.{SettledForm, settled_length, row_of, step_of, HasSizes, IsShortest, IsTail, RepeatsAfter, StandsFor}
+use Rattle.teg_model.proofs.DateFunctions.{Dating}
+use Rattle.settled_laws.specs.SettledForms.{SettledForm, settled_length, row_of, step_of_form, HasSizes, IsShortestForm, IsTail, RepeatsAfter, StandsFor}
 use Rattle.teg_settle.specs.declared.releases.Tokens.TheVariants.{Absent}
-use Rattle.teg_settle.specs.Alone.{alone, released}
-use Rattle.teg_settle.specs.Releases.{initial_by}
-use Rattle.teg_settle.specs.Reached.{is_marked, begins_marked, AreClosed, AreThose, IsNumbering, LeadsOn, places_from, renumbered}
-use Rattle.teg_settle.specs.Spread.{IsSpread}
+use Rattle.teg_settle.specs.Alone.{alone, released_alone}
+use Rattle.teg_settle.specs.InitialReleases.{initial_by}
+use Rattle.teg_settle.specs.Reached.{is_marked, begins_marked, IsReachClosed, AreThose, IsNumbering, ReachLeadsOn, places_from, renumbered}
+use Rattle.teg_settle.specs.Spread.{IsSpreadOut}
 use Rattle.teg_settle.proofs.Releasing.{got}
 use Rattle.teg_settle.proofs.Spreading.{spread_sizes}
 
@@ -68,7 +69,7 @@ left_out marks new ps i d l e =
     ∙ (ap (λ b. filter (begins_marked marks) (take i ps) ++ cond b (get_or ps i d ∷ []) []) e ∙ append-nil (filter (begins_marked marks) (take i ps))))
 
 -- marks of all transitions are closed
-pub all_closed : (net : NetLists) (input : ℕ) (marks : List Bool) → IsNet net → input < length net.transitions → marks ≡ replicate (length net.transitions) true → AreClosed net input marks
+pub all_closed : (net : NetLists) (input : ℕ) (marks : List Bool) → IsNet net → input < length net.transitions → marks ≡ replicate (length net.transitions) true → IsReachClosed net input marks
 all_closed net input marks ok l is =
     let at : (t : ℕ) → t < length net.transitions → is_marked marks t ≡ true = λ t m. ap (λ bs. is_marked bs t) is ∙ get_or-replicate (length net.transitions) t true false m in
     record { begins = at input l; leads_on = λ i d m _. at (get_or net.places i d).to.index (ok.each_place i d m).to_in }
@@ -88,13 +89,13 @@ rises_along net rank r (p ∷ ps) a b h t =
     let more = rises_along net rank r ps (place_at net p).to.index b h.2 rest in
     omega (arith, ap rank h.1, step, more)
 
-released_self : (i k : ℕ) → released i i k ≡ At (pos 0)
+released_self : (i k : ℕ) → released_alone i i k ≡ At (pos 0)
 released_self i k = let b : eqb i i ≡ true = grind (arith, nat_tests) in rw b refl
 
-released_not : (i t k : ℕ) → eqb i t ≡ false → released i t k ≡ Early
+released_not : (i t k : ℕ) → eqb i t ≡ false → released_alone i t k ≡ Early
 released_not i t k b = rw b refl
 
-module _ (net : NetLists) (marks : List Bool) (old new : List ℕ) (numbers : IsNumbering marks (length net.transitions) old new) (leads : LeadsOn net marks) (part : NetLists)
+module _ (net : NetLists) (marks : List Bool) (old new : List ℕ) (numbers : IsNumbering marks (length net.transitions) old new) (leads : ReachLeadsOn net marks) (part : NetLists)
     (ts : AreThose net.transitions old part.transitions) (is : part.places ≡ places_from marks new net.places) where
   abbrev from : Place → Bool
   from = begins_marked marks
@@ -252,8 +253,8 @@ module _ (net : NetLists) (marks : List Bool) (old new : List ℕ) (numbers : Is
               ⊎_elim
               (λ (b : eqb input t ≡ true).
               let same : input ≡ t = grind (arith, nat_tests) in
-              let up = subst (IsAtMostDate (released (to_new input) (to_new input) k)) (sym (told_on input k begins)) (least.feasible.releases (to_new input) k one) in
-              subst (λ i. IsAtMostDate (released input i k) (told_by z i k)) same
+              let up = subst (IsAtMostDate (released_alone (to_new input) (to_new input) k)) (sym (told_on input k begins)) (least.feasible.releases (to_new input) k one) in
+              subst (λ i. IsAtMostDate (released_alone input i k) (told_by z i k)) same
               (subst (λ d. IsAtMostDate d (told_by z input k)) (released_self (to_new input) k ∙ sym (released_self input k)) up))
               (λ (b : eqb input t ≡ false). subst (λ d. IsAtMostDate d (told_by z t k)) (sym (released_not input t k b)) tt)
               (cases_Bool (eqb input t));
@@ -276,9 +277,9 @@ module _ (net : NetLists) (marks : List Bool) (old new : List ℕ) (numbers : Is
               (λ (b : eqb (to_new input) u ≡ true).
               let same : to_new input ≡ u = grind (arith, nat_tests) in
               let back : to_old (to_new input) ≡ input = numbers.forth input (marked_in input begins) begins in
-              subst (λ v. IsAtMostDate (released (to_new input) v k) (y (to_old v) k)) same
+              subst (λ v. IsAtMostDate (released_alone (to_new input) v k) (y (to_old v) k)) same
               (subst (λ d. IsAtMostDate d (y (to_old (to_new input)) k)) (released_self input k ∙ sym (released_self (to_new input) k))
-              (subst (λ v. IsAtMostDate (released input input k) (y v k)) (sym back) (f.releases input k one))))
+              (subst (λ v. IsAtMostDate (released_alone input input k) (y v k)) (sym back) (f.releases input k one))))
               (λ (b : eqb (to_new input) u ≡ false). subst (λ d. IsAtMostDate d (y (to_old u) k)) (sym (released_not (to_new input) u k b)) tt)
               (cases_Bool (eqb (to_new input) u));
         }
@@ -309,7 +310,7 @@ module _ (net : NetLists) (marks : List Bool) (old new : List ℕ) (numbers : Is
             sym (down u (k + period) low) ∙ (h.again (to_old u) k (numbers.within u low) q ∙ ap (move (step (to_old u))) (down u k low));
       }
 
-      module _ (f g : SettledForm) (spread : IsSpread marks new f g) (short : IsShortest (length part.transitions) f z) where
+      module _ (f g : SettledForm) (spread : IsSpreadOut marks new f g) (short : IsShortestForm (length part.transitions) f z) where
         abbrev s : StandsFor (length part.transitions) f z
         s = short.stands
 
@@ -319,14 +320,14 @@ module _ (net : NetLists) (marks : List Bool) (old new : List ℕ) (numbers : Is
         row_here : (t : ℕ) → t < length net.transitions → is_marked marks t ≡ true → row_of g t ≡ row_of f (to_new t)
         row_here t l e = spread.rows t (omega (arith, l, numbers.long)) ∙ ap (λ b. cond b (row_of f (to_new t)) (replicate (settled_length f) Early)) e
 
-        step_here : (t : ℕ) → t < length net.transitions → is_marked marks t ≡ true → step_of g t ≡ step_of f (to_new t)
-        step_here t l e = spread.steps t (omega (arith, l, numbers.long)) ∙ ap (λ b. cond b (step_of f (to_new t)) (pos 0)) e
+        step_here : (t : ℕ) → t < length net.transitions → is_marked marks t ≡ true → step_of_form g t ≡ step_of_form f (to_new t)
+        step_here t l e = spread.steps t (omega (arith, l, numbers.long)) ∙ ap (λ b. cond b (step_of_form f (to_new t)) (pos 0)) e
 
         row_there : (t : ℕ) → t < length net.transitions → is_marked marks t ≡ false → row_of g t ≡ replicate (settled_length f) Early
         row_there t l e = spread.rows t (omega (arith, l, numbers.long)) ∙ ap (λ b. cond b (row_of f (to_new t)) (replicate (settled_length f) Early)) e
 
-        step_there : (t : ℕ) → t < length net.transitions → is_marked marks t ≡ false → step_of g t ≡ pos 0
-        step_there t l e = spread.steps t (omega (arith, l, numbers.long)) ∙ ap (λ b. cond b (step_of f (to_new t)) (pos 0)) e
+        step_there : (t : ℕ) → t < length net.transitions → is_marked marks t ≡ false → step_of_form g t ≡ pos 0
+        step_there t l e = spread.steps t (omega (arith, l, numbers.long)) ∙ ap (λ b. cond b (step_of_form f (to_new t)) (pos 0)) e
 
         tail_here : (t : ℕ) (d : Date) → is_marked marks t ≡ true → IsTail (told_by z t) g.after g.period d → IsTail (z (to_new t)) f.after f.period d
         tail_here t d e h k m q = sym (told_on t k e) ∙ h k (omega (arith, m, spread.after)) (omega (arith, q, spread.after, spread.period))
@@ -348,7 +349,7 @@ module _ (net : NetLists) (marks : List Bool) (old new : List ℕ) (numbers : Is
                 ⊎_elim
                 (λ (e : is_marked marks t ≡ true).
                 rw (step_here t l e, told_on t (k + g.period) e, told_on t k e, spread.period) (s.repeats.again (to_new t) k (found_in t l e) (omega (arith, m, spread.after))))
-                (λ (e : is_marked marks t ≡ false). told_off t (k + g.period) e ∙ sym (ap (move (step_of g t)) (told_off t k e)))
+                (λ (e : is_marked marks t ≡ false). told_off t (k + g.period) e ∙ sym (ap (move (step_of_form g t)) (told_off t k e)))
                 (cases_Bool (is_marked marks t));
           };
           still = λ t l h.
@@ -365,7 +366,7 @@ module _ (net : NetLists) (marks : List Bool) (old new : List ℕ) (numbers : Is
         }
 
         -- the shortest form of the part, told of the net, is the shortest there
-        pub told_shortest : IsShortest (length net.transitions) g (told_by z)
+        pub told_shortest : IsShortestForm (length net.transitions) g (told_by z)
         told_shortest = record {
           stands = told_stands;
           least_period = λ k p u rep. omega (arith, spread.period, short.least_period k p (λ v. u (to_old v)) (repeats_in_part k p u rep));

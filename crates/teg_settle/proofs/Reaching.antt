@@ -2,12 +2,12 @@
 use Rattle.std.proofs.Common.{ℕ, ◌+◌, ◌≡◌, arith}
 use Rattle.teg_net.specs.Nets.{NetLists}
 use Rattle.teg_net.specs.Circuits.{IsLive}
-use Rattle.periodic_laws.specs.Numbers.{repeats_past, repeats_in, repeats_by}
-use Rattle.periodic_laws.specs.Laws.{LeastDatingsRepeat}
+use Rattle.periodic_laws.specs.RepeatNumbers.{repeats_past, repeats_in, repeats_by}
+use Rattle.periodic_laws.specs.LinearSystem.{LeastDatingsRepeat}
 use Rattle.teg_settle.specs.declared.releases.Tokens.TheVariants.{Ready}
 use Rattle.teg_settle.specs.declared.releases.Releases.{Releases}
-use Rattle.teg_settle.specs.Releases.{AreWaits, wait_of}
-use Rattle.teg_settle.specs.Windows.{IsReady}
+use Rattle.teg_settle.specs.InitialReleases.{AreWaits, wait_of}
+use Rattle.teg_settle.specs.ComparedRows.{IsReady}
 use Rattle.teg_settle.specs.Endless.{HasFormBy}
 use Rattle.teg_settle.proofs.Leasts.{least, least_is}
 use Rattle.teg_settle.proofs.Owning.{own_least}

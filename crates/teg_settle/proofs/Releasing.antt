@@ -11,10 +11,10 @@ use Rattle.dioid.specs.Dates.{delayed}
 use Rattle.teg_net.specs.declared.entries.Again.{Again}
 use Rattle.teg_net.specs.declared.entries.InputList.{InputList}
 use Rattle.teg_net.specs.Nets.{NetLists, EndsOrGoesOn}
-use Rattle.teg_net.specs.Inputs.{moved_by, GoOnBy, date_by, list_date}
+use Rattle.teg_net.specs.Inputs.{moved_by, GoOnBy, date_by_list, list_date}
 use Rattle.teg_net.proofs.InputDates.{IsInputDates-list_date}
 use Rattle.teg_model.specs.Datings.{as_date}
-use Rattle.teg_settle.specs.Releases.{HasSpan, date_of_list}
+use Rattle.teg_settle.specs.InitialReleases.{HasSpan, date_of_list}
 
 -- what is read at a place within the list
 pub got : {X : Type 0} (xs : List X) (i : ℕ) (x : X) → i < length xs → ((d : X) → x ≡ get_or xs i d) → slice_get xs i ≡ Some x
@@ -47,7 +47,7 @@ span_past dates (Some a) u h g = record {
 -- past its dates a list goes on evenly
 pub span_list : (net : NetLists) (list : ℕ) (l : InputList) (o : Option Again) → slice_get net.inputs list ≡ Some l → EndsOrGoesOn l.dates l.again → l.again ≡ o → HasSpan (date_of_list net list) (length l.dates) (every_of o)
 span_list net list l o e h a =
-    rw (← a) (subst (λ z. HasSpan (λ k. as_date (date_by z k)) (length l.dates) (every_of l.again)) (sym e)
+    rw (← a) (subst (λ z. HasSpan (λ k. as_date (date_by_list z k)) (length l.dates) (every_of l.again)) (sym e)
     (span_past l.dates l.again (list_date l.dates l.again) h (IsInputDates-list_date l h).past))
 
 -- the place of the first that passes, and past the last where none does

@@ -4,19 +4,19 @@ use Rattle.std.specs.Prelude.{ℤ, pos}
 use Rattle.std.proofs.lemmas.List.FromFn.{get_or-map-range_with_len, length-map-range_with_len}
 use Rattle.dioid.specs.declared.dates.Date.TheVariants.{Early}
 use Rattle.teg_net.specs.Nets.{NetLists}
-use Rattle.settled_laws.specs.Forms.{row_of, row_date}
-use Rattle.teg_dates.specs.Tables.{TableDates, date_at}
+use Rattle.settled_laws.specs.SettledForms.{row_of, row_date}
+use Rattle.teg_dates.specs.DateTables.{TableDates, date_at}
 use Rattle.teg_settle.specs.declared.releases.Repetition.{Repetition}
-use Rattle.teg_settle.specs.Shown.{dates_in, shown_form}
-use Rattle.teg_settle.specs.Windows.{read_step}
+use Rattle.teg_settle.specs.ShownForms.{shown_dates, shown_form}
+use Rattle.teg_settle.specs.ComparedRows.{read_step}
 use Rattle.teg_settle.proofs.Copying.{IsCopy}
 
 -- the row of a transition
-row_shown : (rows : TableDates) (f : Repetition) (steps : List ℤ) (t : ℕ) → t < rows.width → row_of (shown_form rows f steps) t ≡ dates_in rows (f.after + f.period) t
-row_shown rows f steps t l = get_or-map-range_with_len (dates_in rows (f.after + f.period)) 0 rows.width t t [] l (omega arith)
+row_shown : (rows : TableDates) (f : Repetition) (steps : List ℤ) (t : ℕ) → t < rows.width → row_of (shown_form rows f steps) t ≡ shown_dates rows (f.after + f.period) t
+row_shown rows f steps t l = get_or-map-range_with_len (shown_dates rows (f.after + f.period)) 0 rows.width t t [] l (omega arith)
 
 -- a date in it
-date_in_row : (rows : TableDates) (count t k : ℕ) → 1 ≤ k → k ≤ count → get_or (dates_in rows count t) (k - 1) Early ≡ date_at rows t k
+date_in_row : (rows : TableDates) (count t k : ℕ) → 1 ≤ k → k ≤ count → get_or (shown_dates rows count t) (k - 1) Early ≡ date_at rows t k
 date_in_row rows count t k o m =
     let back : (k - 1) + 1 ≡ k = omega arith in
     get_or-map-range_with_len (λ j. date_at rows t (j + 1)) 0 count (k - 1) (k - 1) Early (omega arith) (omega arith) ∙ ap (date_at rows t) back
@@ -25,7 +25,7 @@ pub date_shown : (rows : TableDates) (f : Repetition) (steps : List ℤ) (t k : 
 date_shown rows f steps t k l o m = ap (λ r. get_or r (k - 1) Early) (row_shown rows f steps t l) ∙ date_in_row rows (f.after + f.period) t k o m
 
 pub rows_shown : (rows : TableDates) (f : Repetition) (steps : List ℤ) → length (shown_form rows f steps).rows ≡ rows.width
-rows_shown rows f steps = length-map-range_with_len (dates_in rows (f.after + f.period)) 0 rows.width
+rows_shown rows f steps = length-map-range_with_len (shown_dates rows (f.after + f.period)) 0 rows.width
 
 -- so it is a copy of them
 pub shown_is_copy : (net : NetLists) (rows : TableDates) (f : Repetition) (steps : List ℤ) → rows.width ≡ length net.transitions → length steps ≡ length net.transitions

@@ -9,12 +9,12 @@ use Rattle.dioid.specs.declared.dates.Date.{Date}
 use Rattle.dioid.specs.declared.dates.Date.TheVariants.{Early}
 use Rattle.dioid.specs.Dates.{move}
 use Rattle.teg_net.specs.Limits.{most_transitions}
-use Rattle.teg_model.specs.Bounds.{IsWithin, greatest_least_date}
-use Rattle.settled_laws.specs.Forms.{SettledForm, settled_length, row_of, row_date, step_of, rounds_past, date_of, HasSizes}
+use Rattle.teg_model.specs.DateBounds.{IsDateWithin, greatest_least_date}
+use Rattle.settled_laws.specs.SettledForms.{SettledForm, settled_length, row_of, row_date, step_of_form, periods_past, settled_date, HasSizes}
 use Rattle.teg_settle.specs.Stored.{IsStored, stored_form}
-use Rattle.teg_settle.specs.Kept.{IsKept}
+use Rattle.teg_settle.specs.KeptForms.{IsFormKept}
 use Rattle.teg_settle.specs.Reached.{is_marked}
-use Rattle.teg_settle.specs.Spread.{IsSpread}
+use Rattle.teg_settle.specs.Spread.{IsSpreadOut}
 
 all_early : (n i : ℕ) → get_or (replicate n Early) i Early ≡ Early
 all_early n i =
@@ -24,21 +24,21 @@ all_early n i =
     (cases_lt i n)
 
 -- forms with the same number and period, row and step tell the same dates
-same_date : (f g : SettledForm) (t u k : ℕ) → g.after ≡ f.after → g.period ≡ f.period → row_of g t ≡ row_of f u → step_of g t ≡ step_of f u → date_of g t k ≡ date_of f u k
+same_date : (f g : SettledForm) (t u k : ℕ) → g.after ≡ f.after → g.period ≡ f.period → row_of g t ≡ row_of f u → step_of_form g t ≡ step_of_form f u → settled_date g t k ≡ settled_date f u k
 same_date f g t u k a p r s = rw (a, p, r, s) refl
 
 -- a row without dates tells none
 early_row : (g : SettledForm) (t k n : ℕ) → row_of g t ≡ replicate n Early → row_date g t k ≡ Early
 early_row g t k n e = ap (λ r. get_or r (k - 1) Early) e ∙ all_early n (k - 1)
 
-early_date : (g : SettledForm) (t k n : ℕ) → row_of g t ≡ replicate n Early → date_of g t k ≡ Early
+early_date : (g : SettledForm) (t k n : ℕ) → row_of g t ≡ replicate n Early → settled_date g t k ≡ Early
 early_date g t k n e =
     ⊎_elim
     (λ (b : leb k (settled_length g) ≡ true). rw b (early_row g t k n e))
-    (λ (b : leb k (settled_length g) ≡ false). rw b (ap (move (pos (rounds_past g k) *ℤ step_of g t)) (early_row g t (k - rounds_past g k * g.period) n e)))
+    (λ (b : leb k (settled_length g) ≡ false). rw b (ap (move (pos (periods_past g k) *ℤ step_of_form g t)) (early_row g t (k - periods_past g k * g.period) n e)))
     (cases_Bool (leb k (settled_length g)))
 
-module _ (count : ℕ) (marks : List Bool) (new : List ℕ) (f g : SettledForm) (h : IsSpread marks new f g) where
+module _ (count : ℕ) (marks : List Bool) (new : List ℕ) (f g : SettledForm) (h : IsSpreadOut marks new f g) where
   length_same : settled_length g ≡ settled_length f
   length_same = omega (arith, h.after, h.period)
 
@@ -48,8 +48,8 @@ module _ (count : ℕ) (marks : List Bool) (new : List ℕ) (f g : SettledForm) 
   row_off : (t : ℕ) → t < length new → is_marked marks t ≡ false → row_of g t ≡ replicate (settled_length f) Early
   row_off t l e = h.rows t l ∙ ap (λ b. cond b (row_of f (get_or new t 0)) (replicate (settled_length f) Early)) e
 
-  step_on : (t : ℕ) → t < length new → is_marked marks t ≡ true → step_of g t ≡ step_of f (get_or new t 0)
-  step_on t l e = h.steps t l ∙ ap (λ b. cond b (step_of f (get_or new t 0)) (pos 0)) e
+  step_on : (t : ℕ) → t < length new → is_marked marks t ≡ true → step_of_form g t ≡ step_of_form f (get_or new t 0)
+  step_on t l e = h.steps t l ∙ ap (λ b. cond b (step_of_form f (get_or new t 0)) (pos 0)) e
 
   pub spread_sizes : HasSizes count f → ((t : ℕ) → t < length new → is_marked marks t ≡ true → get_or new t 0 < count) → HasSizes (length new) g
   spread_sizes s known = record {
@@ -67,7 +67,7 @@ module _ (count : ℕ) (marks : List Bool) (new : List ℕ) (f g : SettledForm) 
         (cases_Bool (is_marked marks t)));
   }
 
-  pub spread_kept : IsKept f → length new ≤ most_transitions → ((t : ℕ) → t < length new → is_marked marks t ≡ true → get_or new t 0 < length f.rows) → count ≡ length f.rows → IsKept g
+  pub spread_kept : IsFormKept f → length new ≤ most_transitions → ((t : ℕ) → t < length new → is_marked marks t ≡ true → get_or new t 0 < length f.rows) → count ≡ length f.rows → IsFormKept g
   spread_kept kept few known is = record {
     sizes = subst (λ n. HasSizes n g) (sym h.rows_count) (spread_sizes (subst (λ n. HasSizes n f) (sym is) kept.sizes) (λ t l e. omega (arith, known t l e, is)));
     few = omega (arith, h.rows_count, few);
@@ -76,8 +76,8 @@ module _ (count : ℕ) (marks : List Bool) (new : List ℕ) (f g : SettledForm) 
         let in' : t < length new = omega (arith, l, h.rows_count) in
         ⊎_elim
         (λ (e : is_marked marks t ≡ true).
-        subst (IsWithin greatest_least_date) (sym (same_date f g t (get_or new t 0) k h.after h.period (row_on t in' e) (step_on t in' e))) (kept.within (get_or new t 0) k (known t in' e) o m))
-        (λ (e : is_marked marks t ≡ false). subst (IsWithin greatest_least_date) (sym (early_date g t k (settled_length f) (row_off t in' e))) tt)
+        subst (IsDateWithin greatest_least_date) (sym (same_date f g t (get_or new t 0) k h.after h.period (row_on t in' e) (step_on t in' e))) (kept.within (get_or new t 0) k (known t in' e) o m))
+        (λ (e : is_marked marks t ≡ false). subst (IsDateWithin greatest_least_date) (sym (early_date g t k (settled_length f) (row_off t in' e))) tt)
         (cases_Bool (is_marked marks t));
   }
 
@@ -103,7 +103,7 @@ module _ (after period : ℕ) (rows : List (List Date)) (steps : List ℤ) (own 
   is_row : (t : ℕ) → t < length new → is_marked marks t ≡ true → get_or own (get_or new t 0) 0 < length rows
   is_row t l e = h.rows_in (get_or new t 0) 0 (known t l e)
 
-  pub stored_spread : IsSpread marks new (stored_form after period rows steps own) (stored_form after period (rows ++ early ∷ []) (steps ++ pos 0 ∷ []) owned)
+  pub stored_spread : IsSpreadOut marks new (stored_form after period rows steps own) (stored_form after period (rows ++ early ∷ []) (steps ++ pos 0 ∷ []) owned)
   stored_spread = record {
     after = refl;
     period = refl;
@@ -153,7 +153,7 @@ pub spread_stored : (after period : ℕ) (rows : List (Vec Date Global)) (more :
     → IsStored after period (map (λ r. r.items) rows) steps own → stored_form after period (map (λ r. r.items) rows) steps own ≡ s → length new ≤ most_transitions
     → ((t : ℕ) → t < length new → is_marked marks t ≡ true → get_or new t 0 < length s.rows) → more.items ≡ replicate (after + period) Early → other ≡ length rows → length owned ≡ length new
     → ((t : ℕ) → t < length new → get_or owned t 0 ≡ cond (is_marked marks t) (get_or own (get_or new t 0) 0) other)
-    → IsStored after period (map (λ r. r.items) (rows ++ more ∷ [])) (steps ++ pos 0 ∷ []) owned × IsSpread marks new s (stored_form after period (map (λ r. r.items) (rows ++ more ∷ [])) (steps ++ pos 0 ∷ []) owned)
+    → IsStored after period (map (λ r. r.items) (rows ++ more ∷ [])) (steps ++ pos 0 ∷ []) owned × IsSpreadOut marks new s (stored_form after period (map (λ r. r.items) (rows ++ more ∷ [])) (steps ++ pos 0 ∷ []) owned)
 spread_stored after period rows more steps own owned marks new s other h is few known none there count each =
     let items : List (List Date) = map (λ r. r.items) rows in
     let longer : items ++ replicate (after + period) Early ∷ [] ≡ map (λ r. r.items) (rows ++ more ∷ []) = ap (λ d. items ++ d ∷ []) (sym none) ∙ sym (map-append (λ (r : Vec Date Global). r.items) rows (more ∷ [])) in
@@ -162,6 +162,6 @@ spread_stored after period rows more steps own owned marks new s other h is few 
     let own_by : (t : ℕ) → t < length new → get_or owned t 0 ≡ cond (is_marked marks t) (get_or own (get_or new t 0) 0) (length items) =
     λ t l. each t l ∙ ap (λ n. cond (is_marked marks t) (get_or own (get_or new t 0) 0) n) (there ∙ sym (length-map rows (λ r. r.items))) in (
       subst (λ rs. IsStored after period rs (steps ++ pos 0 ∷ []) owned) longer (stored_more after period items steps own owned marks new h in' count own_by few),
-      subst (λ rs. IsSpread marks new s (stored_form after period rs (steps ++ pos 0 ∷ []) owned)) longer
-          (subst (λ a. IsSpread marks new a (stored_form after period (items ++ replicate (after + period) Early ∷ []) (steps ++ pos 0 ∷ []) owned)) is (stored_spread after period items steps own owned marks new h in' count own_by)),
+      subst (λ rs. IsSpreadOut marks new s (stored_form after period rs (steps ++ pos 0 ∷ []) owned)) longer
+          (subst (λ a. IsSpreadOut marks new a (stored_form after period (items ++ replicate (after + period) Early ∷ []) (steps ++ pos 0 ∷ []) owned)) is (stored_spread after period items steps own owned marks new h in' count own_by)),
     )

@@ -2,17 +2,17 @@
 use Rattle.std.proofs.Common.{ℕ, ◌<◌, ◌≤◌, ◌≡◌, Option, Some, None, IsSome, IfSome, IfNone, MatchOption, length, refl, sym, arith}
 use Rattle.teg_net.specs.Nets.{NetLists}
 use Rattle.teg_net.specs.Circuits.{IsLive}
-use Rattle.teg_model.specs.Systems.{Dating}
-use Rattle.teg_model.specs.Datings.{IsLeastDating, listed, system_of}
+use Rattle.teg_model.specs.Datings.{IsLeastDating, listed_releases, system_of}
 use Rattle.teg_model.proofs.OfNet.{only_least}
+use Rattle.teg_model.proofs.DateFunctions.{Dating}
 use Rattle.settled_laws.proofs.Everywhere.{same_repeats}
-use Rattle.periodic_laws.specs.Laws.{LeastDatingsRepeat}
-use Rattle.periodic_laws.specs.Numbers.{repeats_past, repeats_in, repeats_by}
-use Rattle.teg_dates.specs.Tables.{TableDates}
-use Rattle.teg_dates.specs.Rows.{IsRows, AreLeastRows}
+use Rattle.periodic_laws.specs.LinearSystem.{LeastDatingsRepeat}
+use Rattle.periodic_laws.specs.RepeatNumbers.{repeats_past, repeats_in, repeats_by}
+use Rattle.teg_dates.specs.DateTables.{TableDates}
+use Rattle.teg_dates.specs.KeptRows.{IsRows, AreLeastRows}
 use Rattle.teg_settle.specs.declared.releases.Releases.{Releases}
 use Rattle.teg_settle.specs.declared.releases.Repetition.{Repetition}
-use Rattle.teg_settle.specs.Windows.{AreRowsOf, IsReady, IsRefuted, IsSeen, most_window, read_step}
+use Rattle.teg_settle.specs.ComparedRows.{AreRowsOf, IsReady, IsRefuted, IsSeen, most_window, read_step}
 use Rattle.teg_settle.specs.Steps.{AreOwnReleases, ShowsForm, ShowsNoForm, showing_rows}
 use Rattle.teg_settle.proofs.Leasts.{least, least_is}
 use Rattle.teg_settle.proofs.Owning.{own_least, own_system}
@@ -23,7 +23,7 @@ some_of (Some a) N S m never = refl
 
 module _ (net : NetLists) (r : Releases) (own : AreOwnReleases net r) where
   -- rows of the net are rows of the system of its releases
-  pub rows_of_own : (rows : TableDates) → IsRows rows → AreLeastRows net (system_of net (listed net)) rows → rows.count ≤ most_window → AreRowsOf net r rows
+  pub rows_of_own : (rows : TableDates) → IsRows rows → AreLeastRows net (system_of net (listed_releases net)) rows → rows.count ≤ most_window → AreRowsOf net r rows
   rows_of_own rows limits rows_are few = record {
     limits = limits;
     least = record { width = rows_are.width; least = λ x h. rows_are.least x (own_system net r own.tokens own.waits x h) };
@@ -35,7 +35,7 @@ module _ (net : NetLists) (r : Releases) (own : AreOwnReleases net r) where
     z = least net r most h
 
     same : (x : Dating) → IsLeastDating net x → (t k : ℕ) → t < length net.transitions → 1 ≤ k → z t k ≡ x t k
-    same x is = only_least net (listed net) z x (own_least net r own.tokens own.waits z (least_is net r most h)) is
+    same x is = only_least net (listed_releases net) z x (own_least net r own.tokens own.waits z (least_is net r most h)) is
 
     shows_form : (rows : TableDates) (f : Repetition) → IsSeen net r rows f → ShowsForm net rows f
     shows_form rows f seen = record {

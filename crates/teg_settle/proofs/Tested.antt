@@ -9,21 +9,22 @@ use Rattle.dioid.specs.Dates.{move}
 use Rattle.teg_net.specs.declared.entries.Place.{Place}
 use Rattle.teg_net.specs.Nets.{NetLists, IsPlaceOf}
 use Rattle.teg_net.specs.Circuits.{no_place}
-use Rattle.teg_model.specs.Systems.{Dating, System}
-use Rattle.teg_model.specs.Bounds.{greatest_least_date}
+use Rattle.teg_model.specs.Systems.{System}
+use Rattle.teg_model.specs.DateBounds.{greatest_least_date}
 use Rattle.teg_model.proofs.LeastOver.{only_least_in}
 use Rattle.teg_model.proofs.Within.{within_more}
 use Rattle.teg_model.proofs.OfNet.{all_extended, extended_has}
-use Rattle.settled_laws.specs.Forms.{RepeatsAfter}
-use Rattle.settled_laws.specs.Windows.{between}
+use Rattle.teg_model.proofs.DateFunctions.{Dating}
+use Rattle.settled_laws.specs.SettledForms.{RepeatsAfter}
+use Rattle.settled_laws.specs.DateDifferences.{between}
 use Rattle.settled_laws.proofs.Everywhere.{Repeats, everywhere, on_first, same_repeats}
 use Rattle.settled_laws.proofs.Settling.{HasNoRelease, FollowsRelease}
 use Rattle.settled_laws.proofs.Seen.{IsRisingAt, accepted_repeats, read_steps, form_is_rising_at, form_is_alike}
 use Rattle.settled_laws.proofs.Repeating.{later_form, period_least, after_least}
-use Rattle.teg_dates.specs.Tables.{TableDates, HasDatesOf, date_at}
+use Rattle.teg_dates.specs.DateTables.{TableDates, HasDatesOf, date_at}
 use Rattle.teg_settle.specs.declared.releases.Releases.{Releases}
-use Rattle.teg_settle.specs.Releases.{system_for}
-use Rattle.teg_settle.specs.Windows.{read_step, IsRisingPlace, IsMovedAt, IsMovedPast, AreReleasedAlike, IsReady, IsWindow, AreRowsOf, IsRefuted, IsSeenFrom, IsSeen}
+use Rattle.teg_settle.specs.InitialReleases.{system_for}
+use Rattle.teg_settle.specs.ComparedRows.{read_step, IsRisingPlace, IsMovedAt, IsMovedPast, AreReleasedAlike, IsReady, AreComparedRows, AreRowsOf, IsRefuted, IsSeenFrom, IsSeen}
 use Rattle.teg_dates.proofs.Ranking.{rank_of}
 use Rattle.teg_settle.proofs.Leasts.{ranks_on, least, least_is, release_outside, outside, climbs, tokens_on, releases_on, dates_on}
 
@@ -51,7 +52,7 @@ module _ (net : NetLists) (r : Releases) (most : ℕ) (h : IsReady net r most) (
   read = a.least.least (least net r most h) (least_is net r most h)
 
   -- they leave room for differences
-  pub window_of : (period : ℕ) → 1 ≤ period → period < rows.count → IsWindow net rows period
+  pub window_of : (period : ℕ) → 1 ≤ period → period < rows.count → AreComparedRows net rows period
   window_of period one fits =
       let wide = a.least.width in
       let few = a.few in

@@ -17,19 +17,20 @@ use Rattle.teg_net.specs.declared.walks.Step.{Step}
 use Rattle.teg_net.specs.declared.walks.Step.TheVariants.{Next}
 use Rattle.teg_net.specs.Nets.{NetLists, IsNet, IsInput}
 use Rattle.teg_net.specs.Walks.{Walks, walk_time, step_time}
-use Rattle.teg_net.specs.Inputs.{date_by}
+use Rattle.teg_net.specs.Inputs.{date_by_list}
 use Rattle.teg_check.specs.Ranks.{IsRanking}
-use Rattle.teg_model.specs.Systems.{Dating, IsLeastIn}
+use Rattle.teg_model.specs.Systems.{IsLeastIn}
 use Rattle.teg_model.specs.Starts.{IsStartIn}
 use Rattle.teg_model.specs.Datings.{as_date, system_with}
 use Rattle.teg_model.specs.WalkDates.{IsGreatestOfWalksIn}
 use Rattle.teg_model.proofs.OfNet.{net_ends}
 use Rattle.teg_model.proofs.SystemWalks.{least_in_is_walk}
+use Rattle.teg_model.proofs.DateFunctions.{Dating}
 use Rattle.teg_settle.specs.declared.releases.Tokens.TheVariants.{Absent}
 use Rattle.teg_settle.specs.declared.releases.Wait.TheVariants.{Nothing, Dates}
 use Rattle.teg_settle.specs.declared.releases.Releases.{Releases}
-use Rattle.teg_settle.specs.Releases.{initial_by, release_as, wait_in, release_by, system_for, AreWaits, wait_from, OnlyInputsWait}
-use Rattle.teg_settle.specs.Alone.{alone, released}
+use Rattle.teg_settle.specs.InitialReleases.{initial_by, release_as, wait_in, release_by, system_for, AreWaits, wait_from, OnlyInputsWait}
+use Rattle.teg_settle.specs.Alone.{alone, released_alone}
 use Rattle.teg_settle.specs.Transfers.{IsGreatestWalkTime, AreWalkTimes}
 use Rattle.teg_dates.proofs.Ranking.{rank_of, ranks_of}
 use Rattle.teg_settle.proofs.Owning.{least_same, waits_within}
@@ -45,7 +46,7 @@ input_within net input h =
     (λ (l : length net.transitions ≤ input). absurd (is_transition (slice_get net.transitions input) (slice_get_past net.transitions input l) h))
     (cases_lt input (length net.transitions))
 
-alone_release : (net : NetLists) (r : Releases) (input : ℕ) → IsInput net input → AreWaits net (wait_from net input) r.waits.items → (t k : ℕ) → release_by r.waits.items net t k ≡ released input t k
+alone_release : (net : NetLists) (r : Releases) (input : ℕ) → IsInput net input → AreWaits net (wait_from net input) r.waits.items → (t k : ℕ) → release_by r.waits.items net t k ≡ released_alone input t k
 alone_release net r input h w t k =
     let in' = input_within net input h in
     let none : slice_get net.inputs (length net.inputs) ≡ None = slice_get_past net.inputs (length net.inputs) (omega arith) in
@@ -53,7 +54,7 @@ alone_release net r input h w t k =
     (λ (l : t < length net.transitions).
     ap (λ z. release_as net z k) (w.each t l)
     ∙ ⊎_elim
-    (λ (b : eqb input t ≡ true). rw b (ap (λ o. as_date (date_by o k)) none))
+    (λ (b : eqb input t ≡ true). rw b (ap (λ o. as_date (date_by_list o k)) none))
     (λ (b : eqb input t ≡ false). rw b refl)
     (cases_Bool (eqb input t)))
     (λ (l : length net.transitions ≤ t).
@@ -125,13 +126,13 @@ pub alone_here : (net : NetLists) (r : Releases) (input : ℕ) → IsInput net i
 alone_here net r input h absent w x least =
     let rel : Dating = release_by r.waits.items net in
     let here : IsLeastIn (system_with net (initial_by Absent) rel) x = subst (λ t. IsLeastIn (system_with net (initial_by t) rel) x) absent least in
-    least_same net (initial_by Absent) rel (released input) x (alone_release net r input h w) here
+    least_same net (initial_by Absent) rel (released_alone input) x (alone_release net r input h w) here
 
 pub alone_times : (net : NetLists) (input : ℕ) (ranks : List ℕ) → IsNet net → IsRanking net ranks → IsInput net input
     → (x : Dating) → IsLeastIn (alone net input) x → AreWalkTimes net input x
 alone_times net input ranks ok ranking h x least t k l o =
     times_from net input t k (x t k) (input_within net input h)
-    (least_in_is_walk net (initial_by Absent) (released input) 400 (rank_of ranks) (net_ends net ok) (ranks_of net ranks ok ranking) x least t k l o)
+    (least_in_is_walk net (initial_by Absent) (released_alone input) 400 (rank_of ranks) (net_ends net ok) (ranks_of net ranks ok ranking) x least t k l o)
 
 waits_at : (net : NetLists) (input t list : ℕ) → IsInput net input → wait_from net input t ≡ Dates list → IsInput net t
 waits_at net input t list h e =

@@ -6,33 +6,33 @@ use Rattle.teg_model.proofs.OfNet.{net_ends}
 use Rattle.teg_model.proofs.LiveRanks.{live_is_ranked}
 use Rattle.teg_model.proofs.SystemWalks.{least_in_is_walk}
 use Rattle.periodic_laws.specs.PeriodicDates.{IsPeriodic}
-use Rattle.periodic_laws.specs.Laws.{SystemsSettle}
+use Rattle.periodic_laws.specs.LinearSystem.{SystemsSettle}
 use Rattle.teg_settle.specs.declared.releases.Tokens.TheVariants.{Absent}
-use Rattle.teg_settle.specs.Releases.{initial_by}
-use Rattle.teg_settle.specs.Laws.{WalkTimesSettle}
-use Rattle.teg_settle.specs.Alone.{released}
+use Rattle.teg_settle.specs.InitialReleases.{initial_by}
+use Rattle.teg_settle.specs.WalkTimes.{WalkTimesSettle}
+use Rattle.teg_settle.specs.Alone.{released_alone}
 use Rattle.teg_settle.proofs.Transferring.{input_within, times_from}
 
-released_periodic : (input t : ℕ) → IsPeriodic (released input t)
+released_periodic : (input t : ℕ) → IsPeriodic (released_alone input t)
 released_periodic input t = record {
   after = 0;
   period = 1;
   step = pos 0;
   at_least_one = omega arith;
-  rises = λ k o. at_most_refl (released input t k);
-  again = λ k l. sym (move_zero (released input t k));
+  rises = λ k o. at_most_refl (released_alone input t k);
+  again = λ k l. sym (move_zero (released_alone input t k));
 }
 
 pub walk_forms : SystemsSettle → WalkTimesSettle
 walk_forms law net ok live input h =
     let ends = net_ends net ok in
     let ranked = live_is_ranked net ends live in
-    let found = law net ends live (initial_by Absent) (released input) (λ t l. released_periodic input t) in (
+    let found = law net ends live (initial_by Absent) (released_alone input) (λ t l. released_periodic input t) in (
       found.2,
       (
         found.0,
         (λ t k l o. times_from net input t k (found.0 t k) (input_within net input h)
-            (least_in_is_walk net (initial_by Absent) (released input) ranked.0 ranked.1 ends ranked.2 found.0 found.1 t k l o)),
+            (least_in_is_walk net (initial_by Absent) (released_alone input) ranked.0 ranked.1 ends ranked.2 found.0 found.1 t k l o)),
         found.3,
       ),
     )

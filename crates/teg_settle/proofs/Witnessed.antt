@@ -1,11 +1,11 @@
 -- What refutes a period.
 use Rattle.std.proofs.Common.{ℕ, ◌+◌, ◌-◌, ◌≤◌}
 use Rattle.teg_net.specs.Nets.{NetLists}
-use Rattle.teg_dates.specs.Tables.{TableDates}
+use Rattle.teg_dates.specs.DateTables.{TableDates}
 use Rattle.teg_settle.specs.declared.releases.Releases.{Releases}
 use Rattle.teg_settle.specs.declared.witness.Witness.{Witness}
 use Rattle.teg_settle.specs.declared.witness.Witness.TheVariants.{Fall, Firing, Release}
-use Rattle.teg_settle.specs.Windows.{IsReady, AreRowsOf, IsRefuted}
+use Rattle.teg_settle.specs.ComparedRows.{IsReady, AreRowsOf, IsRefuted}
 use Rattle.teg_settle.specs.Witnesses.{Refutes}
 use Rattle.teg_settle.proofs.Tested.{refuted}
 

@@ -5,22 +5,22 @@ use Rattle.dioid.specs.declared.dates.Date.TheVariants.{Early, At}
 use Rattle.teg_net.specs.Nets.{NetLists}
 use Rattle.teg_model.specs.Systems.{System, IsLeastIn}
 use Rattle.teg_model.specs.Datings.{system_with}
-use Rattle.settled_laws.specs.Forms.{SettledForm, IsShortest}
+use Rattle.settled_laws.specs.SettledForms.{SettledForm, IsShortestForm}
 use Rattle.teg_settle.specs.declared.releases.Tokens.TheVariants.{Absent}
-use Rattle.teg_settle.specs.Releases.{initial_by}
-use Rattle.teg_settle.specs.Windows.{RepeatsPast}
+use Rattle.teg_settle.specs.InitialReleases.{initial_by}
+use Rattle.teg_settle.specs.ComparedRows.{RepeatsPast}
 
 -- the input is released at 0, and nothing else at all
-abbrev pub released : ℕ → ℕ → ℕ → Date
-released input t k = if input == t then At (pos 0) else Early
+abbrev pub released_alone : ℕ → ℕ → ℕ → Date
+released_alone input t k = if input == t then At (pos 0) else Early
 
 -- the places of the net without initial tokens
 abbrev pub alone : NetLists → ℕ → System
-alone net input = system_with net (initial_by Absent) (released input)
+alone net input = system_with net (initial_by Absent) (released_alone input)
 
 -- the shortest form of its least dating
 abbrev pub IsAloneForm : NetLists → ℕ → SettledForm → Type 0
-IsAloneForm net input f = (x : ℕ → ℕ → Date) × IsLeastIn (alone net input) x × IsShortest (length net.transitions) f x
+IsAloneForm net input f = (x : ℕ → ℕ → Date) × IsLeastIn (alone net input) x × IsShortestForm (length net.transitions) f x
 
 -- its least dating goes on past no number and in no period of at most this sum
 abbrev pub AloneSettlesPast : NetLists → ℕ → ℕ → Type 0

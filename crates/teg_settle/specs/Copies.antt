@@ -3,13 +3,13 @@ use Rattle.std.specs.Prelude.{ℕ, ◌-◌, ◌≤◌, ◌≡◌, List, length, 
 use Rattle.dioid.specs.declared.dates.Date.{Date}
 use Rattle.dioid.specs.declared.dates.Date.TheVariants.{Early}
 use Rattle.teg_net.specs.Nets.{NetLists}
-use Rattle.settled_laws.specs.Forms.{SettledForm, StandsFor}
-use Rattle.teg_dates.specs.Tables.{TableDates, date_at}
+use Rattle.settled_laws.specs.SettledForms.{SettledForm, StandsFor}
+use Rattle.teg_dates.specs.DateTables.{TableDates, date_at}
 use Rattle.teg_settle.specs.declared.releases.Repetition.{Repetition}
-use Rattle.teg_settle.specs.Windows.{IsToldBy}
+use Rattle.teg_settle.specs.ComparedRows.{IsToldBy}
 
 -- the dates of transition t up to number `count`
-pub record AreDatesOf (rows : TableDates) (t count : ℕ) (dates : List Date) : Type 0 where
+pub record AreShownDates (rows : TableDates) (t count : ℕ) (dates : List Date) : Type 0 where
   pub long : length dates ≡ count
   pub same : (k : ℕ) → 1 ≤ k → k ≤ count → slice_index_or dates (k - 1) Early ≡ date_at rows t k
 

@@ -3,12 +3,12 @@ use Rattle.std.specs.Prelude.{ℕ, ℤ, ◌+◌, ◌≤◌, length}
 use Rattle.dioid.specs.declared.dates.Date.{Date}
 use Rattle.teg_net.specs.Nets.{NetLists}
 use Rattle.teg_model.specs.Systems.{IsLeastIn}
-use Rattle.settled_laws.specs.Forms.{RepeatsAfter}
+use Rattle.settled_laws.specs.SettledForms.{RepeatsAfter}
 use Rattle.teg_settle.specs.declared.releases.Releases.{Releases}
-use Rattle.teg_settle.specs.Releases.{system_for}
+use Rattle.teg_settle.specs.InitialReleases.{system_for}
 
 -- a form of the dates begins early enough to be seen in so many rows, past those that the tokens of a place reach back
-pub record IsFormWithin (count : ℕ) (x : ℕ → ℕ → Date) (most rows : ℕ) : Type 0 where
+pub record IsSeenWithin (count : ℕ) (x : ℕ → ℕ → Date) (most rows : ℕ) : Type 0 where
   pub after : ℕ
   pub period : ℕ
   pub step : ℕ → ℤ
@@ -19,4 +19,4 @@ pub record IsFormWithin (count : ℕ) (x : ℕ → ℕ → Date) (most rows : �
 pub record HasFormBy (net : NetLists) (r : Releases) (most rows : ℕ) : Type 0 where
   pub dating : ℕ → ℕ → Date
   pub least : IsLeastIn (system_for r net) dating
-  pub form : IsFormWithin (length net.transitions) dating most rows
+  pub form : IsSeenWithin (length net.transitions) dating most rows

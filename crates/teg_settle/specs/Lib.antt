@@ -1,11 +1,11 @@
-pub mod Kept
+pub mod KeptForms
 pub mod Stored
-pub mod Shown
-pub mod Refusals
-pub mod Releases
-pub mod Windows
+pub mod ShownForms
+pub mod LimitRefusals
+pub mod InitialReleases
+pub mod ComparedRows
 pub mod Witnesses
-pub mod Searches
+pub mod ShortestForms
 pub mod Copies
 pub mod Transfers
 pub mod Alone
@@ -13,5 +13,5 @@ pub mod Reached
 pub mod Spread
 pub mod Endless
 pub mod Steps
-pub mod Slopes
-pub mod Laws
+pub mod SlopesOfNets
+pub mod WalkTimes

@@ -15,13 +15,13 @@ abbrev pub begins_marked : List Bool → Place → Bool
 begins_marked marks p = is_marked marks p.from.index
 
 -- each place that begins at a marked transition leads to one
-abbrev pub LeadsOn : NetLists → List Bool → Type 0
-LeadsOn net marks = All (λ p. IsTrue (begins_marked marks p) → IsTrue (is_marked marks p.to.index)) net.places
+abbrev pub ReachLeadsOn : NetLists → List Bool → Type 0
+ReachLeadsOn net marks = All (λ p. IsTrue (begins_marked marks p) → IsTrue (is_marked marks p.to.index)) net.places
 
 -- so it is, and the input is marked
-pub record AreClosed (net : NetLists) (input : ℕ) (marks : List Bool) : Type 0 where
+pub record IsReachClosed (net : NetLists) (input : ℕ) (marks : List Bool) : Type 0 where
   pub begins : IsTrue (is_marked marks input)
-  pub leads_on : LeadsOn net marks
+  pub leads_on : ReachLeadsOn net marks
 
 -- `old` has the marked ones of so many transitions in order, and `new` of each of them its place in `old`
 pub record IsNumbering (marks : List Bool) (count : ℕ) (old new : List ℕ) : Type 0 where
@@ -52,6 +52,6 @@ pub record IsPartFrom (net : NetLists) (input : ℕ) (part : Part) : Type 0 wher
   pub old : List ℕ
   pub numbers : IsNumbering part.marks.items (length net.transitions) old part.new.items
   pub wide : length part.marks.items ≡ length net.transitions
-  pub closed : AreClosed net input part.marks.items
+  pub closed : IsReachClosed net input part.marks.items
   pub transitions : AreThose net.transitions old part.net.transitions
   pub places : part.net.places ≡ places_from part.marks.items part.new.items net.places

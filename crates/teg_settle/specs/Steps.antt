@@ -1,17 +1,17 @@
 -- What rows of a net's least dating show of its settled form, without a row more.
 use Rattle.std.specs.Prelude.{ℕ, ℤ, ◌+◌, ◌≤◌, ◌≡◌, length}
 use Rattle.dioid.specs.declared.dates.Date.{Date}
-use Rattle.teg_net.specs.Limits.{most_tokens}
+use Rattle.teg_net.specs.Limits.{most_place_tokens}
 use Rattle.teg_net.specs.Nets.{NetLists}
 use Rattle.teg_model.specs.Datings.{IsLeastDating}
-use Rattle.settled_laws.specs.Forms.{RepeatsAfter}
-use Rattle.periodic_laws.specs.Numbers.{repeats_past, repeats_in}
-use Rattle.teg_dates.specs.Tables.{TableDates}
+use Rattle.settled_laws.specs.SettledForms.{RepeatsAfter}
+use Rattle.periodic_laws.specs.RepeatNumbers.{repeats_past, repeats_in}
+use Rattle.teg_dates.specs.DateTables.{TableDates}
 use Rattle.teg_settle.specs.declared.releases.Tokens.TheVariants.{Ready}
 use Rattle.teg_settle.specs.declared.releases.Releases.{Releases}
 use Rattle.teg_settle.specs.declared.releases.Repetition.{Repetition}
-use Rattle.teg_settle.specs.Releases.{AreWaits, wait_of}
-use Rattle.teg_settle.specs.Windows.{read_step}
+use Rattle.teg_settle.specs.InitialReleases.{AreWaits, wait_of}
+use Rattle.teg_settle.specs.ComparedRows.{read_step}
 
 -- they are the ready dates and the input lists of the net
 pub record AreOwnReleases (net : NetLists) (r : Releases) : Type 0 where
@@ -27,7 +27,7 @@ pub record ShowsForm (net : NetLists) (rows : TableDates) (f : Repetition) : Typ
 
 -- rows that show the least dating to go on past a number: two periods past it, and as many as a place may have tokens
 abbrev pub rows_for : ℕ → ℕ → ℕ
-rows_for after period = after + most_tokens + period + period
+rows_for after period = after + most_place_tokens + period + period
 
 -- by so many rows no form of the least dating can be shown
 abbrev pub ShowsNoForm : NetLists → ℕ → Type 0

@@ -6,7 +6,7 @@ use Rattle.dioid.specs.Dates.{IsAtMostDate}
 use Rattle.teg_net.specs.declared.walks.Step.{Step}
 use Rattle.teg_net.specs.Nets.{NetLists}
 use Rattle.teg_net.specs.Walks.{Walks, walk_time}
-use Rattle.settled_laws.specs.Forms.{SettledForm, IsShortest, SettlesPast}
+use Rattle.settled_laws.specs.SettledForms.{SettledForm, IsShortestForm, SettlesPast}
 
 -- d is the greatest time of a walk from the first firing of the input to firing k of transition t, Early where there is none
 pub record IsGreatestWalkTime (net : NetLists) (input t k : ℕ) (d : Date) : Type 0 where
@@ -20,7 +20,7 @@ AreWalkTimes net input x = (t k : ℕ) → t < length net.transitions → 1 ≤ 
 
 -- the shortest form that stands for them
 abbrev pub IsTransferOf : NetLists → ℕ → SettledForm → Type 0
-IsTransferOf net input f = (x : ℕ → ℕ → Date) × AreWalkTimes net input x × IsShortest (length net.transitions) f x
+IsTransferOf net input f = (x : ℕ → ℕ → Date) × AreWalkTimes net input x × IsShortestForm (length net.transitions) f x
 
 -- they have no form of at most this length
 abbrev pub TransferSettlesPast : NetLists → ℕ → ℕ → Type 0

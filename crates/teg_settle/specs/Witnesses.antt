@@ -1,11 +1,11 @@
 -- Working definitions of what refutes a period.
 use Rattle.std.specs.Prelude.{ℕ, All}
 use Rattle.teg_net.specs.Nets.{NetLists}
-use Rattle.teg_dates.specs.Tables.{TableDates}
+use Rattle.teg_dates.specs.DateTables.{TableDates}
 use Rattle.teg_settle.specs.declared.releases.Releases.{Releases}
 use Rattle.teg_settle.specs.declared.witness.Witness.{Witness}
 use Rattle.teg_settle.specs.declared.witness.Witness.TheVariants.{Fall, Firing, Release}
-use Rattle.teg_settle.specs.Windows.{IsRisingPlace, IsMovedPast, AreReleasedAlike}
+use Rattle.teg_settle.specs.ComparedRows.{IsRisingPlace, IsMovedPast, AreReleasedAlike}
 
 -- it shows that this period fails a test: that the step falls along no place, or that past `after` the dates, or the
 -- releases, of the rows move by their steps

@@ -1,12 +1,12 @@
 //! The search for the settled form without a limit.
 ghost use Rattle.std.specs.Prelude.{◌≡◌, ◌≤◌, ℕ, IfOk};
-ghost use Rattle.settled_laws.specs.Forms.{IsSettledFormOf};
+ghost use Rattle.settled_laws.specs.SettledForms.{IsSettledFormOf};
 ghost use Rattle.teg_check.specs.Ranks.{IsRanking};
 ghost use Rattle.teg_settle.specs.Endless.{HasFormBy};
-ghost use Rattle.teg_settle.specs.Releases.{AreWaits, wait_of};
-ghost use Rattle.teg_settle.specs.Searches.{IsFound};
-ghost use Rattle.teg_settle.specs.Slopes.{HasSlopes};
-ghost use Rattle.teg_settle.specs.Windows.{IsReady};
+ghost use Rattle.teg_settle.specs.InitialReleases.{AreWaits, wait_of};
+ghost use Rattle.teg_settle.specs.ShortestForms.{IsFound};
+ghost use Rattle.teg_settle.specs.SlopesOfNets.{HasSlopes};
+ghost use Rattle.teg_settle.specs.ComparedRows.{IsReady};
 
 use crate::releases::{Releases, Tokens};
 use crate::search::{Found, dates_of, form_of, grow, ready_tokens, seen};

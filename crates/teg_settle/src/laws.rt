@@ -1,5 +1,5 @@
 //! The laws of walk times. Each is a function that does nothing when it runs: its contract is the law.
-ghost use Rattle.teg_settle.specs.Laws.{TransferLimitsAreTold, TransfersAreOne, WalkTimesSettle};
+ghost use Rattle.teg_settle.specs.WalkTimes.{TransferLimitsAreTold, TransfersAreOne, WalkTimesSettle};
 
 use periodic_laws::systems_settle;
 

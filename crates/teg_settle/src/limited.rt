@@ -1,16 +1,16 @@
 //! The settled form of the least dating of a net, and that of the times of walks from an input.
 ghost use Rattle.std.specs.Prelude.{◌+◌, ◌<◌, ◌≤◌, IfErr, IfOk, length, slice_index};
-ghost use Rattle.settled_laws.specs.Forms.{IsSettledFormOf, NetSettlesPast, settled_length};
+ghost use Rattle.settled_laws.specs.SettledForms.{IsSettledFormOf, NetSettlesPast, settled_length};
 ghost use Rattle.teg_check.specs.Ranks.{IsRanking};
 ghost use Rattle.teg_net.specs.Nets.{IsInput};
 ghost use Rattle.teg_net.specs.Circuits.{IsLive};
 ghost use Rattle.teg_settle.specs.Alone.{AloneSettlesPast, IsAloneForm};
-ghost use Rattle.teg_settle.specs.Refusals.{IsRightRefusal, greatest_limit};
-ghost use Rattle.teg_settle.specs.Releases.{OnlyInputsWait};
-ghost use Rattle.teg_settle.specs.Searches.{IsFound};
-ghost use Rattle.teg_settle.specs.Slopes.{HasSlopes};
+ghost use Rattle.teg_settle.specs.LimitRefusals.{IsRightSettleRefusal, greatest_limit};
+ghost use Rattle.teg_settle.specs.InitialReleases.{OnlyInputsWait};
+ghost use Rattle.teg_settle.specs.ShortestForms.{IsFound};
+ghost use Rattle.teg_settle.specs.SlopesOfNets.{HasSlopes};
 ghost use Rattle.teg_settle.specs.Transfers.{IsTransferOf, TransferSettlesPast};
-ghost use Rattle.teg_settle.specs.Windows.{IsLeastForm, IsReady, LeastSettlesPast};
+ghost use Rattle.teg_settle.specs.ComparedRows.{IsLeastForm, IsReady, LeastSettlesPast};
 
 use crate::reached::{Part, part_from};
 use crate::refusals::SettleRefusal;
@@ -39,7 +39,8 @@ fn found_within(
     requires few { limit ≤ greatest_limit }
     ensures found { IfOk result (IsFound net.now releases.now) }
     ensures within { IfOk result (λ found. found.form.after + found.form.period ≤ limit) }
-    ensures too_long { IfErr result (IsRightRefusal (LeastSettlesPast net.now releases.now limit)
+    ensures too_long { IfErr result (IsRightSettleRefusal (LeastSettlesPast net.now releases.now
+        limit)
         limit) }
 {
     let last = 2 * u64::from(limit) + most;
@@ -67,7 +68,8 @@ fn within(
     requires few { limit ≤ greatest_limit }
     ensures form { IfOk result (IsLeastForm net.now releases.now) }
     ensures within { IfOk result (λ form. settled_length form ≤ limit) }
-    ensures too_long { IfErr result (IsRightRefusal (LeastSettlesPast net.now releases.now limit)
+    ensures too_long { IfErr result (IsRightSettleRefusal (LeastSettlesPast net.now releases.now
+        limit)
         limit) }
 {
     let most = ready_tokens(net, live, releases);
@@ -88,7 +90,8 @@ fn dates_within(
     requires few { limit ≤ greatest_limit }
     ensures form { IfOk result (IsLeastForm net.now releases.now) }
     ensures within { IfOk result (λ form. settled_length form ≤ limit) }
-    ensures too_long { IfErr result (IsRightRefusal (LeastSettlesPast net.now releases.now limit)
+    ensures too_long { IfErr result (IsRightSettleRefusal (LeastSettlesPast net.now releases.now
+        limit)
         limit) }
 {
     let most = ready_tokens(net, live, releases);
@@ -114,7 +117,7 @@ pub fn settle_within(
     requires few { limit ≤ greatest_limit }
     ensures form { IfOk result (IsSettledFormOf net.now) }
     ensures within { IfOk result (λ form. settled_length form ≤ limit) }
-    ensures too_long { IfErr result (IsRightRefusal (NetSettlesPast net.now limit) limit) }
+    ensures too_long { IfErr result (IsRightSettleRefusal (NetSettlesPast net.now limit) limit) }
     ensures slopes { IfOk result (HasSlopes net.now) }
 {
     let releases = Releases::of_net(alloc, net)?;
@@ -133,7 +136,7 @@ pub fn settle_dates_within(
     requires few { limit ≤ greatest_limit }
     ensures form { IfOk result (IsSettledFormOf net.now) }
     ensures within { IfOk result (λ form. settled_length form ≤ limit) }
-    ensures too_long { IfErr result (IsRightRefusal (NetSettlesPast net.now limit) limit) }
+    ensures too_long { IfErr result (IsRightSettleRefusal (NetSettlesPast net.now limit) limit) }
 {
     let releases = Releases::of_net(alloc, net)?;
     dates_within(alloc, net, live, &releases, limit)
@@ -163,7 +166,8 @@ fn settle_alone(
     requires few { limit ≤ greatest_limit }
     ensures form { IfOk result (IsAloneForm net.now input.index) }
     ensures within { IfOk result (λ form. settled_length form ≤ limit) }
-    ensures too_long { IfErr result (IsRightRefusal (AloneSettlesPast net.now input.index limit)
+    ensures too_long { IfErr result (IsRightSettleRefusal (AloneSettlesPast net.now input.index
+        limit)
         limit) }
 {
     let live = ranks_of(alloc, net)?;
@@ -185,7 +189,7 @@ fn settle_part(
     ensures form { IfOk result (IsAloneForm part.now.net
         (slice_index part.now.new.items input.index)) }
     ensures within { IfOk result (λ form. settled_length form ≤ limit) }
-    ensures too_long { IfErr result (IsRightRefusal (AloneSettlesPast part.now.net
+    ensures too_long { IfErr result (IsRightSettleRefusal (AloneSettlesPast part.now.net
         (slice_index part.now.new.items input.index) limit) limit) }
 {
     let own = TransitionId {
@@ -213,7 +217,8 @@ pub fn transfer(
     requires few { limit ≤ greatest_limit }
     ensures form { IfOk result (IsTransferOf net.now input.index) }
     ensures within { IfOk result (λ form. settled_length form ≤ limit) }
-    ensures too_long { IfErr result (IsRightRefusal (TransferSettlesPast net.now input.index limit)
+    ensures too_long { IfErr result (IsRightSettleRefusal (TransferSettlesPast net.now input.index
+        limit)
         limit) }
 {
     let part = part_from(alloc, net, input)?;

@@ -3,7 +3,7 @@
 ghost use Rattle.std.specs.Prelude.{◌≡◌, ◌<◌, ◌≤◌, length, All, IfOk, IsTrue};
 ghost use Rattle.teg_net.specs.Limits.{most_transitions};
 ghost use Rattle.teg_net.specs.Nets.{IsInput, IsNet};
-ghost use Rattle.teg_settle.specs.Reached.{AreClosed, AreThose, IsNumbering, IsPartFrom, LeadsOn, begins_marked, is_marked, places_from, renumbered};
+ghost use Rattle.teg_settle.specs.Reached.{IsReachClosed, AreThose, IsNumbering, IsPartFrom, ReachLeadsOn, begins_marked, is_marked, places_from, renumbered};
 
 use std::alloc::{AllocError, Global};
 use teg_net::{DateList, Name, Net, OutOfMemory, Place, Transition, TransitionId};
@@ -61,7 +61,7 @@ fn leads_on(marks: &[bool], place: &Place) -> bool
 
 // Whether the input is marked, and each place that begins at a marked transition leads to one.
 fn are_closed(net: &Net, input: TransitionId, marks: &[bool]) -> bool
-    ensures { IsTrue result → AreClosed net.now input.index marks.now }
+    ensures { IsTrue result → IsReachClosed net.now input.index marks.now }
 {
     for place in net.places() {
         if !leads_on(marks, place) {
@@ -75,7 +75,7 @@ fn are_closed(net: &Net, input: TransitionId, marks: &[bool]) -> bool
 fn all_marks(alloc: Global, net: &Net, input: TransitionId) -> Result<Vec<bool>, AllocError>
     requires { input.index < length net.now.transitions }
     ensures count { IfOk result (λ marks. length marks.items ≡ length net.now.transitions) }
-    ensures closed { IfOk result (λ marks. AreClosed net.now input.index marks.items) }
+    ensures closed { IfOk result (λ marks. IsReachClosed net.now input.index marks.items) }
 {
     let marks = vec![in alloc; true; net.transitions().len()]?;
     Ok(marks)
@@ -85,7 +85,7 @@ fn all_marks(alloc: Global, net: &Net, input: TransitionId) -> Result<Vec<bool>,
 fn marks_from(alloc: Global, net: &Net, input: TransitionId) -> Result<Vec<bool>, AllocError>
     requires { input.index < length net.now.transitions }
     ensures count { IfOk result (λ marks. length marks.items ≡ length net.now.transitions) }
-    ensures closed { IfOk result (λ marks. AreClosed net.now input.index marks.items) }
+    ensures closed { IfOk result (λ marks. IsReachClosed net.now input.index marks.items) }
 {
     let count = net.transitions().len();
     let mut marks = vec![in alloc; false; count]?;
@@ -199,7 +199,7 @@ fn places_from(
 fn net_of(alloc: Global, net: &Net, marks: &[bool], numbers: &Numbers) -> Result<Net, AllocError>
     requires numbers { IsNumbering marks.now (length net.now.transitions) numbers.now.old.items
         numbers.now.new.items }
-    requires leads_on { LeadsOn net.now marks.now }
+    requires leads_on { ReachLeadsOn net.now marks.now }
     requires some { 1 ≤ length numbers.now.old.items }
     ensures transitions { IfOk result (λ part. AreThose net.now.transitions numbers.now.old.items
         part.transitions) }

@@ -1,10 +1,10 @@
 //! What firings wait for beside the tokens of earlier firings: the net's own initial tokens and input
 //! lists, or one input alone.
 ghost use Rattle.std.specs.Prelude.{◌≡◌, ◌<◌, ◌≤◌, ◌^◌, IfOk};
-ghost use Rattle.teg_net.specs.Limits.{greatest_number, most_dates, most_every};
+ghost use Rattle.teg_net.specs.Limits.{greatest_firing_number, most_input_dates, greatest_every};
 ghost use Rattle.teg_net.specs.Nets.{IsNet};
-ghost use Rattle.teg_model.specs.Bounds.{IsWithin};
-ghost use Rattle.teg_settle.specs.Releases.{AreWaits, HasSpan, date_of_list, list_number, release_by, wait_by_role, wait_from, wait_in, wait_of};
+ghost use Rattle.teg_model.specs.DateBounds.{IsDateWithin};
+ghost use Rattle.teg_settle.specs.InitialReleases.{AreWaits, HasSpan, date_of_list, list_number, release_by, wait_by_role, wait_from, wait_in, wait_of};
 
 use dioid::Date;
 use std::alloc::{AllocError, Global};
@@ -49,9 +49,9 @@ pub struct Releases {
 // The date that the list of this number gives the firing, and 0 where the net has no such list.
 fn date_of_list(net: &Net, list: usize, number: u64) -> Date
     requires first { 1 ≤ number }
-    requires last { number ≤ greatest_number }
+    requires last { number ≤ greatest_firing_number }
     ensures value { result ≡ date_of_list net.now list number }
-    ensures within { IsWithin (2 ^ 126) result }
+    ensures within { IsDateWithin (2 ^ 126) result }
 {
     match net.inputs().get(list) {
         None => Date::At(0),
@@ -148,9 +148,9 @@ impl Releases {
     // The date before which this firing is not released.
     pub(crate) fn date(&self, net: &Net, transition: TransitionId, number: u64) -> Date
         requires first { 1 ≤ number }
-        requires last { number ≤ greatest_number }
+        requires last { number ≤ greatest_firing_number }
         ensures value { result ≡ release_by self.now.waits.items net.now transition.index number }
-        ensures within { IsWithin (2 ^ 126) result }
+        ensures within { IsDateWithin (2 ^ 126) result }
     {
         match self.wait(transition) {
             Wait::Nothing => Date::Early,
@@ -162,8 +162,8 @@ impl Releases {
     pub(crate) fn span(&self, net: &Net, transition: TransitionId) -> Repetition
         ensures evenly { HasSpan (release_by self.now.waits.items net.now transition.index)
             result.after result.period }
-        ensures few { result.after ≤ most_dates }
-        ensures short { result.period ≤ most_every }
+        ensures few { result.after ≤ most_input_dates }
+        ensures short { result.period ≤ greatest_every }
     {
         match self.wait(transition) {
             Wait::Nothing => Repetition {
@@ -178,8 +178,8 @@ impl Releases {
 // From where on, and in how many numbers, the dates of the list of this number go on evenly.
 fn span_of_list(net: &Net, list: usize) -> Repetition
     ensures evenly { HasSpan (date_of_list net.now list) result.after result.period }
-    ensures few { result.after ≤ most_dates }
-    ensures short { result.period ≤ most_every }
+    ensures few { result.after ≤ most_input_dates }
+    ensures short { result.period ≤ greatest_every }
 {
     match net.inputs().get(list) {
         None => Repetition {
@@ -200,7 +200,7 @@ fn span_of_list(net: &Net, list: usize) -> Repetition
 }
 
 impl Source for Releases {
-    ghost use Rattle.teg_settle.specs.Releases.{initial_by, release_by};
+    ghost use Rattle.teg_settle.specs.InitialReleases.{initial_by, release_by};
 
     ghost initial = { λ r. initial_by r.tokens };
 

@@ -2,11 +2,11 @@
 ghost use Rattle.std.specs.Prelude.{◌≡◌, ◌+◌, ◌-◌, ◌<◌, ◌≤◌, All, IfOk, IfSome, MatchOption, MatchResult, ℕ};
 ghost use Rattle.teg_net.specs.Nets.{IsNet};
 ghost use Rattle.teg_check.specs.Ranks.{IsRanking};
-ghost use Rattle.settled_laws.specs.Forms.{settled_length};
-ghost use Rattle.teg_dates.specs.Order.{OrdersPlaces};
-ghost use Rattle.teg_settle.specs.Releases.{OnlyInputsWait};
-ghost use Rattle.teg_settle.specs.Searches.{IsFound};
-ghost use Rattle.teg_settle.specs.Windows.{AreRowsOf, IsLeastForm, IsReady, IsRefuted, IsSeen, IsSeenFrom, IsTrial, most_window};
+ghost use Rattle.settled_laws.specs.SettledForms.{settled_length};
+ghost use Rattle.teg_dates.specs.PlaceOrder.{OrdersPlaces};
+ghost use Rattle.teg_settle.specs.InitialReleases.{OnlyInputsWait};
+ghost use Rattle.teg_settle.specs.ShortestForms.{IsFound};
+ghost use Rattle.teg_settle.specs.ComparedRows.{AreRowsOf, IsLeastForm, IsReady, IsRefuted, IsSeen, IsSeenFrom, IsTrial, most_window};
 ghost use Rattle.teg_settle.specs.Witnesses.{Refutes};
 
 use crate::releases::{Releases, Repetition};

@@ -1,14 +1,14 @@
 //! A settled form in memory.
 ghost use Rattle.std.specs.Prelude.{ℕ, ◌≡◌, ◌<◌, ◌≤◌, ◌+◌, ◌-◌, ◌*◌, ◌/◌, ◌+ℤ◌, ◌*ℤ◌, FitsSigned, IfOk, IsTrue, pos, length, map, slice_index, slice_index_or, [], if◌then◌else◌};
 ghost use Rattle.std.specs.Int.{w128};
-ghost use Rattle.teg_net.specs.Limits.{greatest_number, most_transitions};
+ghost use Rattle.teg_net.specs.Limits.{greatest_firing_number, most_transitions};
 ghost use Rattle.dioid.specs.declared.dates.Date.{Date};
-ghost use Rattle.settled_laws.specs.Forms.{row_of, step_of, date_of};
-ghost use Rattle.teg_settle.specs.Copies.{AreDatesOf, IsFormOf};
-ghost use Rattle.teg_settle.specs.Kept.{IsKept};
+ghost use Rattle.settled_laws.specs.SettledForms.{row_of, step_of_form, settled_date};
+ghost use Rattle.teg_settle.specs.Copies.{AreShownDates, IsFormOf};
+ghost use Rattle.teg_settle.specs.KeptForms.{IsFormKept};
 ghost use Rattle.teg_settle.specs.Reached.{is_marked};
-ghost use Rattle.teg_settle.specs.Spread.{IsSpread};
-ghost use Rattle.teg_settle.specs.Windows.{IsToldBy};
+ghost use Rattle.teg_settle.specs.Spread.{IsSpreadOut};
+ghost use Rattle.teg_settle.specs.ComparedRows.{IsToldBy};
 
 use crate::reached::is_marked;
 use crate::releases::Repetition;
@@ -34,7 +34,7 @@ pub struct Settled {
 
 impl Model for Settled {
     ghost use Rattle.std.specs.Prelude.{map};
-    ghost use Rattle.settled_laws.specs.Forms.{SettledForm};
+    ghost use Rattle.settled_laws.specs.SettledForms.{SettledForm};
     ghost use Rattle.teg_settle.specs.Stored.{IsStored, stored_form};
 
     ghost Value = { SettledForm };
@@ -87,7 +87,7 @@ fn dates_of(
 ) -> Result<Vec<Date>, AllocError>
     requires transition { transition.index < rows.now.width }
     requires few { count ≤ rows.now.count }
-    ensures { IfOk result (λ dates. AreDatesOf rows.now transition.index count dates.items) }
+    ensures { IfOk result (λ dates. AreShownDates rows.now transition.index count dates.items) }
 {
     let mut dates = Vec::with_capacity(alloc, count as usize)?;
     for number in 1..count + 1 {
@@ -102,7 +102,7 @@ fn table_of(alloc: Global, net: &Net, rows: &Rows, count: u64) -> Result<Vec<Vec
     requires few { count ≤ rows.now.count }
     ensures count { IfOk result (λ table. length table.items ≡ length net.now.transitions) }
     ensures rows { IfOk result (λ table. (t : ℕ) → t < length net.now.transitions
-        → AreDatesOf rows.now t count (slice_index_or (map (λ r. r.items) table.items) t [])) }
+        → AreShownDates rows.now t count (slice_index_or (map (λ r. r.items) table.items) t [])) }
 {
     let mut table = Vec::new(alloc);
     for index in 0..net.transitions().len() {
@@ -189,7 +189,7 @@ impl Settled {
         requires few { length new.now ≤ most_transitions }
         requires known { (t : ℕ) → t < length new.now → IsTrue (is_marked marks.now t)
             → slice_index new.now t < length self.rows }
-        ensures { IfOk result (IsSpread marks.now new.now self) }
+        ensures { IfOk result (IsSpreadOut marks.now new.now self) }
     {
         let mut settled = self;
         let other = settled.rows.len();
@@ -203,7 +203,7 @@ impl Settled {
     /// The number past which the dates go on by their steps, 0 or more.
     pub fn after(&self) -> u64
         ensures value { result ≡ self.now.after }
-        ensures kept { IsKept self.now }
+        ensures kept { IsFormKept self.now }
     {
         self.after
     }
@@ -211,7 +211,7 @@ impl Settled {
     /// In how many numbers the dates go on by a step, at least 1.
     pub fn period(&self) -> u64
         ensures value { result ≡ self.now.period }
-        ensures kept { IsKept self.now }
+        ensures kept { IsFormKept self.now }
     {
         self.period
     }
@@ -227,7 +227,7 @@ impl Settled {
     /// By what the dates of this transition move in a period; 0 where they stay Never or Early.
     pub fn step(&self, transition: TransitionId) -> i128
         requires transition { transition.index < length self.now.rows }
-        ensures value { result ≡ step_of self.now transition.index }
+        ensures value { result ≡ step_of_form self.now transition.index }
     {
         self.steps[self.own[transition.index as usize]]
     }
@@ -237,8 +237,8 @@ impl Settled {
     pub fn date(&self, transition: TransitionId, number: u64) -> Date
         requires transition { transition.index < length self.now.rows }
         requires first { 1 ≤ number }
-        requires last { number ≤ greatest_number }
-        ensures value { result ≡ date_of self.now transition.index number }
+        requires last { number ≤ greatest_firing_number }
+        ensures value { result ≡ settled_date self.now transition.index number }
     {
         let row = self.row(transition);
         let settled = self.after + self.period;

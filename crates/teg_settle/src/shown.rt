@@ -1,11 +1,11 @@
 //! A settled form by the rows of dates that show it.
 ghost use Rattle.std.specs.Prelude.{ℕ, ◌≡◌, ◌<◌, ◌≤◌, ◌+◌, IfOk, length, pos, slice_index_or};
-ghost use Rattle.teg_net.specs.Limits.{greatest_number};
+ghost use Rattle.teg_net.specs.Limits.{greatest_firing_number};
 ghost use Rattle.teg_net.specs.Nets.{IsNet};
-ghost use Rattle.settled_laws.specs.Forms.{date_of, row_date, settled_length, step_of};
+ghost use Rattle.settled_laws.specs.SettledForms.{settled_date, row_date, settled_length, step_of_form};
 ghost use Rattle.teg_settle.specs.Copies.{IsFormOf};
-ghost use Rattle.teg_settle.specs.Kept.{IsKept};
-ghost use Rattle.teg_settle.specs.Windows.{IsToldBy, IsWindow, read_step};
+ghost use Rattle.teg_settle.specs.KeptForms.{IsFormKept};
+ghost use Rattle.teg_settle.specs.ComparedRows.{IsToldBy, AreComparedRows, read_step};
 
 use crate::releases::Repetition;
 use crate::settled::{back_from, moved};
@@ -27,8 +27,8 @@ pub struct SettledDates {
 }
 
 impl Model for SettledDates {
-    ghost use Rattle.settled_laws.specs.Forms.{SettledForm};
-    ghost use Rattle.teg_settle.specs.Shown.{IsShown, shown_form};
+    ghost use Rattle.settled_laws.specs.SettledForms.{SettledForm};
+    ghost use Rattle.teg_settle.specs.ShownForms.{IsShown, shown_form};
 
     ghost Value = { SettledForm };
 
@@ -44,7 +44,7 @@ pub(crate) fn steps_of(
     rows: &Rows,
     period: u64,
 ) -> Result<Vec<i128>, AllocError>
-    requires window { IsWindow net.now rows.now period }
+    requires window { AreComparedRows net.now rows.now period }
     ensures rules { IsNet net.now }
     ensures count { IfOk result (λ steps. length steps.items ≡ length net.now.transitions) }
     ensures each { IfOk result (λ steps. (t : ℕ) → t < length net.now.transitions
@@ -78,7 +78,7 @@ impl SettledDates {
     /// The number past which the dates go on by their steps, 0 or more.
     pub fn after(&self) -> u64
         ensures value { result ≡ self.now.after }
-        ensures kept { IsKept self.now }
+        ensures kept { IsFormKept self.now }
     {
         self.form.after
     }
@@ -86,7 +86,7 @@ impl SettledDates {
     /// In how many numbers the dates go on by a step, at least 1.
     pub fn period(&self) -> u64
         ensures value { result ≡ self.now.period }
-        ensures kept { IsKept self.now }
+        ensures kept { IsFormKept self.now }
     {
         self.form.period
     }
@@ -94,7 +94,7 @@ impl SettledDates {
     /// By what the dates of this transition move in a period; 0 where they stay Never or Early.
     pub fn step(&self, transition: TransitionId) -> i128
         requires transition { transition.index < length self.now.rows }
-        ensures value { result ≡ step_of self.now transition.index }
+        ensures value { result ≡ step_of_form self.now transition.index }
     {
         self.steps[transition.index as usize]
     }
@@ -114,8 +114,8 @@ impl SettledDates {
     pub fn date(&self, transition: TransitionId, number: u64) -> Date
         requires transition { transition.index < length self.now.rows }
         requires first { 1 ≤ number }
-        requires last { number ≤ greatest_number }
-        ensures value { result ≡ date_of self.now transition.index number }
+        requires last { number ≤ greatest_firing_number }
+        ensures value { result ≡ settled_date self.now transition.index number }
     {
         let settled = self.form.after + self.form.period;
         if number <= settled {

@@ -1,10 +1,10 @@
 //! The step of a search of one's own: what rows of a net show.
 ghost use Rattle.std.specs.Prelude.{◌≤◌, IfNone, IfOk, IfSome, IsSome};
 ghost use Rattle.teg_check.specs.Ranks.{IsRanking};
-ghost use Rattle.teg_dates.specs.Rows.{AreLeastRows};
-ghost use Rattle.teg_model.specs.Datings.{listed, system_of};
+ghost use Rattle.teg_dates.specs.KeptRows.{AreLeastRows};
+ghost use Rattle.teg_model.specs.Datings.{listed_releases, system_of};
 ghost use Rattle.teg_settle.specs.Steps.{AreOwnReleases, ShowsForm, ShowsNoForm, showing_rows};
-ghost use Rattle.teg_settle.specs.Windows.{most_window};
+ghost use Rattle.teg_settle.specs.ComparedRows.{most_window};
 
 use crate::releases::{Releases, Repetition};
 use crate::search::{ready_tokens, seen};
@@ -32,7 +32,7 @@ pub fn own_releases(alloc: Global, net: &Net) -> Result<Releases, OutOfMemory>
 pub fn shown_form(net: &Net, _live: &Live, releases: &Releases, rows: &Rows) -> Option<Repetition>
     requires stands { IsRanking net.now _live.now }
     requires releases { AreOwnReleases net.now releases.now }
-    requires rows { AreLeastRows net.now (system_of net.now (listed net.now)) rows.now }
+    requires rows { AreLeastRows net.now (system_of net.now (listed_releases net.now)) rows.now }
     requires few { rows.now.count ≤ most_window }
     ensures form { IfSome result (ShowsForm net.now rows.now) }
     ensures none { IfNone result (ShowsNoForm net.now rows.now.count) }

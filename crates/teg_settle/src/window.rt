@@ -1,10 +1,10 @@
 //! Whether rows of dates show that the dates go on by a fixed step in each period.
 ghost use Rattle.std.specs.Prelude.{◌≡◌, ◌+◌, ◌<◌, ◌≤◌, ◌^◌, All, Decides, length};
 ghost use Rattle.dioid.specs.Dates.{move};
-ghost use Rattle.settled_laws.specs.Windows.{between};
-ghost use Rattle.teg_model.specs.Bounds.{IsWithin};
-ghost use Rattle.teg_settle.specs.Releases.{release_by};
-ghost use Rattle.teg_settle.specs.Windows.{AreReleasedAlike, GoesOnBy, IsMovedAt, IsMovedPast, IsRisingPlace, IsWindow, most_window, read_step};
+ghost use Rattle.settled_laws.specs.DateDifferences.{between};
+ghost use Rattle.teg_model.specs.DateBounds.{IsDateWithin};
+ghost use Rattle.teg_settle.specs.InitialReleases.{release_by};
+ghost use Rattle.teg_settle.specs.ComparedRows.{AreReleasedAlike, GoesOnBy, IsMovedAt, IsMovedPast, IsRisingPlace, AreComparedRows, most_window, read_step};
 
 use crate::releases::Releases;
 use dioid::Date;
@@ -13,8 +13,8 @@ use teg_net::{Net, Place, TransitionId};
 
 // The step from one date to the other, 0 where one of them is no number.
 fn step_between(early: Date, late: Date) -> i128
-    requires early { IsWithin (2 ^ 126) early }
-    requires late { IsWithin (2 ^ 126) late }
+    requires early { IsDateWithin (2 ^ 126) early }
+    requires late { IsDateWithin (2 ^ 126) late }
     ensures { result ≡ between early late }
 {
     match (early, late) {
@@ -25,8 +25,8 @@ fn step_between(early: Date, late: Date) -> i128
 
 // Whether the step leads from one date to the other.
 pub(crate) fn is_step(early: Date, late: Date, step: i128) -> bool
-    requires early { IsWithin (2 ^ 126) early }
-    requires late { IsWithin (2 ^ 126) late }
+    requires early { IsDateWithin (2 ^ 126) early }
+    requires late { IsDateWithin (2 ^ 126) late }
     ensures { Decides result (late ≡ move step early) }
 {
     match (early, late) {
@@ -39,7 +39,7 @@ pub(crate) fn is_step(early: Date, late: Date, step: i128) -> bool
 
 // By what the dates of the transition move in the last period of the rows.
 pub(crate) fn step_in(net: &Net, rows: &Rows, period: u64, transition: TransitionId) -> i128
-    requires window { IsWindow net.now rows.now period }
+    requires window { AreComparedRows net.now rows.now period }
     requires transition { transition.index < length net.now.transitions }
     ensures { result ≡ read_step rows.now period transition.index }
 {
@@ -52,7 +52,7 @@ pub(crate) fn step_in(net: &Net, rows: &Rows, period: u64, transition: Transitio
 
 // Whether the step does not fall along the place, or it leads to never or from early.
 pub(crate) fn rises_along(net: &Net, rows: &Rows, period: u64, place: &Place) -> bool
-    requires window { IsWindow net.now rows.now period }
+    requires window { AreComparedRows net.now rows.now period }
     requires from { place.now.from.index < length net.now.transitions }
     requires to { place.now.to.index < length net.now.transitions }
     ensures { Decides result (IsRisingPlace rows.now period place.now) }
@@ -65,7 +65,7 @@ pub(crate) fn rises_along(net: &Net, rows: &Rows, period: u64, place: &Place) ->
 
 // Whether the steps rise along all places.
 pub(crate) fn is_rising(net: &Net, rows: &Rows, period: u64) -> bool
-    requires window { IsWindow net.now rows.now period }
+    requires window { AreComparedRows net.now rows.now period }
     ensures { Decides result (All (IsRisingPlace rows.now period) net.now.places) }
 {
     for place in net.places() {
@@ -78,7 +78,7 @@ pub(crate) fn is_rising(net: &Net, rows: &Rows, period: u64) -> bool
 
 // Whether a period after this number each date has moved by its step.
 fn is_moved(net: &Net, rows: &Rows, period: u64, number: u64) -> bool
-    requires window { IsWindow net.now rows.now period }
+    requires window { AreComparedRows net.now rows.now period }
     requires first { 1 ≤ number }
     requires last { number + period ≤ rows.now.count }
     ensures { Decides result (IsMovedAt rows.now period number) }
@@ -97,7 +97,7 @@ fn is_moved(net: &Net, rows: &Rows, period: u64, number: u64) -> bool
 
 // The least number, from `least` on, past which the dates of the rows have moved so, found from the end.
 pub(crate) fn moved_past(net: &Net, rows: &Rows, period: u64, least: u64) -> u64
-    requires window { IsWindow net.now rows.now period }
+    requires window { AreComparedRows net.now rows.now period }
     requires least { least + period ≤ rows.now.count }
     ensures within { result + period ≤ rows.now.count }
     ensures moved { IsMovedPast rows.now period result }
@@ -149,7 +149,7 @@ pub(crate) fn are_released_alike(
     period: u64,
     after: u64,
 ) -> bool
-    requires window { IsWindow net.now rows.now period }
+    requires window { AreComparedRows net.now rows.now period }
     requires after { after ≤ most_window }
     ensures { Decides result (AreReleasedAlike net.now releases.now rows.now period after) }
 {

@@ -1,7 +1,7 @@
 //! What refuted the last periods that were tried: it mostly refutes the next one too, so it is tested
 //! first.
 ghost use Rattle.std.specs.Prelude.{◌≡◌, ◌+◌, ◌<◌, ◌≤◌, All, IfSome, IsTrue};
-ghost use Rattle.teg_settle.specs.Windows.{AreReleasedAlike, IsMovedPast, IsRisingPlace, IsWindow, most_window};
+ghost use Rattle.teg_settle.specs.ComparedRows.{AreReleasedAlike, IsMovedPast, IsRisingPlace, AreComparedRows, most_window};
 ghost use Rattle.teg_settle.specs.Witnesses.{IsRefutedPast, Refutes};
 
 use crate::releases::Releases;
@@ -35,7 +35,7 @@ const MOST_LOOKS: u64 = 4_096;
 
 // Whether the step falls along the place of this number.
 fn falls_along(net: &Net, rows: &Rows, period: u64, place: usize) -> bool
-    requires window { IsWindow net.now rows.now period }
+    requires window { AreComparedRows net.now rows.now period }
     ensures { IsTrue result → All (IsRisingPlace rows.now period) net.now.places → ⊥ }
 {
     let places = net.places();
@@ -54,7 +54,7 @@ fn is_firing_apart(
     transition: TransitionId,
     number: u64,
 ) -> bool
-    requires window { IsWindow net.now rows.now period }
+    requires window { AreComparedRows net.now rows.now period }
     ensures { IsTrue result → IsMovedPast rows.now period after → ⊥ }
 {
     if transition.index as usize >= net.transitions().len() {
@@ -81,7 +81,7 @@ fn is_release_apart(
     transition: TransitionId,
     number: u64,
 ) -> bool
-    requires window { IsWindow net.now rows.now period }
+    requires window { AreComparedRows net.now rows.now period }
     ensures { IsTrue result → AreReleasedAlike net.now releases.now rows.now period after → ⊥ }
 {
     if transition.index as usize >= net.transitions().len() {
@@ -105,7 +105,7 @@ fn refutes(
     after: u64,
     witness: Witness,
 ) -> bool
-    requires window { IsWindow net.now rows.now period }
+    requires window { AreComparedRows net.now rows.now period }
     ensures { IsTrue result → Refutes net.now releases.now rows.now period after witness }
 {
     match witness {
@@ -128,7 +128,7 @@ fn still(
     after: u64,
     witness: Option<Witness>,
 ) -> Option<Witness>
-    requires window { IsWindow net.now rows.now period }
+    requires window { AreComparedRows net.now rows.now period }
     ensures { IfSome result (Refutes net.now releases.now rows.now period after) }
 {
     let witness = witness?;
@@ -148,7 +148,7 @@ fn first_number_apart(
     after: u64,
     transition: TransitionId,
 ) -> Option<u64>
-    requires window { IsWindow net.now rows.now period }
+    requires window { AreComparedRows net.now rows.now period }
     requires after { after ≤ most_window }
     ensures { IfSome result (λ number. IsMovedPast rows.now period after → ⊥) }
 {
@@ -171,7 +171,7 @@ fn number_apart(
     transition: TransitionId,
     number: u64,
 ) -> Option<u64>
-    requires window { IsWindow net.now rows.now period }
+    requires window { AreComparedRows net.now rows.now period }
     requires after { after ≤ most_window }
     ensures { IfSome result (λ number. IsMovedPast rows.now period after → ⊥) }
 {
@@ -191,7 +191,7 @@ fn other_number(
     after: u64,
     witness: Option<Witness>,
 ) -> Option<Witness>
-    requires window { IsWindow net.now rows.now period }
+    requires window { AreComparedRows net.now rows.now period }
     requires after { after ≤ most_window }
     ensures { IfSome result (Refutes net.now releases.now rows.now period after) }
 {
@@ -208,7 +208,7 @@ fn other_number(
 
 // The first place along which the step falls.
 fn first_fall(net: &Net, rows: &Rows, period: u64) -> Option<usize>
-    requires window { IsWindow net.now rows.now period }
+    requires window { AreComparedRows net.now rows.now period }
     ensures { IfSome result (λ place. All (IsRisingPlace rows.now period) net.now.places → ⊥) }
 {
     for place in 0..net.places().len() {
@@ -221,7 +221,7 @@ fn first_fall(net: &Net, rows: &Rows, period: u64) -> Option<usize>
 
 // The first transition whose date of this number does not move by its step.
 fn first_apart(net: &Net, rows: &Rows, period: u64, after: u64, number: u64) -> Option<TransitionId>
-    requires window { IsWindow net.now rows.now period }
+    requires window { AreComparedRows net.now rows.now period }
     ensures { IfSome result (λ transition. IsMovedPast rows.now period after → ⊥) }
 {
     for index in 0..net.transitions().len() {
@@ -244,7 +244,7 @@ fn last_release_apart(
     after: u64,
     transition: TransitionId,
 ) -> Option<u64>
-    requires window { IsWindow net.now rows.now period }
+    requires window { AreComparedRows net.now rows.now period }
     requires after { after ≤ most_window }
     ensures { IfSome result (λ number. AreReleasedAlike net.now releases.now rows.now period after
         → ⊥) }
@@ -267,7 +267,7 @@ fn release_apart(
     period: u64,
     after: u64,
 ) -> Option<Witness>
-    requires window { IsWindow net.now rows.now period }
+    requires window { AreComparedRows net.now rows.now period }
     requires after { after ≤ most_window }
     ensures { IfSome result (Refutes net.now releases.now rows.now period after) }
 {
@@ -292,7 +292,7 @@ fn firing_apart(
     after: u64,
     number: u64,
 ) -> Option<Witness>
-    requires window { IsWindow net.now rows.now period }
+    requires window { AreComparedRows net.now rows.now period }
     requires after { after ≤ most_window }
     ensures { IfSome result (Refutes net.now releases.now rows.now period after) }
 {
@@ -317,7 +317,7 @@ pub(crate) fn witness_against(
     after: u64,
     near: u64,
 ) -> Option<Witness>
-    requires window { IsWindow net.now rows.now period }
+    requires window { AreComparedRows net.now rows.now period }
     requires near { near + period ≤ rows.now.count }
     requires after { after ≤ near }
     ensures { IfSome result (Refutes net.now releases.now rows.now period after) }
@@ -367,7 +367,7 @@ impl Witnesses {
         period: u64,
         after: u64,
     ) -> Option<Witness>
-        requires window { IsWindow net.now rows.now period }
+        requires window { AreComparedRows net.now rows.now period }
         ensures { IfSome result (Refutes net.now releases.now rows.now period after) }
     {
         match still(net, releases, rows, period, after, self.last) {
@@ -385,7 +385,7 @@ impl Witnesses {
         period: u64,
         after: u64,
     ) -> Option<Witness>
-        requires window { IsWindow net.now rows.now period }
+        requires window { AreComparedRows net.now rows.now period }
         requires after { after ≤ most_window }
         ensures { IfSome result (Refutes net.now releases.now rows.now period after) }
     {
@@ -405,7 +405,7 @@ impl Witnesses {
         period: u64,
         after: u64,
     ) -> Option<Witnesses>
-        requires window { IsWindow net.now rows.now period }
+        requires window { AreComparedRows net.now rows.now period }
         requires after { after ≤ most_window }
         ensures { IfSome result (λ _. IsRefutedPast net.now releases.now rows.now period after) }
     {

@@ -11,24 +11,24 @@ use Rattle.teg_net.specs.declared.entries.PlaceId.{PlaceId}
 use Rattle.teg_net.specs.Nets.{NetLists}
 use Rattle.teg_net.specs.Ratios.{Fraction}
 use Rattle.teg_net.specs.Circuits.{time_of, tokens_of}
-use Rattle.teg_sizing.specs.Rounds.{value_of, Avoids}
+use Rattle.teg_sizing.specs.ValueRounds.{reduced_time_of_path, Avoids}
 use Rattle.teg_sizing.specs.Surpluses.{NoneIsAbove, IsAboveApart, NonePasses, IsBestThrough}
 use Rattle.teg_sizing.specs.Sizings.{OthersKeepTarget, IsEnough, IsFewest, IsNeverEnough, IsTurnedLowest}
 use Rattle.teg_sizing.proofs.Values.{contains_or_avoids, not_both, all_first, all_second}
 
 -- a value of at most so much, in products
-low_value : (net : NetLists) (r : Fraction) (ps : List PlaceId) (n : ℕ) → value_of net r ps ≤ℤ pos (r.time * n) → time_of net ps * r.tokens ≤ r.time * (tokens_of net ps + n)
+low_value : (net : NetLists) (r : Fraction) (ps : List PlaceId) (n : ℕ) → reduced_time_of_path net r ps ≤ℤ pos (r.time * n) → time_of net ps * r.tokens ≤ r.time * (tokens_of net ps + n)
 low_value net r ps n h =
     let one : time_of net ps * r.tokens ≡ r.tokens * time_of net ps = grind arith in
     let two : r.time * (tokens_of net ps + n) ≡ r.time * tokens_of net ps + r.time * n = grind arith in
     omega (arith, ints)
 
-low_alone : (net : NetLists) (r : Fraction) (ps : List PlaceId) → value_of net r ps ≤ℤ pos 0 → time_of net ps * r.tokens ≤ r.time * tokens_of net ps
+low_alone : (net : NetLists) (r : Fraction) (ps : List PlaceId) → reduced_time_of_path net r ps ≤ℤ pos 0 → time_of net ps * r.tokens ≤ r.time * tokens_of net ps
 low_alone net r ps h =
     let one : time_of net ps * r.tokens ≡ r.tokens * time_of net ps = grind arith in
     omega (arith, ints)
 
-value_from : (net : NetLists) (r : Fraction) (ps : List PlaceId) (n : ℕ) → time_of net ps * r.tokens ≤ r.time * (tokens_of net ps + n) → value_of net r ps ≤ℤ pos (r.time * n)
+value_from : (net : NetLists) (r : Fraction) (ps : List PlaceId) (n : ℕ) → time_of net ps * r.tokens ≤ r.time * (tokens_of net ps + n) → reduced_time_of_path net r ps ≤ℤ pos (r.time * n)
 value_from net r ps n h =
     let one : time_of net ps * r.tokens ≡ r.tokens * time_of net ps = grind arith in
     let two : r.time * (tokens_of net ps + n) ≡ r.time * tokens_of net ps + r.time * n = grind arith in

@@ -6,37 +6,37 @@ use Rattle.teg_net.specs.declared.entries.PlaceId.{PlaceId}
 use Rattle.teg_net.specs.Nets.{NetLists, IsNet}
 use Rattle.teg_net.specs.Ratios.{Fraction}
 use Rattle.teg_net.specs.Circuits.{from_of}
-use Rattle.teg_sizing.specs.declared.rounds.Cell.{Cell}
-use Rattle.teg_sizing.specs.Rounds.{IsTarget, no_cell, value_at, by_at, IsRoundAfter, round_at, AreRounds}
-use Rattle.teg_sizing.specs.Paths.{trace_of, HaveToldAll}
+use Rattle.teg_sizing.specs.declared.rounds.ValueCell.{ValueCell}
+use Rattle.teg_sizing.specs.ValueRounds.{IsTarget, no_cell, value_told, by_at, IsRoundAfter, round_at, AreRounds}
+use Rattle.teg_sizing.specs.TracedPaths.{trace_of, HaveToldAll}
 use Rattle.teg_sizing.specs.Surpluses.{NoneIsBetter}
 use Rattle.teg_sizing.proofs.Values.{none_some, at_least_is, told_or_not}
 use Rattle.teg_sizing.proofs.Going.{round_last, rounds_more}
 use Rattle.teg_sizing.proofs.Traces.{trace_same, trace_more}
 
 -- a round that tells no more is the round after itself
-pub is_after_itself : (net : NetLists) (r : Fraction) (e : PlaceId) (before last : List Cell) → IsRoundAfter net r e before last → ((t : ℕ) → by_at last t ≡ None) → IsRoundAfter net r e last last
+pub is_after_itself : (net : NetLists) (r : Fraction) (e : PlaceId) (before last : List ValueCell) → IsRoundAfter net r e before last → ((t : ℕ) → by_at last t ≡ None) → IsRoundAfter net r e last last
 is_after_itself net r e before last h none = record {
   count = refl;
-  kept = λ t v is. at_least_is (value_at last t) v is;
+  kept = λ t v is. at_least_is (value_told last t) v is;
   each = λ p v l in' o. h.each p v l in' (record { other = o.other; start = o.start; told = sym (h.same (from_of net p) (none (from_of net p))) ∙ o.told; is = o.is });
   same = λ t n. refl;
   by_place = λ t p by. absurd (none_some (by_at last t) p (none t) by);
 }
 
-pub none_at_all : (cells : List Cell) → NoneIsBetter cells → (t : ℕ) → by_at cells t ≡ None
+pub none_at_all : (cells : List ValueCell) → NoneIsBetter cells → (t : ℕ) → by_at cells t ≡ None
 none_at_all cells none t = ⊎_elim
     (λ (l : t < length cells). none t l)
-    (λ (l : length cells ≤ t). ap (λ (c : Cell). c.by) (get_or_past cells t no_cell l))
+    (λ (l : length cells ≤ t). ap (λ (c : ValueCell). c.by) (get_or_past cells t no_cell l))
     (cases_lt t (length cells))
 
 -- the first rounds tell the same paths, whatever comes after them
-trace_before : (net : NetLists) (rounds : List (List Cell)) (after : List Cell) (k t : ℕ) → k ≤ length rounds → trace_of net (rounds ++ (after ∷ [])) k t ≡ trace_of net rounds k t
+trace_before : (net : NetLists) (rounds : List (List ValueCell)) (after : List ValueCell) (k t : ℕ) → k ≤ length rounds → trace_of net (rounds ++ (after ∷ [])) k t ≡ trace_of net rounds k t
 trace_before net rounds after zero t l = refl
 trace_before net rounds after (suc k) t l =
-    let more : List (List Cell) = rounds ++ (after ∷ []) in
+    let more : List (List ValueCell) = rounds ++ (after ∷ []) in
     let same : round_at more k ≡ round_at rounds k = get_or_append_left rounds (after ∷ []) [] k (omega arith) in
-    let by : by_at (round_at more k) t ≡ by_at (round_at rounds k) t = ap (λ (z : List Cell). by_at z t) same in
+    let by : by_at (round_at more k) t ≡ by_at (round_at rounds k) t = ap (λ (z : List ValueCell). by_at z t) same in
     ⊎_elim
     (λ (none : by_at (round_at rounds k) t ≡ None).
     trace_same net more k t (by ∙ none) ∙ (trace_before net rounds after k t (omega arith) ∙ sym (trace_same net rounds k t none)))
@@ -46,30 +46,30 @@ trace_before net rounds after (suc k) t l =
     (told_or_not (by_at (round_at rounds k) t))
 
 -- with one round more that tells no place
-trace_longer : (net : NetLists) (rounds : List (List Cell)) (after : List Cell) (t : ℕ) → by_at after t ≡ None
+trace_longer : (net : NetLists) (rounds : List (List ValueCell)) (after : List ValueCell) (t : ℕ) → by_at after t ≡ None
     → trace_of net (rounds ++ (after ∷ [])) (length (rounds ++ (after ∷ []))) t ≡ trace_of net rounds (length rounds) t
 trace_longer net rounds after t none =
-    let more : List (List Cell) = rounds ++ (after ∷ []) in
+    let more : List (List ValueCell) = rounds ++ (after ∷ []) in
     let long : length more ≡ suc (length rounds) = omega (arith, length-append rounds (after ∷ [])) in
-    let by : by_at (round_at more (length rounds)) t ≡ None = ap (λ (z : List Cell). by_at z t) (round_last rounds after) ∙ none in
+    let by : by_at (round_at more (length rounds)) t ≡ None = ap (λ (z : List ValueCell). by_at z t) (round_last rounds after) ∙ none in
     ap (λ (z : ℕ). trace_of net more z t) long ∙ (trace_same net more (length rounds) t by ∙ trace_before net rounds after (length rounds) t (omega arith))
 
 -- so many rounds more like the last
-pub record IsLengthened (net : NetLists) (r : Fraction) (e : PlaceId) (first : List Cell) (rounds : List (List Cell)) (last : List Cell) (count : ℕ) : Type 0 where
-  pub all : List (List Cell)
+pub record IsLengthened (net : NetLists) (r : Fraction) (e : PlaceId) (first : List ValueCell) (rounds : List (List ValueCell)) (last : List ValueCell) (count : ℕ) : Type 0 where
+  pub all : List (List ValueCell)
   pub are : AreRounds net r e first all
   pub long : length all ≡ count + 1
   pub last_is : round_at all count ≡ last
   pub paths : (t : ℕ) → trace_of net rounds (length rounds) t ≡ trace_of net all (length all) t
 
 lengthen :
-    (net : NetLists) (r : Fraction) (e : PlaceId) (first last : List Cell) → IsNet net → IsTarget r → IsRoundAfter net r e last last → ((t : ℕ) → by_at last t ≡ None)
-    → (m k : ℕ) (rounds : List (List Cell)) → AreRounds net r e first rounds → length rounds ≡ k + 1 → round_at rounds k ≡ last → IsLengthened net r e first rounds last (k + m)
+    (net : NetLists) (r : Fraction) (e : PlaceId) (first last : List ValueCell) → IsNet net → IsTarget r → IsRoundAfter net r e last last → ((t : ℕ) → by_at last t ≡ None)
+    → (m k : ℕ) (rounds : List (List ValueCell)) → AreRounds net r e first rounds → length rounds ≡ k + 1 → round_at rounds k ≡ last → IsLengthened net r e first rounds last (k + m)
 lengthen net r e first last ok target again none zero k rounds h long is =
     let same : k + 0 ≡ k = omega arith in
     rw same (record { all = rounds; are = h; long = long; last_is = is; paths = λ t. refl })
 lengthen net r e first last ok target again none (suc m) k rounds h long is =
-    let more : List (List Cell) = rounds ++ (last ∷ []) in
+    let more : List (List ValueCell) = rounds ++ (last ∷ []) in
     let wide : length more ≡ (k + 1) + 1 = omega (arith, length-append rounds (last ∷ []), long) in
     let end : round_at more (k + 1) ≡ last = ap (round_at more) (sym long) ∙ round_last rounds last in
     let rest : IsLengthened net r e first more last ((k + 1) + m) =
@@ -84,7 +84,7 @@ lengthen net r e first last ok target again none (suc m) k rounds h long is =
     })
 
 -- rounds that stop at one that tells no more have told all
-pub stopped : (net : NetLists) (r : Fraction) (e : PlaceId) (first before last : List Cell) (rounds : List (List Cell)) (k count : ℕ) → IsNet net → IsTarget r → AreRounds net r e first rounds → length rounds ≡ k + 1 → k ≤ count
+pub stopped : (net : NetLists) (r : Fraction) (e : PlaceId) (first before last : List ValueCell) (rounds : List (List ValueCell)) (k count : ℕ) → IsNet net → IsTarget r → AreRounds net r e first rounds → length rounds ≡ k + 1 → k ≤ count
     → round_at rounds k ≡ last → IsRoundAfter net r e before last → NoneIsBetter last → HaveToldAll net r e first count rounds
 stopped net r e first before last rounds k count ok target h long few is after better =
     let none = none_at_all last better in
@@ -102,7 +102,7 @@ stopped net r e first before last rounds k count ok target h long few is after b
     }
 
 -- and so have all of them
-pub whole : (net : NetLists) (r : Fraction) (e : PlaceId) (first : List Cell) (rounds : List (List Cell)) (count : ℕ) → AreRounds net r e first rounds → length rounds ≡ count + 1 → HaveToldAll net r e first count rounds
+pub whole : (net : NetLists) (r : Fraction) (e : PlaceId) (first : List ValueCell) (rounds : List (List ValueCell)) (count : ℕ) → AreRounds net r e first rounds → length rounds ≡ count + 1 → HaveToldAll net r e first count rounds
 whole net r e first rounds count h long =
     let end : length rounds - 1 ≡ count = omega (arith, long) in
     record { some = omega (arith, long); all = rounds; are = h; long = long; last = ap (round_at rounds) end; paths = λ t. refl }

@@ -9,11 +9,12 @@ use Rattle.std.proofs.lemmas.List.Sums.{sum_by-append, sum_by-cons}
 use Rattle.std.proofs.Math.Nat.{mul-le-mul_right}
 use Rattle.teg_net.specs.declared.entries.PlaceId.{PlaceId}
 use Rattle.teg_net.specs.declared.entries.Place.{Place}
-use Rattle.teg_net.specs.Limits.{greatest_hold, most_tokens}
+use Rattle.teg_net.specs.Limits.{greatest_hold, most_place_tokens, greatest_target_time, most_target_tokens}
 use Rattle.teg_net.specs.Nets.{NetLists}
 use Rattle.teg_net.specs.Ratios.{Fraction}
 use Rattle.teg_net.specs.Circuits.{place_at, time_of, tokens_of}
-use Rattle.teg_sizing.specs.Rounds.{IsTarget, weight_of, value_of, Avoids, most_weight, most_value, IsAtLeast}
+use Rattle.teg_net.specs.ReducedTimes.{reduced_time_of_place}
+use Rattle.teg_sizing.specs.ValueRounds.{IsTarget, reduced_time_of_path, Avoids, greatest_reduced_time, most_value, IsAtLeast}
 use Rattle.teg_net.proofs.Reading.{same_id}
 
 -- ---- reading
@@ -51,12 +52,12 @@ told_or_not (Some v) = inr (v, refl)
 
 -- ---- limits
 
-pub weight_within : (r : Fraction) (p : Place) → IsTarget r → p.hold ≤ greatest_hold → p.tokens ≤ most_tokens → ((pos 0 -ℤ pos most_weight) ≤ℤ weight_of r p) × (weight_of r p ≤ℤ pos most_weight)
+pub weight_within : (r : Fraction) (p : Place) → IsTarget r → p.hold ≤ greatest_hold → p.tokens ≤ most_place_tokens → ((pos 0 -ℤ pos greatest_reduced_time) ≤ℤ reduced_time_of_place r p) × (reduced_time_of_place r p ≤ℤ pos greatest_reduced_time)
 weight_within r p t h k =
     let time = t.time in
     let tokens = t.tokens in
-    let one : r.tokens * p.hold ≤ 1000000 * p.hold = mul-le-mul_right {m = r.tokens} {n = 1000000} p.hold tokens in
-    let two : r.time * p.tokens ≤ 1000000000000 * p.tokens = mul-le-mul_right {m = r.time} {n = 1000000000000} p.tokens time in
+    let one : r.tokens * p.hold ≤ most_target_tokens * p.hold = mul-le-mul_right {m = r.tokens} {n = most_target_tokens} p.hold tokens in
+    let two : r.time * p.tokens ≤ greatest_target_time * p.tokens = mul-le-mul_right {m = r.time} {n = greatest_target_time} p.tokens time in
     (omega (arith, ints), omega (arith, ints))
 
 pub small_fits : (x : ℤ) → (pos 0 -ℤ pos (2 * most_value)) ≤ℤ x → x ≤ℤ pos (2 * most_value) → FitsSigned w128 x
@@ -64,13 +65,13 @@ small_fits (pos m) low high = fits_signed_from_abs w128 (pos m) (omega (arith, i
 small_fits (negsuc m) low high = fits_signed_from_abs w128 (negsuc m) (omega (arith, ints))
 
 -- a value and a weight, as the code computes it
-pub sum_fits : (u w : ℤ) → (pos 0 -ℤ pos most_value) ≤ℤ u → u ≤ℤ pos most_value → (pos 0 -ℤ pos most_weight) ≤ℤ w → w ≤ℤ pos most_weight
+pub sum_fits : (u w : ℤ) → (pos 0 -ℤ pos most_value) ≤ℤ u → u ≤ℤ pos most_value → (pos 0 -ℤ pos greatest_reduced_time) ≤ℤ w → w ≤ℤ pos greatest_reduced_time
     → FitsSigned w128 (to_z w128 (of_z w128 u) +ℤ to_z w128 (of_z w128 w))
 sum_fits u w a b c d =
     rw (to_z-of_z w128 u (small_fits u (omega (arith, ints)) (omega (arith, ints))), to_z-of_z w128 w (small_fits w (omega (arith, ints)) (omega (arith, ints))))
     (small_fits (u +ℤ w) (omega (arith, ints)) (omega (arith, ints)))
 
-pub sum_is : (u w : ℤ) → (pos 0 -ℤ pos most_value) ≤ℤ u → u ≤ℤ pos most_value → (pos 0 -ℤ pos most_weight) ≤ℤ w → w ≤ℤ pos most_weight
+pub sum_is : (u w : ℤ) → (pos 0 -ℤ pos most_value) ≤ℤ u → u ≤ℤ pos most_value → (pos 0 -ℤ pos greatest_reduced_time) ≤ℤ w → w ≤ℤ pos greatest_reduced_time
     → to_z w128 (of_z w128 (to_z w128 (of_z w128 u) +ℤ to_z w128 (of_z w128 w))) ≡ u +ℤ w
 sum_is u w a b c d =
     rw (to_z-of_z w128 u (small_fits u (omega (arith, ints)) (omega (arith, ints))), to_z-of_z w128 w (small_fits w (omega (arith, ints)) (omega (arith, ints))))
@@ -84,25 +85,25 @@ sums_to b a h t m k =
     let two : a * (m + k) ≡ a * m + a * k = grind arith in
     omega (arith, ints)
 
-pub value_append : (net : NetLists) (r : Fraction) (ps qs : List PlaceId) → value_of net r (ps ++ qs) ≡ (value_of net r ps +ℤ value_of net r qs)
+pub value_append : (net : NetLists) (r : Fraction) (ps qs : List PlaceId) → reduced_time_of_path net r (ps ++ qs) ≡ (reduced_time_of_path net r ps +ℤ reduced_time_of_path net r qs)
 value_append net r ps qs =
     let time : time_of net (ps ++ qs) ≡ time_of net ps + time_of net qs = sum_by-append (λ q. (place_at net q).hold) ps qs in
     let tokens : tokens_of net (ps ++ qs) ≡ tokens_of net ps + tokens_of net qs = sum_by-append (λ q. (place_at net q).tokens) ps qs in
     rw (time, tokens) (sums_to r.tokens r.time (time_of net ps) (time_of net qs) (tokens_of net ps) (tokens_of net qs))
 
-pub value_cons : (net : NetLists) (r : Fraction) (p : PlaceId) (ps : List PlaceId) → value_of net r (p ∷ ps) ≡ (weight_of r (place_at net p) +ℤ value_of net r ps)
+pub value_cons : (net : NetLists) (r : Fraction) (p : PlaceId) (ps : List PlaceId) → reduced_time_of_path net r (p ∷ ps) ≡ (reduced_time_of_place r (place_at net p) +ℤ reduced_time_of_path net r ps)
 value_cons net r p ps =
     let time : time_of net (p ∷ ps) ≡ (place_at net p).hold + time_of net ps = sum_by-cons (λ q. (place_at net q).hold) p ps in
     let tokens : tokens_of net (p ∷ ps) ≡ (place_at net p).tokens + tokens_of net ps = sum_by-cons (λ q. (place_at net q).tokens) p ps in
     rw (time, tokens) (sums_to r.tokens r.time (place_at net p).hold (time_of net ps) (place_at net p).tokens (tokens_of net ps))
 
-pub value_none : (net : NetLists) (r : Fraction) → value_of net r [] ≡ pos 0
+pub value_none : (net : NetLists) (r : Fraction) → reduced_time_of_path net r [] ≡ pos 0
 value_none net r =
     let one : r.tokens * 0 ≡ 0 = grind arith in
     let two : r.time * 0 ≡ 0 = grind arith in
     rw (one, two) refl
 
-pub value_one : (net : NetLists) (r : Fraction) (p : PlaceId) → value_of net r (p ∷ []) ≡ weight_of r (place_at net p)
+pub value_one : (net : NetLists) (r : Fraction) (p : PlaceId) → reduced_time_of_path net r (p ∷ []) ≡ reduced_time_of_place r (place_at net p)
 value_one net r p = let e = value_cons net r p [] in let z = value_none net r in omega (arith, ints)
 
 -- ---- avoiding a place

@@ -1,5 +1,5 @@
-pub mod Rounds
-pub mod Paths
+pub mod ValueRounds
+pub mod TracedPaths
 pub mod Surpluses
 pub mod Sizings
-pub mod Texts
+pub mod SizingTexts

@@ -2,7 +2,7 @@
 ghost use Rattle.std.specs.Prelude.{◌<◌, length, IfOk, IfNone, IfSome};
 ghost use Rattle.teg_net.specs.Nets.{IsNet};
 ghost use Rattle.teg_net.specs.Circuits.{IsPath};
-ghost use Rattle.teg_sizing.specs.Paths.{IsLeftAt, IsFirstLoop, NoneLeaves};
+ghost use Rattle.teg_sizing.specs.TracedPaths.{IsLeftBefore, IsFirstLoop, NoneLeaves};
 
 use std::alloc::{AllocError, Global};
 use teg_net::{Net, PlaceId};
@@ -12,7 +12,7 @@ fn left_before(net: &Net, places: &[PlaceId], position: usize) -> Option<usize>
     requires path { IsPath net.now places.now }
     requires position { position < length places.now }
     ensures none { IfNone result (NoneLeaves net.now places.now position) }
-    ensures some { IfSome result (λ before. IsLeftAt net.now places.now before position) }
+    ensures some { IfSome result (λ before. IsLeftBefore net.now places.now before position) }
 {
     let own = net.places();
     let from = own[places[position].index as usize].from;

@@ -1,11 +1,12 @@
 //! The greatest values of paths, round by round (the algorithm of Bellman and Ford): the paths of a
 //! round have at most one place more than those of the round before.
 ghost use Rattle.std.specs.Prelude.{◌+◌, ◌≡◌, ◌≢◌, ◌≤◌, ◌<◌, length, IfOk, IfNone, IfSome, IsTrue, false, Some, None};
-ghost use Rattle.teg_net.specs.Limits.{greatest_hold, most_tokens};
+ghost use Rattle.teg_net.specs.Limits.{greatest_hold, most_place_tokens};
 ghost use Rattle.teg_net.specs.Nets.{IsNet};
-ghost use Rattle.teg_sizing.specs.Paths.{HaveToldAll, last_round};
-ghost use Rattle.teg_sizing.specs.Surpluses.{IsBetter, NoneIsBetter};
-ghost use Rattle.teg_sizing.specs.Rounds.{IsTarget, value_at, weight_of, most_value, AreWithin, IsAtLeast, IsOffered, AreFresh, IsRoundAfter, AreRounds};
+ghost use Rattle.teg_net.specs.ReducedTimes.{reduced_time_of_place};
+ghost use Rattle.teg_sizing.specs.TracedPaths.{HaveToldAll, last_round};
+ghost use Rattle.teg_sizing.specs.Surpluses.{IsToldMore, NoneIsBetter};
+ghost use Rattle.teg_sizing.specs.ValueRounds.{IsTarget, value_told, most_value, AreValuesWithin, IsAtLeast, IsOffered, AreFresh, IsRoundAfter, AreRounds};
 
 use std::alloc::{AllocError, Global};
 use std::marker::Model;
@@ -14,36 +15,36 @@ use teg_net::{Net, Place, PlaceId, Ratio};
 // What is told of a transition: the greatest value of the paths that end there, none where there
 // is none; and their last place, where they are not those of the round before.
 #[derive(Clone, Copy, Debug, PartialEq, Eq)]
-pub(crate) struct Cell {
+pub(crate) struct ValueCell {
     pub(crate) value: Option<i128>,
     pub(crate) by: Option<PlaceId>,
 }
 
 // What a round tells of each transition. Contracts see the list.
 #[derive(Debug, Drop)]
-pub(crate) struct Round {
-    cells: Vec<Cell>,
+pub(crate) struct ValueRound {
+    cells: Vec<ValueCell>,
 }
 
-impl Model for Round {
+impl Model for ValueRound {
     ghost use Rattle.std.specs.Prelude.{List};
-    ghost use Rattle.teg_sizing.specs.declared.rounds.Cell.{Cell};
+    ghost use Rattle.teg_sizing.specs.declared.rounds.ValueCell.{ValueCell};
 
-    ghost Value = { List Cell };
+    ghost Value = { List ValueCell };
 
     ghost view = { λ r. r.cells.items };
 }
 
-impl Round {
+impl ValueRound {
     // The round that tells this.
-    pub(crate) fn new(cells: Vec<Cell>) -> Round
+    pub(crate) fn new(cells: Vec<ValueCell>) -> ValueRound
         ensures { result ≡ cells.items }
     {
-        Round { cells }
+        ValueRound { cells }
     }
 
     // What it tells.
-    pub(crate) fn cells(&self) -> &[Cell]
+    pub(crate) fn cells(&self) -> &[ValueCell]
         ensures { result.now ≡ self.now }
     {
         &self.cells
@@ -55,8 +56,8 @@ impl Round {
 pub(crate) fn weight(target: Ratio, place: &Place) -> i128
     requires target { IsTarget target }
     requires hold { place.now.hold ≤ greatest_hold }
-    requires tokens { place.now.tokens ≤ most_tokens }
-    ensures { result ≡ weight_of target place.now }
+    requires tokens { place.now.tokens ≤ most_place_tokens }
+    ensures { result ≡ reduced_time_of_place target place.now }
 {
     let gain = i128::from(target.tokens()) * i128::from(place.hold);
     let cost = i128::from(target.time()) * i128::from(place.tokens);
@@ -67,16 +68,17 @@ pub(crate) fn weight(target: Ratio, place: &Place) -> i128
 fn offer(
     target: Ratio,
     except: PlaceId,
-    before: &[Cell],
+    before: &[ValueCell],
     id: PlaceId,
     place: &Place,
 ) -> Option<i128>
     requires target { IsTarget target }
     requires hold { place.now.hold ≤ greatest_hold }
-    requires tokens { place.now.tokens ≤ most_tokens }
+    requires tokens { place.now.tokens ≤ most_place_tokens }
     requires from { place.now.from.index < length before.now }
-    requires small { AreWithin most_value before.now }
-    ensures none { IfNone result (id.index ≢ except.index → value_at before.now place.now.from.index
+    requires small { AreValuesWithin most_value before.now }
+    ensures none { IfNone result (id.index ≢ except.index → value_told before.now
+        place.now.from.index
         ≡ None) }
     ensures some { IfSome result (IsOffered target except before.now id place.now) }
 {
@@ -99,12 +101,12 @@ fn is_more(offered: i128, told: Option<i128>) -> bool
 }
 
 // The same values, by no place yet.
-fn fresh(alloc: Global, before: &[Cell]) -> Result<Vec<Cell>, AllocError>
+fn fresh(alloc: Global, before: &[ValueCell]) -> Result<Vec<ValueCell>, AllocError>
     ensures { IfOk result (λ cells. AreFresh before.now cells.items) }
 {
     let mut cells = Vec::new(alloc);
     for cell in before {
-        cells.push(Cell {
+        cells.push(ValueCell {
             value: cell.value,
             by: None,
         })?;
@@ -118,11 +120,11 @@ fn round_after(
     net: &Net,
     target: Ratio,
     except: PlaceId,
-    before: &[Cell],
-) -> Result<Round, AllocError>
+    before: &[ValueCell],
+) -> Result<ValueRound, AllocError>
     requires target { IsTarget target }
     requires count { length before.now ≡ length net.now.transitions }
-    requires small { AreWithin most_value before.now }
+    requires small { AreValuesWithin most_value before.now }
     ensures after { IfOk result (IsRoundAfter net.now target except before.now) }
     ensures rules { IfOk result (λ _. IsNet net.now) }
 {
@@ -134,20 +136,20 @@ fn round_after(
         if let Some(offered) = offer(target, except, before, id, place) {
             let to = place.to.index as usize;
             if is_more(offered, after[to].value) {
-                after[to] = Cell {
+                after[to] = ValueCell {
                     value: Some(offered),
                     by: Some(id),
                 };
             }
         }
     }
-    Ok(Round::new(after))
+    Ok(ValueRound::new(after))
 }
 
 // A transition of which the round tells more than the one before.
-pub(crate) fn better_at(cells: &[Cell]) -> Option<usize>
+pub(crate) fn better_at(cells: &[ValueCell]) -> Option<usize>
     ensures none { IfNone result (NoneIsBetter cells.now) }
-    ensures some { IfSome result (IsBetter cells.now) }
+    ensures some { IfSome result (IsToldMore cells.now) }
 {
     for (index, cell) in cells.iter().enumerate() {
         if cell.by.is_some() {
@@ -158,7 +160,7 @@ pub(crate) fn better_at(cells: &[Cell]) -> Option<usize>
 }
 
 // What the last round tells.
-pub(crate) fn last_cells(rounds: &[Round]) -> &[Cell]
+pub(crate) fn last_cells(rounds: &[ValueRound]) -> &[ValueCell]
     requires { 1 ≤ length rounds.now }
     ensures { result.now ≡ last_round rounds.now }
 {
@@ -172,12 +174,12 @@ pub(crate) fn rounds(
     net: &Net,
     target: Ratio,
     except: PlaceId,
-    first: Round,
+    first: ValueRound,
     count: usize,
-) -> Result<Vec<Round>, AllocError>
+) -> Result<Vec<ValueRound>, AllocError>
     requires target { IsTarget target }
     requires long { length first ≡ length net.now.transitions }
-    requires small { AreWithin 0 first }
+    requires small { AreValuesWithin 0 first }
     requires count { count ≤ 401 }
     ensures rounds { IfOk result (λ rounds. AreRounds net.now target except first rounds.items) }
     ensures all { IfOk result (λ rounds. HaveToldAll net.now target except first count

@@ -2,7 +2,7 @@
 ghost use Rattle.std.specs.Prelude.{◌<◌, length, IfOk};
 ghost use Rattle.teg_net.specs.Circuits.{IsCircuit};
 ghost use Rattle.teg_check.specs.Ranks.{IsRanking};
-ghost use Rattle.teg_sizing.specs.Rounds.{IsTarget};
+ghost use Rattle.teg_sizing.specs.ValueRounds.{IsTarget};
 ghost use Rattle.teg_sizing.specs.Surpluses.{NoneIsAbove, IsBestThrough};
 ghost use Rattle.teg_sizing.specs.Sizings.{IsSizing, IsTurnedLowest};
 

@@ -1,12 +1,12 @@
 //! Circuits above the target: those that avoid the place, and the best of those that pass it.
 ghost use Rattle.std.specs.Prelude.{◌<◌, length, IfOk, IfNone, IfSome, Some};
 ghost use Rattle.teg_net.specs.Nets.{IsNet};
-ghost use Rattle.teg_sizing.specs.Paths.{last_round};
-ghost use Rattle.teg_sizing.specs.Rounds.{IsTarget};
-ghost use Rattle.teg_sizing.specs.Surpluses.{NoneIsAbove, IsAboveApart, StartsEverywhere, StartsAt, IsBetter, AreRoundsApart, AreRoundsBack, NonePasses, IsBestThrough};
+ghost use Rattle.teg_sizing.specs.TracedPaths.{last_round};
+ghost use Rattle.teg_sizing.specs.ValueRounds.{IsTarget};
+ghost use Rattle.teg_sizing.specs.Surpluses.{NoneIsAbove, IsAboveApart, StartsEverywhere, StartsFrom, IsToldMore, AreRoundsApart, AreRoundsBack, NonePasses, IsBestThrough};
 
 use crate::loops::first_loop;
-use crate::rounds::{Cell, Round, better_at, last_cells, rounds, weight};
+use crate::rounds::{ValueCell, ValueRound, better_at, last_cells, rounds, weight};
 use crate::tracing::trace;
 use std::alloc::{AllocError, Global};
 use teg_net::{Net, PlaceId, Ratio, TransitionId};
@@ -19,28 +19,28 @@ pub(crate) struct Through {
 }
 
 // The empty paths from each transition.
-fn everywhere(alloc: Global, count: usize) -> Result<Round, AllocError>
+fn everywhere(alloc: Global, count: usize) -> Result<ValueRound, AllocError>
     ensures { IfOk result (StartsEverywhere count) }
 {
-    let cell = Cell {
+    let cell = ValueCell {
         value: Some(0),
         by: None,
     };
-    Ok(Round::new(vec![in alloc; cell; count]?))
+    Ok(ValueRound::new(vec![in alloc; cell; count]?))
 }
 
 // The empty path from one transition.
-fn only_at(alloc: Global, count: usize, start: TransitionId) -> Result<Round, AllocError>
+fn only_at(alloc: Global, count: usize, start: TransitionId) -> Result<ValueRound, AllocError>
     requires { start.index < count }
-    ensures { IfOk result (StartsAt count start.index) }
+    ensures { IfOk result (StartsFrom count start.index) }
 {
-    let cell = Cell {
+    let cell = ValueCell {
         value: None,
         by: None,
     };
     let mut cells = vec![in alloc; cell; count]?;
     cells[start.index as usize].value = Some(0);
-    Ok(Round::new(cells))
+    Ok(ValueRound::new(cells))
 }
 
 // The rounds from everywhere, by all places but this one.
@@ -49,7 +49,7 @@ fn rounds_apart(
     net: &Net,
     target: Ratio,
     place: PlaceId,
-) -> Result<Vec<Round>, AllocError>
+) -> Result<Vec<ValueRound>, AllocError>
     requires { IsTarget target }
     ensures apart { IfOk result (λ all. AreRoundsApart net.now target place all.items) }
     ensures rules { IfOk result (λ _. IsNet net.now) }
@@ -66,12 +66,12 @@ fn loop_of(
     net: &Net,
     target: Ratio,
     place: PlaceId,
-    all: &[Round],
+    all: &[ValueRound],
     end: usize,
 ) -> Result<Vec<PlaceId>, AllocError>
     requires rules { IsNet net.now }
     requires apart { AreRoundsApart net.now target place all.now }
-    requires better { IsBetter (last_round all.now) end }
+    requires better { IsToldMore (last_round all.now) end }
     ensures { IfOk result (λ own. IsAboveApart net.now target place own.items) }
 {
     let _target = target;
@@ -106,7 +106,7 @@ fn rounds_back(
     net: &Net,
     target: Ratio,
     place: PlaceId,
-) -> Result<Vec<Round>, AllocError>
+) -> Result<Vec<ValueRound>, AllocError>
     requires target { IsTarget target }
     requires place { place.index < length net.now.places }
     ensures back { IfOk result (λ all. AreRoundsBack net.now target place all.items) }

@@ -2,10 +2,10 @@
 //! that shows it; or that no place has a name.
 ghost use Rattle.std.specs.Prelude.{◌≡◌, ◌++◌, ◌<◌, [], length, IfOk, string_bytes};
 ghost use Rattle.teg_text.specs.Lines.{line_then, written};
-ghost use Rattle.teg_text.specs.Words.{AreBytes};
-ghost use Rattle.teg_sizing.specs.Rounds.{IsTarget};
+ghost use Rattle.teg_text.specs.ValueWords.{AreBytes};
+ghost use Rattle.teg_sizing.specs.ValueRounds.{IsTarget};
 ghost use Rattle.teg_sizing.specs.Sizings.{IsSizing};
-ghost use Rattle.teg_sizing.specs.Texts.{TextsOfSizingsDiffer, enough_line, impossible_line, no_place_lines, sizing_lines, told, HasCircuitIn, HasNumberIn, IsToldOf};
+ghost use Rattle.teg_sizing.specs.SizingTexts.{TextsOfSizingsDiffer, enough_line, impossible_line, no_place_lines, sizing_lines, told_sizing, HasSizingCircuitIn, HasNumberIn, IsSizingTold};
 
 use crate::sizing::Sizing;
 use std::alloc::{AllocError, Global};
@@ -57,10 +57,10 @@ fn told_text(
     sizing: &Sizing,
 ) -> Result<String, AllocError>
     requires place { place.index < length net.now.places }
-    requires circuit { HasCircuitIn net.now (told sizing.now) }
+    requires circuit { HasSizingCircuitIn net.now (told_sizing sizing.now) }
     ensures text { IfOk result (λ text. string_bytes text
-        ≡ written (sizing_lines net.now place target.now (told sizing.now))) }
-    ensures number { IfOk result (λ _. HasNumberIn (told sizing.now)) }
+        ≡ written (sizing_lines net.now place target.now (told_sizing sizing.now))) }
+    ensures number { IfOk result (λ _. HasNumberIn (told_sizing sizing.now)) }
 {
     let mut text = String::new(alloc);
     match sizing {
@@ -92,8 +92,9 @@ pub fn sizing_text(
     requires target { IsTarget target.now }
     requires sizing { IsSizing net.now target.now place sizing.now }
     ensures text { IfOk result (λ text. string_bytes text
-        ≡ written (sizing_lines net.now place target.now (told sizing.now))) }
-    ensures told { IfOk result (λ _. IsToldOf net.now place target.now (told sizing.now)) }
+        ≡ written (sizing_lines net.now place target.now (told_sizing sizing.now))) }
+    ensures told { IfOk result (λ _. IsSizingTold net.now place target.now (told_sizing
+        sizing.now)) }
 {
     Ok(told_text(alloc, net, place, target, sizing)?)
 }

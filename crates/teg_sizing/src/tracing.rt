@@ -1,15 +1,15 @@
 //! The path that the rounds tell of a transition.
 ghost use Rattle.std.specs.Prelude.{◌≡◌, ◌<◌, length, IfOk, IfSome};
 ghost use Rattle.teg_net.specs.Circuits.{from_of};
-ghost use Rattle.teg_sizing.specs.Rounds.{by_at, round_at};
-ghost use Rattle.teg_sizing.specs.Paths.{AreOfNet, trace_of};
+ghost use Rattle.teg_sizing.specs.ValueRounds.{by_at, round_at};
+ghost use Rattle.teg_sizing.specs.TracedPaths.{AreOfNet, trace_of};
 
-use crate::rounds::Round;
+use crate::rounds::ValueRound;
 use std::alloc::{AllocError, Global};
 use teg_net::{Net, PlaceId};
 
 // The place by which the round of this number came to the transition, if it is by one.
-fn place_by(net: &Net, rounds: &[Round], number: usize, at: usize) -> Option<PlaceId>
+fn place_by(net: &Net, rounds: &[ValueRound], number: usize, at: usize) -> Option<PlaceId>
     requires rounds { AreOfNet net.now rounds.now }
     requires number { number < length rounds.now }
     requires at { at < length net.now.transitions }
@@ -33,7 +33,7 @@ fn start_of(net: &Net, id: PlaceId) -> usize
 pub(crate) fn trace(
     alloc: Global,
     net: &Net,
-    rounds: &[Round],
+    rounds: &[ValueRound],
     end: usize,
 ) -> Result<Vec<PlaceId>, AllocError>
     requires rounds { AreOfNet net.now rounds.now }

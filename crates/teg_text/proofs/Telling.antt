@@ -1,7 +1,7 @@
 -- What is told by lines of words is read back from their text: so what has the same text is the same.
 use Rattle.std.proofs.Common.{◌≡◌, ℕ, true, List, sym, ap, ◌∙◌}
 use Rattle.teg_text.specs.Lines.{are_lines, written}
-use Rattle.teg_text.specs.Reading.{lines_in}
+use Rattle.teg_text.specs.WordReading.{lines_in}
 use Rattle.teg_text.proofs.Reading.{written_read}
 
 -- these are lines of words, from which this is read

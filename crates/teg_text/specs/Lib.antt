@@ -1,6 +1,6 @@
 pub mod Faults
 pub mod Lines
-pub mod Names
-pub mod Reading
-pub mod Rows
-pub mod Words
+pub mod WordsOfNames
+pub mod WordReading
+pub mod LineBlocks
+pub mod ValueWords

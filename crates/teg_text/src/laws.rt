@@ -1,6 +1,6 @@
 //! The laws of texts: what is written can be read back.
-ghost use Rattle.teg_text.specs.Names.{PlacesAreRead, TransitionsAreRead};
-ghost use Rattle.teg_text.specs.Reading.{DatesAreRead, LabelsAreRead, LinesAreRead, NumbersAreRead, RatiosAreRead};
+ghost use Rattle.teg_text.specs.WordsOfNames.{PlacesAreRead, TransitionsAreRead};
+ghost use Rattle.teg_text.specs.WordReading.{DatesAreRead, LabelsAreRead, LinesAreRead, NumbersAreRead, RatiosAreRead};
 
 /// The law that lines of words are read back from their text. It does nothing when it runs.
 pub fn lines_are_read()

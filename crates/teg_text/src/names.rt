@@ -2,7 +2,7 @@
 ghost use Rattle.std.specs.Prelude.{◌≡◌, ◌++◌, ◌∷◌, [], IfOk, flat_map, string_bytes};
 ghost use Rattle.teg_net.specs.Circuits.{AreInRange};
 ghost use Rattle.teg_text.specs.Lines.{line_then};
-ghost use Rattle.teg_text.specs.Names.{circuit_line, name_of_place, settled_words};
+ghost use Rattle.teg_text.specs.WordsOfNames.{circuit_line, name_of_place, settled_words};
 
 use std::alloc::AllocError;
 use teg_net::{Circuit, Net};

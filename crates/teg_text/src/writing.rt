@@ -1,6 +1,6 @@
 //! Words of dates and labels. Those of names and numbers are what std's formats write.
 ghost use Rattle.std.specs.Prelude.{◌≡◌, ◌++◌, ◌∷◌, ◌<◌, All, IfOk, flat_map, string_bytes};
-ghost use Rattle.teg_text.specs.Words.{AreBytes, IsDate, date_word, hex_digit, label_byte, label_word};
+ghost use Rattle.teg_text.specs.ValueWords.{AreBytes, IsDate, date_word, hex_digit, label_byte, label_word};
 
 use dioid::Date;
 use std::alloc::AllocError;

@@ -5,7 +5,7 @@ use Rattle.std.proofs.lemmas.Bool.{cases_lt}
 use Rattle.std.proofs.lemmas.Fmt.{decimal_injective}
 use Rattle.std.proofs.lemmas.Option.{slice_get-get_or}
 use Rattle.delay_laws.specs.declared.table.Timetable.{Timetable}
-use Rattle.delay_laws.specs.Tables.{IsPastDelays}
+use Rattle.delay_laws.specs.PlannedTimetables.{IsPastDelays}
 use Rattle.delay_laws.specs.Delays.{IsReleaseAt}
 use Rattle.delay_laws.specs.ReleaseNets.{release_place}
 use Rattle.teg_net.specs.declared.entries.InputList.{InputList}
@@ -14,14 +14,14 @@ use Rattle.teg_net.specs.declared.entries.Role.TheVariants.{Internal, Input}
 use Rattle.teg_net.specs.declared.entries.Transition.{Transition}
 use Rattle.teg_net.specs.Circuits.{no_place}
 use Rattle.teg_net.specs.Nets.{EndsOrGoesOn, IsInput, IsInputOf, IsNet, IsPlaceOf, NetLists}
-use Rattle.teg_timetable.specs.Working.{AreBuilt, AreReleases, IsDerivedList, IsDerivedTransition, IsMade, IsNumber}
+use Rattle.teg_timetable.specs.Working.{AreBuilt, ArePlannedReleases, IsDerivedList, IsDerivedTransition, IsNetMade, IsNumberName}
 use Rattle.teg_timetable.proofs.Releasing.{releases_rise}
 
 abbrev no_transition : Transition
 no_transition = record { name = []; role = Internal }
 
 -- names that are different numbers differ
-numbers_differ : (i j : ℕ) (a b : List ℕ) → i < j → j ≤ 4400 → IsNumber i a → IsNumber j b → a ≡ b → ⊥
+numbers_differ : (i j : ℕ) (a b : List ℕ) → i < j → j ≤ 4400 → IsNumberName i a → IsNumberName j b → a ≡ b → ⊥
 numbers_differ i j a b l few p q e =
     let small : i < 2 ^ 64 = omega arith in
     let low : j < 2 ^ 64 = omega arith in
@@ -67,7 +67,7 @@ added_place net d i name twice inner lt = record {
   ready_in = λ k e l. absurd (omega (arith, l));
 }
 
-each_place : (net : NetLists) (period : ℕ) (t : Timetable) (d : NetLists) → IsNet net → IsMade net period t d → All (IsPlaceOf d) d.places
+each_place : (net : NetLists) (period : ℕ) (t : Timetable) (d : NetLists) → IsNet net → IsNetMade net period t d → All (IsPlaceOf d) d.places
 each_place net period t d rules h k e lt =
     let n : ℕ = length net.transitions in
     let long = h.places.long in
@@ -82,7 +82,7 @@ each_place net period t d rules h k e lt =
     subst (IsPlaceOf d) (sym (is.added added)) (added_place net d (k - length net.places) (get_or d.places k e).name h.transitions.long inner below))
     (cases_lt k (length net.places))
 
-each_list : (net : NetLists) (period : ℕ) (t : Timetable) (d : NetLists) → IsMade net period t d → All (IsInputOf d) d.inputs
+each_list : (net : NetLists) (period : ℕ) (t : Timetable) (d : NetLists) → IsNetMade net period t d → All (IsInputOf d) d.inputs
 each_list net period t d h k e lt =
     let n : ℕ = length net.transitions in
     let long = h.lists.long in
@@ -101,7 +101,7 @@ each_list net period t d h k e lt =
       again = subst (EndsOrGoesOn l.dates) (sym is.is.again) (record { some = omega arith; every_in = omega arith; gap_in = omega arith; enough = some; joins = omega arith });
     }
 
-pub made_rules : (net : NetLists) (period : ℕ) (t : Timetable) (d : NetLists) → IsNet net → IsMade net period t d → IsNet d
+pub made_rules : (net : NetLists) (period : ℕ) (t : Timetable) (d : NetLists) → IsNet net → IsNetMade net period t d → IsNet d
 made_rules net period t d rules h =
     let n : ℕ = length net.transitions in
     let some = rules.some_transition in
@@ -132,7 +132,7 @@ made_rules net period t d rules h =
 
 -- the list of a transition
 pub list_made : (period : ℕ) (t : Timetable) (n i last : ℕ) (l : InputList) → l.transition.index ≡ n + i → l.again ≡ Some (record { every = 1; gap = period })
-    → 1 ≤ last → last ≤ 60000 → IsPastDelays period t i last → AreReleases period t i last l.dates → IsDerivedList period t n i l
+    → 1 ≤ last → last ≤ 60000 → IsPastDelays period t i last → ArePlannedReleases period t i last l.dates → IsDerivedList period t n i l
 list_made period t n i last l of again some few past h =
     let long = h.long in
     record {

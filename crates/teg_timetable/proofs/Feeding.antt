@@ -5,17 +5,17 @@ use Rattle.std.proofs.lemmas.Bool.{cases_eq, cases_lt}
 use Rattle.std.proofs.lemmas.List.{length-set, get_or-set_same, get_or-set_other}
 use Rattle.std.proofs.lemmas.List.Elements.{All-append, All-drop, All-take}
 use Rattle.delay_laws.specs.declared.table.Timetable.{Timetable}
-use Rattle.delay_laws.specs.Tables.{IsWorkable}
-use Rattle.delay_laws.specs.Outcomes.{HasDelayPast, HasNoSpare, IsGreatestPast, IsKept, IsRecovered}
+use Rattle.delay_laws.specs.PlannedTimetables.{IsWorkable}
+use Rattle.delay_laws.specs.DelayOutcomes.{HasDelayPast, HasNoSpare, IsGreatestPast, KeepsDelays, IsRecovered}
 use Rattle.delay_laws.specs.SettlingLaws.{AreSettledDelays}
 use Rattle.delay_laws.proofs.Keeping.{circuit_within, circuits_keep_delays, delays_die_out}
 use Rattle.delay_laws.proofs.PassedOn.{greatest_delays_are_passed_on}
-use Rattle.teg_model.specs.Ranks.{HasEndsInRange}
+use Rattle.teg_model.specs.LiveRanks.{HasEndsInRange}
 use Rattle.teg_net.specs.declared.entries.PlaceId.{PlaceId}
 use Rattle.teg_net.specs.Circuits.{from_of, BeginsLowest, IsCircuit, IsLive, IsTurned}
 use Rattle.teg_net.specs.Nets.{IsNet, NetLists}
 use Rattle.teg_net.specs.Parts.{to_of}
-use Rattle.teg_timetable.specs.Spreads.{LeftDelays, left_at}
+use Rattle.teg_timetable.specs.Spreads.{LeftDelays, delay_left}
 use Rattle.teg_timetable.specs.Working.{AreBuilt, AreFeeders, AreGood, FeedersGoBack, FeedsAt, IsFeeder, IsTop}
 
 pub ends_in : (net : NetLists) → IsNet net → HasEndsInRange net
@@ -65,7 +65,7 @@ feeders_same net period t tops most k feeders id is old not = record {
 }
 
 -- a delay in the period past the number is at most the greatest of its transition
-top_is : (s : LeftDelays) (i top : ℕ) → IsTop s i top → (most : ℕ) → HasDelayPast (left_at s) s.form.after s.form.period most i → top ≤ most → top ≡ most
+top_is : (s : LeftDelays) (i top : ℕ) → IsTop s i top → (most : ℕ) → HasDelayPast (delay_left s) s.form.after s.form.period most i → top ≤ most → top ≡ most
 top_is s i top h most d le =
     let up = h.greatest d.number d.past d.within in
     let is = d.is in
@@ -73,7 +73,7 @@ top_is s i top h most d le =
 
 -- no delay of that period is above the greatest of all
 pub greatest_past : (net : NetLists) (s : LeftDelays) (tops : List ℕ) (most : ℕ) → AreBuilt (IsTop s) (length net.transitions) tops → All (λ top. top ≤ most) tops
-    → IsGreatestPast net (left_at s) s.form.after s.form.period most
+    → IsGreatestPast net (delay_left s) s.form.after s.form.period most
 greatest_past net s tops most h high i k l past within =
     let long = h.long in
     let one = (h.each i 0 l).greatest k past within in
@@ -82,14 +82,14 @@ greatest_past net s tops most h high i k l past within =
 
 -- what feeders of all places tell: from each transition with the greatest delay one leads back
 pub feeders_go_back : (net : NetLists) → IsNet net → IsLive net → (period : ℕ) → 1 ≤ period → (t : Timetable) → IsWorkable net period t → (s : LeftDelays)
-    → AreSettledDelays net period t (left_at s) s.form.after s.form.period → (tops : List ℕ) (most : ℕ) → 1 ≤ most → AreBuilt (IsTop s) (length net.transitions) tops
+    → AreSettledDelays net period t (delay_left s) s.form.after s.form.period → (tops : List ℕ) (most : ℕ) → 1 ≤ most → AreBuilt (IsTop s) (length net.transitions) tops
     → All (λ top. top ≤ most) tops → (feeders : List (Option PlaceId)) → AreFeeders net period t tops most (length net.places) feeders
     → FeedersGoBack net period t tops most feeders
 feeders_go_back net rules live period some t workable s settled tops most late h high feeders f i l is =
     let ends = ends_in net rules in
     let long = h.long in
-    let own : HasDelayPast (left_at s) s.form.after s.form.period most i = subst (λ (z : ℕ). HasDelayPast (left_at s) s.form.after s.form.period z i) is (h.each i 0 l).attained in
-    let on = greatest_delays_are_passed_on net ends live period some t workable (left_at s) s.form.after s.form.period settled most late (greatest_past net s tops most h high) i l own in
+    let own : HasDelayPast (delay_left s) s.form.after s.form.period most i = subst (λ (z : ℕ). HasDelayPast (delay_left s) s.form.after s.form.period z i) is (h.each i 0 l).attained in
+    let on = greatest_delays_are_passed_on net ends live period some t workable (delay_left s) s.form.after s.form.period settled most late (greatest_past net s tops most h high) i l own in
     let p : PlaceId = on.0 in
     let from_in : from_of net p < length net.transitions = (rules.each_place p.index _ on.1.place).from_in in
     let below : get_or tops (from_of net p) 0 ≤ most = high (from_of net p) 0 (omega arith) in
@@ -112,20 +112,20 @@ good_turned net period t tops most ps qs turned h =
     subst (All Good) (sym turned.2) (All-append Good (drop turned.0 ps) (take turned.0 ps) (All-drop Good turned.0 ps h) (All-take Good turned.0 ps h))
 
 -- the delays die out
-pub recovered : (net : NetLists) (period : ℕ) (t : Timetable) (s : LeftDelays) → AreSettledDelays net period t (left_at s) s.form.after s.form.period → (tops : List ℕ)
+pub recovered : (net : NetLists) (period : ℕ) (t : Timetable) (s : LeftDelays) → AreSettledDelays net period t (delay_left s) s.form.after s.form.period → (tops : List ℕ)
     → AreBuilt (IsTop s) (length net.transitions) tops → All (λ top. top ≤ 0) tops → (last : ℕ)
-    → ((i k : ℕ) → i < length net.transitions → last < k → k ≤ s.form.after → left_at s i k ≡ 0)
-    → (last ≡ 0) ⊎ ((i : ℕ) × (i < length net.transitions) × (1 ≤ left_at s i last)) → IsRecovered net (left_at s) last
+    → ((i k : ℕ) → i < length net.transitions → last < k → k ≤ s.form.after → delay_left s i k ≡ 0)
+    → (last ≡ 0) ⊎ ((i : ℕ) × (i < length net.transitions) × (1 ≤ delay_left s i last)) → IsRecovered net (delay_left s) last
 recovered net period t s settled tops h high last none is =
-    delays_die_out net period t (left_at s) s.form.after s.form.period settled (greatest_past net s tops 0 h high) last none is
+    delays_die_out net period t (delay_left s) s.form.after s.form.period settled (greatest_past net s tops 0 h high) last none is
 
 -- a circuit keeps them
-pub kept : (net : NetLists) → IsNet net → (period : ℕ) (t : Timetable) (s : LeftDelays) → AreSettledDelays net period t (left_at s) s.form.after s.form.period
+pub kept : (net : NetLists) → IsNet net → (period : ℕ) (t : Timetable) (s : LeftDelays) → AreSettledDelays net period t (delay_left s) s.form.after s.form.period
     → (tops : List ℕ) (most : ℕ) → 1 ≤ most → AreBuilt (IsTop s) (length net.transitions) tops → (circuit : List PlaceId) → IsCircuit net circuit → BeginsLowest net circuit
-    → AreGood net period t tops most circuit → IsKept net period (left_at s) circuit
+    → AreGood net period t tops most circuit → KeepsDelays net period (delay_left s) circuit
 kept net rules period t s settled tops most late h circuit is lowest good =
     let ends = ends_in net rules in
     let within = circuit_within net circuit ends is in
-    circuits_keep_delays net period t ends (left_at s) s.form.after s.form.period settled most late circuit is lowest
+    circuits_keep_delays net period t ends (delay_left s) s.form.after s.form.period settled most late circuit is lowest
     (λ k d l. (good k d l).0)
-    (λ k d l. subst (λ (z : ℕ). HasDelayPast (left_at s) s.form.after s.form.period z (from_of net (get_or circuit k d))) (good k d l).1 (h.each (from_of net (get_or circuit k d)) 0 (within k d l)).attained)
+    (λ k d l. subst (λ (z : ℕ). HasDelayPast (delay_left s) s.form.after s.form.period z (from_of net (get_or circuit k d))) (good k d l).1 (h.each (from_of net (get_or circuit k d)) 0 (within k d l)).attained)

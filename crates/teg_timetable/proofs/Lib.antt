@@ -1,3 +1,4 @@
+pub mod TopsUpTo
 pub mod EntryRules
 pub mod Splitting
 pub mod Refused

@@ -7,45 +7,45 @@ use Rattle.std.proofs.lemmas.Bool.{and_from}
 use Rattle.std.proofs.lemmas.List.Elements.{All-head, All-tail}
 use Rattle.teg_net.specs.Nets.{NetLists, IsNet}
 use Rattle.teg_text.specs.Lines.{is_word, is_line, are_lines}
-use Rattle.teg_text.specs.Names.{place_in, transition_in}
-use Rattle.teg_text.specs.Reading.{lines_in, line_at, word, stands_at, number_in}
+use Rattle.teg_text.specs.WordsOfNames.{place_named, transition_in}
+use Rattle.teg_text.specs.WordReading.{lines_in, line_at, word, stands_at, number_in}
 use Rattle.teg_text.proofs.Back.{word64_back}
 use Rattle.teg_text.proofs.NamesRead.{circuits, place_back, place_is_word, transition_back, transition_is_word}
 use Rattle.teg_text.proofs.Reading.{written_read}
-use Rattle.teg_text.proofs.Rows.{rows, IsReadBack}
+use Rattle.teg_text.proofs.LineBlocks.{rows, IsReadBack}
 use Rattle.teg_text.proofs.Words.{decimal_is_word}
 use Rattle.teg_timetable.specs.Spreads.{RecoveredTold, KeptTold}
-use Rattle.teg_timetable.specs.Texts.{Told, LongFileTold, UnreadFileTold, SpreadTold, BadRowTold, UnknownTold, RepeatedTold, OutOfRangeTold, MissingTold, TooLargeTold, UnworkableTold, TooLongTold, delays_line, delays_lines, told_lines, IsToldOf, TextsOfTimetablesDiffer}
+use Rattle.teg_timetable.specs.TimetableTexts.{ToldTimetable, LongFileTold, UnreadFileTold, SpreadTold, BadRowTold, UnknownTold, RepeatedTold, OutOfRangeTold, MissingTold, TooLargeTold, UnworkableTold, TooLongTold, delays_line, delays_lines, told_lines, IsTimetableTold, TextsOfTimetablesDiffer}
 
 -- ---- what is read
 
 abbrev row_in : List (List ℕ) → List ℕ
 row_in line = map number_in (drop 2 line)
 
-abbrev row_told : List (List ℕ) → Told
+abbrev row_told : List (List ℕ) → ToldTimetable
 row_told line =
     if stands_at 4 line (codes "is") then BadRowTold (number_in (word 3 line))
     else if stands_at 4 line (codes "unknown") then UnknownTold (number_in (word 3 line))
     else if stands_at 4 line (codes "repeated") then RepeatedTold (number_in (word 3 line))
     else OutOfRangeTold (number_in (word 3 line))
 
-abbrev refusal_told : NetLists → List (List ℕ) → Told
+abbrev refusal_told : NetLists → List (List ℕ) → ToldTimetable
 refusal_told net line =
     if stands_at 0 line (codes "too") then TooLongTold (number_in (word 6 line))
     else if stands_at 0 line (codes "fault:") then UnreadFileTold
     else if stands_at 1 line (codes "the") then LongFileTold
     else if stands_at 1 line (codes "no") then MissingTold (transition_in net (word 4 line))
-    else if stands_at 1 line (codes "place") then UnworkableTold (place_in net (word 2 line))
+    else if stands_at 1 line (codes "place") then UnworkableTold (place_named net (word 2 line))
     else if stands_at 2 line (codes "of") then TooLargeTold (number_in (word 3 line)) (number_in (word 6 line))
     else row_told line
 
-abbrev spread_in : NetLists → List (List (List ℕ)) → Told
+abbrev spread_in : NetLists → List (List (List ℕ)) → ToldTimetable
 spread_in net lines =
     if stands_at 0 (line_at 1 lines) (codes "recovered")
     then SpreadTold (number_in (word 2 (line_at 0 lines))) (number_in (word 4 (line_at 0 lines))) (RecoveredTold (number_in (word 2 (line_at 1 lines)))) (map row_in (drop 2 lines))
-    else SpreadTold (number_in (word 2 (line_at 0 lines))) (number_in (word 4 (line_at 0 lines))) (KeptTold (map (place_in net) (drop 1 (line_at 2 lines)))) (map row_in (drop 3 lines))
+    else SpreadTold (number_in (word 2 (line_at 0 lines))) (number_in (word 4 (line_at 0 lines))) (KeptTold (map (place_named net) (drop 1 (line_at 2 lines)))) (map row_in (drop 3 lines))
 
-abbrev told_in : NetLists → List (List (List ℕ)) → Told
+abbrev told_in : NetLists → List (List (List ℕ)) → ToldTimetable
 told_in net lines = if stands_at 0 (line_at 0 lines) (codes "settled") then spread_in net lines else refusal_told net (line_at 0 lines)
 
 -- ---- delays
@@ -70,11 +70,11 @@ delays_pass net t (row ∷ delays) rules l all =
 -- ---- answers
 
 -- the lines are read back from their text, and what is told from the lines
-record IsRead (net : NetLists) (p : Told) : Type 0 where
+record IsRead (net : NetLists) (p : ToldTimetable) : Type 0 where
   words : are_lines (told_lines net p) ≡ true
   told : told_in net (told_lines net p) ≡ p
 
-is_read : (net : NetLists) → IsNet net → (p : Told) → IsToldOf net p → IsRead net p
+is_read : (net : NetLists) → IsNet net → (p : ToldTimetable) → IsTimetableTold net p → IsRead net p
 is_read net rules LongFileTold h = record { words = refl; told = refl }
 is_read net rules UnreadFileTold h = record { words = refl; told = refl }
 is_read net rules (SpreadTold after period (RecoveredTold last) delays) h = record {

@@ -2,19 +2,19 @@
 use Rattle.std.proofs.Common.{ℕ, zero, suc, ◌<◌, ◌≤◌, ◌+◌, ◌&&◌, ◌≡◌, ◌≢◌, List, [], ◌∷◌, ◌++◌, Bool, true, false, cond, length, Option, Some, None, Result, Ok, Err, refl, subst, arith}
 use Rattle.std.specs.Prelude.{nat_le}
 use Rattle.std.specs.Str.Parse.{digits_value}
-use Rattle.csv_records.specs.Numbers.{is_number}
+use Rattle.csv_records.specs.NumberFields.{is_number}
 use Rattle.csv_records.specs.Records.{records_of}
-use Rattle.csv_records.specs.Rows.{and_then, with_row}
+use Rattle.csv_records.specs.RowsOfRecords.{and_then, with_read_row}
 use Rattle.csv_records.proofs.RowLaws.{rows_refused}
-use Rattle.delay_laws.specs.Tables.{greatest_departure}
-use Rattle.teg_due.specs.Names.{number_named}
+use Rattle.delay_laws.specs.PlannedTimetables.{greatest_departure}
+use Rattle.teg_due.specs.RowNames.{number_named}
 use Rattle.teg_net.specs.Nets.{NetLists}
-use Rattle.teg_timetable.specs.declared.entries.Entry.{Entry}
-use Rattle.teg_timetable.specs.declared.entries.Entry.TheVariants.{Departure, Late}
+use Rattle.teg_timetable.specs.declared.entries.TableEntry.{TableEntry}
+use Rattle.teg_timetable.specs.declared.entries.TableEntry.TheVariants.{Departure, Late}
 use Rattle.teg_timetable.specs.declared.refusals.TableRefusal.{TableRefusal}
 use Rattle.teg_timetable.specs.declared.refusals.TableRefusal.TheVariants as fault
 use Rattle.teg_timetable.specs.Entries.{delay_row, departure_row, entries_of, entry_row, has_entry, in_delay_limits, is_table_header, row_named}
-use Rattle.teg_timetable.specs.Tables.{IsTableRefusalIn, departure_of, departure_or_missing, firsts_of}
+use Rattle.teg_timetable.specs.TimetableFiles.{IsTableRefusalIn, departure_of, departure_or_missing, firsts_of}
 
 module _ (net : NetLists) where
   -- a result whose refusal names what is of the net
@@ -32,38 +32,38 @@ module _ (net : NetLists) where
   fine_departure is_given k t first = by is_given (nat_le first greatest_departure)
     where
       by : (a b : Bool) → IsFine (cond a (Err (fault.Repeated k)) (cond b (Ok (Departure (record { index = t }) first)) (Err (fault.OutOfRange k))))
-      by true b = fine_err {T = Entry} (fault.Repeated k) tt
+      by true b = fine_err {T = TableEntry} (fault.Repeated k) tt
       by false true = fine_ok (Departure (record { index = t }) first)
-      by false false = fine_err {T = Entry} (fault.OutOfRange k) tt
+      by false false = fine_err {T = TableEntry} (fault.OutOfRange k) tt
 
   fine_delay : (is_given : Bool) (k t n by : ℕ) → IsFine (delay_row is_given k t n by)
   fine_delay is_given k t n by = choose (nat_le 1 n && is_given) (in_delay_limits n by)
     where
       choose : (a b : Bool) → IsFine (cond a (Err (fault.Repeated k)) (cond b (Ok (Late (record { row = k; transition = record { index = t }; number = n; by = by }))) (Err (fault.OutOfRange k))))
-      choose true b = fine_err {T = Entry} (fault.Repeated k) tt
+      choose true b = fine_err {T = TableEntry} (fault.Repeated k) tt
       choose false true = fine_ok (Late (record { row = k; transition = record { index = t }; number = n; by = by }))
-      choose false false = fine_err {T = Entry} (fault.OutOfRange k) tt
+      choose false false = fine_err {T = TableEntry} (fault.OutOfRange k) tt
 
-  fine_named : (k : ℕ) (o : Option ℕ) (row : ℕ → Result Entry TableRefusal) → ((t : ℕ) → IsFine (row t)) → IsFine (row_named k o row)
-  fine_named k None row h = fine_err {T = Entry} (fault.UnknownTransition k) tt
+  fine_named : (k : ℕ) (o : Option ℕ) (row : ℕ → Result TableEntry TableRefusal) → ((t : ℕ) → IsFine (row t)) → IsFine (row_named k o row)
+  fine_named k None row h = fine_err {T = TableEntry} (fault.UnknownTransition k) tt
   fine_named k (Some t) row h = h t
 
-  fine_tested : (b : Bool) (k : ℕ) (row : Result Entry TableRefusal) → IsFine row → IsFine (cond b row (Err (fault.BadRow k)))
+  fine_tested : (b : Bool) (k : ℕ) (row : Result TableEntry TableRefusal) → IsFine row → IsFine (cond b row (Err (fault.BadRow k)))
   fine_tested true k row h = h
-  fine_tested false k row h = fine_err {T = Entry} (fault.BadRow k) tt
+  fine_tested false k row h = fine_err {T = TableEntry} (fault.BadRow k) tt
 
-  fine_row : (entries : List Entry) (k : ℕ) (fields : List (List ℕ)) → IsFine (entry_row net entries k fields)
-  fine_row entries k [] = fine_err {T = Entry} (fault.BadRow k) tt
-  fine_row entries k (a ∷ []) = fine_err {T = Entry} (fault.BadRow k) tt
+  fine_row : (entries : List TableEntry) (k : ℕ) (fields : List (List ℕ)) → IsFine (entry_row net entries k fields)
+  fine_row entries k [] = fine_err {T = TableEntry} (fault.BadRow k) tt
+  fine_row entries k (a ∷ []) = fine_err {T = TableEntry} (fault.BadRow k) tt
   fine_row entries k (name ∷ first ∷ []) =
       fine_tested (is_number first) k (row_named k (number_named net name) (λ t. departure_row (has_entry entries t 0) k t (digits_value 10 first)))
       (fine_named k (number_named net name) (λ t. departure_row (has_entry entries t 0) k t (digits_value 10 first)) (λ t. fine_departure (has_entry entries t 0) k t (digits_value 10 first)))
   fine_row entries k (name ∷ number ∷ by ∷ []) =
       fine_tested (is_number number && is_number by) k (row_named k (number_named net name) (λ t. delay_row (has_entry entries t (digits_value 10 number)) k t (digits_value 10 number) (digits_value 10 by)))
       (fine_named k (number_named net name) (λ t. delay_row (has_entry entries t (digits_value 10 number)) k t (digits_value 10 number) (digits_value 10 by)) (λ t. fine_delay (has_entry entries t (digits_value 10 number)) k t (digits_value 10 number) (digits_value 10 by)))
-  fine_row entries k (a ∷ b ∷ c ∷ d ∷ more) = fine_err {T = Entry} (fault.BadRow k) tt
+  fine_row entries k (a ∷ b ∷ c ∷ d ∷ more) = fine_err {T = TableEntry} (fault.BadRow k) tt
 
-  fine_with : {R : Type 0} (rows : List R) (r : Result R TableRefusal) → IsFine r → IsFine (with_row rows r)
+  fine_with : {R : Type 0} (rows : List R) (r : Result R TableRefusal) → IsFine r → IsFine (with_read_row rows r)
   fine_with {R = R} rows (Ok row) h = fine_ok (rows ++ row ∷ [])
   fine_with {R = R} rows (Err other) h = fine_err {T = List R} other (h other refl)
 
@@ -80,12 +80,12 @@ module _ (net : NetLists) where
   fine_missing (Some first) t lt = fine_ok first
 
   -- why there are no first departures
-  pub firsts_fine : (entries : List Entry) (count : ℕ) → count ≤ length net.transitions → (why : TableRefusal) → firsts_of entries count ≡ Err why → IsTableRefusalIn net why
+  pub firsts_fine : (entries : List TableEntry) (count : ℕ) → count ≤ length net.transitions → (why : TableRefusal) → firsts_of entries count ≡ Err why → IsTableRefusalIn net why
   firsts_fine entries zero h = fine_ok []
   firsts_fine entries (suc t) h =
       let before : t ≤ length net.transitions = omega arith in
       let below : t < length net.transitions = omega arith in
-      fine_then (firsts_of entries t) (λ firsts. with_row firsts (departure_or_missing (departure_of entries t) t))
+      fine_then (firsts_of entries t) (λ firsts. with_read_row firsts (departure_or_missing (departure_of entries t) t))
       (firsts_fine entries t before) (λ firsts. fine_with firsts (departure_or_missing (departure_of entries t) t) (fine_missing (departure_of entries t) t below))
 
   -- a refusal whose cause is known but where no memory was found is fine

@@ -9,12 +9,12 @@ use Rattle.std.proofs.lemmas.List.Elements.{All-append, All-cons, All-head, All-
 use Rattle.std.proofs.Math.Nat.{mul-le-mul_left, mul-le-mul_right}
 use Rattle.delay_laws.specs.declared.table.Delay.{Delay}
 use Rattle.delay_laws.specs.declared.table.Timetable.{Timetable}
-use Rattle.delay_laws.specs.Tables.{delay_given, delay_in, planned, greatest_delay}
+use Rattle.delay_laws.specs.PlannedTimetables.{delay_given, delay_in, planned, greatest_delay}
 use Rattle.delay_laws.specs.Delays.{IsReleaseAt}
 use Rattle.delay_laws.proofs.Releases.{release_rises}
-use Rattle.teg_net.specs.Limits.{greatest_date}
+use Rattle.teg_net.specs.Limits.{greatest_input_date}
 use Rattle.teg_timetable.specs.Departures.{or_second}
-use Rattle.teg_timetable.specs.Working.{AreReleases, IsSmall, given_in}
+use Rattle.teg_timetable.specs.Working.{ArePlannedReleases, IsSmall, given_in}
 
 -- so many periods are enough, and they are not more than the delay
 pub periods_enough : (by period : ℕ) → 1 ≤ period → by ≤ period * ((by + period - 1) / period)
@@ -117,8 +117,8 @@ next_is period t i k last own is none old = ⊎_elim
     (cases_lt last own)
 
 -- one release more
-pub releases_more : (period : ℕ) (t : Timetable) (i count date : ℕ) (dates : List ℕ) → AreReleases period t i count dates → IsReleaseAt period t i (count + 1) date → date ≤ greatest_date
-    → AreReleases period t i (count + 1) (dates ++ date ∷ [])
+pub releases_more : (period : ℕ) (t : Timetable) (i count date : ℕ) (dates : List ℕ) → ArePlannedReleases period t i count dates → IsReleaseAt period t i (count + 1) date → date ≤ greatest_input_date
+    → ArePlannedReleases period t i (count + 1) (dates ++ date ∷ [])
 releases_more period t i count date dates old is small =
     let long = old.long in
     record {
@@ -132,11 +132,11 @@ releases_more period t i count date dates old is small =
           let end : length dates ≡ k = omega arith in
           subst (IsReleaseAt period t i (k + 1)) (sym (get_or_push dates date 0 k end)) (subst (λ (n : ℕ). IsReleaseAt period t i (n + 1) date) (sym at) is))
           (cases_lt k count);
-      small = All-append (λ d. d ≤ greatest_date) dates (date ∷ []) old.small (All-cons (λ d. d ≤ greatest_date) date [] small (λ k d l. absurd (omega (arith, l))));
+      small = All-append (λ d. d ≤ greatest_input_date) dates (date ∷ []) old.small (All-cons (λ d. d ≤ greatest_input_date) date [] small (λ k d l. absurd (omega (arith, l))));
     }
 
 -- releases never fall
-rises_on : (period : ℕ) (t : Timetable) (i count : ℕ) (dates : List ℕ) → AreReleases period t i count dates → (a b : ℕ) → a + b < count → get_or dates a 0 ≤ get_or dates (a + b) 0
+rises_on : (period : ℕ) (t : Timetable) (i count : ℕ) (dates : List ℕ) → ArePlannedReleases period t i count dates → (a b : ℕ) → a + b < count → get_or dates a 0 ≤ get_or dates (a + b) 0
 rises_on period t i count dates h a zero l = let e : a + 0 ≡ a = omega arith in rw e (omega arith)
 rises_on period t i count dates h a (suc b) l =
     let before = rises_on period t i count dates h a b (omega (arith, l)) in
@@ -147,7 +147,7 @@ rises_on period t i count dates h a (suc b) l =
     release_rises period t i (a + b + 1) (get_or dates (a + b) 0) (get_or dates (a + suc b) 0) one (subst (λ (z : ℕ). IsReleaseAt period t i (z + 1) (get_or dates (a + suc b) 0)) n two) in
     omega arith
 
-pub releases_rise : (period : ℕ) (t : Timetable) (i count : ℕ) (dates : List ℕ) → AreReleases period t i count dates → IsNonDecreasing dates
+pub releases_rise : (period : ℕ) (t : Timetable) (i count : ℕ) (dates : List ℕ) → ArePlannedReleases period t i count dates → IsNonDecreasing dates
 releases_rise period t i count dates h a b d le lt =
     let long = h.long in
     let n : a + (b - a) ≡ b = omega arith in

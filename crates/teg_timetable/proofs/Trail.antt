@@ -12,7 +12,7 @@ use Rattle.teg_net.specs.Nets.{NetLists}
 use Rattle.teg_net.specs.Circuits.{from_of, IsPathBetween, IsCircuit}
 use Rattle.teg_net.specs.Parts.{to_of}
 use Rattle.teg_net.proofs.PathLaws.{IsPathBetween-split}
-use Rattle.delay_laws.specs.Outcomes.{HasNoSpare}
+use Rattle.delay_laws.specs.DelayOutcomes.{HasNoSpare}
 use Rattle.teg_timetable.specs.Working.{AreGood, IsFeeder}
 
 abbrev pub first_id : PlaceId

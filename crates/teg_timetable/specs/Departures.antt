@@ -1,7 +1,7 @@
 -- Working definitions of the first departures that the entries of a file give.
 use Rattle.std.specs.Prelude.{ℕ, ◌<◌, ◌≡◌, List, Option, Some, None, length, slice_index_or}
-use Rattle.teg_timetable.specs.declared.entries.Entry.{Entry}
-use Rattle.teg_timetable.specs.Tables.{departure_of}
+use Rattle.teg_timetable.specs.declared.entries.TableEntry.{TableEntry}
+use Rattle.teg_timetable.specs.TimetableFiles.{departure_of}
 
 -- the first of two
 abbrev pub or_second : Option ℕ → Option ℕ → Option ℕ
@@ -9,6 +9,6 @@ or_second None b = b
 or_second (Some a) b = Some a
 
 -- the first departures that the entries give the first `width` transitions
-pub record AreDepartures (width : ℕ) (entries : List Entry) (cells : List (Option ℕ)) : Type 0 where
+pub record AreDepartures (width : ℕ) (entries : List TableEntry) (cells : List (Option ℕ)) : Type 0 where
   pub long : length cells ≡ width
   pub each : (t : ℕ) → t < width → slice_index_or cells t None ≡ departure_of entries t

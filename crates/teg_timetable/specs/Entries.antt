@@ -3,14 +3,14 @@ use Rattle.std.specs.Prelude.{ℕ, Bool, false, ◌==◌, ◌&&◌, List, [], �
 use Rattle.std.specs.List.{list_any}
 use Rattle.std.specs.Str.{bytes_eq}
 use Rattle.std.specs.Str.Parse.{digits_value}
-use Rattle.csv_records.specs.Numbers.{is_number}
+use Rattle.csv_records.specs.NumberFields.{is_number}
 use Rattle.csv_records.specs.Records.{records_of}
-use Rattle.csv_records.specs.Rows.{rows_of}
-use Rattle.delay_laws.specs.Tables.{greatest_departure, greatest_delayed_number, greatest_delay}
-use Rattle.teg_due.specs.Names.{number_named}
+use Rattle.csv_records.specs.RowsOfRecords.{rows_of}
+use Rattle.delay_laws.specs.PlannedTimetables.{greatest_departure, greatest_delayed_number, greatest_delay}
+use Rattle.teg_due.specs.RowNames.{number_named}
 use Rattle.teg_net.specs.Nets.{NetLists}
-use Rattle.teg_timetable.specs.declared.entries.Entry.{Entry}
-use Rattle.teg_timetable.specs.declared.entries.Entry.TheVariants.{Departure, Late}
+use Rattle.teg_timetable.specs.declared.entries.TableEntry.{TableEntry}
+use Rattle.teg_timetable.specs.declared.entries.TableEntry.TheVariants.{Departure, Late}
 use Rattle.teg_timetable.specs.declared.refusals.TableRefusal.{TableRefusal}
 use Rattle.teg_timetable.specs.declared.refusals.TableRefusal.TheVariants.{BadRow, UnknownTransition, Repeated, OutOfRange}
 
@@ -20,25 +20,25 @@ is_table_header (a ∷ b ∷ []) = bytes_eq a (codes "transition") && bytes_eq b
 is_table_header _ = false
 
 -- the transition of an entry
-abbrev pub transition_of : Entry → ℕ
-transition_of (Departure transition first) = transition.index
-transition_of (Late delay) = delay.transition.index
+abbrev pub transition_in_entry : TableEntry → ℕ
+transition_in_entry (Departure transition first) = transition.index
+transition_in_entry (Late delay) = delay.transition.index
 
 -- the number of the departure that an entry delays, and 0 where it gives a first departure
-abbrev pub number_of : Entry → ℕ
-number_of (Departure transition first) = 0
-number_of (Late delay) = delay.number
+abbrev pub departure_number : TableEntry → ℕ
+departure_number (Departure transition first) = 0
+departure_number (Late delay) = delay.number
 
 -- the entry gives the first departure of this transition, at number 0, or delays its departure of this number
-abbrev pub is_about : ℕ → ℕ → Entry → Bool
-is_about t n e = (transition_of e == t) && (number_of e == n)
+abbrev pub is_about : ℕ → ℕ → TableEntry → Bool
+is_about t n e = (transition_in_entry e == t) && (departure_number e == n)
 
 -- one of these entries does
-abbrev pub has_entry : List Entry → ℕ → ℕ → Bool
+abbrev pub has_entry : List TableEntry → ℕ → ℕ → Bool
 has_entry entries t n = list_any (is_about t n) entries
 
 -- row k, a first departure of transition t at this date, which an earlier entry gives or not
-abbrev pub departure_row : Bool → ℕ → ℕ → ℕ → Result Entry TableRefusal
+abbrev pub departure_row : Bool → ℕ → ℕ → ℕ → Result TableEntry TableRefusal
 departure_row is_given k t first =
     if is_given then Err (Repeated k)
     else (if nat_le first greatest_departure then Ok (Departure (record { index = t }) first)
@@ -49,19 +49,19 @@ abbrev pub in_delay_limits : ℕ → ℕ → Bool
 in_delay_limits n by = (nat_le 1 n && nat_le n greatest_delayed_number) && (nat_le 1 by && nat_le by greatest_delay)
 
 -- row k, a delay of departure n of transition t, of which an earlier entry is or not; none delays a departure of number 0
-abbrev pub delay_row : Bool → ℕ → ℕ → ℕ → ℕ → Result Entry TableRefusal
+abbrev pub delay_row : Bool → ℕ → ℕ → ℕ → ℕ → Result TableEntry TableRefusal
 delay_row is_given k t n by =
     if nat_le 1 n && is_given then Err (Repeated k)
     else (if in_delay_limits n by then Ok (Late (record { row = k; transition = record { index = t }; number = n; by = by }))
     else Err (OutOfRange k))
 
 -- row k of a transition that has or has not the name that it gives
-abbrev pub row_named : ℕ → Option ℕ → (ℕ → Result Entry TableRefusal) → Result Entry TableRefusal
+abbrev pub row_named : ℕ → Option ℕ → (ℕ → Result TableEntry TableRefusal) → Result TableEntry TableRefusal
 row_named k None row = Err (UnknownTransition k)
 row_named k (Some t) row = row t
 
 -- row k of these fields, after these entries, or the first of its faults
-abbrev pub entry_row : NetLists → List Entry → ℕ → List (List ℕ) → Result Entry TableRefusal
+abbrev pub entry_row : NetLists → List TableEntry → ℕ → List (List ℕ) → Result TableEntry TableRefusal
 entry_row net entries k (name ∷ first ∷ []) =
     if is_number first then row_named k (number_named net name) (λ t. departure_row (has_entry entries t 0) k t (digits_value 10 first)) else Err (BadRow k)
 entry_row net entries k (name ∷ number ∷ by ∷ []) =
@@ -71,5 +71,5 @@ entry_row net entries k (name ∷ number ∷ by ∷ []) =
 entry_row net entries k _ = Err (BadRow k)
 
 -- the entries of a file, or its first fault
-abbrev pub entries_of : NetLists → List ℕ → Result (List Entry) TableRefusal
+abbrev pub entries_of : NetLists → List ℕ → Result (List TableEntry) TableRefusal
 entries_of net bytes = rows_of is_table_header (entry_row net) (records_of bytes)

@@ -1,9 +1,9 @@
 pub mod Entries
-pub mod Rules
-pub mod Tables
+pub mod EntryRules
+pub mod TimetableFiles
 pub mod TableFiles
 pub mod Departures
 pub mod Spreads
 pub mod Working
-pub mod Answers
-pub mod Texts
+pub mod DelayAnswers
+pub mod TimetableTexts

@@ -1,13 +1,13 @@
 -- How the delays of a timetable spread: what is told of it (chapters 2 and 3).
 use Rattle.std.specs.Prelude.{ℕ, pos, ◌+◌, ◌-◌, ◌*◌, ◌<◌, ◌≤◌, ◌≡◌, List, length, slice_index}
 use Rattle.dioid.specs.declared.dates.Date.TheVariants.{At}
-use Rattle.delay_laws.specs.declared.table.Outcome.{Outcome}
-use Rattle.delay_laws.specs.declared.table.Outcome.TheVariants.{Recovered, Kept}
-use Rattle.delay_laws.specs.SettlingLaws.{number_of}
-use Rattle.delay_laws.specs.Tables.{greatest_delay, greatest_departure}
-use Rattle.settled_laws.specs.Forms.{SettledForm, settled_length, date_of}
+use Rattle.delay_laws.specs.declared.table.DelayOutcome.{DelayOutcome}
+use Rattle.delay_laws.specs.declared.table.DelayOutcome.TheVariants.{Recovered, Kept}
+use Rattle.delay_laws.specs.SettlingLaws.{natural_of_date}
+use Rattle.delay_laws.specs.PlannedTimetables.{greatest_delay, greatest_departure}
+use Rattle.settled_laws.specs.SettledForms.{SettledForm, settled_length, settled_date}
 use Rattle.teg_net.specs.declared.entries.PlaceId.{PlaceId}
-use Rattle.teg_net.specs.Limits.{greatest_number}
+use Rattle.teg_net.specs.Limits.{greatest_firing_number, most_rows}
 
 -- the greatest period of a timetable
 abbrev pub greatest_period : ℕ
@@ -19,7 +19,7 @@ pub data OutcomeTold : Type 0 where
   KeptTold : (circuit : List PlaceId) → OutcomeTold
 
 -- what becomes of delays, as it is told
-abbrev pub outcome_told : Outcome → OutcomeTold
+abbrev pub outcome_told : DelayOutcome → OutcomeTold
 outcome_told (Recovered after) = RecoveredTold after
 outcome_told (Kept circuit) = KeptTold circuit.places.items
 
@@ -42,20 +42,16 @@ abbrev pub left_in : Spread → LeftDelays
 left_in s = record { firsts = s.firsts; every = s.every; form = s.form }
 
 -- the planned date of departure k of transition i
-abbrev pub planned_in : LeftDelays → ℕ → ℕ → ℕ
-planned_in s i k = slice_index s.firsts i + s.every * (k - 1)
+abbrev pub planned_date : LeftDelays → ℕ → ℕ → ℕ
+planned_date s i k = slice_index s.firsts i + s.every * (k - 1)
 
 -- the delay that is left at departure k of transition i
-abbrev pub left_at : LeftDelays → ℕ → ℕ → ℕ
-left_at s i k = number_of (date_of s.form i k) - planned_in s i k
+abbrev pub delay_left : LeftDelays → ℕ → ℕ → ℕ
+delay_left s i k = natural_of_date (settled_date s.form i k) - planned_date s i k
 
 -- the same of how delays spread
-abbrev pub delay_of : Spread → ℕ → ℕ → ℕ
-delay_of s i k = left_at (left_in s) i k
-
--- numbers up to the end of the first period, at most: more than any memory holds
-abbrev pub most_dates : ℕ
-most_dates = 1000000000000000
+abbrev pub delay_by_spread : Spread → ℕ → ℕ → ℕ
+delay_by_spread s i k = delay_left (left_in s) i k
 
 -- the plan keeps its limits, and up to the greatest number each delayed date is the planned one and a delay within its limit
 pub record AreLeftDelays (s : LeftDelays) : Type 0 where
@@ -63,6 +59,6 @@ pub record AreLeftDelays (s : LeftDelays) : Type 0 where
   pub firsts_in : (i : ℕ) → slice_index s.firsts i ≤ greatest_departure
   pub every_in : s.every ≤ greatest_period
   pub some : 1 ≤ s.form.period
-  pub short : settled_length s.form ≤ most_dates
-  pub dates : (i k : ℕ) → i < length s.firsts → 1 ≤ k → k ≤ greatest_number → date_of s.form i k ≡ At (pos (planned_in s i k + left_at s i k))
-  pub small : (i k : ℕ) → i < length s.firsts → 1 ≤ k → k ≤ greatest_number → left_at s i k ≤ greatest_delay
+  pub short : settled_length s.form ≤ most_rows
+  pub dates : (i k : ℕ) → i < length s.firsts → 1 ≤ k → k ≤ greatest_firing_number → settled_date s.form i k ≡ At (pos (planned_date s i k + delay_left s i k))
+  pub small : (i k : ℕ) → i < length s.firsts → 1 ≤ k → k ≤ greatest_firing_number → delay_left s i k ≤ greatest_delay

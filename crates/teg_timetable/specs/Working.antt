@@ -5,9 +5,9 @@ use Rattle.std.specs.List.Sorted.{IsNonDecreasing}
 use Rattle.std.specs.Fmt.{decimal}
 use Rattle.delay_laws.specs.declared.table.Delay.{Delay}
 use Rattle.delay_laws.specs.declared.table.Timetable.{Timetable}
-use Rattle.delay_laws.specs.Tables.{greatest_delay, greatest_delayed_number}
+use Rattle.delay_laws.specs.PlannedTimetables.{greatest_delay, greatest_delayed_number}
 use Rattle.delay_laws.specs.Delays.{IsReleaseAt}
-use Rattle.delay_laws.specs.Outcomes.{HasDelayPast, HasNoSpare}
+use Rattle.delay_laws.specs.DelayOutcomes.{HasDelayPast, HasNoSpare}
 use Rattle.delay_laws.specs.ReleaseNets.{IsReleaseList, release_place}
 use Rattle.teg_net.specs.declared.entries.InputList.{InputList}
 use Rattle.teg_net.specs.declared.entries.Place.{Place}
@@ -15,11 +15,11 @@ use Rattle.teg_net.specs.declared.entries.PlaceId.{PlaceId}
 use Rattle.teg_net.specs.declared.entries.Role.TheVariants.{Internal, Input}
 use Rattle.teg_net.specs.declared.entries.Transition.{Transition}
 use Rattle.teg_net.specs.Circuits.{place_at, from_of}
-use Rattle.teg_net.specs.Limits.{greatest_date}
+use Rattle.teg_net.specs.Limits.{greatest_input_date}
 use Rattle.teg_net.specs.Names.{is_name}
 use Rattle.teg_net.specs.Nets.{NetLists}
 use Rattle.teg_net.specs.Parts.{to_of}
-use Rattle.teg_timetable.specs.Spreads.{LeftDelays, left_at}
+use Rattle.teg_timetable.specs.Spreads.{LeftDelays, delay_left}
 
 -- a list of so many entries, of which the one at k is of its kind
 pub record AreBuilt {X : Type 0} (Is : ℕ → X → Type 0) (count : ℕ) (xs : List X) : Type 0 where
@@ -36,45 +36,45 @@ pub record IsSmall (d : Delay) : Type 0 where
   pub by_in : d.by ≤ greatest_delay
 
 -- all delays are
-abbrev pub AreSmall : Timetable → Type 0
-AreSmall t = All IsSmall t.delays.items
+abbrev pub AreDelaysSmall : Timetable → Type 0
+AreDelaysSmall t = All IsSmall t.delays.items
 
 -- the delay that these rows give departure s of transition i, if they give one
 abbrev pub given_in : List Delay → ℕ → ℕ → Option ℕ
 given_in ds i s = option_map (λ d. d.by) (find (λ d. (d.transition.index == i) && (d.number == s)) ds)
 
 -- a name that is a number
-pub record IsNumber (k : ℕ) (name : List ℕ) : Type 0 where
+pub record IsNumberName (k : ℕ) (name : List ℕ) : Type 0 where
   pub is : name ≡ decimal k
   pub rule : IsTrue (is_name name)
 
 -- transition k of a net with releases as inputs: one of the net's, which are n, or the input of one
 pub record IsDerivedTransition (n k : ℕ) (t : Transition) : Type 0 where
-  pub name : IsNumber k t.name
+  pub name : IsNumberName k t.name
   pub own : k < n → t.role ≡ Internal
   pub input : n ≤ k → t.role ≡ Input
 
 -- its place k: one of the net's, or that from an input to its transition
 pub record IsDerivedPlace (net : NetLists) (k : ℕ) (p : Place) : Type 0 where
-  pub name : IsNumber k p.name
+  pub name : IsNumberName k p.name
   pub own : k < length net.places → p ≡ record (place_at net (record { index = k })) { name = p.name }
   pub added : length net.places ≤ k → p ≡ record (release_place (length net.transitions) (k - length net.places)) { name = p.name }
 
 -- releases of transition i: number k + 1 stands at k, they never fall and keep the limit of dates
-pub record AreReleases (period : ℕ) (t : Timetable) (i count : ℕ) (dates : List ℕ) : Type 0 where
+pub record ArePlannedReleases (period : ℕ) (t : Timetable) (i count : ℕ) (dates : List ℕ) : Type 0 where
   pub long : length dates ≡ count
   pub each : (k : ℕ) → k < count → IsReleaseAt period t i (k + 1) (slice_index dates k)
-  pub small : All (λ d. d ≤ greatest_date) dates
+  pub small : All (λ d. d ≤ greatest_input_date) dates
 
 -- the input list of transition i: its releases up to a number past its delays
 pub record IsDerivedList (period : ℕ) (t : Timetable) (n i : ℕ) (l : InputList) : Type 0 where
   pub is : IsReleaseList period t n i l
   pub few : length l.dates ≤ most_releases
-  pub small : All (λ d. d ≤ greatest_date) l.dates
+  pub small : All (λ d. d ≤ greatest_input_date) l.dates
   pub rises : IsNonDecreasing l.dates
 
 -- the lists of the net with the releases as inputs
-pub record IsMade (net : NetLists) (period : ℕ) (t : Timetable) (d : NetLists) : Type 0 where
+pub record IsNetMade (net : NetLists) (period : ℕ) (t : Timetable) (d : NetLists) : Type 0 where
   pub transitions : AreBuilt (IsDerivedTransition (length net.transitions)) (length net.transitions + length net.transitions) d.transitions
   pub places : AreBuilt (IsDerivedPlace net) (length net.places + length net.transitions) d.places
   pub lists : AreBuilt (IsDerivedList period t (length net.transitions)) (length net.transitions) d.inputs
@@ -85,13 +85,8 @@ pub record IsMade (net : NetLists) (period : ℕ) (t : Timetable) (d : NetLists)
 
 -- the greatest delay left of transition i in the period past the number
 pub record IsTop (s : LeftDelays) (i top : ℕ) : Type 0 where
-  pub greatest : (k : ℕ) → s.form.after < k → k ≤ s.form.after + s.form.period → left_at s i k ≤ top
-  pub attained : HasDelayPast (left_at s) s.form.after s.form.period top i
-
--- the same up to before a number
-pub record IsTopUpTo (s : LeftDelays) (i upto top : ℕ) : Type 0 where
-  pub greatest : (k : ℕ) → s.form.after < k → k < upto → left_at s i k ≤ top
-  pub attained : HasDelayPast (left_at s) s.form.after s.form.period top i
+  pub greatest : (k : ℕ) → s.form.after < k → k ≤ s.form.after + s.form.period → delay_left s i k ≤ top
+  pub attained : HasDelayPast (delay_left s) s.form.after s.form.period top i
 
 -- a place by which delays are passed on: it has no spare time, and both its ends have this greatest delay
 pub record FeedsAt (net : NetLists) (period : ℕ) (t : Timetable) (tops : List ℕ) (most : ℕ) (p : PlaceId) : Type 0 where

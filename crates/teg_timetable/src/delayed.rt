@@ -1,12 +1,12 @@
 //! How the delays of a timetable spread.
 ghost use Rattle.std.specs.Prelude.{◌≡◌, ◌≤◌, ◌<◌, length};
-ghost use Rattle.delay_laws.specs.Tables.{greatest_delay};
-ghost use Rattle.settled_laws.specs.Forms.{settled_length};
-ghost use Rattle.teg_net.specs.Limits.{greatest_number};
-ghost use Rattle.teg_timetable.specs.Spreads.{delay_of, most_dates, outcome_told};
+ghost use Rattle.delay_laws.specs.PlannedTimetables.{greatest_delay};
+ghost use Rattle.settled_laws.specs.SettledForms.{settled_length};
+ghost use Rattle.teg_net.specs.Limits.{greatest_firing_number, most_rows};
+ghost use Rattle.teg_timetable.specs.Spreads.{delay_by_spread, outcome_told};
 
 use crate::left::Left;
-use delay_laws::Outcome;
+use delay_laws::DelayOutcome;
 use std::marker::Model;
 use teg_net::TransitionId;
 
@@ -16,7 +16,7 @@ use teg_net::TransitionId;
 #[derive(Debug, Drop)]
 pub struct Delayed {
     left: Left,
-    outcome: Outcome,
+    outcome: DelayOutcome,
 }
 
 impl Model for Delayed {
@@ -29,7 +29,7 @@ impl Model for Delayed {
 
 impl Delayed {
     // These delays with this outcome.
-    pub(crate) fn new(left: Left, outcome: Outcome) -> Delayed
+    pub(crate) fn new(left: Left, outcome: DelayOutcome) -> Delayed
         ensures { result ≡ record { firsts = left.firsts; every = left.every; form = left.form; outcome = outcome_told outcome } }
     {
         Delayed { left, outcome }
@@ -45,7 +45,7 @@ impl Delayed {
     /// The number past which the delayed dates and the releases go on by their steps, 0 or more.
     pub fn after(&self) -> u64
         ensures value { result ≡ self.now.form.after }
-        ensures short { settled_length self.now.form ≤ most_dates }
+        ensures short { settled_length self.now.form ≤ most_rows }
     {
         self.left.after()
     }
@@ -63,15 +63,15 @@ impl Delayed {
     pub fn delay(&self, transition: TransitionId, number: u64) -> u128
         requires transition { transition.index < length self.now.firsts }
         requires first { 1 ≤ number }
-        requires last { number ≤ greatest_number }
-        ensures value { result ≡ delay_of self.now transition.index number }
+        requires last { number ≤ greatest_firing_number }
+        ensures value { result ≡ delay_by_spread self.now transition.index number }
         ensures small { result ≤ greatest_delay }
     {
         u128::from(self.left.delay(transition, number))
     }
 
     /// What becomes of the delays.
-    pub fn outcome(&self) -> &Outcome
+    pub fn outcome(&self) -> &DelayOutcome
         ensures { outcome_told result.now ≡ self.now.outcome }
     {
         &self.outcome

@@ -2,10 +2,10 @@
 //! whose list has the releases.
 ghost use Rattle.std.specs.Prelude.{◌≡◌, ◌≤◌, ◌<◌, ◌+◌, length, IfOk};
 ghost use Rattle.delay_laws.specs.ReleaseNets.{IsReleaseNet};
-ghost use Rattle.delay_laws.specs.Tables.{first_of, greatest_departure, IsTableOf};
+ghost use Rattle.delay_laws.specs.PlannedTimetables.{first_planned, greatest_departure, IsTableOf};
 ghost use Rattle.teg_net.specs.Nets.{IsNet, lists_of};
 ghost use Rattle.teg_timetable.specs.Spreads.{greatest_period};
-ghost use Rattle.teg_timetable.specs.Working.{AreBuilt, AreSmall, IsDerivedList, IsDerivedPlace, IsDerivedTransition, IsMade, IsNumber};
+ghost use Rattle.teg_timetable.specs.Working.{AreBuilt, AreDelaysSmall, IsDerivedList, IsDerivedPlace, IsDerivedTransition, IsNetMade, IsNumberName};
 
 use crate::releases::{number_past, releases};
 use delay_laws::Timetable;
@@ -16,7 +16,7 @@ use teg_net::{
 
 // A name that is a number.
 fn number(alloc: Global, number: usize) -> Result<Name, AllocError>
-    ensures { IfOk result (IsNumber number) }
+    ensures { IfOk result (IsNumberName number) }
 {
     let text = format!(in alloc; "{number}")?;
     match Name::new(alloc, text.as_str()) {
@@ -121,11 +121,11 @@ fn list(
 ) -> Result<InputList, AllocError>
     requires some { 1 ≤ period }
     requires period { period ≤ greatest_period }
-    requires small { AreSmall table.now }
+    requires small { AreDelaysSmall table.now }
     requires few { count ≤ 200 }
     requires transition { transition < count }
     requires firsts { length table.now.firsts.items ≡ count }
-    requires first { first_of table.now transition ≤ greatest_departure }
+    requires first { first_planned table.now transition ≤ greatest_departure }
     ensures { IfOk result (IsDerivedList period table.now count transition) }
 {
     let last = number_past(period, table, transition);
@@ -175,7 +175,7 @@ fn net_of(
     lists: Vec<InputList>,
 ) -> Net
     requires rules { IsNet _net.now }
-    requires made { IsMade _net.now _period _table.now (lists_of transitions.items places.items
+    requires made { IsNetMade _net.now _period _table.now (lists_of transitions.items places.items
         lists.items) }
     ensures derived { IsReleaseNet _net.now _period _table.now result }
     ensures rules { IsNet result }

@@ -1,7 +1,7 @@
 //! The greatest delays that stay, and the last delay that is left before.
 ghost use Rattle.std.specs.Prelude.{ℕ, ◌≡◌, ◌≤◌, ◌<◌, ◌⊎◌, true, false, length, All, IfOk, slice_index};
-ghost use Rattle.teg_net.specs.Limits.{greatest_number};
-ghost use Rattle.teg_timetable.specs.Spreads.{left_at};
+ghost use Rattle.teg_net.specs.Limits.{greatest_firing_number};
+ghost use Rattle.teg_timetable.specs.Spreads.{delay_left};
 ghost use Rattle.teg_timetable.specs.Working.{AreBuilt, IsTop};
 
 use crate::left::Left;
@@ -55,11 +55,12 @@ pub(crate) fn highest(tops: &[u64]) -> usize
 // Whether a delay is left at this number.
 fn is_late(left: &Left, number: u64) -> bool
     requires first { 1 ≤ number }
-    requires last { number ≤ greatest_number }
+    requires last { number ≤ greatest_firing_number }
     requires few { length left.now.firsts ≤ 400 }
     ensures late { result ≡ true → (i : ℕ) × (i < length left.now.firsts)
-        × (1 ≤ left_at left.now i number) }
-    ensures none { result ≡ false → (i : ℕ) → i < length left.now.firsts → left_at left.now i number
+        × (1 ≤ delay_left left.now i number) }
+    ensures none { result ≡ false → (i : ℕ) → i < length left.now.firsts → delay_left left.now i
+        number
         ≡ 0 }
 {
     for index in 0..left.width() {
@@ -77,9 +78,9 @@ fn is_late(left: &Left, number: u64) -> bool
 pub(crate) fn last_late(left: &Left) -> u64
     requires { length left.now.firsts ≤ 400 }
     ensures none { (i k : ℕ) → i < length left.now.firsts → result < k → k ≤ left.now.form.after
-        → left_at left.now i k ≡ 0 }
+        → delay_left left.now i k ≡ 0 }
     ensures last { (result ≡ 0) ⊎ ((i : ℕ) × (i < length left.now.firsts)
-        × (1 ≤ left_at left.now i result)) }
+        × (1 ≤ delay_left left.now i result)) }
 {
     let mut last = 0;
     for number in 1..left.after() + 1 {

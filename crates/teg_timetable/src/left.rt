@@ -1,9 +1,9 @@
 //! The delays that are left, by a plan and a settled form of the delayed dates.
 ghost use Rattle.std.specs.Prelude.{◌≡◌, ◌≤◌, ◌<◌, length};
-ghost use Rattle.delay_laws.specs.Tables.{greatest_delay};
-ghost use Rattle.settled_laws.specs.Forms.{settled_length};
-ghost use Rattle.teg_net.specs.Limits.{greatest_number};
-ghost use Rattle.teg_timetable.specs.Spreads.{AreLeftDelays, left_at, most_dates};
+ghost use Rattle.delay_laws.specs.PlannedTimetables.{greatest_delay};
+ghost use Rattle.settled_laws.specs.SettledForms.{settled_length};
+ghost use Rattle.teg_net.specs.Limits.{greatest_firing_number, most_rows};
+ghost use Rattle.teg_timetable.specs.Spreads.{AreLeftDelays, delay_left};
 
 use dioid::Date;
 use std::marker::Model;
@@ -52,7 +52,7 @@ impl Left {
     // The number past which the dates go on by their steps.
     pub(crate) fn after(&self) -> u64
         ensures value { result ≡ self.now.form.after }
-        ensures short { settled_length self.now.form ≤ most_dates }
+        ensures short { settled_length self.now.form ≤ most_rows }
     {
         self.settled.after()
     }
@@ -61,7 +61,7 @@ impl Left {
     pub(crate) fn period(&self) -> u64
         ensures value { result ≡ self.now.form.period }
         ensures some { 1 ≤ result }
-        ensures short { settled_length self.now.form ≤ most_dates }
+        ensures short { settled_length self.now.form ≤ most_rows }
     {
         self.settled.period()
     }
@@ -70,8 +70,8 @@ impl Left {
     pub(crate) fn delay(&self, transition: TransitionId, number: u64) -> u64
         requires transition { transition.index < length self.now.firsts }
         requires first { 1 ≤ number }
-        requires last { number ≤ greatest_number }
-        ensures value { result ≡ left_at self.now transition.index number }
+        requires last { number ≤ greatest_firing_number }
+        ensures value { result ≡ delay_left self.now transition.index number }
         ensures small { result ≤ greatest_delay }
     {
         let first = self.firsts[transition.index as usize];

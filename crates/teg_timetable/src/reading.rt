@@ -1,13 +1,13 @@
 //! The entries that the rows of a timetable's file give, or the first fault.
 ghost use Rattle.std.specs.Prelude.{◌≡◌, ◌≢◌, ◌≤◌, Ok, Err, true, false, length, IfOk, IfErr};
 ghost use Rattle.std.specs.Str.Parse.{digits_value};
-ghost use Rattle.csv_records.specs.Numbers.{is_number};
+ghost use Rattle.csv_records.specs.NumberFields.{is_number};
 ghost use Rattle.csv_records.specs.Records.{most_file_bytes};
-ghost use Rattle.delay_laws.specs.Tables.{greatest_delayed_number};
-ghost use Rattle.teg_timetable.specs.Entries.{delay_row, departure_row, entries_of, number_of, transition_of};
-ghost use Rattle.teg_timetable.specs.Rules.{AreEntriesOf};
+ghost use Rattle.delay_laws.specs.PlannedTimetables.{greatest_delayed_number};
+ghost use Rattle.teg_timetable.specs.Entries.{delay_row, departure_row, entries_of, departure_number, transition_in_entry};
+ghost use Rattle.teg_timetable.specs.EntryRules.{AreEntriesOf};
 
-use crate::entries::Entry;
+use crate::entries::TableEntry;
 use crate::refusals::TableRefusal;
 use csv_records::{
     ByteRecord, GREATEST_SEEN_NUMBER, RowFile, Seen, ThreeFields, TwoFields, is_number,
@@ -40,18 +40,18 @@ fn departure_row(
     row: u32,
     transition: TransitionId,
     first: &[u8],
-) -> Result<Entry, TableRefusal>
+) -> Result<TableEntry, TableRefusal>
     requires { is_number first.now ≡ true }
     ensures row { result ≡
         departure_row is_repeated row transition.index (digits_value 10 first.now) }
-    ensures transition { IfOk result (λ e. transition_of e ≡ transition.index) }
-    ensures number { IfOk result (λ e. number_of e ≡ 0) }
+    ensures transition { IfOk result (λ e. transition_in_entry e ≡ transition.index) }
+    ensures number { IfOk result (λ e. departure_number e ≡ 0) }
 {
     if is_repeated {
         return Err(TableRefusal::Repeated { row });
     }
     match number_up_to(first, GREATEST_DEPARTURE) {
-        Some(first) => Ok(Entry::Departure { transition, first }),
+        Some(first) => Ok(TableEntry::Departure { transition, first }),
         None => Err(TableRefusal::OutOfRange { row }),
     }
 }
@@ -64,21 +64,21 @@ fn delay_row(
     transition: TransitionId,
     number: &[u8],
     by: &[u8],
-) -> Result<Entry, TableRefusal>
+) -> Result<TableEntry, TableRefusal>
     requires number { is_number number.now ≡ true }
     requires by { is_number by.now ≡ true }
     ensures row { result ≡
         delay_row is_repeated row transition.index
         (digits_value 10 number.now) (digits_value 10 by.now) }
-    ensures transition { IfOk result (λ e. transition_of e ≡ transition.index) }
-    ensures number { IfOk result (λ e. number_of e ≤ greatest_delayed_number) }
+    ensures transition { IfOk result (λ e. transition_in_entry e ≡ transition.index) }
+    ensures number { IfOk result (λ e. departure_number e ≤ greatest_delayed_number) }
 {
     let number = number_up_to(number, u64::from(GREATEST_SEEN_NUMBER));
     let by = number_up_to(by, GREATEST_DELAY);
     match (number, by) {
         (Some(0), _) => Err(TableRefusal::OutOfRange { row }),
         _ if is_repeated => Err(TableRefusal::Repeated { row }),
-        (Some(number), Some(by)) if by >= 1 => Ok(Entry::Late {
+        (Some(number), Some(by)) if by >= 1 => Ok(TableEntry::Late {
             delay: Delay {
                 row,
                 transition,
@@ -99,16 +99,16 @@ impl TableFile<'_> {
     // The entry of a record of two fields after these, or the first of its faults.
     fn departure(
         &self,
-        entries: &[Entry],
+        entries: &[TableEntry],
         row: u32,
         fields: TwoFields<'_>,
-    ) -> Result<Entry, TableRefusal>
+    ) -> Result<TableEntry, TableRefusal>
         requires { HasEntries self.now.net.now self.now.names self.now.seen entries.now }
         ensures row { result ≡
             entry_row self.now.net.now entries.now row
             (fields.entry.first.now ∷ fields.entry.second.now ∷ []) }
-        ensures transition { IfOk result (λ e. transition_of e < self.now.seen.width) }
-        ensures number { IfOk result (λ e. number_of e ≤ greatest_delayed_number) }
+        ensures transition { IfOk result (λ e. transition_in_entry e < self.now.seen.width) }
+        ensures number { IfOk result (λ e. departure_number e ≤ greatest_delayed_number) }
     {
         if !is_number(fields.second) {
             return Err(TableRefusal::BadRow { row });
@@ -123,16 +123,16 @@ impl TableFile<'_> {
     // The entry of a record of three fields after these, or the first of its faults.
     fn delay(
         &self,
-        entries: &[Entry],
+        entries: &[TableEntry],
         row: u32,
         fields: ThreeFields<'_>,
-    ) -> Result<Entry, TableRefusal>
+    ) -> Result<TableEntry, TableRefusal>
         requires { HasEntries self.now.net.now self.now.names self.now.seen entries.now }
         ensures row { result ≡
             entry_row self.now.net.now entries.now row
             (fields.entry.first.now ∷ fields.entry.second.now ∷ fields.entry.third.now ∷ []) }
-        ensures transition { IfOk result (λ e. transition_of e < self.now.seen.width) }
-        ensures number { IfOk result (λ e. number_of e ≤ greatest_delayed_number) }
+        ensures transition { IfOk result (λ e. transition_in_entry e < self.now.seen.width) }
+        ensures number { IfOk result (λ e. departure_number e ≤ greatest_delayed_number) }
     {
         if !is_number(fields.second) || !is_number(fields.third) {
             return Err(TableRefusal::BadRow { row });
@@ -147,12 +147,12 @@ impl TableFile<'_> {
     }
 
     // The entry of a record after these, or the first of its faults.
-    fn entry(&self, entries: &[Entry], row: u32, record: &ByteRecord) -> Result<Entry, TableRefusal>
+    fn entry(&self, entries: &[TableEntry], row: u32, record: &ByteRecord) -> Result<TableEntry, TableRefusal>
         requires { HasEntries self.now.net.now self.now.names self.now.seen entries.now }
         ensures row { result ≡
             entry_row self.now.net.now entries.now row (fields_of «record».now) }
-        ensures transition { IfOk result (λ e. transition_of e < self.now.seen.width) }
-        ensures number { IfOk result (λ e. number_of e ≤ greatest_delayed_number) }
+        ensures transition { IfOk result (λ e. transition_in_entry e < self.now.seen.width) }
+        ensures number { IfOk result (λ e. departure_number e ≤ greatest_delayed_number) }
     {
         if let Some(fields) = two_fields(record) {
             return self.departure(entries, row, fields);
@@ -169,7 +169,7 @@ impl RowFile for TableFile<'_> {
     ghost use Rattle.teg_timetable.specs.Entries.{entry_row, is_table_header};
     ghost use Rattle.teg_timetable.specs.TableFiles.{HasEntries};
 
-    type Row = Entry;
+    type Row = TableEntry;
 
     type Refusal = TableRefusal;
 
@@ -193,10 +193,10 @@ impl RowFile for TableFile<'_> {
 
     fn read_row(
         &mut self,
-        entries: &[Entry],
+        entries: &[TableEntry],
         row: u32,
         record: &ByteRecord,
-    ) -> Result<Entry, TableRefusal> {
+    ) -> Result<TableEntry, TableRefusal> {
         let entry = self.entry(entries, row, record)?;
         self.seen
             .add(entry.transition().index as usize, entry.number());
@@ -215,7 +215,7 @@ pub(crate) fn read_entries(
     alloc: Global,
     net: &Net,
     bytes: &[u8],
-) -> Result<Vec<Entry>, TableRefusal>
+) -> Result<Vec<TableEntry>, TableRefusal>
     requires { length bytes.now ≤ most_file_bytes }
     ensures entries { IfOk result (λ entries. entries_of net.now bytes.now ≡ Ok entries.items) }
     ensures refused { IfErr result (λ e. e ≢ TableRefusal.OutOfMemory →

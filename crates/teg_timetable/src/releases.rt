@@ -1,9 +1,9 @@
 //! The releases of a transition: its planned departures with their delays, none before an earlier one.
 ghost use Rattle.std.specs.Prelude.{ℕ, ◌≡◌, ◌≤◌, ◌<◌, ◌+◌, ◌*◌, ◌∷◌, [], None, length, IfOk, slice_index_or};
-ghost use Rattle.delay_laws.specs.Tables.{IsPastDelays, first_of, greatest_departure};
+ghost use Rattle.delay_laws.specs.PlannedTimetables.{IsPastDelays, first_planned, greatest_departure};
 ghost use Rattle.teg_timetable.specs.Departures.{or_second};
 ghost use Rattle.teg_timetable.specs.Spreads.{greatest_period};
-ghost use Rattle.teg_timetable.specs.Working.{AreBuilt, AreReleases, AreSmall, IsSmall, given_in, most_releases};
+ghost use Rattle.teg_timetable.specs.Working.{AreBuilt, ArePlannedReleases, AreDelaysSmall, IsSmall, given_in, most_releases};
 
 use delay_laws::{Delay, Timetable};
 use std::alloc::{AllocError, Global};
@@ -38,7 +38,7 @@ fn past_delay(period: u64, last: u64, delay: &Delay) -> u64
 pub(crate) fn number_past(period: u64, table: &Timetable, transition: u32) -> u64
     requires some { 1 ≤ period }
     requires period { period ≤ greatest_period }
-    requires small { AreSmall table.now }
+    requires small { AreDelaysSmall table.now }
     ensures some { 1 ≤ result }
     ensures few { result ≤ most_releases }
     ensures past { IsPastDelays period table.now transition result }
@@ -93,11 +93,12 @@ pub(crate) fn releases(
     count: usize,
 ) -> Result<Vec<u64>, AllocError>
     requires period { period ≤ greatest_period }
-    requires small { AreSmall table.now }
+    requires small { AreDelaysSmall table.now }
     requires transition { transition < length table.now.firsts.items }
-    requires first { first_of table.now transition ≤ greatest_departure }
+    requires first { first_planned table.now transition ≤ greatest_departure }
     requires few { count ≤ most_releases }
-    ensures { IfOk result (λ dates. AreReleases period table.now transition count dates.items) }
+    ensures { IfOk result (λ dates. ArePlannedReleases period table.now transition count
+        dates.items) }
 {
     let given = given(alloc, table, transition, count)?;
     let first = table.firsts[transition as usize];

@@ -1,13 +1,13 @@
 //! How the delays of a timetable spread, or why they are not followed.
 ghost use Rattle.std.specs.Prelude.{◌≡◌, ◌≤◌, ◌+◌, length, Some, IfOk, IfErr, IfSome};
-ghost use Rattle.delay_laws.specs.Tables.{IsTableOf, IsWorkable};
+ghost use Rattle.delay_laws.specs.PlannedTimetables.{IsTableOf, IsWorkable};
 ghost use Rattle.delay_laws.specs.Delays.{IsFormOfDelays};
-ghost use Rattle.settled_laws.specs.Forms.{IsSettledFormOf, settled_length};
+ghost use Rattle.settled_laws.specs.SettledForms.{IsSettledFormOf, settled_length};
 ghost use Rattle.teg_check.specs.Ranks.{IsRanking};
 ghost use Rattle.teg_net.specs.Circuits.{IsLive};
 ghost use Rattle.teg_net.specs.Nets.{IsNet};
-ghost use Rattle.teg_settle.specs.Refusals.{greatest_limit};
-ghost use Rattle.teg_timetable.specs.Answers.{ExceedsLimit, IsDelayRefusal, IsOutcomeIn, IsSettlingRefusal, IsSpread, IsWithinLimit};
+ghost use Rattle.teg_settle.specs.LimitRefusals.{greatest_limit};
+ghost use Rattle.teg_timetable.specs.DelayAnswers.{DelaysExceedLimit, IsDelayRefusal, IsOutcomeIn, IsSettlingRefusal, IsSpread, IsLengthWithinLimit};
 ghost use Rattle.teg_timetable.specs.Spreads.{greatest_period};
 
 use crate::delayed::Delayed;
@@ -59,7 +59,7 @@ fn settled_in(alloc: Global, net: &Net, limit: Option<u32>) -> Result<SettledDat
     requires live { IsLive net.now }
     requires few { IfSome limit (λ l. l ≤ greatest_limit) }
     ensures form { IfOk result (IsSettledFormOf net.now) }
-    ensures within { IfOk result (λ form. IsWithinLimit limit (settled_length form)) }
+    ensures within { IfOk result (λ form. IsLengthWithinLimit limit (settled_length form)) }
     ensures refused { IfErr result (IsSettlingRefusal net.now limit) }
 {
     let live = ranks(alloc, net)?;
@@ -96,8 +96,8 @@ fn left_by(
     ensures firsts { IfOk result (λ left. left.firsts ≡ table.now.firsts.items) }
     ensures every { IfOk result (λ left. left.every ≡ period) }
     ensures form { IfOk result (λ left. IsFormOfDelays net.now period table.now left.form) }
-    ensures within { IfOk result (λ left. IsWithinLimit limit (settled_length left.form)) }
-    ensures refused { IfErr result (ExceedsLimit net.now period table.now limit) }
+    ensures within { IfOk result (λ left. IsLengthWithinLimit limit (settled_length left.form)) }
+    ensures refused { IfErr result (DelaysExceedLimit net.now period table.now limit) }
 {
     let derived = derived(alloc, net, period, table)?;
     let settled = settled_in(alloc, &derived, limit)?;

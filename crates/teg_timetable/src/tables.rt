@@ -1,12 +1,12 @@
 //! Timetables as files say them.
 ghost use Rattle.std.specs.Prelude.{ℕ, ◌≡◌, ◌≢◌, ◌≤◌, ◌<◌, ◌∷◌, [], length, None, Ok, Err, IfOk, IfErr, slice_index_or};
 ghost use Rattle.csv_records.specs.Records.{most_file_bytes};
-ghost use Rattle.delay_laws.specs.Tables.{IsTableOf};
+ghost use Rattle.delay_laws.specs.PlannedTimetables.{IsTableOf};
 ghost use Rattle.teg_net.specs.Limits.{most_transitions};
 ghost use Rattle.teg_timetable.specs.Departures.{AreDepartures, or_second};
-ghost use Rattle.teg_timetable.specs.Tables.{IsTableRefusalIn, delays_of, departure_of, firsts_of, lists_of_table, timetable_of};
+ghost use Rattle.teg_timetable.specs.TimetableFiles.{IsTableRefusalIn, delays_of, departure_of, firsts_of, lists_of_table, timetable_of};
 
-use crate::entries::Entry;
+use crate::entries::TableEntry;
 use crate::reading::read_entries;
 use crate::refusals::TableRefusal;
 use delay_laws::{Delay, Timetable};
@@ -14,12 +14,12 @@ use std::alloc::{AllocError, Global};
 use teg_net::{Net, TransitionId};
 
 // Takes down the first departure that the entry gives, if its transition has none yet.
-fn take_down(cells: &mut Vec<Option<u64>>, entry: &Entry)
+fn take_down(cells: &mut Vec<Option<u64>>, entry: &TableEntry)
     ensures long { length cells.new.items ≡ length cells.old.items }
     ensures each { (t : ℕ) → t < length cells.old.items → slice_index_or cells.new.items t None
         ≡ or_second (slice_index_or cells.old.items t None) (departure_of (entry.now ∷ []) t) }
 {
-    if let Entry::Departure { transition, first } = entry {
+    if let TableEntry::Departure { transition, first } = entry {
         let t = transition.index as usize;
         if t < cells.len() && cells[t].is_none() {
             cells[t] = Some(*first);
@@ -31,7 +31,7 @@ fn take_down(cells: &mut Vec<Option<u64>>, entry: &Entry)
 fn departures(
     alloc: Global,
     width: usize,
-    entries: &[Entry],
+    entries: &[TableEntry],
 ) -> Result<Vec<Option<u64>>, AllocError>
     ensures { IfOk result (λ cells. AreDepartures width entries.now cells.items) }
 {
@@ -43,7 +43,7 @@ fn departures(
 }
 
 // The first departures of the first `width` transitions, or the lowest of them that has none.
-fn firsts(alloc: Global, width: usize, entries: &[Entry]) -> Result<Vec<u64>, TableRefusal>
+fn firsts(alloc: Global, width: usize, entries: &[TableEntry]) -> Result<Vec<u64>, TableRefusal>
     requires { width ≤ most_transitions }
     ensures firsts { IfOk result (λ firsts. firsts_of entries.now width ≡ Ok firsts.items) }
     ensures missing { IfErr result (λ e. e ≢ TableRefusal.OutOfMemory → firsts_of entries.now width
@@ -64,12 +64,12 @@ fn firsts(alloc: Global, width: usize, entries: &[Entry]) -> Result<Vec<u64>, Ta
 }
 
 // The delays among the entries, in order.
-fn delays(alloc: Global, entries: &[Entry]) -> Result<Vec<Delay>, AllocError>
+fn delays(alloc: Global, entries: &[TableEntry]) -> Result<Vec<Delay>, AllocError>
     ensures { IfOk result (λ delays. delays.items ≡ delays_of entries.now) }
 {
     let mut delays = Vec::new(alloc);
     for entry in entries {
-        if let Entry::Late { delay } = entry {
+        if let TableEntry::Late { delay } = entry {
             delays.push(*delay)?;
         }
     }

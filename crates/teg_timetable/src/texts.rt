@@ -3,17 +3,17 @@ ghost use Rattle.std.specs.Prelude.{ℕ, ◌≡◌, ◌++◌, ◌∷◌, ◌<◌
 ghost use Rattle.std.specs.Fmt.{decimal};
 ghost use Rattle.std.specs.List.{flat_map, range_with_len};
 ghost use Rattle.teg_net.specs.Circuits.{AreInRange};
-ghost use Rattle.teg_net.specs.Limits.{greatest_number};
+ghost use Rattle.teg_net.specs.Limits.{greatest_firing_number};
 ghost use Rattle.teg_text.specs.Lines.{line_then, written};
-ghost use Rattle.teg_text.specs.Names.{name_of_transition};
-ghost use Rattle.teg_timetable.specs.Answers.{IsOutcomeIn, IsDelayRefusalIn};
-ghost use Rattle.teg_timetable.specs.Spreads.{delay_of, outcome_told};
-ghost use Rattle.teg_timetable.specs.Tables.{IsTableRefusalIn};
-ghost use Rattle.teg_timetable.specs.Texts.{AreSmall, IsOutcomeToldOf, IsTextOf, IsToldOf, TextsOfTimetablesDiffer, delay_told, delays_line, delays_up_to, kept_lines, outcome_lines, spread_told, table_told, told_lines};
+ghost use Rattle.teg_text.specs.WordsOfNames.{name_of_transition};
+ghost use Rattle.teg_timetable.specs.DelayAnswers.{IsOutcomeIn, IsDelayRefusalIn};
+ghost use Rattle.teg_timetable.specs.Spreads.{delay_by_spread, outcome_told};
+ghost use Rattle.teg_timetable.specs.TimetableFiles.{IsTableRefusalIn};
+ghost use Rattle.teg_timetable.specs.TimetableTexts.{AreLeftDelaysShort, IsOutcomeToldOf, IsTimetableText, IsTimetableTold, TextsOfTimetablesDiffer, delay_told, delays_line, delays_up_to, kept_lines, outcome_lines, spread_told, table_told, told_lines};
 
 use crate::delayed::Delayed;
 use crate::refusals::{DelayRefusal, TableRefusal};
-use delay_laws::Outcome;
+use delay_laws::DelayOutcome;
 use std::alloc::{AllocError, Global};
 use teg_net::{Circuit, Net, OutOfMemory, TransitionId};
 use teg_text::{push_circuit, row_fault};
@@ -26,10 +26,11 @@ fn push_delays(
     count: u64,
 ) -> Result<(), AllocError>
     requires transition { transition.index < length delayed.now.firsts }
-    requires count { count ≤ greatest_number }
+    requires count { count ≤ greatest_firing_number }
     ensures text { IfOk result (λ _. string_bytes text.new ≡
-        string_bytes text.old ++ flat_map (λ k. 32 ∷ decimal (delay_of delayed.now transition.index k)) (range_with_len 1 count)) }
-    ensures small { IfOk result (λ _. AreSmall delayed.now transition.index count) }
+        string_bytes text.old ++ flat_map (λ k. 32 ∷ decimal (delay_by_spread delayed.now
+        transition.index k)) (range_with_len 1 count)) }
+    ensures small { IfOk result (λ _. AreLeftDelaysShort delayed.now transition.index count) }
 {
     for index in 0..count {
         let delay = delayed.delay(transition, index + 1);
@@ -58,10 +59,10 @@ fn push_line(
 ) -> Result<(), AllocError>
     requires index { index < length net.now.transitions }
     requires width { length delayed.now.firsts ≡ length net.now.transitions }
-    requires count { count ≤ greatest_number }
+    requires count { count ≤ greatest_firing_number }
     ensures text { IfOk result (λ _. string_bytes text.new ≡
-        string_bytes text.old ++ line_then (delays_line net.now index (delays_up_to (delay_of delayed.now index) count)) []) }
-    ensures small { IfOk result (λ _. AreSmall delayed.now index count) }
+        string_bytes text.old ++ line_then (delays_line net.now index (delays_up_to (delay_by_spread delayed.now index) count)) []) }
+    ensures small { IfOk result (λ _. AreLeftDelaysShort delayed.now index count) }
 {
     // That the net keeps its rules, and so has few transitions.
     net.transitions();
@@ -77,11 +78,13 @@ fn push_line(
 // Appends the lines of the delays of all transitions in order.
 fn push_lines(text: &mut String, net: &Net, delayed: &Delayed, count: u64) -> Result<(), AllocError>
     requires width { length delayed.now.firsts ≡ length net.now.transitions }
-    requires count { count ≤ greatest_number }
+    requires count { count ≤ greatest_firing_number }
     ensures text { IfOk result (λ _. string_bytes text.new ≡
-        string_bytes text.old ++ flat_map (λ i. line_then (delays_line net.now i (delays_up_to (delay_of delayed.now i) count)) []) (range_with_len 0 (length net.now.transitions))) }
+        string_bytes text.old ++ flat_map (λ i. line_then (delays_line net.now i (delays_up_to
+        (delay_by_spread delayed.now i) count)) []) (range_with_len 0 (length
+        net.now.transitions))) }
     ensures small { IfOk result (λ _. (i : ℕ) → i < length net.now.transitions
-        → AreSmall delayed.now i count) }
+        → AreLeftDelaysShort delayed.now i count) }
 {
     for index in 0..net.transitions().len() {
         push_line(text, net, delayed, index, count)?;
@@ -101,18 +104,18 @@ fn push_kept(text: &mut String, net: &Net, circuit: &Circuit) -> Result<(), Allo
 }
 
 // Appends what becomes of the delays.
-fn push_outcome(text: &mut String, net: &Net, outcome: &Outcome) -> Result<(), AllocError>
+fn push_outcome(text: &mut String, net: &Net, outcome: &DelayOutcome) -> Result<(), AllocError>
     requires { IsOutcomeIn net.now (outcome_told outcome.now) }
     ensures text { IfOk result (λ _. string_bytes text.new ≡
         string_bytes text.old ++ written (outcome_lines net.now (outcome_told outcome.now))) }
     ensures told { IfOk result (λ _. IsOutcomeToldOf net.now (outcome_told outcome.now)) }
 {
     match outcome {
-        Outcome::Recovered { after } => {
+        DelayOutcome::Recovered { after } => {
             let after = *after;
             write!(text, "recovered after {after}\n")
         }
-        Outcome::Kept { circuit } => push_kept(text, net, circuit),
+        DelayOutcome::Kept { circuit } => push_kept(text, net, circuit),
     }
 }
 
@@ -125,7 +128,7 @@ pub fn spread_text(alloc: Global, net: &Net, delayed: &Delayed) -> Result<String
     requires outcome { IsOutcomeIn net.now delayed.now.outcome }
     ensures text { IfOk result (λ text. string_bytes text
         ≡ written (told_lines net.now (spread_told delayed.now))) }
-    ensures told { IfOk result (λ _. IsToldOf net.now (spread_told delayed.now)) }
+    ensures told { IfOk result (λ _. IsTimetableTold net.now (spread_told delayed.now)) }
 {
     let after = delayed.after();
     let period = delayed.period();
@@ -138,9 +141,9 @@ pub fn spread_text(alloc: Global, net: &Net, delayed: &Delayed) -> Result<String
 // The text of why a file is no timetable, where want of memory is that of a call for memory.
 fn table_text(alloc: Global, net: &Net, refusal: &TableRefusal) -> Result<String, AllocError>
     requires { IsTableRefusalIn net.now refusal.now }
-    ensures text { IfOk result (λ text. IsTextOf net.now (table_told refusal.now)
+    ensures text { IfOk result (λ text. IsTimetableText net.now (table_told refusal.now)
         (string_bytes text)) }
-    ensures told { IfOk result (λ _. IfSome (table_told refusal.now) (IsToldOf net.now)) }
+    ensures told { IfOk result (λ _. IfSome (table_told refusal.now) (IsTimetableTold net.now)) }
 {
     match *refusal {
         TableRefusal::BadRow { row } => row_fault(alloc, "timetable", row, "is not an entry"),
@@ -165,9 +168,9 @@ pub fn table_refusal_text(
     refusal: &TableRefusal,
 ) -> Result<String, OutOfMemory>
     requires { IsTableRefusalIn net.now refusal.now }
-    ensures text { IfOk result (λ text. IsTextOf net.now (table_told refusal.now)
+    ensures text { IfOk result (λ text. IsTimetableText net.now (table_told refusal.now)
         (string_bytes text)) }
-    ensures told { IfOk result (λ _. IfSome (table_told refusal.now) (IsToldOf net.now)) }
+    ensures told { IfOk result (λ _. IfSome (table_told refusal.now) (IsTimetableTold net.now)) }
 {
     Ok(table_text(alloc, net, refusal)?)
 }
@@ -175,9 +178,9 @@ pub fn table_refusal_text(
 // The text of why delays are not followed, where want of memory is that of a call for memory.
 fn delay_text(alloc: Global, net: &Net, refusal: &DelayRefusal) -> Result<String, AllocError>
     requires { IsDelayRefusalIn net.now refusal.now }
-    ensures text { IfOk result (λ text. IsTextOf net.now (delay_told refusal.now)
+    ensures text { IfOk result (λ text. IsTimetableText net.now (delay_told refusal.now)
         (string_bytes text)) }
-    ensures told { IfOk result (λ _. IfSome (delay_told refusal.now) (IsToldOf net.now)) }
+    ensures told { IfOk result (λ _. IfSome (delay_told refusal.now) (IsTimetableTold net.now)) }
 {
     match *refusal {
         DelayRefusal::TooLarge {
@@ -207,9 +210,9 @@ pub fn delay_refusal_text(
     refusal: &DelayRefusal,
 ) -> Result<String, OutOfMemory>
     requires { IsDelayRefusalIn net.now refusal.now }
-    ensures text { IfOk result (λ text. IsTextOf net.now (delay_told refusal.now)
+    ensures text { IfOk result (λ text. IsTimetableText net.now (delay_told refusal.now)
         (string_bytes text)) }
-    ensures told { IfOk result (λ _. IfSome (delay_told refusal.now) (IsToldOf net.now)) }
+    ensures told { IfOk result (λ _. IfSome (delay_told refusal.now) (IsTimetableTold net.now)) }
 {
     Ok(delay_text(alloc, net, refusal)?)
 }

@@ -1,8 +1,8 @@
 //! Whether the plan leaves each place the time that it takes.
 ghost use Rattle.std.specs.Prelude.{ℕ, ◌≡◌, ◌≤◌, ◌<◌, ◌+◌, ◌*◌, true, false, length, IfNone, IfSome, slice_index};
-ghost use Rattle.delay_laws.specs.Tables.{IsTableOf, IsWorkable, IsWorkableAt};
+ghost use Rattle.delay_laws.specs.PlannedTimetables.{IsTableOf, IsWorkable, IsWorkableAt, greatest_departure};
 ghost use Rattle.teg_net.specs.Nets.{IsPlaceOf};
-ghost use Rattle.teg_timetable.specs.Answers.{IsFirstUnworkable};
+ghost use Rattle.teg_timetable.specs.DelayAnswers.{IsFirstUnworkable};
 ghost use Rattle.teg_timetable.specs.Spreads.{greatest_period};
 
 use delay_laws::Timetable;
@@ -11,7 +11,7 @@ use teg_net::{Net, Place, PlaceId};
 // Whether the departures from `first` on, one in each period, are not before the ready dates.
 fn is_ready(period: u64, first: u64, ready: &[u64]) -> bool
     requires period { period ≤ greatest_period }
-    requires first { first ≤ 1000000000 }
+    requires first { first ≤ greatest_departure }
     requires few { length ready.now ≤ 1000 }
     ensures ready { result ≡ true → (k : ℕ) → k < length ready.now
         → slice_index ready.now k ≤ first + period * k }

@@ -1,3 +1,3 @@
-pub mod Meanings
-pub mod Numbers
-pub mod Words
+pub mod WordMeanings
+pub mod NumberWords
+pub mod CommandLineWords

@@ -2,7 +2,7 @@
 ghost use Rattle.std.specs.Prelude.{◌≡◌, ◌≤◌, IfSome};
 ghost use Rattle.std.specs.Char.{is_ascii_digit};
 ghost use Rattle.std.specs.List.{list_all};
-ghost use Rattle.teg_words.specs.Numbers.{is_numeral, number_of, within};
+ghost use Rattle.teg_words.specs.NumberWords.{is_number_word, number_of_word, within};
 
 fn has_only_digits(text: &str) -> bool
     ensures { result ≡ list_all is_ascii_digit text.now }
@@ -12,7 +12,7 @@ fn has_only_digits(text: &str) -> bool
 
 // 1 to 19 decimal digits.
 fn is_numeral(text: &str) -> bool
-    ensures { result ≡ is_numeral text.now }
+    ensures { result ≡ is_number_word text.now }
 {
     1 <= text.len() && text.len() <= 19 && has_only_digits(text)
 }
@@ -33,7 +33,7 @@ fn within(low: u64, high: u64, value: u64) -> Option<u64>
 /// A number is 1 to 19 decimal digits without a sign; leading zeros are allowed. The answer is none
 /// where the word is something else, or where its value is out of that range. It takes no memory.
 pub fn number(word: &str, low: u64, high: u64) -> Option<u64>
-    ensures value { result ≡ number_of low high word.now }
+    ensures value { result ≡ number_of_word low high word.now }
     ensures in_range { IfSome result (λ value. (low ≤ value) × (value ≤ high)) }
 {
     if !is_numeral(word) {

@@ -2,8 +2,8 @@
 ghost use Rattle.std.specs.Prelude.{◌≡◌, ◌≢◌, Some, None, [], false, map, IfOk, IsErrOf, string_bytes};
 ghost use Rattle.clap.specs.Words.{app_of, fault_of, found_of, matches_of, rows_of, rule_of, with_rule};
 ghost use Rattle.teg_words.specs.declared.simple_command.WordsRefusal.TheVariants.{OutOfMemory};
-ghost use Rattle.teg_words.specs.Meanings.{told};
-ghost use Rattle.teg_words.specs.Words.{bare_command, command_rule, flag_of, given_from, given_of, limit_rule, rest_rule, rounds_rule, simple_command};
+ghost use Rattle.teg_words.specs.WordMeanings.{given_by};
+ghost use Rattle.teg_words.specs.CommandLineWords.{bare_command, command_rule, flag_of, given_from, given_of, limit_rule, rest_rule, rounds_rule, simple_command};
 
 use clap::error::ErrorKind;
 use clap::{Arg, ArgAction, ArgMatches, Command};
@@ -143,7 +143,7 @@ fn has_rounds(matches: &ArgMatches<'_>) -> bool
 // What the rows of `clap` give.
 fn given<'a>(alloc: Global, matches: &ArgMatches<'a>) -> Result<GivenWords<'a>, WordsRefusal>
     ensures ok { IfOk result (λ words. given_from (rows_of (found_of matches.now))
-        ≡ Some (told words)) }
+        ≡ Some (given_by words)) }
     ensures refused { IsErrOf result WordsRefusal.Refused
         → given_from (rows_of (found_of matches.now)) ≡ None }
 {
@@ -168,7 +168,8 @@ fn given<'a>(alloc: Global, matches: &ArgMatches<'a>) -> Result<GivenWords<'a>, 
 /// `words` are those after the name of the program. `--limit 5` and `--limit=5` mean the same, and
 /// after `--` every word is positional. `Refused` comes exactly where `clap` refuses the words.
 pub fn read_words<'a>(alloc: Global, words: &'a [String]) -> Result<GivenWords<'a>, WordsRefusal>
-    ensures ok { IfOk result (λ given. given_of (map string_bytes words.now) ≡ Some (told given)) }
+    ensures ok { IfOk result (λ given. given_of (map string_bytes words.now) ≡ Some (given_by
+        given)) }
     ensures refused { IsErrOf result WordsRefusal.Refused → given_of (map string_bytes words.now)
         ≡ None }
 {

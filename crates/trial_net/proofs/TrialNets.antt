@@ -13,7 +13,7 @@ use Rattle.teg_net.specs.declared.entries.Transition.{Transition}
 use Rattle.teg_net.specs.declared.entries.InputList.{InputList}
 use Rattle.teg_net.specs.declared.entries.Place.{Place}
 use Rattle.teg_net.specs.declared.entries.Role.TheVariants.{Internal, Input}
-use Rattle.teg_net.specs.Limits.{greatest_date}
+use Rattle.teg_net.specs.Limits.{greatest_input_date}
 use Rattle.teg_net.specs.Names.{is_name}
 use Rattle.teg_net.specs.Nets.{IsInput, IsPlaceOf, IsInputOf, IsNet, lists_of}
 use Rattle.trial_net.specs.Trials.{numbered, machine, own_place, feed_place, card_place, trial}
@@ -89,7 +89,7 @@ own_is_place machines i some last = record {
   hold_in = omega arith;
   tokens_in = omega arith;
   ready_all = inl refl;
-  ready_in = All-nil (λ (d : ℕ). d ≤ greatest_date);
+  ready_in = All-nil (λ (d : ℕ). d ≤ greatest_input_date);
 }
 
 feed_is_place : (machines i : ℕ) → 1 ≤ i → i + 1 ≤ machines → IsPlaceOf (trial machines) (feed_place i)
@@ -100,7 +100,7 @@ feed_is_place machines i some last = record {
   hold_in = omega arith;
   tokens_in = omega arith;
   ready_all = inl refl;
-  ready_in = All-nil (λ (d : ℕ). d ≤ greatest_date);
+  ready_in = All-nil (λ (d : ℕ). d ≤ greatest_input_date);
 }
 
 card_is_place : (machines i : ℕ) → 1 ≤ i → i + 1 ≤ machines → IsPlaceOf (trial machines) (card_place i)
@@ -111,7 +111,7 @@ card_is_place machines i some last = record {
   hold_in = omega arith;
   tokens_in = omega arith;
   ready_all = inl refl;
-  ready_in = All-nil (λ (d : ℕ). d ≤ greatest_date);
+  ready_in = All-nil (λ (d : ℕ). d ≤ greatest_input_date);
 }
 
 -- ---- the net

@@ -16,8 +16,8 @@ abbrev pub machine : ℕ → Transition
 machine i = record { name = numbered (codes "m") i; role = Internal }
 
 -- the place of this name from one machine to another, counted from 1, whose tokens are ready at 0
-abbrev pub place_of : List ℕ → ℕ → ℕ → ℕ → ℕ → Place
-place_of name from to hold tokens = record {
+abbrev pub trial_place : List ℕ → ℕ → ℕ → ℕ → ℕ → Place
+trial_place name from to hold tokens = record {
   name = name;
   from = record { index = from - 1 };
   to = record { index = to - 1 };
@@ -27,8 +27,8 @@ place_of name from to hold tokens = record {
 }
 
 -- for how long machine i works on a piece, and the piece stays with it
-abbrev pub hold_of : ℕ → ℕ
-hold_of i = 10 + (37 * i) % 23
+abbrev pub machine_hold : ℕ → ℕ
+machine_hold i = 10 + (37 * i) % 23
 
 -- how many pieces machine i may be ahead of the next
 abbrev pub cards_of : ℕ → ℕ
@@ -36,15 +36,15 @@ cards_of i = 2 + i % 2
 
 -- machine i works on one piece at a time
 abbrev pub own_place : ℕ → Place
-own_place i = place_of (numbered (codes "s") i) i i (hold_of i) 1
+own_place i = trial_place (numbered (codes "s") i) i i (machine_hold i) 1
 
 -- machine i hands its pieces on
 abbrev pub feed_place : ℕ → Place
-feed_place i = place_of (numbered (codes "f") i) i (i + 1) (hold_of i) 0
+feed_place i = trial_place (numbered (codes "f") i) i (i + 1) (machine_hold i) 0
 
 -- the cards come back to machine i
 abbrev pub card_place : ℕ → Place
-card_place i = place_of (numbered (codes "c") i) (i + 1) i 0 (cards_of i)
+card_place i = trial_place (numbered (codes "c") i) (i + 1) i 0 (cards_of i)
 
 -- the line of so many machines: the machines in order; their own places, those that hand on, those of the cards, each in order
 abbrev pub trial : ℕ → NetLists

@@ -1,6 +1,6 @@
 //! The machines of the line, and the places of each.
 ghost use Rattle.std.specs.Prelude.{◌≡◌, ◌≤◌, ◌<◌, ◌-◌, IfOk};
-ghost use Rattle.trial_net.specs.Trials.{card_place, feed_place, hold_of, machine, numbered, own_place, place_of};
+ghost use Rattle.trial_net.specs.Trials.{card_place, feed_place, machine_hold, machine, numbered, own_place, trial_place};
 
 use std::alloc::Global;
 use teg_net::{DateList, Name, OutOfMemory, Place, Role, Transition, TransitionId};
@@ -20,7 +20,7 @@ fn numbered(alloc: Global, letter: &str, number: u32) -> Result<Name, OutOfMemor
 fn place(alloc: Global, name: Name, ends: (u32, u32), hold: u64, tokens: u32) -> Place
     requires from { 1 ≤ ends.0 }
     requires to { 1 ≤ ends.1 }
-    ensures { result ≡ place_of name ends.0 ends.1 hold tokens }
+    ensures { result ≡ trial_place name ends.0 ends.1 hold tokens }
 {
     Place {
         name,
@@ -35,7 +35,7 @@ fn place(alloc: Global, name: Name, ends: (u32, u32), hold: u64, tokens: u32) ->
 // For how long machine i works on a piece.
 fn hold(i: u32) -> u64
     requires { i ≤ 400 }
-    ensures { result ≡ hold_of i }
+    ensures { result ≡ machine_hold i }
 {
     u64::from(10 + 37 * i % 23)
 }

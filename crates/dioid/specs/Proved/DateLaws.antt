@@ -4,7 +4,7 @@ use Rattle.std.specs.Prelude.{⊤}
 use Rattle.std.proofs.lemmas.Int.{ints, clamps}
 use Rattle.std.specs.Int.{int_max, int_min}
 use Rattle.dioid.specs.Dates.{later_of, earlier_of, date_product, date_star, date_left}
-use Rattle.dioid.specs.Laws.{IsAtMost, IsClosed, DioidLaws, StarLaws, ResidualLaws}
+use Rattle.dioid.specs.DioidAxioms.{IsAtMost, IsClosed, DioidLaws, StarLaws, ResidualLaws}
 use Rattle.dioid.specs.declared.dates.Date.{Date}
 use Rattle.dioid.specs.declared.dates.Date.TheVariants.{Early, At, Never}
 
@@ -144,22 +144,22 @@ date_laws = record {
 pub at_inj : (s t : ℤ) → At s ≡ At t → s ≡ t
 at_inj s t h = cc
 
-star_solves : (a b : Date) → IsAtMost later_of (later_of (date_product a (date_product (date_star a) b)) b) (date_product (date_star a) b)
-star_solves Early Early = refl
-star_solves Early (At t) = ap At (omega (arith, ints, clamps))
-star_solves Early Never = refl
-star_solves (At (pos zero)) Early = refl
-star_solves (At (pos zero)) (At t) = ap At (omega (arith, ints, clamps))
-star_solves (At (pos zero)) Never = refl
-star_solves (At (pos (suc n))) Early = refl
-star_solves (At (pos (suc n))) (At t) = refl
-star_solves (At (pos (suc n))) Never = refl
-star_solves (At (negsuc n)) Early = refl
-star_solves (At (negsuc n)) (At t) = ap At (omega (arith, ints, clamps))
-star_solves (At (negsuc n)) Never = refl
-star_solves Never Early = refl
-star_solves Never (At t) = refl
-star_solves Never Never = refl
+date_star_solves : (a b : Date) → IsAtMost later_of (later_of (date_product a (date_product (date_star a) b)) b) (date_product (date_star a) b)
+date_star_solves Early Early = refl
+date_star_solves Early (At t) = ap At (omega (arith, ints, clamps))
+date_star_solves Early Never = refl
+date_star_solves (At (pos zero)) Early = refl
+date_star_solves (At (pos zero)) (At t) = ap At (omega (arith, ints, clamps))
+date_star_solves (At (pos zero)) Never = refl
+date_star_solves (At (pos (suc n))) Early = refl
+date_star_solves (At (pos (suc n))) (At t) = refl
+date_star_solves (At (pos (suc n))) Never = refl
+date_star_solves (At (negsuc n)) Early = refl
+date_star_solves (At (negsuc n)) (At t) = ap At (omega (arith, ints, clamps))
+date_star_solves (At (negsuc n)) Never = refl
+date_star_solves Never Early = refl
+date_star_solves Never (At t) = refl
+date_star_solves Never Never = refl
 
 -- what is at most x, where b and more is at most x
 right_part : (y b x : Date) → IsAtMost later_of (later_of y b) x → IsAtMost later_of b x
@@ -167,30 +167,30 @@ right_part y b x h =
     ap (later_of b) (sym h) ∙ sym (later_assoc b (later_of y b) x)
     ∙ ap (λ z. later_of z x) (later_commutes b (later_of y b) ∙ later_assoc y b b ∙ ap (later_of y) (later_idempotent b)) ∙ h
 
-star_least : (a b x : Date) → IsAtMost later_of (later_of (date_product a x) b) x → IsAtMost later_of (date_product (date_star a) b) x
-star_least Early b x h = rw (one_times b) (right_part Early b x h)
-star_least (At (pos zero)) b x h = rw (one_times b) (right_part (date_product (At (pos 0)) x) b x h)
-star_least (At (negsuc n)) b x h = rw (one_times b) (right_part (date_product (At (negsuc n)) x) b x h)
-star_least (At (pos (suc n))) Early x h = refl
-star_least (At (pos (suc n))) (At t) Early h = cc
-star_least (At (pos (suc n))) (At t) (At u) h = absurd (let e : int_max (int_max (pos (suc n) +ℤ u) t) u ≡ u = at_inj _ _ h in omega (arith, ints, clamps))
-star_least (At (pos (suc n))) (At t) Never h = refl
-star_least (At (pos (suc n))) Never Early h = cc
-star_least (At (pos (suc n))) Never (At u) h = cc
-star_least (At (pos (suc n))) Never Never h = refl
-star_least Never Early x h = refl
-star_least Never (At t) Early h = cc
-star_least Never (At t) (At u) h = cc
-star_least Never (At t) Never h = refl
-star_least Never Never Early h = cc
-star_least Never Never (At u) h = cc
-star_least Never Never Never h = refl
+date_star_least : (a b x : Date) → IsAtMost later_of (later_of (date_product a x) b) x → IsAtMost later_of (date_product (date_star a) b) x
+date_star_least Early b x h = rw (one_times b) (right_part Early b x h)
+date_star_least (At (pos zero)) b x h = rw (one_times b) (right_part (date_product (At (pos 0)) x) b x h)
+date_star_least (At (negsuc n)) b x h = rw (one_times b) (right_part (date_product (At (negsuc n)) x) b x h)
+date_star_least (At (pos (suc n))) Early x h = refl
+date_star_least (At (pos (suc n))) (At t) Early h = cc
+date_star_least (At (pos (suc n))) (At t) (At u) h = absurd (let e : int_max (int_max (pos (suc n) +ℤ u) t) u ≡ u = at_inj _ _ h in omega (arith, ints, clamps))
+date_star_least (At (pos (suc n))) (At t) Never h = refl
+date_star_least (At (pos (suc n))) Never Early h = cc
+date_star_least (At (pos (suc n))) Never (At u) h = cc
+date_star_least (At (pos (suc n))) Never Never h = refl
+date_star_least Never Early x h = refl
+date_star_least Never (At t) Early h = cc
+date_star_least Never (At t) (At u) h = cc
+date_star_least Never (At t) Never h = refl
+date_star_least Never Never Early h = cc
+date_star_least Never Never (At u) h = cc
+date_star_least Never Never Never h = refl
 
 pub date_star_laws : StarLaws any_date later_of date_product date_star
 date_star_laws = record {
   star_is = λ a _. tt;
-  solves = λ a b _ _. star_solves a b;
-  least = λ a b x _ _ _ h. star_least a b x h;
+  solves = λ a b _ _. date_star_solves a b;
+  least = λ a b x _ _ _ h. date_star_least a b x h;
 }
 
 -- ---- residuals

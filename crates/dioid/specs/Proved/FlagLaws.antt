@@ -2,7 +2,7 @@
 use Rattle.std.proofs.Common.{◌≡◌, ◌↔◌, refl}
 use Rattle.std.specs.Prelude.{⊤}
 use Rattle.dioid.specs.Flags.{flag_or, flag_and, flag_left}
-use Rattle.dioid.specs.Laws.{IsAtMost, IsClosed, DioidLaws, StarLaws, ResidualLaws}
+use Rattle.dioid.specs.DioidAxioms.{IsAtMost, IsClosed, DioidLaws, StarLaws, ResidualLaws}
 use Rattle.dioid.specs.declared.flags.Flag.{Flag}
 use Rattle.dioid.specs.declared.flags.Flag.TheVariants.{No, Yes}
 
@@ -65,22 +65,22 @@ flag_laws = record {
   one_neutral_right = λ a _. and_yes a;
 }
 
-star_solves : (a b : Flag) → IsAtMost flag_or (flag_or (flag_and a b) b) b
-star_solves No b = or_idempotent b
-star_solves Yes No = refl
-star_solves Yes Yes = refl
+flag_star_solves : (a b : Flag) → IsAtMost flag_or (flag_or (flag_and a b) b) b
+flag_star_solves No b = or_idempotent b
+flag_star_solves Yes No = refl
+flag_star_solves Yes Yes = refl
 
-star_least : (a b x : Flag) → IsAtMost flag_or (flag_or (flag_and a x) b) x → IsAtMost flag_or b x
-star_least No b x h = h
-star_least Yes No x h = refl
-star_least Yes Yes No h = h
-star_least Yes Yes Yes h = refl
+flag_star_least : (a b x : Flag) → IsAtMost flag_or (flag_or (flag_and a x) b) x → IsAtMost flag_or b x
+flag_star_least No b x h = h
+flag_star_least Yes No x h = refl
+flag_star_least Yes Yes No h = h
+flag_star_least Yes Yes Yes h = refl
 
 pub flag_star_laws : StarLaws any_flag flag_or flag_and (λ _. Yes)
 flag_star_laws = record {
   star_is = λ a _. tt;
-  solves = λ a b _ _. star_solves a b;
-  least = λ a b x _ _ _ h. star_least a b x h;
+  solves = λ a b _ _. flag_star_solves a b;
+  least = λ a b x _ _ _ h. flag_star_least a b x h;
 }
 
 flag_galois : (a x b : Flag) → IsAtMost flag_or (flag_and a x) b ↔ IsAtMost flag_or x (flag_left a b)

@@ -1,6 +1,6 @@
 use Rattle.std.proofs.Common.{◌≡◌, ◌≤◌, ◌+◌, length}
 use Rattle.csv_records.specs.Records.{records_of}
-use Rattle.csv_records.specs.Rows.{rows_from, rows_of}
+use Rattle.csv_records.specs.RowsOfRecords.{rows_from, rows_of}
 use Rattle.csv_records.proofs.rows.read_rows.Given as goal
 
 -- the rows so far, and those of the records that are left, are those of the file

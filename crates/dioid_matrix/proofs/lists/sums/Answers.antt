@@ -1,5 +1,5 @@
 use Rattle.std.proofs.Common.{◌≡◌, ℕ, ◌*◌, ◌++◌, ◌∷◌, [], ◌<◌, rules, refl}
-use Rattle.dioid_matrix.specs.Sums.{SumFits}
+use Rattle.dioid_matrix.specs.Sums.{EntrySumFits}
 use Rattle.dioid_matrix.specs.Tables.{entry_of, table_of}
 use Rattle.dioid_matrix.proofs.Cells.{holds_more, elements_everywhere}
 use Rattle.dioid_matrix.proofs.Places.{first_misfit, entries_held, fits_held}
@@ -29,6 +29,6 @@ returns g c =
     let b = table_of c.args.rows c.args.columns c.args.right.now in
     let whole : c.loop-place.place ≡ c.args.rows * c.args.columns = search rules in
     let h = rw whole at c.loop-place.invariant in
-    let fits = λ (i j : ℕ). SumFits d a b i j in
+    let fits = λ (i j : ℕ). EntrySumFits d a b i j in
     let value = λ (i j : ℕ). d.sum (entry_of d a i j) (entry_of d b i j) in
     (h.len, elements_everywhere d _ _ _ _ g.met.D.Dioid.closed.zero_is h, record { rows = refl; columns = refl; entries = entries_held d c.args.rows c.args.columns fits value _ h; fit = fits_held d c.args.rows c.args.columns fits value _ h })

@@ -1,5 +1,5 @@
 use Rattle.std.proofs.Common.{◌≡◌, ℕ, ◌*◌, ◌/◌, ◌%◌, ◌++◌, ◌∷◌, [], rules, refl, IsTrue, eqb, cond, subst}
-use Rattle.dioid_matrix.specs.Lists.{last_of}
+use Rattle.dioid_matrix.specs.EntryLists.{last_entry_of}
 use Rattle.dioid_matrix.specs.Tables.{entry_of, table_of}
 use Rattle.dioid_matrix.specs.Turns.{LastFits}
 use Rattle.dioid_matrix.proofs.Cells.{holds_more, elements_everywhere}
@@ -36,5 +36,5 @@ returns g c =
     let whole : c.loop-place.place ≡ c.args.size * c.args.size = search rules in
     let h = rw whole at c.loop-place.invariant in
     let fits = λ (i j : ℕ). LastFits d r i j in
-    let value = λ (i j : ℕ). last_of d r i j in
+    let value = λ (i j : ℕ). last_entry_of d r i j in
     (h.len, elements_everywhere d _ _ _ _ g.met.D.Dioid.closed.zero_is h, record { entries = entries_held d c.args.size c.args.size fits value _ h; fit = fits_held d c.args.size c.args.size fits value _ h })

@@ -1,7 +1,7 @@
-use Rattle.dioid_matrix.specs.Lists.{HoldsEach}
 use Rattle.dioid_matrix.specs.Tables.{entry_of, table_of}
 use Rattle.dioid_matrix.specs.Turns.{loop_of, LoopFits}
 use Rattle.dioid_matrix.proofs.passes.loops.Given as goal
+use Rattle.dioid_matrix.proofs.Filled.{HoldsEach}
 
 abbrev pub invariant-loop-column : goal.invariant-loop-column
 invariant-loop-column g l =

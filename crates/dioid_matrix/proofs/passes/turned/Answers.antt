@@ -1,5 +1,5 @@
 use Rattle.std.proofs.Common.{◌≡◌, ℕ, ◌*◌, ◌+◌, ◌/◌, ◌%◌, ◌≤◌, ◌<◌, ◌++◌, ◌∷◌, [], length, rules, arith, refl}
-use Rattle.dioid_matrix.specs.Stars.{through}
+use Rattle.dioid_matrix.specs.MatrixStars.{through}
 use Rattle.dioid_matrix.specs.Tables.{entry_of, table_of}
 use Rattle.dioid_matrix.specs.Turns.{WayFits, EntryFits}
 use Rattle.dioid_matrix.proofs.Cells.{holds_more, elements_everywhere, pivot_within}

@@ -1,9 +1,9 @@
 use Rattle.std.proofs.Common.{◌/◌, ◌%◌}
-use Rattle.dioid_matrix.specs.Lists.{HoldsEach}
-use Rattle.dioid_matrix.specs.Stars.{through}
+use Rattle.dioid_matrix.specs.MatrixStars.{through}
 use Rattle.dioid_matrix.specs.Tables.{entry_of, table_of}
 use Rattle.dioid_matrix.specs.Turns.{EntryFits}
 use Rattle.dioid_matrix.proofs.passes.turned.Given as goal
+use Rattle.dioid_matrix.proofs.Filled.{HoldsEach}
 
 abbrev pub invariant-loop-place : goal.invariant-loop-place
 invariant-loop-place g l =

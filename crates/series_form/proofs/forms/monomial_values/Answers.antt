@@ -2,7 +2,7 @@ use Rattle.std.proofs.Common.{◌≡◌, ◌∙◌, ◌+◌, ap, sym, ℤ, ℕ, 
 use Rattle.std.specs.Int.{w128}
 use Rattle.std.proofs.lemmas.Int.{to_z-of_z}
 use Rattle.dioid.specs.declared.dates.Date.TheVariants.{Early, At}
-use Rattle.series_laws.specs.Forms.{table, monomial_at}
+use Rattle.series_laws.specs.SeriesForms.{table, monomial_at}
 use Rattle.series_form.proofs.Finished.{table_push}
 use Rattle.series_laws.proofs.Shifts.{monomial_below, monomial_from}
 use Rattle.series_form.proofs.forms.monomial_values.Goals as goal

@@ -4,9 +4,10 @@ use Rattle.std.specs.Int.{w128}
 use Rattle.std.specs.Int.RustNames.{unsigned_abs}
 use Rattle.std.proofs.lemmas.Int.{ints, to_z-of_z}
 use Rattle.std.proofs.Math.Nat.{mod-eq_of_lt}
-use Rattle.series_laws.specs.Forms.{value_at}
+use Rattle.series_laws.specs.SeriesForms.{value_at}
 use Rattle.series_laws.specs.Needs.{later_start, lead_of}
-use Rattle.series_form.specs.Leads.{AreLedTo, IsReach, number_of, width_of}
+use Rattle.series_form.specs.Leads.{NoGreaterLead, IsReach, integer_of_date, width_of}
+use Rattle.series_form.specs.SeriesLimits.{greatest_moderate}
 use Rattle.series_form.proofs.Heights.{covers_it, cycle_kept, le_through, led_on, reach_first}
 use Rattle.series_form.proofs.leads.best_on_cycle.Goals as goal
 
@@ -19,10 +20,10 @@ loop-periods-init c =
     let number = to_z-of_z w128 c.number_at.result (record { sfits = c.number_at.type_inv }) in
     let known : to_z w128 (of_z w128 c.args.known) ≡ c.args.known = to_z-of_z w128 c.args.known (record { sfits = c.ranges.known.sfits }) in
     let begun = reach_first f g c.common_start.ensures.left.canonical.form c.common_start.ensures.right.canonical.form c.requires.numbers start low in
-    let here : to_z w128 (of_z w128 c.number_at.result) ≡ number_of (value_at g (later_start f g + start)) = number ∙ c.number_at.ensures.value ∙ ap (λ (z : ℕ). number_of (value_at g (z + start))) c.common_start.ensures.value in
+    let here : to_z w128 (of_z w128 c.number_at.result) ≡ integer_of_date (value_at g (later_start f g + start)) = number ∙ c.number_at.ensures.value ∙ ap (λ (z : ℕ). integer_of_date (value_at g (z + start))) c.common_start.ensures.value in
     let none : start + 0 * f.period ≡ start = omega arith in (
       subst (λ (z : ℤ). IsReach f g 0 start z) (sym here) begun,
-      subst (λ (z : ℤ). unsigned_abs z ≤ 1000000000000000000000000000) (sym number) c.number_at.ensures.bound,
+      subst (λ (z : ℤ). unsigned_abs z ≤ greatest_moderate) (sym number) c.number_at.ensures.bound,
       ap (λ (z : ℕ). z % width_of f g) none ∙ mod-eq_of_lt low,
       record {
         kept = omega (arith, ints);
@@ -52,7 +53,7 @@ loop-periods-preserved c =
     c.loop-periods.invariant.3.no_more c.loop-periods.invariant.3.led c.step_back-reach.ensures.reach at (best ∙ c.better-best.ensures) in
     let long : m + 2 ≡ m + 1 + 1 = omega arith in (
       c.step_back-reach.ensures.reach,
-      subst (λ (z : ℕ). unsigned_abs height ≤ z * 1000000000000000000000000000) long c.step_back-reach.ensures.bound,
+      subst (λ (z : ℕ). unsigned_abs height ≤ z * greatest_moderate) long c.step_back-reach.ensures.bound,
       at,
       record {
         kept = le_through _ _ _ c.loop-periods.invariant.3.kept on.kept;
@@ -66,4 +67,4 @@ returns-clause-led c =
     let f = c.args.first.now in
     let g = c.args.second.now in
     let whole : c.loop-periods.periods ≡ 2 * c.args.turns = omega arith in
-    subst (λ (z : ℕ). AreLedTo f g c.args.start z (to_z w128 c.loop-periods.best-bits)) whole c.loop-periods.invariant.3.led
+    subst (λ (z : ℕ). NoGreaterLead f g c.args.start z (to_z w128 c.loop-periods.best-bits)) whole c.loop-periods.invariant.3.led

@@ -5,7 +5,8 @@ use Rattle.std.specs.Int.RustNames.{unsigned_abs}
 use Rattle.std.proofs.lemmas.Int.{to_z-of_z}
 use Rattle.std.proofs.Math.Nat.{eq-or-lt_of_le}
 use Rattle.series_laws.specs.Needs.{lead_of, turns_of}
-use Rattle.series_form.specs.Leads.{AreLedTo, width_of}
+use Rattle.series_form.specs.Leads.{NoGreaterLead, width_of}
+use Rattle.series_form.specs.SeriesLimits.{greatest_moderate}
 use Rattle.series_form.proofs.Heights.{all_led, between, covers_it, le_same, le_through, lead_below, lead_moderate, led_more}
 use Rattle.series_form.proofs.leads.greatest_lead.Goals as goal
 
@@ -29,7 +30,7 @@ loop-start-preserved c =
     let steps : ℕ = 2 * c.turns_between-turns.result in (
       subst (λ (z : ℤ). z ≤ℤ lead_of f g) (sym best) c.best_on_cycle-best.ensures.no_more,
       λ s l. ⊎_elim
-          (λ (q : s ≡ c.loop-start.start). subst (λ (z : ℕ). AreLedTo f g z (2 * c.turns_between-turns.result) (to_z w128 (of_z w128 c.best_on_cycle-best.result))) (sym q)
+          (λ (q : s ≡ c.loop-start.start). subst (λ (z : ℕ). NoGreaterLead f g z (2 * c.turns_between-turns.result) (to_z w128 (of_z w128 c.best_on_cycle-best.result))) (sym q)
           (led_more f g c.loop-start.start (2 * c.turns_between-turns.result) c.best_on_cycle-best.result (to_z w128 (of_z w128 c.best_on_cycle-best.result)) up c.best_on_cycle-best.ensures.led))
           (λ (less : s < c.loop-start.start). led_more f g s (2 * c.turns_between-turns.result) (to_z w128 c.loop-start.best-bits) (to_z w128 (of_z w128 c.best_on_cycle-best.result))
           (le_through _ _ _ c.best_on_cycle-best.ensures.kept up) (c.loop-start.invariant.1 s less))
@@ -47,8 +48,8 @@ returns-clause-value c =
     let whole : c.loop-start.start ≡ c.width-width.result / c.turns_between-turns.result = omega arith in
     let count : c.loop-start.start ≡ width_of f g / turns_of f.period (width_of f g) =
     whole ∙ ap (λ (z : ℕ). z / c.turns_between-turns.result) c.width-width.ensures.value ∙ ap (λ (z : ℕ). width_of f g / z) turns in
-    let led : (s : ℕ) → s < width_of f g / turns_of f.period (width_of f g) → AreLedTo f g s (2 * turns_of f.period (width_of f g)) (to_z w128 c.loop-start.best-bits) =
-    λ s l. subst (λ (z : ℕ). AreLedTo f g s (2 * z) (to_z w128 c.loop-start.best-bits)) turns
+    let led : (s : ℕ) → s < width_of f g / turns_of f.period (width_of f g) → NoGreaterLead f g s (2 * turns_of f.period (width_of f g)) (to_z w128 c.loop-start.best-bits) =
+    λ s l. subst (λ (z : ℕ). NoGreaterLead f g s (2 * z) (to_z w128 c.loop-start.best-bits)) turns
     (c.loop-start.invariant.1 s (subst (λ (z : ℕ). s < z) (sym count) l)) in
     between (to_z w128 c.loop-start.best-bits) (lead_of f g) c.loop-start.invariant.0 (all_led f g (to_z w128 c.loop-start.best-bits) isf isg (covers_it f g isf isg) led)
 
@@ -56,4 +57,4 @@ pub returns-clause-bound : goal.returns-clause-bound
 returns-clause-bound c =
     let f = c.args.first.now in
     let g = c.args.second.now in
-    subst (λ (z : ℤ). unsigned_abs z ≤ 1000000000000000000000000000) (sym (returns-clause-value c)) (lead_moderate f g c.width-width.ensures.left c.width-width.ensures.right)
+    subst (λ (z : ℤ). unsigned_abs z ≤ greatest_moderate) (sym (returns-clause-value c)) (lead_moderate f g c.width-width.ensures.left c.width-width.ensures.right)

@@ -1,7 +1,7 @@
 use Rattle.std.proofs.Common.{◌≡◌, ◌/◌, ◌-ℤ◌, ℕ, ℤ, ap, ◌∙◌}
 use Rattle.series_laws.specs.Periodic.{times}
 use Rattle.series_laws.specs.Needs.{rise_of, fall_of}
-use Rattle.series_form.proofs.Numbers.{difference_code}
+use Rattle.series_form.proofs.DateNumbers.{difference_code}
 use Rattle.series_form.proofs.plans.lead_gain.Goals as goal
 
 pub returns-clause-value : goal.returns-clause-value

@@ -1,6 +1,6 @@
 use Rattle.std.proofs.Common.{◌≡◌, ℕ, ◌+◌, ◌-◌, ◌*◌, ◌%◌, ◌<◌, eqb, false, ap, ◌∙◌, arith, Bool}
 use Rattle.std.proofs.lemmas.Bool.Decides.{nat_tests}
-use Rattle.series_laws.specs.Forms.{first_of}
+use Rattle.series_laws.specs.SeriesForms.{first_holding}
 use Rattle.series_laws.proofs.FormValues.{first_next}
 use Rattle.series_form.proofs.plans.turns_between.Goals as goal
 
@@ -13,4 +13,4 @@ loop-turns-preserved c =
     let k : c.args.second - c.loop-turns.turns - 1 ≡ c.args.second - (c.loop-turns.turns + 1) = omega arith in
     let w : 0 < c.args.second - c.loop-turns.turns = omega arith in
     c.loop-turns.invariant ∙ first_next t c.loop-turns.turns (c.args.second - c.loop-turns.turns) w (not_zero (c.loop-turns.turns * c.args.first % c.args.second) c.if-turns-first-eq0.false)
-    ∙ ap (first_of t (c.loop-turns.turns + 1)) k
+    ∙ ap (first_holding t (c.loop-turns.turns + 1)) k

@@ -1,5 +1,5 @@
 use Rattle.std.proofs.Common.{◌∙◌}
-use Rattle.series_laws.specs.Forms.{value_at}
+use Rattle.series_laws.specs.SeriesForms.{value_at}
 use Rattle.series_laws.specs.Pointwise.{sum_at}
 use Rattle.series_form.proofs.Finished.{table_push}
 use Rattle.series_form.proofs.pointwise.sum_values.Goals as goal

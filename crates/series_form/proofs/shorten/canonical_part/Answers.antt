@@ -1,9 +1,9 @@
 use Rattle.std.proofs.Common.{◌≡◌, ap, ◌∙◌, sym, subst, ◌-◌, length, to_z, of_z}
 use Rattle.std.specs.Int.{w128}
 use Rattle.std.proofs.lemmas.Int.{to_z-of_z}
-use Rattle.series_laws.specs.Forms.{Form, form_with, value_at, HasValues, IsCanonical, canonical_of}
+use Rattle.series_laws.specs.SeriesForms.{Form, form_with, value_at, HasValues, IsCanonical, canonical_of}
 use Rattle.series_laws.specs.Periodic.{Rising, Repeats}
-use Rattle.series_form.specs.Answer.{form_before}
+use Rattle.series_form.specs.SeriesAnswers.{form_before}
 use Rattle.series_form.specs.Shapes.{IsPart}
 use Rattle.series_laws.proofs.FormValues.{value_repeats}
 use Rattle.series_laws.proofs.Canonical.{canonical_is, canonical_values}

@@ -3,10 +3,11 @@ use Rattle.std.specs.Int.{w128}
 use Rattle.std.specs.Int.RustNames.{unsigned_abs}
 use Rattle.std.proofs.lemmas.Int.{to_z-of_z}
 use Rattle.dioid.specs.declared.dates.Date.{Date}
-use Rattle.series_form.specs.Bounds.{IsSeries}
-use Rattle.series_laws.specs.Forms.{Form, form_with}
+use Rattle.series_form.specs.NumberBounds.{IsSeries}
+use Rattle.series_laws.specs.SeriesForms.{Form, form_with}
 use Rattle.series_form.specs.Shapes.{IsShape, IsTooGreat, shortened}
-use Rattle.series_form.proofs.Numbers.{small_fits}
+use Rattle.series_form.specs.SeriesLimits.{greatest_value}
+use Rattle.series_form.proofs.DateNumbers.{small_fits}
 use Rattle.series_form.proofs.FirstPart.{shortened_series, shortened_answer, shortened_great}
 use Rattle.series_form.proofs.shorten.finish.Goals as goal
 
@@ -14,7 +15,7 @@ pub invariant_of-result : goal.invariant_of-result
 invariant_of-result c =
     let ex : to_z w128 (of_z w128 c.args.step) ≡ c.args.step = to_z-of_z w128 c.args.step c.ranges.step in
     let sh : IsShape c.args.values.items c.args.turn c.args.step c.in-Ok.shape = subst (λ (z : ℤ). IsShape c.args.values.items c.args.turn z c.in-Ok.shape) ex (subst (λ (z : List Date). IsShape z c.args.turn (to_z w128 (of_z w128 c.args.step)) c.in-Ok.shape) c.as_slice.ensures.value c.in-Ok.ensures) in
-    let low : unsigned_abs c.in-Ok.shape.step ≤ 1000000000000000000 = subst (λ (z : Form). unsigned_abs z.step ≤ 1000000000000000000) sh.form sh.small.step in
+    let low : unsigned_abs c.in-Ok.shape.step ≤ greatest_value = subst (λ (z : Form). unsigned_abs z.step ≤ greatest_value) sh.form sh.small.step in
     let form : form_with c.truncate.new.self.items c.in-Ok.shape.period (to_z w128 (of_z w128 c.in-Ok.shape.step)) ≡ shortened c.args.values.items c.args.turn c.args.step =
     ap (λ (z : List Date). form_with z c.in-Ok.shape.period (to_z w128 (of_z w128 c.in-Ok.shape.step))) c.truncate.ensures.items
     ∙ ap (form_with (take c.in-Ok.shape.size c.args.values.items) c.in-Ok.shape.period) (to_z-of_z w128 c.in-Ok.shape.step (small_fits c.in-Ok.shape.step low)) ∙ sym sh.form in
@@ -24,7 +25,7 @@ pub returns-in-Ok : goal.returns-in-Ok
 returns-in-Ok c =
     let ex : to_z w128 (of_z w128 c.args.step) ≡ c.args.step = to_z-of_z w128 c.args.step c.ranges.step in
     let sh : IsShape c.args.values.items c.args.turn c.args.step c.in-Ok.shape = subst (λ (z : ℤ). IsShape c.args.values.items c.args.turn z c.in-Ok.shape) ex (subst (λ (z : List Date). IsShape z c.args.turn (to_z w128 (of_z w128 c.args.step)) c.in-Ok.shape) c.as_slice.ensures.value c.in-Ok.ensures) in
-    let low : unsigned_abs c.in-Ok.shape.step ≤ 1000000000000000000 = subst (λ (z : Form). unsigned_abs z.step ≤ 1000000000000000000) sh.form sh.small.step in
+    let low : unsigned_abs c.in-Ok.shape.step ≤ greatest_value = subst (λ (z : Form). unsigned_abs z.step ≤ greatest_value) sh.form sh.small.step in
     let form : form_with c.truncate.new.self.items c.in-Ok.shape.period (to_z w128 (of_z w128 c.in-Ok.shape.step)) ≡ shortened c.args.values.items c.args.turn c.args.step =
     ap (λ (z : List Date). form_with z c.in-Ok.shape.period (to_z w128 (of_z w128 c.in-Ok.shape.step))) c.truncate.ensures.items
     ∙ ap (form_with (take c.in-Ok.shape.size c.args.values.items) c.in-Ok.shape.period) (to_z-of_z w128 c.in-Ok.shape.step (small_fits c.in-Ok.shape.step low)) ∙ sym sh.form in

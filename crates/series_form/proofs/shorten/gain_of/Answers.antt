@@ -3,7 +3,7 @@ use Rattle.std.specs.Int.{w128}
 use Rattle.std.proofs.lemmas.Int.{to_z-of_z}
 use Rattle.dioid.specs.declared.dates.Date.{Date}
 use Rattle.dioid.specs.declared.dates.Date.TheVariants.{Early}
-use Rattle.series_laws.specs.Forms.{form_with, gap}
+use Rattle.series_laws.specs.SeriesForms.{form_with, gap}
 use Rattle.series_laws.proofs.FormValues.{value_in}
 use Rattle.series_form.proofs.FirstPart.{V}
 use Rattle.series_form.proofs.Listed.{gain_fits, whole_gain}

@@ -3,7 +3,7 @@ use Rattle.std.specs.Int.{w128}
 use Rattle.std.proofs.lemmas.Int.{to_z-of_z}
 use Rattle.dioid.specs.declared.dates.Date.{Date}
 use Rattle.series_laws.specs.Periodic.{Repeats, Rising}
-use Rattle.series_laws.specs.Forms.{form_with, gap, least_period_of, first_of}
+use Rattle.series_laws.specs.SeriesForms.{form_with, gap, least_period_of, first_holding}
 use Rattle.series_laws.proofs.FormValues.{value_repeats}
 use Rattle.series_form.proofs.FirstPart.{V}
 use Rattle.series_form.proofs.Steps.{turns, turn_step, turn_found, turn_passed, least_divides}
@@ -39,6 +39,6 @@ returns-clause-value c =
     let last : c.loop-turn.turn ≡ c.args.period = omega arith in
     let none : c.args.period - c.loop-turn.turn ≡ 0 = omega arith in
     sym last
-    ∙ ap (λ (z : ℕ). first_of (turns (V c.args.values.now c.args.period (to_z w128 (of_z w128 c.args.step))) c.args.from c.args.period) c.loop-turn.turn z) (sym none)
+    ∙ ap (λ (z : ℕ). first_holding (turns (V c.args.values.now c.args.period (to_z w128 (of_z w128 c.args.step))) c.args.from c.args.period) c.loop-turn.turn z) (sym none)
     ∙ sym c.loop-turn.invariant
     ∙ ap (λ (z : ℤ). least_period_of (V c.args.values.now c.args.period z) c.args.from c.args.period) (to_z-of_z w128 c.args.step c.ranges.step)

@@ -1,5 +1,5 @@
 use Rattle.std.proofs.Common.{◌≡◌, ◌≤◌, ◌<◌, ◌-◌, ℕ, true}
-use Rattle.series_laws.specs.Forms.{form_with, value_at, moves}
+use Rattle.series_laws.specs.SeriesForms.{form_with, value_at, moves}
 use Rattle.series_form.proofs.shorten.least_start.Given as goal
 
 abbrev pub invariant-loop-back : goal.invariant-loop-back

@@ -4,7 +4,7 @@ use Rattle.std.proofs.lemmas.Int.{to_z-of_z}
 use Rattle.dioid.specs.declared.dates.Date.{Date}
 use Rattle.dioid.specs.declared.dates.Date.TheVariants.{Early}
 use Rattle.dioid.specs.Dates.{move}
-use Rattle.series_laws.specs.Forms.{form_with, date_eqb}
+use Rattle.series_laws.specs.SeriesForms.{form_with, date_eqb}
 use Rattle.series_laws.proofs.FormValues.{value_in}
 use Rattle.series_form.proofs.FirstPart.{V}
 use Rattle.series_form.proofs.Listed.{past, moved_over}

@@ -1,7 +1,7 @@
 use Rattle.std.proofs.Common.{◌≡◌, ℤ, false, ap, sym, ◌∙◌, arith, ◌+◌, to_z, of_z}
 use Rattle.std.specs.Int.{w128}
 use Rattle.std.proofs.lemmas.Int.{to_z-of_z}
-use Rattle.series_laws.specs.Forms.{moves}
+use Rattle.series_laws.specs.SeriesForms.{moves}
 use Rattle.series_laws.proofs.FormValues.{test_fails}
 use Rattle.series_form.proofs.FirstPart.{V}
 use Rattle.series_form.proofs.shorten.repeats.Goals as goal

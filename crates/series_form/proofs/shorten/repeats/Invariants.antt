@@ -1,5 +1,5 @@
 use Rattle.std.proofs.Common.{◌≡◌, true}
-use Rattle.series_laws.specs.Forms.{form_with, value_at, repeats_test}
+use Rattle.series_laws.specs.SeriesForms.{form_with, value_at, repeats_test}
 use Rattle.series_form.proofs.shorten.repeats.Given as goal
 
 abbrev pub invariant-loop-index : goal.invariant-loop-index

@@ -1,7 +1,7 @@
 use Rattle.std.proofs.Common.{◌≡◌, refl, ap, sym, ◌∙◌, ℤ, arith, to_z, of_z, ◌+◌, ◌-◌, ◌≤◌, length, take, subst, FitsSigned}
 use Rattle.std.specs.Int.{w128}
 use Rattle.std.proofs.lemmas.Int.{to_z-of_z}
-use Rattle.series_laws.specs.Forms.{form_with, gap, least_period_of, least_start_of}
+use Rattle.series_laws.specs.SeriesForms.{form_with, gap, least_period_of, least_start_of}
 use Rattle.series_form.specs.Shapes.{shortened}
 use Rattle.series_form.proofs.FirstPart.{V, shape_form}
 use Rattle.series_form.proofs.shorten.shape_of.Goals as goal

@@ -2,9 +2,9 @@ use Rattle.std.proofs.Common.{◌≡◌, ap, ◌∙◌, sym, subst, List, to_z, 
 use Rattle.std.specs.Int.{w128}
 use Rattle.std.proofs.lemmas.Int.{to_z-of_z}
 use Rattle.dioid.specs.declared.dates.Date.{Date}
-use Rattle.series_laws.specs.Forms.{Form, form_with, value_at}
+use Rattle.series_laws.specs.SeriesForms.{Form, form_with, value_at}
 use Rattle.series_laws.specs.Periodic.{Rising}
-use Rattle.series_form.specs.Answer.{form_before, IsShortest}
+use Rattle.series_form.specs.SeriesAnswers.{form_before, IsShortestSeries}
 use Rattle.series_form.proofs.shorten.shortest.Goals as goal
 
 pub finish-requires-clause-rising : goal.finish-requires-clause-rising
@@ -19,4 +19,4 @@ returns c =
     let e : form_with c.args.values.items c.args.turn (to_z w128 (of_z w128 c.step_before-step.result)) ≡ form_before c.args.values.items c.args.turn c.args.next =
     ap (form_with c.args.values.items c.args.turn) (to_z-of_z w128 c.step_before-step.result (record { sfits = c.step_before-step.type_inv }))
     ∙ subst (λ (z : List Date). form_with z c.args.turn c.step_before-step.result ≡ form_before z c.args.turn c.args.next) c.as_slice.ensures.value c.step_before-step.ensures in
-    subst (λ (z : Form). IsShortest (value_at z) c.finish.result) e c.finish.ensures
+    subst (λ (z : Form). IsShortestSeries (value_at z) c.finish.result) e c.finish.ensures

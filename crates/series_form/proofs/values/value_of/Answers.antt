@@ -1,6 +1,6 @@
 use Rattle.std.proofs.Common.{get_or}
 use Rattle.dioid.specs.declared.dates.Date.TheVariants.{Early}
-use Rattle.series_form.proofs.Numbers.{moderate_date_within}
+use Rattle.series_form.proofs.DateNumbers.{moderate_date_within}
 use Rattle.series_form.proofs.values.value_of.Goals as goal
 
 pub returns-then-shift-values-clause-within : goal.returns-then-shift-values-clause-within

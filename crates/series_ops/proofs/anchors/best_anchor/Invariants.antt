@@ -1,7 +1,7 @@
 use Rattle.std.proofs.Common.{◌≡◌}
-use Rattle.series_laws.specs.Forms.{form_with}
+use Rattle.series_laws.specs.SeriesForms.{form_with}
 use Rattle.series_laws.specs.ProductNeeds.{anchor_upto}
-use Rattle.series_ops.specs.Listed.{IsModest}
+use Rattle.series_ops.specs.ListFunctions.{IsModest}
 use Rattle.series_ops.proofs.anchors.best_anchor.Given as goal
 
 abbrev pub invariant-loop-place : goal.invariant-loop-place

@@ -2,42 +2,43 @@ use Rattle.std.proofs.Common.{◌≡◌, ◌≤◌, ◌+◌, ◌-◌, ℕ, ℤ, 
 use Rattle.std.specs.Int.{w128, int_max}
 use Rattle.std.specs.Int.RustNames.{unsigned_abs}
 use Rattle.std.proofs.lemmas.Int.{to_z-of_z}
-use Rattle.series_laws.specs.Forms.{form_with}
+use Rattle.series_laws.specs.SeriesForms.{form_with}
 use Rattle.series_laws.specs.Needs.{greatest_int}
-use Rattle.series_form.proofs.Numbers.{within_fits}
+use Rattle.series_form.proofs.DateNumbers.{within_fits}
 use Rattle.series_form.proofs.PointwiseTables.{max_up_to}
-use Rattle.series_laws.specs.ProductNeeds.{loss_of}
+use Rattle.series_laws.specs.ProductNeeds.{loss_of_part}
+use Rattle.series_form.specs.SeriesLimits.{greatest_part_loss}
 use Rattle.series_ops.proofs.anchors.greatest_loss.Goals as goal
 
-begun : (b v : ℤ) → b ≡ v → unsigned_abs b ≤ 8000000000000000000000000000 → (to_z w128 (of_z w128 b) ≡ v) × (unsigned_abs (to_z w128 (of_z w128 b)) ≤ 8000000000000000000000000000)
+begun : (b v : ℤ) → b ≡ v → unsigned_abs b ≤ greatest_part_loss → (to_z w128 (of_z w128 b) ≡ v) × (unsigned_abs (to_z w128 (of_z w128 b)) ≤ greatest_part_loss)
 begun b v e h =
     let same : to_z w128 (of_z w128 b) ≡ b = to_z-of_z w128 b (within_fits b (omega arith)) in
-    (same ∙ e, subst (λ (z : ℤ). unsigned_abs z ≤ 8000000000000000000000000000) (sym same) h)
+    (same ∙ e, subst (λ (z : ℤ). unsigned_abs z ≤ greatest_part_loss) (sym same) h)
 
 -- one more loss
-further : (F : ℕ → ℤ) (m : ℕ) (b n r : ℤ) → b ≡ greatest_int F m → unsigned_abs b ≤ 8000000000000000000000000000 → n ≡ F (m + 1) → unsigned_abs n ≤ 8000000000000000000000000000
-    → r ≡ int_max b (to_z w128 (of_z w128 n)) → (to_z w128 (of_z w128 r) ≡ greatest_int F (m + 1)) × (unsigned_abs (to_z w128 (of_z w128 r)) ≤ 8000000000000000000000000000)
+further : (F : ℕ → ℤ) (m : ℕ) (b n r : ℤ) → b ≡ greatest_int F m → unsigned_abs b ≤ greatest_part_loss → n ≡ F (m + 1) → unsigned_abs n ≤ greatest_part_loss
+    → r ≡ int_max b (to_z w128 (of_z w128 n)) → (to_z w128 (of_z w128 r) ≡ greatest_int F (m + 1)) × (unsigned_abs (to_z w128 (of_z w128 r)) ≤ greatest_part_loss)
 further F m b n r eb hb en hn er =
     let k : m + 1 ≡ suc m = omega arith in
     let same : r ≡ int_max b n = er ∙ ap (int_max b) (to_z-of_z w128 n (within_fits n (omega arith))) in
-    let low : unsigned_abs (int_max b n) ≤ 8000000000000000000000000000 = max_up_to b n 8000000000000000000000000000 hb hn in
+    let low : unsigned_abs (int_max b n) ≤ greatest_part_loss = max_up_to b n greatest_part_loss hb hn in
     begun r (greatest_int F (m + 1))
     (same ∙ ap (λ (z : ℤ). int_max z n) eb ∙ ap (int_max (greatest_int F m)) (en ∙ ap F k) ∙ ap (greatest_int F) (sym k))
-    (subst (λ (z : ℤ). unsigned_abs z ≤ 8000000000000000000000000000) (sym same) low)
+    (subst (λ (z : ℤ). unsigned_abs z ≤ greatest_part_loss) (sym same) low)
 
 pub loop-place-init : goal.loop-place-init
 loop-place-init c =
     let none : (length c.args.values.now - c.args.period) + 0 ≡ length c.args.values.now - c.args.period = omega arith in
-    begun c.loss-worst.result _ (c.loss-worst.ensures.value ∙ ap (loss_of (form_with c.args.values.now c.args.period (to_z w128 (of_z w128 c.args.step)))) (sym none)) c.loss-worst.ensures.bound
+    begun c.loss-worst.result _ (c.loss-worst.ensures.value ∙ ap (loss_of_part (form_with c.args.values.now c.args.period (to_z w128 (of_z w128 c.args.step)))) (sym none)) c.loss-worst.ensures.bound
 
 pub loop-place-preserved : goal.loop-place-preserved
 loop-place-preserved c =
-    further (λ (i : ℕ). loss_of (form_with c.args.values.now c.args.period (to_z w128 (of_z w128 c.args.step))) ((length c.args.values.now - c.args.period) + i)) c.loop-place.place _ c.loss.result c.greater-worst.result
+    further (λ (i : ℕ). loss_of_part (form_with c.args.values.now c.args.period (to_z w128 (of_z w128 c.args.step))) ((length c.args.values.now - c.args.period) + i)) c.loop-place.place _ c.loss.result c.greater-worst.result
     c.loop-place.invariant.0 c.loop-place.invariant.1 c.loss.ensures.value c.loss.ensures.bound c.greater-worst.ensures
 
 pub returns-clause-value : goal.returns-clause-value
 returns-clause-value c =
     let whole : c.loop-place.place ≡ c.args.period - 1 = omega arith in
     c.loop-place.invariant.0
-    ∙ ap (greatest_int (λ (i : ℕ). loss_of (form_with c.args.values.now c.args.period (to_z w128 (of_z w128 c.args.step))) ((length c.args.values.now - c.args.period) + i))) whole
-    ∙ ap (λ (z : ℤ). greatest_int (λ (i : ℕ). loss_of (form_with c.args.values.now c.args.period z) ((length c.args.values.now - c.args.period) + i)) (c.args.period - 1)) (to_z-of_z w128 c.args.step c.ranges.step)
+    ∙ ap (greatest_int (λ (i : ℕ). loss_of_part (form_with c.args.values.now c.args.period (to_z w128 (of_z w128 c.args.step))) ((length c.args.values.now - c.args.period) + i))) whole
+    ∙ ap (λ (z : ℤ). greatest_int (λ (i : ℕ). loss_of_part (form_with c.args.values.now c.args.period z) ((length c.args.values.now - c.args.period) + i)) (c.args.period - 1)) (to_z-of_z w128 c.args.step c.ranges.step)

@@ -1,7 +1,7 @@
 use Rattle.std.proofs.Common.{◌≡◌, refl, ◌+◌, ◌-◌, ◌<◌, ◌+ℤ◌, ◌∙◌, ℤ, pos, List, ap, arith, length, get_or, to_z, of_z}
 use Rattle.std.specs.Int.{w128, int_max}
 use Rattle.std.proofs.lemmas.Int.{to_z-of_z}
-use Rattle.series_ops.specs.Cells.{date_in}
+use Rattle.series_ops.specs.Cells.{date_of_far_cell}
 use Rattle.series_ops.proofs.CellLaws.{sum_code, split_step}
 use Rattle.series_ops.proofs.cells.greatest_long.Goals as goal
 
@@ -21,5 +21,5 @@ loop-place-preserved c =
     let x : ℤ = get_or n (p + m) (pos 0) in
     let y : ℤ = get_or o (k - (p + m)) (pos 0) in
     let fit : to_z w128 (of_z w128 (to_z w128 (of_z w128 x) +ℤ to_z w128 (of_z w128 y))) ≡ x +ℤ y = sum_code x y (c.requires.cells (p + m) wn) (c.requires.others (k - (p + m)) wo) in
-    ap date_in (to_z-of_z w128 c.greater-best.result (record { sfits = c.greater-best.type_inv }))
+    ap date_of_far_cell (to_z-of_z w128 c.greater-best.result (record { sfits = c.greater-best.type_inv }))
     ∙ split_step n o k p m _ (x +ℤ y) c.greater-best.result c.requires.cells c.requires.others wn wo refl (c.greater-best.ensures ∙ ap (int_max _) fit) c.loop-place.invariant

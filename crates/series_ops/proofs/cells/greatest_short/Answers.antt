@@ -1,7 +1,7 @@
 use Rattle.std.proofs.Common.{◌≡◌, refl, ◌+◌, ◌-◌, ◌<◌, ◌+ℤ◌, ◌∙◌, ℤ, pos, List, ap, arith, length, get_or, to_z, of_z}
 use Rattle.std.specs.Int.{w64, int_max}
 use Rattle.std.proofs.lemmas.Int.{to_z-of_z}
-use Rattle.series_ops.specs.Cells.{short_date}
+use Rattle.series_ops.specs.Cells.{date_of_short_cell}
 use Rattle.series_ops.proofs.ShortLaws.{short_sum_code, short_split_step}
 use Rattle.series_ops.proofs.cells.greatest_short.Goals as goal
 
@@ -21,5 +21,5 @@ loop-place-preserved c =
     let x : ℤ = get_or n (p + m) (pos 0) in
     let y : ℤ = get_or o (k - (p + m)) (pos 0) in
     let fit : to_z w64 (of_z w64 (to_z w64 (of_z w64 x) +ℤ to_z w64 (of_z w64 y))) ≡ x +ℤ y = short_sum_code x y (c.requires.cells (p + m) wn) (c.requires.others (k - (p + m)) wo) in
-    ap short_date (to_z-of_z w64 c.greater_short-best.result (record { sfits = c.greater_short-best.type_inv }))
+    ap date_of_short_cell (to_z-of_z w64 c.greater_short-best.result (record { sfits = c.greater_short-best.type_inv }))
     ∙ short_split_step n o k p m _ (x +ℤ y) c.greater_short-best.result c.requires.cells c.requires.others wn wo refl (c.greater_short-best.ensures ∙ ap (int_max _) fit) c.loop-place.invariant

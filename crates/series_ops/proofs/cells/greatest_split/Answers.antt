@@ -2,8 +2,8 @@ use Rattle.std.proofs.Common.{◌≤◌, ◌+◌, ◌<◌, ◌∙◌, ℤ, List,
 use Rattle.std.specs.Int.{w64}
 use Rattle.std.proofs.lemmas.Int.{to_z-of_z}
 use Rattle.dioid.specs.declared.dates.Date.{Date}
-use Rattle.series_ops.specs.Cells.{date_in, short_date, AreShort, AreShortOf}
-use Rattle.series_ops.specs.Listed.{listed}
+use Rattle.series_ops.specs.Cells.{date_of_far_cell, date_of_short_cell, AreShort, AreShortOf}
+use Rattle.series_ops.specs.ListFunctions.{value_listed}
 use Rattle.series_ops.specs.Splits.{greatest_from, split_of}
 use Rattle.series_ops.proofs.ShortLaws.{short_splits}
 use Rattle.series_ops.proofs.cells.greatest_split.Goals as goal
@@ -26,8 +26,8 @@ returns-then-shift-others-clause-value c =
     let inside : p + m ≤ length n = omega arith in
     let below : k < length o = omega arith in
     c.date_of_short.ensures.value
-    ∙ ap short_date (to_z-of_z w64 c.greatest_short.result (record { sfits = c.greatest_short.type_inv }))
+    ∙ ap date_of_short_cell (to_z-of_z w64 c.greatest_short.result (record { sfits = c.greatest_short.type_inv }))
     ∙ c.greatest_short.ensures
     ∙ short_splits n o c.first.inside.numbers.items c.second.inside.numbers.items k p m hn ho inside below
-    ∙ ap (λ (z : List Date). greatest_from (split_of (listed z) (listed (map date_in c.second.inside.numbers.items)) k) p m) c.first.view_is
-    ∙ ap (λ (z : List Date). greatest_from (split_of (listed c.args.first.now) (listed z) k) p m) c.second.view_is
+    ∙ ap (λ (z : List Date). greatest_from (split_of (value_listed z) (value_listed (map date_of_far_cell c.second.inside.numbers.items)) k) p m) c.first.view_is
+    ∙ ap (λ (z : List Date). greatest_from (split_of (value_listed c.args.first.now) (value_listed z) k) p m) c.second.view_is

@@ -1,9 +1,9 @@
 use Rattle.std.proofs.Common.{◌≡◌, ◌≤◌, length}
-use Rattle.series_laws.specs.Forms.{table}
-use Rattle.series_ops.specs.Listed.{listed}
+use Rattle.series_laws.specs.SeriesForms.{table}
+use Rattle.series_ops.specs.ListFunctions.{value_listed}
 use Rattle.series_ops.specs.Pieces.{window}
 use Rattle.series_ops.proofs.pieces.sums_by_pieces.Given as goal
 
 abbrev pub invariant-loop-place : goal.invariant-loop-place
-invariant-loop-place l = (l.begun.values.items ≡ table (window (listed l.first) (listed l.second) l.from l.begun.places) (length l.second))
+invariant-loop-place l = (l.begun.values.items ≡ table (window (value_listed l.first) (value_listed l.second) l.from l.begun.places) (length l.second))
     × (l.begun.places ≤ l.count) × (l._place ≤ l.begun.places)

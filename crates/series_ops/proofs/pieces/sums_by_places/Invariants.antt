@@ -1,8 +1,8 @@
 use Rattle.std.proofs.Common.{◌≡◌, length}
-use Rattle.series_laws.specs.Forms.{table}
-use Rattle.series_ops.specs.Listed.{listed}
+use Rattle.series_laws.specs.SeriesForms.{table}
+use Rattle.series_ops.specs.ListFunctions.{value_listed}
 use Rattle.series_ops.specs.Pieces.{window}
 use Rattle.series_ops.proofs.pieces.sums_by_places.Given as goal
 
 abbrev pub invariant-loop-place : goal.invariant-loop-place
-invariant-loop-place l = l.sums.items ≡ table (window (listed l.first) (listed l.second) l.from l.place) (length l.second)
+invariant-loop-place l = l.sums.items ≡ table (window (value_listed l.first) (value_listed l.second) l.from l.place) (length l.second)

@@ -5,9 +5,9 @@ use Rattle.std.proofs.lemmas.Int.{to_z-of_z}
 use Rattle.std.proofs.lemmas.Nat.{mul-le}
 use Rattle.dioid.specs.declared.dates.Date.TheVariants.{At}
 use Rattle.series_laws.specs.Periodic.{times}
-use Rattle.series_laws.specs.Forms.{table}
-use Rattle.series_form.proofs.Numbers.{moderate_fits}
-use Rattle.series_ops.specs.Listed.{listed}
+use Rattle.series_laws.specs.SeriesForms.{table}
+use Rattle.series_form.proofs.DateNumbers.{moderate_fits}
+use Rattle.series_ops.specs.ListFunctions.{value_listed}
 use Rattle.series_ops.specs.Pieces.{window, joined_at}
 use Rattle.series_ops.proofs.PieceLaws.{turns_more, windows_up_to}
 use Rattle.series_ops.proofs.pieces.sums_by_turns.Goals as goal
@@ -16,7 +16,7 @@ pub loop-turn-init : goal.loop-turn-init
 loop-turn-init c =
     let some = c.requires.piece.turns in
     let once : c.args.piece.size ≡ c.args.piece.size * 1 = grind arith in (
-      c.in_ok-sums.ensures ∙ ap (λ (z : ℕ). table (window (listed c.args.first.now) (listed c.args.second.now) c.args.from z) (length c.args.second.now)) once,
+      c.in_ok-sums.ensures ∙ ap (λ (z : ℕ). table (window (value_listed c.args.first.now) (value_listed c.args.second.now) c.args.from z) (length c.args.second.now)) once,
       omega arith,
       omega arith,
     )
@@ -37,7 +37,7 @@ loop-turn-preserved c =
     let room : n * (c.loop-turn.done + c.lesser-more.result) ≤ n * w = mul-le n (c.loop-turn.done + c.lesser-more.result) n w (omega arith) (omega arith) in (
       turns_more c.args.first.now c.args.second.now c.loop-turn.sums.items c.in_ok-next.next.items c.args.from (n * w) n c.loop-turn.done c.lesser-more.result c.args.piece.step
           c.requires.piece.repeats (omega arith) room c.loop-turn.invariant.0
-          (c.in_ok-next.ensures ∙ ap (λ (z : ℤ). table (joined_at (listed c.loop-turn.sums.items) (listed c.loop-turn.sums.items) (n * c.lesser-more.result) (At (times c.lesser-more.result z))) (length c.loop-turn.sums.items)) step),
+          (c.in_ok-next.ensures ∙ ap (λ (z : ℤ). table (joined_at (value_listed c.loop-turn.sums.items) (value_listed c.loop-turn.sums.items) (n * c.lesser-more.result) (At (times c.lesser-more.result z))) (length c.loop-turn.sums.items)) step),
       omega arith,
       omega arith,
     )

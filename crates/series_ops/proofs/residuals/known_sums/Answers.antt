@@ -1,6 +1,6 @@
 use Rattle.std.proofs.Common.{◌≡◌, ◌-◌, ◌∙◌, ℕ, ap, subst, arith, length}
-use Rattle.series_laws.specs.Forms.{size_of}
-use Rattle.series_ops.specs.Pieces.{AreSums}
+use Rattle.series_laws.specs.SeriesForms.{size_of}
+use Rattle.series_ops.specs.Pieces.{ArePieceSums}
 use Rattle.series_ops.proofs.SplitLaws.{values_up_to}
 use Rattle.series_ops.proofs.residuals.known_sums.Goals as goal
 
@@ -35,10 +35,10 @@ sums_in_few_pieces-requires-2 c =
     }
 
 pub returns-clause-head : goal.returns-clause-head
-returns-clause-head c = subst (λ (z : ℕ). AreSums c.in_ok-head.head.items c.args.parts.now c.args.list.now c.args.begun (z - c.args.begun)) c.start-from.ensures.value c.in_ok-head.ensures
+returns-clause-head c = subst (λ (z : ℕ). ArePieceSums c.in_ok-head.head.items c.args.parts.now c.args.list.now c.args.begun (z - c.args.begun)) c.start-from.ensures.value c.in_ok-head.ensures
 
 pub returns-clause-rest : goal.returns-clause-rest
 returns-clause-rest c =
     let count : c.len.result - c.start-from.result ≡ size_of c.args.first.now - c.start-from.result = ap (λ (z : ℕ). z - c.start-from.result) (c.len.ensures.value ∙ ap length c.requires.parts) in
-    subst (λ (z : ℕ). AreSums c.in_ok-rest.rest.items c.args.parts.now c.args.by_star.now z (size_of c.args.first.now - z)) c.start-from.ensures.value
-    (subst (λ (z : ℕ). AreSums c.in_ok-rest.rest.items c.args.parts.now c.args.by_star.now c.start-from.result z) count c.in_ok-rest.ensures)
+    subst (λ (z : ℕ). ArePieceSums c.in_ok-rest.rest.items c.args.parts.now c.args.by_star.now z (size_of c.args.first.now - z)) c.start-from.ensures.value
+    (subst (λ (z : ℕ). ArePieceSums c.in_ok-rest.rest.items c.args.parts.now c.args.by_star.now c.start-from.result z) count c.in_ok-rest.ensures)

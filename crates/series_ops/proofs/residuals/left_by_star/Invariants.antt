@@ -1,5 +1,5 @@
 use Rattle.std.proofs.Common.{◌≡◌, length}
-use Rattle.series_ops.specs.Listed.{AreStarLeft}
+use Rattle.series_ops.specs.ListFunctions.{AreStarLeft}
 use Rattle.series_ops.proofs.residuals.left_by_star.Given as goal
 
 abbrev pub invariant-loop-place : goal.invariant-loop-place

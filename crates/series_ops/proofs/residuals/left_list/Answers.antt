@@ -1,17 +1,17 @@
 use Rattle.std.proofs.Common.{◌≡◌, ◌∙◌, ap, sym, subst, arith, List, length}
 use Rattle.dioid.specs.declared.dates.Date.{Date}
-use Rattle.series_laws.specs.Forms.{table}
+use Rattle.series_laws.specs.SeriesForms.{table}
 use Rattle.series_laws.proofs.FormValues.{table_length}
 use Rattle.series_form.proofs.Finished.{table_push}
 use Rattle.series_laws.specs.ProductNeeds.{left_over}
-use Rattle.series_ops.specs.Cells.{greatest_listed}
-use Rattle.series_ops.specs.Listed.{AreUpTo, AreEarlyTo}
+use Rattle.series_form.specs.SeriesLimits.{greatest_listed, greatest_value}
+use Rattle.series_ops.specs.ListFunctions.{AreUpTo, AreEarlyTo}
 use Rattle.series_ops.proofs.FirstValues.{all_more}
 use Rattle.series_ops.proofs.residuals.left_list.Goals as goal
 
 pub collected-requires : goal.collected-requires
 collected-requires c = subst (λ (z : List Date). AreUpTo greatest_listed z) (sym c.values.ensures.value)
-    (all_more 1000000000000000000 greatest_listed c.args.first.now.values (omega arith) c.requires.series.small.values)
+    (all_more greatest_value greatest_listed c.args.first.now.values (omega arith) c.requires.series.small.values)
 
 pub next_left-next-requires-clause-values : goal.next_left-next-requires-clause-values
 next_left-next-requires-clause-values c =

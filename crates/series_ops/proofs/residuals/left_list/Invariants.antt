@@ -1,5 +1,5 @@
 use Rattle.std.proofs.Common.{◌≡◌}
-use Rattle.series_laws.specs.Forms.{table}
+use Rattle.series_laws.specs.SeriesForms.{table}
 use Rattle.series_laws.specs.ProductNeeds.{left_over}
 use Rattle.series_ops.proofs.residuals.left_list.Given as goal
 

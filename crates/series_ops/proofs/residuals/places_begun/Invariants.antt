@@ -1,4 +1,4 @@
-use Rattle.series_ops.specs.Listed.{AreEarlyTo}
+use Rattle.series_ops.specs.ListFunctions.{AreEarlyTo}
 use Rattle.series_ops.proofs.residuals.places_begun.Given as goal
 
 abbrev pub invariant-loop-place : goal.invariant-loop-place

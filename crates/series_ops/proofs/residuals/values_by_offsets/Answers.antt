@@ -2,11 +2,12 @@ use Rattle.std.proofs.Common.{◌≡◌, ◌≤◌, ◌<◌, ◌∙◌, ◌+◌,
 use Rattle.std.specs.Int.{w128}
 use Rattle.std.specs.Int.RustNames.{unsigned_abs}
 use Rattle.dioid.specs.declared.dates.Date.{Date}
-use Rattle.series_laws.specs.Forms.{size_of, table, value_at}
+use Rattle.series_laws.specs.SeriesForms.{size_of, table, value_at}
 use Rattle.series_laws.proofs.FormValues.{table_length}
 use Rattle.series_laws.specs.ProductNeeds.{offsets_of}
-use Rattle.series_ops.specs.Cells.{greatest_listed, conjugate_of, turned}
-use Rattle.series_ops.specs.Listed.{AreUpTo}
+use Rattle.series_form.specs.SeriesLimits.{greatest_listed, greatest_value, greatest_value_far_ahead}
+use Rattle.series_ops.specs.Cells.{conjugate_of, conjugates_reversed}
+use Rattle.series_ops.specs.ListFunctions.{AreUpTo}
 use Rattle.series_ops.proofs.FirstValues.{all_more}
 use Rattle.series_ops.proofs.LeftParts.{star_left_up_to}
 use Rattle.series_ops.proofs.LeftSplits.{star_same}
@@ -38,7 +39,7 @@ conjugates_back-requires c =
     let short = c.values.ensures.series.short in
     let few = c.requires.few in
     let offsets = c.offsets.ensures.value in
-    all_more 60002000000000000000000 greatest_listed c.as_slice-2.result.now (omega arith)
+    all_more greatest_value_far_ahead greatest_listed c.as_slice-2.result.now (omega arith)
     (long_table_up_to c.args.second.now (length c.values.result.now + c.offsets.result) c.as_slice-2.result.now c.values.ensures.series (omega arith) (c.as_slice-2.ensures.value ∙ c.in_ok-list.ensures.values))
 
 pub conjugates-requires : goal.conjugates-requires
@@ -53,7 +54,7 @@ conjugates-requires c =
     let own = c.period.ensures.value in
     let positive : 0 < c.period.result = omega arith in
     let x : ℤ = to_z w128 (of_z w128 c.step.result) in
-    let step : unsigned_abs x ≤ 1000000000000000000 = subst (λ (z : ℤ). unsigned_abs z ≤ 1000000000000000000) (sym (stepped c.args.first.now c.step.result c.step.ensures.series c.step.ensures.value)) c.step.ensures.series.small.step in
+    let step : unsigned_abs x ≤ greatest_value = subst (λ (z : ℤ). unsigned_abs z ≤ greatest_value) (sym (stepped c.args.first.now c.step.result c.step.ensures.series c.step.ensures.value)) c.step.ensures.series.small.step in
     let whole = c.in_ok-by_star.ensures.size in
     subst (λ (z : List Date). AreUpTo greatest_listed z) (sym c.as_slice-3.ensures.value)
     (star_left_up_to c.as_slice.result.now c.in_ok-by_star.by_star.items c.period.result x positive step
@@ -68,7 +69,7 @@ left_list-requires-clause-list c =
     c.in_ok-ends.ensures ∙ c.as_slice-2.ensures.value ∙ c.in_ok-list.ensures.values ∙ ap (table (value_at c.args.second.now)) size
 
 pub left_list-requires-clause-by_star : goal.left_list-requires-clause-by_star
-left_list-requires-clause-by_star c = star_same c.as_slice.result.now (turned c.in_ok-ends.ends) c.in_ok-by_star.by_star.items (map conjugate_of c.in_ok-ends_by_star.ends_by_star)
+left_list-requires-clause-by_star c = star_same c.as_slice.result.now (conjugates_reversed c.in_ok-ends.ends) c.in_ok-by_star.by_star.items (map conjugate_of c.in_ok-ends_by_star.ends_by_star)
     c.period.result c.args.first.now.period (to_z w128 (of_z w128 c.step.result)) c.args.first.now.step
     c.in_ok-by_star.ensures
     (c.in_ok-ends.ensures ∙ c.as_slice-2.ensures.value ∙ sym c.as_slice.ensures.value)

@@ -1,19 +1,19 @@
 use Rattle.std.proofs.Common.{◌≡◌, ◌∙◌, ◌+◌, suc, ap, sym, subst, arith}
 use Rattle.dioid.specs.declared.dates.Date.{Date}
-use Rattle.series_laws.specs.Forms.{value_at}
-use Rattle.series_form.specs.Bounds.{IsUpTo}
+use Rattle.series_laws.specs.SeriesForms.{value_at}
+use Rattle.series_form.specs.NumberBounds.{IsMagnitudeUpTo}
+use Rattle.series_form.specs.SeriesLimits.{greatest_listed, greatest_value_ahead}
 use Rattle.series_form.proofs.Finished.{table_push, up_to_more}
 use Rattle.series_form.proofs.PointwiseTables.{listed_up_to}
-use Rattle.series_ops.specs.Cells.{greatest_listed}
-use Rattle.series_ops.specs.Listed.{later_part}
+use Rattle.series_ops.specs.ListFunctions.{later_part}
 use Rattle.series_ops.proofs.stars.later_values.Goals as goal
 
 pub push-requires : goal.push-requires
 push-requires c =
     let more = c.loop-shift-test.true in
     let short = c.requires in
-    subst (λ (z : Date). IsUpTo greatest_listed z) (sym c.at.ensures.value)
-    (up_to_more 20001000000000000000000 greatest_listed (value_at c.args.series.now (c.loop-shift.shift + 1)) (omega arith)
+    subst (λ (z : Date). IsMagnitudeUpTo greatest_listed z) (sym c.at.ensures.value)
+    (up_to_more greatest_value_ahead greatest_listed (value_at c.args.series.now (c.loop-shift.shift + 1)) (omega arith)
     (listed_up_to c.args.series.now c.at.ensures.series (c.loop-shift.shift + 1) (omega arith)))
 
 pub loop-shift-preserved : goal.loop-shift-preserved

@@ -1,6 +1,6 @@
 use Rattle.std.proofs.Common.{◌≡◌}
-use Rattle.series_laws.specs.Forms.{table, value_at}
-use Rattle.series_ops.specs.Listed.{later_part}
+use Rattle.series_laws.specs.SeriesForms.{table, value_at}
+use Rattle.series_ops.specs.ListFunctions.{later_part}
 use Rattle.series_ops.proofs.stars.later_values.Given as goal
 
 abbrev pub invariant-loop-shift : goal.invariant-loop-shift

@@ -1,6 +1,6 @@
 use Rattle.std.proofs.Common.{◌∙◌, List, ap, sym, subst}
 use Rattle.dioid.specs.declared.dates.Date.{Date}
-use Rattle.series_form.specs.Answer.{IsBeginning}
+use Rattle.series_form.specs.SeriesAnswers.{IsBeginning}
 use Rattle.series_form.specs.Shapes.{IsCanonicalPart}
 use Rattle.series_laws.specs.ProductNeeds.{at_least, own_plan}
 use Rattle.series_ops.proofs.StarValues.{part_ready, part_form}

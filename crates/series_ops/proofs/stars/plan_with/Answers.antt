@@ -1,15 +1,16 @@
 use Rattle.std.proofs.Common.{◌≡◌, ◌∙◌, ◌+◌, ℕ, ap, sym, subst}
 use Rattle.dioid.specs.declared.dates.Date.{Date}
 use Rattle.series_laws.specs.Pointwise.{sum_at}
-use Rattle.series_laws.specs.Forms.{Form, value_at, HasValues}
-use Rattle.series_form.specs.Bounds.{IsUpTo}
-use Rattle.series_form.specs.Answer.{form_before}
+use Rattle.series_laws.specs.SeriesForms.{Form, value_at, HasValues}
+use Rattle.series_form.specs.NumberBounds.{IsMagnitudeUpTo}
+use Rattle.series_form.specs.SeriesAnswers.{form_before}
 use Rattle.series_laws.specs.Needs.{need_of, sum_plan, form_sum}
 use Rattle.series_laws.proofs.Sums.{form_sum_is, form_sum_values}
 use Rattle.series_form.proofs.Finished.{tabled_begins, tabled_values}
 use Rattle.series_form.proofs.PointwiseTables.{sum_tabled}
 use Rattle.series_laws.specs.ProductNeeds.{one_shift, at_least, own_plan}
 use Rattle.series_laws.proofs.StarForms.{one_shift_is}
+use Rattle.series_form.specs.SeriesLimits.{greatest_value_ahead}
 use Rattle.series_ops.proofs.StarValues.{one_is, sum_up_to, sums_up_to}
 use Rattle.series_ops.proofs.stars.plan_with.Goals as goal
 
@@ -22,7 +23,7 @@ pub plan_by_sum-requires-clause-values : goal.plan_by_sum-requires-clause-values
 plan_by_sum-requires-clause-values c = sums_up_to c.args.first.now c.args.one.now c.requires.left c.requires.right (c.args.plan.from + c.args.plan.turn) c.args.values.items c.requires.short c.requires.values
 
 pub plan_by_sum-requires-clause-next : goal.plan_by_sum-requires-clause-next
-plan_by_sum-requires-clause-next c = subst (λ (z : Date). IsUpTo 20001000000000000000000 z) (sym c.later_at-next.ensures) (sum_up_to c.args.first.now c.args.one.now c.requires.left c.requires.right (c.args.plan.from + c.args.plan.turn) c.requires.short)
+plan_by_sum-requires-clause-next c = subst (λ (z : Date). IsMagnitudeUpTo greatest_value_ahead z) (sym c.later_at-next.ensures) (sum_up_to c.args.first.now c.args.one.now c.requires.left c.requires.right (c.args.plan.from + c.args.plan.turn) c.requires.short)
 
 pub returns-clause-value : goal.returns-clause-value
 returns-clause-value c =

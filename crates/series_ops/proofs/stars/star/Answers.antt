@@ -1,5 +1,5 @@
 use Rattle.std.proofs.Common.{◌∙◌, ℕ, sym, ap}
-use Rattle.series_laws.specs.Forms.{value_at}
+use Rattle.series_laws.specs.SeriesForms.{value_at}
 use Rattle.series_form.proofs.Finished.{model_answer}
 use Rattle.series_laws.specs.StarOf.{above_zero, star_at, IsStarOf}
 use Rattle.series_laws.proofs.StarParts.{star_only}

@@ -2,15 +2,15 @@ use Rattle.std.proofs.Common.{◌≡◌, ℕ, refl, ◌≤◌, ◌+◌, ◌∙�
 use Rattle.dioid.specs.Dates.{later_of}
 use Rattle.dioid.specs.declared.dates.Date.{Date}
 use Rattle.dioid.specs.declared.dates.Date.TheVariants.{At}
-use Rattle.series_laws.specs.Forms.{Form, form_with, size_of, start_of, table, value_at}
+use Rattle.series_laws.specs.SeriesForms.{Form, form_with, size_of, repeat_start, table, value_at}
 use Rattle.series_laws.proofs.FormValues.{table_length}
-use Rattle.series_form.specs.Bounds.{IsUpTo}
+use Rattle.series_form.specs.NumberBounds.{IsMagnitudeUpTo}
 use Rattle.series_form.proofs.Finished.{table_push}
-use Rattle.series_ops.specs.Cells.{greatest_listed}
-use Rattle.series_ops.specs.Listed.{listed, later_part}
+use Rattle.series_ops.specs.ListFunctions.{value_listed, later_part}
 use Rattle.series_ops.specs.Splits.{tail_product}
 use Rattle.series_laws.specs.StarOf.{parts_star}
-use Rattle.series_ops.specs.Pieces.{IsBegun}
+use Rattle.series_form.specs.SeriesLimits.{greatest_listed}
+use Rattle.series_ops.specs.Pieces.{IsPieceBegun}
 use Rattle.series_ops.proofs.BegunLaws.{begun_none, begun_pushed}
 use Rattle.series_ops.proofs.SplitLaws.{passed_form, passed_step}
 use Rattle.series_ops.proofs.StarValues.{star_moderate, later_fits, later_tails, later_carried, later_tails_up, later_up, star_next}
@@ -21,7 +21,7 @@ loop-shift-init c = (
   c.in_ok-push.ensures.items ∙ ap (λ (z : List Date). z ++ (At (pos 0) ∷ [])) c.new-stars.ensures.items,
   c.in_ok-push-2.ensures ∙ ap (λ (z : List Date). z ++ (At (pos 0) ∷ [])) c.new-cells.ensures,
   c.new-tails.ensures.items,
-  begun_none c.args.rest.now _ (start_of c.args.first.now) c.nothing_begun-begun.result.count c.nothing_begun-begun.result.sums.items c.nothing_begun-begun.ensures.count c.nothing_begun-begun.ensures.sums,
+  begun_none c.args.rest.now _ (repeat_start c.args.first.now) c.nothing_begun-begun.result.count c.nothing_begun-begun.result.sums.items c.nothing_begun-begun.ensures.count c.nothing_begun-begun.ensures.sums,
 )
 
 pub tail_value-tail-requires : goal.tail_value-tail-requires
@@ -45,7 +45,7 @@ tail_value-tail-requires c =
       long = ap length tails ∙ table_length (tail_product (form_with c.args.rest.now f.period f.step) (parts_star (value_at f))) c.loop-shift.shift;
       tails_bound = later_tails_up f c.period-period.ensures.series c.args.rest.now c.requires.rest c.loop-shift.shift c.as_slice.result.now (omega arith) tails;
       tails = later_carried f c.period-period.ensures.series c.args.rest.now c.requires.rest c.loop-shift.shift c.loop-shift.cells c.as_slice.result.now stars tails
-          ∙ ap (λ (z : Form). table (tail_product z (listed c.loop-shift.cells)) c.loop-shift.shift)
+          ∙ ap (λ (z : Form). table (tail_product z (value_listed c.loop-shift.cells)) c.loop-shift.shift)
           (sym (passed_form f c.args.rest.now c.period-period.result c.step-step.result c.step-step.ensures.series c.period-period.ensures.value c.step-step.ensures.value));
     }
 
@@ -53,7 +53,7 @@ pub renewed-requires : goal.renewed-requires
 renewed-requires c =
     let f = c.args.first.now in
     let whole : length c.args.rest.now ≡ size_of f = ap length c.requires.rest ∙ table_length (later_part (value_at f)) (size_of f) in
-    let here : c.start-from.result ≡ start_of f = c.start-from.ensures.value in
+    let here : c.start-from.result ≡ repeat_start f = c.start-from.ensures.value in
     let size : length c.loop-shift.cells ≡ c.loop-shift.shift + 1 = ap length c.loop-shift.invariant.1 ∙ table_length (parts_star (value_at f)) (c.loop-shift.shift + 1) in
     let short = c.period-period.ensures.series.short in
     let some = c.period-period.ensures.series.canonical.form.period_positive in
@@ -66,14 +66,14 @@ renewed-requires c =
       long = omega arith;
       period = omega arith;
       first = later_up f c.period-period.ensures.series c.args.rest.now c.requires.rest;
-      old = subst (λ (z : ℕ). IsBegun c.loop-shift.begun.count c.loop-shift.begun.sums.items c.args.rest.now c.loop-shift.cells z) (sym here) c.loop-shift.invariant.3;
+      old = subst (λ (z : ℕ). IsPieceBegun c.loop-shift.begun.count c.loop-shift.begun.sums.items c.args.rest.now c.loop-shift.cells z) (sym here) c.loop-shift.invariant.3;
     }
 
 pub greatest_begun-requires : goal.greatest_begun-requires
 greatest_begun-requires c =
     let f = c.args.first.now in
     let whole : length c.args.rest.now ≡ size_of f = ap length c.requires.rest ∙ table_length (later_part (value_at f)) (size_of f) in
-    let here : c.start-from.result ≡ start_of f = c.start-from.ensures.value in
+    let here : c.start-from.result ≡ repeat_start f = c.start-from.ensures.value in
     let size : length c.loop-shift.cells ≡ c.loop-shift.shift + 1 = ap length c.loop-shift.invariant.1 ∙ table_length (parts_star (value_at f)) (c.loop-shift.shift + 1) in
     record { first = omega arith; second = omega arith; begun = c.in_ok-more.ensures }
 
@@ -83,21 +83,21 @@ push-requires-in-loop-shift-2 c =
     let more = c.loop-shift-test.true in
     let short = c.requires.need in
     let following : suc c.loop-shift.shift ≡ c.loop-shift.shift + 1 = omega arith in
-    let tail : c.tail_value-tail.result ≡ tail_product (form_with c.args.rest.now f.period f.step) (listed c.loop-shift.cells) c.loop-shift.shift =
-    c.tail_value-tail.ensures ∙ ap (λ (z : Form). tail_product z (listed c.loop-shift.cells) c.loop-shift.shift)
+    let tail : c.tail_value-tail.result ≡ tail_product (form_with c.args.rest.now f.period f.step) (value_listed c.loop-shift.cells) c.loop-shift.shift =
+    c.tail_value-tail.ensures ∙ ap (λ (z : Form). tail_product z (value_listed c.loop-shift.cells) c.loop-shift.shift)
     (passed_form f c.args.rest.now c.period-period.result c.step-step.result c.step-step.ensures.series c.period-period.ensures.value c.step-step.ensures.value) in
     let next : c.later-next.result ≡ parts_star (value_at f) (c.loop-shift.shift + 1) =
     c.later-next.ensures.value ∙ ap (later_of (At (pos 0))) (c.later-best.ensures.value ∙ ap (λ (z : Date). later_of z c.tail_value-tail.result) c.greatest_begun.ensures)
     ∙ star_next f c.period-period.ensures.series c.args.rest.now c.requires.rest c.loop-shift.shift c.start-from.result c.loop-shift.cells c.tail_value-tail.result c.loop-shift.invariant.1 c.start-from.ensures.value tail
     ∙ ap (parts_star (value_at f)) following in
-    subst (λ (z : Date). IsUpTo greatest_listed z) (sym next) (star_moderate f c.period-period.ensures.series (c.loop-shift.shift + 1) (omega arith))
+    subst (λ (z : Date). IsMagnitudeUpTo greatest_listed z) (sym next) (star_moderate f c.period-period.ensures.series (c.loop-shift.shift + 1) (omega arith))
 
 pub loop-shift-preserved : goal.loop-shift-preserved
 loop-shift-preserved c =
     let f = c.args.first.now in
     let following : suc c.loop-shift.shift ≡ c.loop-shift.shift + 1 = omega arith in
-    let tail : c.tail_value-tail.result ≡ tail_product (form_with c.args.rest.now f.period f.step) (listed c.loop-shift.cells) c.loop-shift.shift =
-    c.tail_value-tail.ensures ∙ ap (λ (z : Form). tail_product z (listed c.loop-shift.cells) c.loop-shift.shift)
+    let tail : c.tail_value-tail.result ≡ tail_product (form_with c.args.rest.now f.period f.step) (value_listed c.loop-shift.cells) c.loop-shift.shift =
+    c.tail_value-tail.ensures ∙ ap (λ (z : Form). tail_product z (value_listed c.loop-shift.cells) c.loop-shift.shift)
     (passed_form f c.args.rest.now c.period-period.result c.step-step.result c.step-step.ensures.series c.period-period.ensures.value c.step-step.ensures.value) in
     let next : c.later-next.result ≡ parts_star (value_at f) (c.loop-shift.shift + 1) =
     c.later-next.ensures.value ∙ ap (later_of (At (pos 0))) (c.later-best.ensures.value ∙ ap (λ (z : Date). later_of z c.tail_value-tail.result) c.greatest_begun.ensures)
@@ -107,6 +107,6 @@ loop-shift-preserved c =
       c.in_ok-push-4.ensures ∙ table_push (parts_star (value_at f)) (c.loop-shift.shift + 1) c.loop-shift.cells _ c.loop-shift.invariant.1 next,
       c.in_ok-push-3.ensures.items ∙ table_push (tail_product (form_with c.args.rest.now f.period f.step) (parts_star (value_at f))) c.loop-shift.shift c.loop-shift.tails.items _ c.loop-shift.invariant.2
           (tail ∙ later_tails f c.period-period.ensures.series c.args.rest.now c.requires.rest c.loop-shift.shift c.loop-shift.cells c.loop-shift.invariant.1 c.loop-shift.shift (omega arith)),
-      begun_pushed c.in_ok-more.more.count c.in_ok-more.more.sums.items c.args.rest.now c.loop-shift.cells _ (start_of f) _
-          (subst (λ (z : ℕ). IsBegun c.in_ok-more.more.count c.in_ok-more.more.sums.items c.args.rest.now c.loop-shift.cells z) c.start-from.ensures.value c.in_ok-more.ensures) c.in_ok-push-4.ensures,
+      begun_pushed c.in_ok-more.more.count c.in_ok-more.more.sums.items c.args.rest.now c.loop-shift.cells _ (repeat_start f) _
+          (subst (λ (z : ℕ). IsPieceBegun c.in_ok-more.more.count c.in_ok-more.more.sums.items c.args.rest.now c.loop-shift.cells z) c.start-from.ensures.value c.in_ok-more.ensures) c.in_ok-push-4.ensures,
     )

@@ -1,7 +1,7 @@
 use Rattle.std.proofs.Common.{◌≡◌, ◌≤◌, ◌∙◌, ◌+◌, ℕ, ap, sym, subst, arith}
-use Rattle.series_laws.specs.declared.plans.Plan.{Plan}
-use Rattle.series_laws.specs.Forms.{Form, value_at, HasValues}
-use Rattle.series_form.specs.Answer.{AnswersOf}
+use Rattle.series_laws.specs.declared.plans.NeedPlan.{NeedPlan}
+use Rattle.series_laws.specs.SeriesForms.{Form, value_at, HasValues}
+use Rattle.series_form.specs.SeriesAnswers.{AnswersOf}
 use Rattle.series_laws.specs.Needs.{need_of, sum_plan}
 use Rattle.series_laws.specs.StarOf.{parts_star}
 use Rattle.series_laws.specs.ProductNeeds.{one_shift, star_plan}
@@ -34,4 +34,4 @@ returns-in-Ok c =
     let fits = c.if-need-gt20000.false in
     let short : need_of (sum_plan c.args.first.now one_shift) ≤ 20000 = omega arith in
     subst (λ (z : ℕ). AnswersOf (λ r. HasValues r (parts_star (value_at c.args.first.now))) (need_of (star_plan c.args.first.now)) z c.star_by_plan.result) (sym (short_carried c.args.first.now short))
-    (subst (λ (z : Plan). AnswersOf (λ r. HasValues r (parts_star (value_at c.args.first.now))) (need_of z) (need_of z) c.star_by_plan.result) c.plan_with-plan.ensures.value c.star_by_plan.ensures)
+    (subst (λ (z : NeedPlan). AnswersOf (λ r. HasValues r (parts_star (value_at c.args.first.now))) (need_of z) (need_of z) c.star_by_plan.result) c.plan_with-plan.ensures.value c.star_by_plan.ensures)

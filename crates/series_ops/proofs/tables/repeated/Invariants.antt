@@ -1,5 +1,5 @@
 use Rattle.std.proofs.Common.{◌≡◌}
-use Rattle.series_laws.specs.Forms.{table}
+use Rattle.series_laws.specs.SeriesForms.{table}
 use Rattle.series_ops.proofs.tables.repeated.Given as goal
 
 abbrev pub invariant-loop-place : goal.invariant-loop-place

@@ -1,6 +1,6 @@
 use Rattle.std.proofs.Common.{◌≤◌, arith, sym, length, Some}
-use Rattle.teg_calc.specs.Trees.{tree_of}
-use Rattle.teg_calc.specs.Reading.{IsParsed}
+use Rattle.teg_calc.specs.ExpressionTrees.{tree_of_expression}
+use Rattle.teg_calc.specs.ParseAnswers.{IsParsed}
 use Rattle.teg_calc.specs.Readers.{state_of}
 use Rattle.teg_calc.proofs.Accepting.{one_tree}
 use Rattle.teg_calc.proofs.Sizes.{has_few, has_short}
@@ -25,19 +25,19 @@ returns-in-Err-clause-one c = one_tree c.args.text.now
 pub returns-in-Ok-finish-clause-answer : goal.returns-in-Ok-finish-clause-answer
 returns-in-Ok-finish-clause-answer c =
     let all : length c.args.text.now ≤ c.loop-at.at = omega (arith, c.loop-at-test.false) in
-    parsed c.args.text.now (state_of c.loop-at.reader) (tree_of c.in-Ok-finish.expr)
+    parsed c.args.text.now (state_of c.loop-at.reader) (tree_of_expression c.in-Ok-finish.expr)
     (whole_read c.args.text.now c.loop-at.at (state_of c.loop-at.reader) all c.loop-at.invariant.read) c.in-Ok-finish.ensures
     (whole_shallow c.args.text.now c.loop-at.at all c.loop-at.invariant.shallow)
 
 pub returns-in-Ok-finish-clause-nodes : goal.returns-in-Ok-finish-clause-nodes
 returns-in-Ok-finish-clause-nodes c =
-    let p : IsParsed c.args.text.now (tree_of c.in-Ok-finish.expr) = returns-in-Ok-finish-clause-answer c in
-    omega (arith, has_few c.args.text.now (tree_of c.in-Ok-finish.expr) p.expression)
+    let p : IsParsed c.args.text.now (tree_of_expression c.in-Ok-finish.expr) = returns-in-Ok-finish-clause-answer c in
+    omega (arith, has_few c.args.text.now (tree_of_expression c.in-Ok-finish.expr) p.expression)
 
 pub returns-in-Ok-finish-clause-numbers : goal.returns-in-Ok-finish-clause-numbers
 returns-in-Ok-finish-clause-numbers c =
-    let p : IsParsed c.args.text.now (tree_of c.in-Ok-finish.expr) = returns-in-Ok-finish-clause-answer c in
-    has_short c.args.text.now (tree_of c.in-Ok-finish.expr) p.expression
+    let p : IsParsed c.args.text.now (tree_of_expression c.in-Ok-finish.expr) = returns-in-Ok-finish-clause-answer c in
+    has_short c.args.text.now (tree_of_expression c.in-Ok-finish.expr) p.expression
 
 pub returns-in-Ok-finish-clause-one : goal.returns-in-Ok-finish-clause-one
 returns-in-Ok-finish-clause-one c = one_tree c.args.text.now

@@ -1,7 +1,8 @@
 use Rattle.std.proofs.Common.{◌≡◌, take, Some}
-use Rattle.teg_calc.specs.Reading.{IsShallow}
-use Rattle.teg_calc.specs.Readers.{StandsWell, run, stand_of, start, state_of}
+use Rattle.teg_calc.specs.ParseAnswers.{IsShallow}
+use Rattle.teg_calc.specs.Readers.{StandsWell, stand_of, start, state_of}
 use Rattle.teg_calc.proofs.parsing.parse.Given as goal
+use Rattle.teg_calc.proofs.TextRuns.{run}
 
 abbrev pub invariant-loop-at : goal.invariant-loop-at
 invariant-loop-at l = record {

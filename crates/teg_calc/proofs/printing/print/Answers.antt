@@ -3,7 +3,7 @@ use Rattle.std.specs.Fmt.{decimal, signed_decimal}
 use Rattle.std.specs.List.{flat_map}
 use Rattle.std.specs.Int.{w128}
 use Rattle.std.specs.Int.RustNames.{unsigned_abs}
-use Rattle.teg_text.specs.Words.{date_word}
+use Rattle.teg_text.specs.ValueWords.{date_word}
 use Rattle.teg_calc.proofs.SignedNumbers.{same_number}
 use Rattle.teg_calc.proofs.Printed.{line_is}
 use Rattle.teg_calc.proofs.printing.print.Goals as goal

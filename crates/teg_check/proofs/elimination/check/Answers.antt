@@ -1,7 +1,7 @@
 use Rattle.std.proofs.Common.{ℕ, ◌≡◌, ◌+◌, ◌-◌, Option, Some, None, subst, arith, rules}
 use Rattle.std.specs.Prelude.{IsSome, IfNone}
 use Rattle.teg_net.specs.declared.entries.PlaceId.{PlaceId}
-use Rattle.teg_check.specs.Exits.{AreExitsLeft, IsExit, IsUpTo}
+use Rattle.teg_check.specs.Exits.{AreExitsLeft, IsExit, IsExitUpTo}
 use Rattle.teg_check.proofs.Liveness.{ranking_is_live}
 use Rattle.teg_check.proofs.ExitLaws.{sink_ranked, exits_go_on}
 use Rattle.teg_check.proofs.Ranking.{Ranked, ranked_more, ranking, some_unranked}
@@ -25,7 +25,7 @@ circuit_from-requires-clause-goes_on c =
     rw c.deref-in_default-2.ensures.value (exits_go_on c.args.net.now c.loop-rank.ranked.items c.first_sink.new.self.last.items c.first_sink.new.self.before.items left have)
 
 -- a transition that is told no exit has none
-without_exit : (o : Option PlaceId) (id : PlaceId) → o ≡ None → IsUpTo o id → ⊥
+without_exit : (o : Option PlaceId) (id : PlaceId) → o ≡ None → IsExitUpTo o id → ⊥
 without_exit None id e h = h
 without_exit (Some x) id e h = cc
 

@@ -1,10 +1,10 @@
 use Rattle.std.proofs.Common.{List, Some, refl, ap, sym, ◌∙◌}
 use Rattle.std.specs.Global.{Vec}
 use Rattle.teg_net.specs.declared.rounds.Round.{Round}
-use Rattle.teg_report.specs.Meanings.{runs_lists}
-use Rattle.teg_report.specs.Rounds.{RoundLists}
-use Rattle.teg_cycle.specs.LastRounds.{rounds_in}
-use Rattle.teg_commands.specs.Texts.{cycle_text}
+use Rattle.teg_report.specs.AnswerMeanings.{runs_lists}
+use Rattle.teg_report.specs.RoundLines.{RoundLists}
+use Rattle.teg_cycle.specs.LastRounds.{rounds_of_runs}
+use Rattle.teg_commands.specs.CommandTexts.{cycle_text}
 use Rattle.teg_commands.proofs.CycleTold.{lists_of, runs_told}
 use Rattle.teg_commands.proofs.cycle.tell_rounds.Goals as goal
 
@@ -22,4 +22,4 @@ returns c =
     let told = c.in_ok-text.ensures
     ∙ (ap (λ (rs : List (Vec Round)). cycle_text net answer (Some (runs_lists rs))) c.as_slice.ensures.value
     ∙ ap (λ (rs : List (List RoundLists)). cycle_text net answer (Some rs)) (sym (lists_of runs))) in
-    (refl, (answer, rounds_in runs, c.in_ok-answer.ensures.answer, c.in_ok-answer.ensures.runs, told))
+    (refl, (answer, rounds_of_runs runs, c.in_ok-answer.ensures.answer, c.in_ok-answer.ensures.runs, told))

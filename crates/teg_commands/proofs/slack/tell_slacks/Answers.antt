@@ -1,6 +1,6 @@
 use Rattle.std.proofs.Common.{inl, refl, ap, ◌∙◌}
 use Rattle.teg_net.specs.Nets.{NetLists}
-use Rattle.teg_commands.specs.Texts.{slack_text}
+use Rattle.teg_commands.specs.CommandTexts.{slack_text}
 use Rattle.teg_commands.proofs.slack.tell_slacks.Goals as goal
 
 pub returns : goal.returns

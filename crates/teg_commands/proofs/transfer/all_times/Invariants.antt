@@ -1,5 +1,5 @@
 use Rattle.std.proofs.Common.{◌≡◌, All, map, take}
-use Rattle.teg_report.specs.Meanings.{times_from}
+use Rattle.teg_report.specs.AnswerMeanings.{times_from}
 use Rattle.teg_commands.specs.Transfer.{IsTimesFrom}
 use Rattle.teg_commands.proofs.transfer.all_times.Given as goal
 

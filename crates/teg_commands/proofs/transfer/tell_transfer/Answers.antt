@@ -1,8 +1,8 @@
 use Rattle.std.proofs.Common.{List, map, ap, ◌∙◌, inl, refl}
 use Rattle.teg_net.specs.Nets.{NetLists}
 use Rattle.teg_report.specs.declared.answer.TransferFrom.{TransferFrom}
-use Rattle.teg_report.specs.Meanings.{times_from}
-use Rattle.teg_commands.specs.Texts.{transfer_text}
+use Rattle.teg_report.specs.AnswerMeanings.{times_from}
+use Rattle.teg_commands.specs.CommandTexts.{transfer_text}
 use Rattle.teg_commands.proofs.Transferred.{times_told}
 use Rattle.teg_commands.proofs.transfer.tell_transfer.Goals as goal
 

@@ -1,5 +1,5 @@
 use Rattle.std.proofs.Common.{◌≡◌, map, take}
-use Rattle.teg_report.specs.Meanings.{times_to}
+use Rattle.teg_report.specs.AnswerMeanings.{times_to}
 use Rattle.teg_commands.specs.Transfer.{times_in}
 use Rattle.teg_commands.proofs.transfer.times_to_all.Given as goal
 

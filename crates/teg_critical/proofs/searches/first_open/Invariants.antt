@@ -1,5 +1,5 @@
 use Rattle.std.proofs.Common.{◌≤◌, ◌-◌, length, take}
-use Rattle.teg_critical.specs.Searches.{AreSettled}
+use Rattle.teg_critical.specs.LeastLosses.{AreSettled}
 use Rattle.teg_critical.proofs.searches.first_open.Given as goal
 
 abbrev pub invariant-open : goal.invariant-open

@@ -6,15 +6,16 @@ use Rattle.std.proofs.lemmas.List.{get_or_default, get_or_read, take_all}
 use Rattle.teg_net.specs.Nets.{NetLists, IsNet, IsPlaceOf}
 use Rattle.teg_net.specs.Circuits.{no_place, place_at}
 use Rattle.teg_critical.specs.declared.losses.Loss.{Loss}
-use Rattle.teg_critical.specs.declared.searches.Step.{Step}
+use Rattle.teg_critical.specs.declared.searches.LossStep.{LossStep}
 use Rattle.teg_critical.specs.Losses.{most_loss}
-use Rattle.teg_critical.specs.Searches.{AreStepsFrom, IsSearching, IsQueueing, AreSettled, IsNearest, IsRelaxed, IsOver, AreQueued, is_settled, unsettled, nearest_first}
+use Rattle.teg_critical.specs.LeastLosses.{AreStepsFrom, AreSettled, IsRelaxed, AreQueued, is_settled, nearest_first}
 use Rattle.teg_net.proofs.Reading.{written_back}
 use Rattle.teg_critical.proofs.Stepping.{own_steps}
 use Rattle.teg_critical.proofs.Settling.{settles, one_settled}
 use Rattle.teg_critical.proofs.Searching.{searched, settled_back}
 use Rattle.teg_critical.proofs.Queueing.{search_begins, queue_begins, first_in, passed_over, is_nearest, goes_on, queue_over, less_left}
 use Rattle.teg_critical.proofs.searches.least_losses.Goals as goal
+use Rattle.teg_critical.proofs.SearchStates.{unsettled, IsSearching, IsNearest, IsOver, IsQueueing}
 
 pub search-init : goal.search-init
 search-init c =
@@ -119,7 +120,7 @@ search-smaller-else-next-wanted c =
 -- what the search has found once the entry's steps are taken
 searching_on : (net : NetLists) (losses : List (Option Loss)) (start : ℕ) (least : List (Option ℕ)) (settled : List Bool) (first : Reverse (ℕ × ℕ)) (queue rest : List (Reverse (ℕ × ℕ))) (read : Bool) → IsNet net → IsQueueing net losses start least settled queue
     → IsPermutation queue (first ∷ rest) → (IsHeap nearest_first queue → IsUpperBound nearest_first first rest) → read ≡ get_or settled first.0.1 read → read ≡ false
-    → (own : List Step) → AreStepsFrom net losses first.0.1 own → (new : List (Option ℕ)) → IsRelaxed own first.0.0 least new → IsSearching net losses start new (set settled first.0.1 true)
+    → (own : List LossStep) → AreStepsFrom net losses first.0.1 own → (new : List (Option ℕ)) → IsRelaxed own first.0.0 least new → IsSearching net losses start new (set settled first.0.1 true)
 searching_on net losses start least settled first queue rest read ok h moved top is not_yet own from new relaxed =
     let near = near_of net losses start least settled first queue rest read h moved top is not_yet in
     let marks = h.searching.marks in

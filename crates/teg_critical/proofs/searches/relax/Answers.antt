@@ -1,21 +1,21 @@
 use Rattle.std.proofs.Common.{ℕ, ◌≡◌, ◌<◌, ◌≤◌, ◌+◌, List, Option, length, get_or, Some, refl, arith, rules}
 use Rattle.std.specs.BinaryHeap.{heap_items}
 use Rattle.std.proofs.lemmas.List.{get_or_default}
-use Rattle.teg_critical.specs.declared.searches.Step.{Step}
-use Rattle.teg_critical.specs.Searches.{told_at}
+use Rattle.teg_critical.specs.declared.searches.LossStep.{LossStep}
+use Rattle.teg_critical.specs.LeastLosses.{told_at}
 use Rattle.teg_critical.proofs.Queueing.{one_queued, step_past, step_taken}
 use Rattle.teg_critical.proofs.searches.relax.Goals as goal
 use Rattle.teg_critical.proofs.searches.relax.Goals.{then-is_less+in_ok-push, else-is_less}
 
-no_step : Step
+no_step : LossStep
 no_step = record { to = 0; loss = 0 }
 
 pub loop-step-preserved : goal.loop-step-preserved
 unfolding no_step
 loop-step-preserved c =
-    let steps : List Step = c.args.steps.now in
+    let steps : List LossStep = c.args.steps.now in
     let k : ℕ = c.loop-step.step-index in
-    let s : Step = get_or steps k no_step in
+    let s : LossStep = get_or steps k no_step in
     let old : List (Option ℕ) = c.args.least.now in
     let mid : List (Option ℕ) = c.loop-step.least in
     let h = c.loop-step.invariant in

@@ -1,6 +1,6 @@
 use Rattle.std.proofs.Common.{◌+◌, ◌≤◌}
 use Rattle.std.specs.BinaryHeap.{heap_items, heap_len}
-use Rattle.teg_critical.specs.Searches.{AreQueued}
+use Rattle.teg_critical.specs.LeastLosses.{AreQueued}
 use Rattle.teg_critical.proofs.Stepping.{RelaxedUpTo}
 use Rattle.teg_critical.proofs.searches.relax.Given as goal
 

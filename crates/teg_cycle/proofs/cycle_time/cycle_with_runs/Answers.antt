@@ -3,7 +3,7 @@ use Rattle.std.specs.Option.{option_map}
 use Rattle.std.proofs.lemmas.List.{length_push}
 use Rattle.teg_net.specs.PartAnswers.{IsPartAnswer}
 use Rattle.teg_net.specs.Certificates.{IsPartCertificate}
-use Rattle.teg_cycle.specs.LastRounds.{IsRunOf, AreRunsFrom, rounds_in}
+use Rattle.teg_cycle.specs.LastRounds.{IsRunOf, AreRunsFrom, rounds_of_runs}
 use Rattle.teg_cycle.proofs.Telling.{each_push}
 use Rattle.teg_cycle.proofs.Gathering.{one_more}
 use Rattle.teg_cycle.proofs.cycle_time.cycle_with_runs.Goals as goal
@@ -19,7 +19,7 @@ loop-part-preserved c =
     let count = h.count in
     let at : c.loop-part.part ≡ length old = sym count in
     let push = length_push old x in
-    let runs = one_more net part_of old x (rounds_in c.loop-part.runs.items) (option_map (λ r. r.items) c.in_ok-answer.rounds) h.runs (subst (λ k. IsRunOf net part_of k x (option_map (λ r. r.items) c.in_ok-answer.rounds)) at e.run) in
+    let runs = one_more net part_of old x (rounds_of_runs c.loop-part.runs.items) (option_map (λ r. r.items) c.in_ok-answer.rounds) h.runs (subst (λ k. IsRunOf net part_of k x (option_map (λ r. r.items) c.in_ok-answer.rounds)) at e.run) in
     rw c.in_ok-keep.ensures
     (record {
       count = omega arith;

@@ -1,13 +1,13 @@
 use Rattle.std.proofs.Common.{◌≡◌, true, false, refl, arith}
 use Rattle.std.proofs.lemmas.Bool.{false≢true, iff_false}
 use Rattle.teg_net.specs.Parts.{IsMember}
-use Rattle.teg_cycle.specs.Checks.{IsTold}
+use Rattle.teg_cycle.specs.Checks.{HasPotentialTold}
 use Rattle.teg_cycle.proofs.Deciding.{one_more}
 use Rattle.teg_cycle.proofs.potentials.all_members.Goals as goal
 
 pub loop-transition-preserved : goal.loop-transition-preserved
 loop-transition-preserved c =
-    one_more (λ k. IsMember c.args.part_of.now c.args.part k → IsTold c.args.potentials.now k) c.loop-transition.transition c.loop-transition.invariant
+    one_more (λ k. IsMember c.args.part_of.now c.args.part k → HasPotentialTold c.args.potentials.now k) c.loop-transition.transition c.loop-transition.invariant
     (c.is_told_member.ensures.0 c.if-not-is_told_member.false)
 
 pub returns-then-not-is_told_member : goal.returns-then-not-is_told_member

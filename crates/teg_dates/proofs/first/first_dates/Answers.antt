@@ -1,6 +1,6 @@
 use Rattle.std.proofs.Common.{arith}
 use Rattle.teg_net.specs.Nets.{IsNet}
-use Rattle.teg_model.specs.Datings.{listed, system_of}
+use Rattle.teg_model.specs.Datings.{listed_releases, system_of}
 use Rattle.teg_dates.proofs.Earliest.{earliest, earliest_is_least, earliest_of_net, net_keeps_bounds, walks_of_table}
 use Rattle.teg_dates.proofs.first.first_dates.Goals as goal
 
@@ -19,7 +19,7 @@ new-requires-2 c =
 pub returns-clause-least : goal.returns-clause-least
 returns-clause-least c =
     let net = c.args.net.now in
-    let s = system_of net (listed net) in
+    let s = system_of net (listed_releases net) in
     let ok : IsNet net = c.new-rows.ensures.rules in
     let x = earliest s c.args.live.now in
     let least = earliest_is_least net s.initial s.release c.args.live.now ok c.requires.stands in
@@ -28,7 +28,7 @@ returns-clause-least c =
 pub returns-clause-walks : goal.returns-clause-walks
 returns-clause-walks c =
     let net = c.args.net.now in
-    let s = system_of net (listed net) in
+    let s = system_of net (listed_releases net) in
     let ok : IsNet net = c.new-rows.ensures.rules in
     let x = earliest s c.args.live.now in
     let least = earliest_is_least net s.initial s.release c.args.live.now ok c.requires.stands in

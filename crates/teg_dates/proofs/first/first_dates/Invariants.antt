@@ -1,11 +1,11 @@
 use Rattle.std.proofs.Common.{◌≡◌}
-use Rattle.teg_model.specs.Datings.{listed, system_of}
-use Rattle.teg_dates.specs.Rows.{IsRows, AreLeastRows}
+use Rattle.teg_model.specs.Datings.{listed_releases, system_of}
+use Rattle.teg_dates.specs.KeptRows.{IsRows, AreLeastRows}
 use Rattle.teg_dates.proofs.first.first_dates.Given as goal
 
 abbrev pub invariant-loop-number : goal.invariant-loop-number
 invariant-loop-number l = record {
   count : l.rows.count ≡ l._number;
   limits : IsRows l.rows;
-  least : AreLeastRows l.net (system_of l.net (listed l.net)) l.rows;
+  least : AreLeastRows l.net (system_of l.net (listed_releases l.net)) l.rows;
 }

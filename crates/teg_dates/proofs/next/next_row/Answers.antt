@@ -1,12 +1,12 @@
 use Rattle.std.proofs.Common.{◌∙◌, arith}
-use Rattle.teg_model.specs.Datings.{listed, system_of}
+use Rattle.teg_model.specs.Datings.{listed_releases, system_of}
 use Rattle.teg_dates.proofs.Earliest.{earliest, earliest_is_least, earliest_of_net}
 use Rattle.teg_dates.proofs.next.next_row.Goals as goal
 
 pub returns-clause-row : goal.returns-clause-row
 returns-clause-row g c =
     let net = c.args.net.now in
-    let s = system_of net (listed net) in
+    let s = system_of net (listed_releases net) in
     let stands = c.requires.stands in
     let ranks = stands.order.0 in
     let x = earliest s ranks in
@@ -15,5 +15,5 @@ returns-clause-row g c =
     let row = c.fill_row.ensures.least x least in
     record {
       exists = (x, is);
-      same = λ y h. record { full = row.full; same = λ t l. row.same t l ∙ c.least_datings_are_one.ensures.one net (listed net) x y is h t c.args.number l (omega (arith, c.requires.next)) };
+      same = λ y h. record { full = row.full; same = λ t l. row.same t l ∙ c.least_datings_are_one.ensures.one net (listed_releases net) x y is h t c.args.number l (omega (arith, c.requires.next)) };
     }

@@ -5,23 +5,24 @@ use Rattle.dioid.specs.declared.dates.Date.TheVariants.{Early}
 use Rattle.teg_net.specs.declared.entries.Place.{Place}
 use Rattle.teg_net.specs.Nets.{NetLists, IsNet, IsPlaceOf}
 use Rattle.teg_net.specs.Circuits.{place_at, no_place}
-use Rattle.teg_model.specs.Systems.{Dating, InitialDates, System, available_in, IsLeastIn}
+use Rattle.teg_model.specs.Systems.{System, available_in, IsLeastIn}
 use Rattle.teg_model.specs.Datings.{system_with}
 use Rattle.teg_model.proofs.Tokens.{available_same}
 use Rattle.teg_check.specs.Ranks.{IsRanking}
-use Rattle.teg_dates.specs.declared.order.Turn.{Turn}
-use Rattle.teg_dates.specs.Order.{IsRankedPlace, IsOrder}
+use Rattle.teg_model.proofs.DateFunctions.{Dating, InitialDates}
+use Rattle.teg_dates.specs.declared.order.OrderedPlace.{OrderedPlace}
+use Rattle.teg_dates.specs.PlaceOrder.{IsRankedPlace, IsPlaceOrder}
 use Rattle.teg_dates.specs.Passes.{seen_at, KeptRows, AreLeastRowsBack, ReachesBack}
 use Rattle.teg_dates.proofs.Filling.{FilledTo, source_is, lower_before, filled_more, filled_begins, filled_is}
 use Rattle.teg_dates.proofs.Earliest.{earliest, earliest_is_least, earliest_within}
 use Rattle.teg_dates.proofs.Raising.{turn_in}
 use Rattle.teg_dates.proofs.passes.raise_row.Goals as goal
 
-abbrev no_turn : Turn
+abbrev no_turn : OrderedPlace
 no_turn = record { turn = 0; place = record { index = 0 }; from = record { index = 0 }; to = record { index = 0 }; tokens = 0; hold = 0 }
 
 -- the place to which the pass has come: it is one of the net's, and its token is taken from dates that are done
-record IsComeTo (net : NetLists) (init : InitialDates) (rel : Dating) (ranks : List ℕ) (rows : KeptRows) (order : List Turn) (i k : ℕ) (row : List Date) : Type 0 where
+record IsComeTo (net : NetLists) (init : InitialDates) (rel : Dating) (ranks : List ℕ) (rows : KeptRows) (order : List OrderedPlace) (i k : ℕ) (row : List Date) : Type 0 where
   known : IsRankedPlace net ranks (get_or order i no_turn)
   place : IsPlaceOf net (place_at net (get_or order i no_turn).place)
   source : (x : Dating) → IsLeastIn (system_with net init rel) x → FilledTo net init rel x k order row i
@@ -30,8 +31,8 @@ record IsComeTo (net : NetLists) (init : InitialDates) (rel : Dating) (ranks : L
       ≡ x (place_at net (get_or order i no_turn).place).from.index (k - (place_at net (get_or order i no_turn).place).tokens)
 
 come_to :
-    (net : NetLists) (init : InitialDates) (rel : Dating) (ranks : List ℕ) (rows : KeptRows) (order : List Turn) (i k : ℕ) (row : List Date)
-    → IsNet net → IsRanking net ranks → IsOrder net ranks order → 1 ≤ k → ReachesBack net k rows → AreLeastRowsBack net (system_with net init rel) k rows → i < length order
+    (net : NetLists) (init : InitialDates) (rel : Dating) (ranks : List ℕ) (rows : KeptRows) (order : List OrderedPlace) (i k : ℕ) (row : List Date)
+    → IsNet net → IsRanking net ranks → IsPlaceOrder net ranks order → 1 ≤ k → ReachesBack net k rows → AreLeastRowsBack net (system_with net init rel) k rows → i < length order
     → IsComeTo net init rel ranks rows order i k row
 come_to net init rel ranks rows order i k row ok r ord o reach past l =
     let known : IsRankedPlace net ranks (get_or order i no_turn) = ord.known i no_turn l in
@@ -69,7 +70,7 @@ raised-requires-clause-within g c =
     let rel = g.S.Source.release c.args.source.now net in
     let ranks = c.requires.order.0 in
     let i = c.loop-place.place-index in
-    let o : Turn = get_or c.args.order.now i no_turn in
+    let o : OrderedPlace = get_or c.args.order.now i no_turn in
     let row = map g.C.DateCell.held c.loop-place.row in
     let at = come_to net init rel ranks (g.P.Past.rows c.args.past.now) c.args.order.now i c.args.number row c.requires.rules
     c.requires.order.1 c.requires.order.2 c.requires.number c.requires.reach c.requires.past c.loop-place-test.true in
@@ -91,7 +92,7 @@ loop-place-preserved g c = λ x h.
     let ranks = c.requires.order.0 in
     let i = c.loop-place.place-index in
     let row = map held c.loop-place.row in
-    let o : Turn = get_or c.args.order.now i no_turn in
+    let o : OrderedPlace = get_or c.args.order.now i no_turn in
     let at = come_to net init rel ranks rows c.args.order.now i c.args.number row c.requires.rules
     c.requires.order.1 c.requires.order.2 c.requires.number c.requires.reach c.requires.past c.loop-place-test.true in
     let p : Place = place_at net o.place in

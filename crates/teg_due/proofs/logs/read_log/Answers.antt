@@ -1,7 +1,7 @@
 use Rattle.std.proofs.Common.{◌≡◌, Ok}
 use Rattle.std.proofs.lemmas.Result.{IfOk-weaker}
 use Rattle.teg_due.specs.Logs.{log_of}
-use Rattle.teg_due.specs.Rules.{IsLogOf}
+use Rattle.teg_due.specs.RowRules.{IsLogOf}
 use Rattle.teg_due.proofs.DueRules.{log_rules}
 use Rattle.teg_due.proofs.logs.read_log.Goals as goal
 

@@ -1,6 +1,6 @@
 use Rattle.std.proofs.Common.{◌-◌, ◌<◌, ◌∙◌, length, get_or, sym, subst, arith}
 use Rattle.forever_laws.specs.declared.rows.EndlessRow.{EndlessRow}
-use Rattle.forever_laws.specs.Rows.{IsEndlessRow}
+use Rattle.forever_laws.specs.EndlessRows.{IsEndlessRow}
 use Rattle.teg_forever.specs.Alike.{HaveSameWalks}
 use Rattle.teg_forever.specs.Divisions.{IsAlikeAt}
 use Rattle.teg_forever.proofs.Repeated.{as_before}

@@ -1,11 +1,11 @@
 use Rattle.std.proofs.Common.{◌≤◌, Option, All, length, refl, subst}
 use Rattle.std.specs.Prelude.{IfSome}
 use Rattle.std.proofs.lemmas.List.{take_all}
-use Rattle.settled_laws.specs.Forms.{date_of}
+use Rattle.settled_laws.specs.SettledForms.{settled_date}
 use Rattle.teg_text.proofs.Listing.{all_items}
 use Rattle.forever_laws.specs.Late.{NoneLate}
 use Rattle.teg_forever.specs.declared.late.LateFiring.{LateFiring}
-use Rattle.teg_forever.specs.Searches.{IsSoonLate}
+use Rattle.teg_forever.specs.LateFirings.{IsSoonLate}
 use Rattle.teg_forever.proofs.LateTurns.{late_answer}
 use Rattle.teg_forever.proofs.Residues.{none_of}
 use Rattle.teg_forever.proofs.Series.{got}
@@ -20,10 +20,10 @@ returns-in-Some-clause-late c =
 
 pub loop-row-preserved : goal.loop-row-preserved
 loop-row-preserved c =
-    all_items (NoneLate (date_of c.args.settled.now)) c.args.rows.now c.args.rows.now c.loop-row.row-index c.row-item.result refl c.loop-row-test.true
-    (subst (NoneLate (date_of c.args.settled.now)) c.row-item.is (none_of _ _ c.in_default.not-Some c.in_ok-late.ensures.none)) c.loop-row.invariant
+    all_items (NoneLate (settled_date c.args.settled.now)) c.args.rows.now c.args.rows.now c.loop-row.row-index c.row-item.result refl c.loop-row-test.true
+    (subst (NoneLate (settled_date c.args.settled.now)) c.row-item.is (none_of _ _ c.in_default.not-Some c.in_ok-late.ensures.none)) c.loop-row.invariant
 
 pub returns-clause-kept : goal.returns-clause-kept
 returns-clause-kept c =
     let low : length c.args.rows.now ≤ c.loop-row.row-index = c.loop-row-test.false in
-    subst (All (NoneLate (date_of c.args.settled.now))) (take_all c.loop-row.row-index c.args.rows.now low) c.loop-row.invariant
+    subst (All (NoneLate (settled_date c.args.settled.now))) (take_all c.loop-row.row-index c.args.rows.now low) c.loop-row.invariant

@@ -4,14 +4,15 @@ use Rattle.std.proofs.lemmas.Int.{to_z_pos}
 use Rattle.std.proofs.lemmas.List.{length-map}
 use Rattle.dioid.specs.declared.dates.Date.{Date}
 use Rattle.dioid.specs.declared.dates.Date.TheVariants.{At}
-use Rattle.series_laws.specs.Forms.{Form, form_with, value_at}
+use Rattle.series_laws.specs.SeriesForms.{Form, form_with, value_at}
 use Rattle.series_laws.specs.Periodic.{Rising}
-use Rattle.forever_laws.specs.Columns.{listed_dates}
+use Rattle.teg_net.specs.Limits.{greatest_input_date}
+use Rattle.forever_laws.specs.SeriesColumns.{listed_dates}
 use Rattle.forever_laws.specs.declared.rows.EndlessRow.{EndlessRow}
 use Rattle.teg_forever.proofs.Series.{due_made, due_fits}
 use Rattle.teg_forever.proofs.gains.due_gain.Goals as goal
 
-same : (r : EndlessRow) (l : List Date) → l ≡ listed_dates r → r.gap ≤ 1000000000000 → form_with l r.every (to_z w128 r.gap) ≡ form_with (listed_dates r) r.every (pos r.gap)
+same : (r : EndlessRow) (l : List Date) → l ≡ listed_dates r → r.gap ≤ greatest_input_date → form_with l r.every (to_z w128 r.gap) ≡ form_with (listed_dates r) r.every (pos r.gap)
 same r l e low = ap (λ (z : List Date). form_with z r.every (to_z w128 r.gap)) e ∙ ap (form_with (listed_dates r) r.every) (to_z_pos w128 r.gap (omega arith))
 
 pub from_list-requires-clause-rising : goal.from_list-requires-clause-rising

@@ -1,7 +1,7 @@
 use Rattle.std.proofs.Common.{◌≡◌, ◌≤◌, [], arith, length}
-use Rattle.settled_laws.specs.Forms.{row_of, settled_length}
+use Rattle.settled_laws.specs.SettledForms.{row_of, settled_length}
 use Rattle.teg_forever.specs.Alike.{told_form}
-use Rattle.teg_forever.specs.Releases.{longest_form}
+use Rattle.teg_forever.specs.LatestReleases.{longest_form}
 use Rattle.teg_forever.proofs.Series.{walk_made, walk_fits}
 use Rattle.teg_forever.proofs.gains.walk_gain.Goals as goal
 

@@ -1,8 +1,8 @@
 use Rattle.std.proofs.Common.{rules, ◌≡◌, ◌+◌, ◌++◌, ◌∷◌, [], ◌∙◌, List, true, sym, subst}
 use Rattle.std.proofs.lemmas.Result.{err_from_is_err_and}
-use Rattle.teg_due.specs.Names.{is_input}
+use Rattle.teg_due.specs.RowNames.{is_input}
 use Rattle.teg_forever.specs.declared.releases.Release.{Release}
-use Rattle.teg_forever.specs.Columns.{AreReleasesBelow}
+use Rattle.teg_forever.specs.InputAnswers.{AreReleasesBelow}
 use Rattle.teg_forever.proofs.Gathered.{below_more}
 use Rattle.teg_forever.proofs.Residues.{refused_at}
 use Rattle.teg_forever.proofs.inputs.add_release.Goals as goal

@@ -1,8 +1,8 @@
 use Rattle.std.proofs.Common.{◌≡◌, ◌<◌, sym, subst}
 use Rattle.std.proofs.lemmas.Result.{IfErr-weaker}
 use Rattle.teg_forever.specs.declared.releases.ForeverRefusal.TheVariants.{OutOfMemory}
-use Rattle.teg_forever.specs.Columns.{IsStopped}
-use Rattle.teg_forever.specs.Releases.{IsFine, IsReleaseOf, inputs_below}
+use Rattle.teg_forever.specs.InputAnswers.{IsStopped}
+use Rattle.teg_forever.specs.LatestReleases.{IsFine, IsReleaseOf, inputs_below}
 use Rattle.teg_forever.proofs.Residues.{any_ok, any_on, each_ok}
 use Rattle.teg_forever.proofs.SameWalks.{beside_at, twin_fine, twin_release}
 use Rattle.teg_forever.proofs.Series.{got_within}

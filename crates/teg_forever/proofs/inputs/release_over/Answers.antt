@@ -1,5 +1,5 @@
 use Rattle.std.proofs.lemmas.Result.{err_from_is_err_and}
-use Rattle.teg_forever.specs.Releases.{IsFine, IsReleaseOf}
+use Rattle.teg_forever.specs.LatestReleases.{IsFine, IsReleaseOf}
 use Rattle.teg_forever.proofs.Residues.{fine, released, any_ok, any_on, each_ok}
 use Rattle.teg_forever.proofs.inputs.release_over.Goals as goal
 

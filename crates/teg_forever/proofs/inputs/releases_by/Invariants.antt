@@ -1,4 +1,4 @@
-use Rattle.teg_forever.specs.Columns.{AreReleasesBelow}
+use Rattle.teg_forever.specs.InputAnswers.{AreReleasesBelow}
 use Rattle.teg_forever.specs.Divisions.{AreDivisions}
 use Rattle.teg_forever.proofs.inputs.releases_by.Given as goal
 

@@ -1,20 +1,20 @@
 use Rattle.std.proofs.Common.{◌≡◌, ◌≤◌, ◌<◌, ◌+◌, ◌-◌, ℕ, sym, arith, subst, ⊎_elim}
-use Rattle.settled_laws.specs.Forms.{SettledForm, date_of}
+use Rattle.settled_laws.specs.SettledForms.{SettledForm, settled_date}
 use Rattle.forever_laws.specs.declared.rows.EndlessRow.{EndlessRow}
-use Rattle.forever_laws.specs.Searches.{IsSoonest, turns_to}
+use Rattle.forever_laws.specs.LateSearches.{IsSoonest, turns_to}
 use Rattle.teg_forever.specs.declared.late.Soonest.{Soonest}
 use Rattle.teg_forever.proofs.LateNumbers.{soonest_begun, soonest_kept, soonest_next, none_less}
 use Rattle.teg_forever.proofs.late.fewest_turns.Goals as goal
 
 abbrev Kept : SettledForm → EndlessRow → ℕ → ℕ → ℕ → Soonest → Type 0
 Kept f r past n gain b = record {
-  is : IsSoonest (date_of f) r past n gain b.number b.due b.least;
+  is : IsSoonest (settled_date f) r past n gain b.number b.due b.least;
   turns : b.turns ≡ turns_to b.due b.least gain;
 }
 
 pub loop-number-init : goal.loop-number-init
 loop-number-init c =
-    let x = date_of c.args.settled.now in
+    let x = settled_date c.args.settled.now in
     let b = c.turns_at-best.result in
     let same : c.args.past + 1 ≡ c.args.past + 2 - 1 = omega arith in
     let begun = soonest_begun x c.args.row.now c.args.past c.args.gain b.due b.least c.turns_at-best.ensures.due c.turns_at-best.ensures.least in
@@ -25,11 +25,11 @@ loop-number-init c =
     }
 
 pub turns_at-requires-clause-in_time : goal.turns_at-requires-clause-in_time
-turns_at-requires-clause-in_time c = none_less (date_of c.args.settled.now) c.args.row.now c.args.last c.loop-number.number (omega arith) c.requires.in_time
+turns_at-requires-clause-in_time c = none_less (settled_date c.args.settled.now) c.args.row.now c.args.last c.loop-number.number (omega arith) c.requires.in_time
 
 pub loop-number-preserved : goal.loop-number-preserved
 loop-number-preserved c =
-    let x = date_of c.args.settled.now in
+    let x = settled_date c.args.settled.now in
     let r = c.args.row.now in
     let n = c.loop-number.number in
     let old = c.loop-number.best in
@@ -60,4 +60,4 @@ pub returns-clause-is : goal.returns-clause-is
 returns-clause-is c =
     let low : c.args.last + 1 ≤ c.loop-number.number = c.loop-number-test.false in
     let same : c.loop-number.number - 1 ≡ c.args.last = omega arith in
-    subst (λ (m : ℕ). IsSoonest (date_of c.args.settled.now) c.args.row.now c.args.past m c.args.gain c.loop-number.best.number c.loop-number.best.due c.loop-number.best.least) same c.loop-number.invariant.is
+    subst (λ (m : ℕ). IsSoonest (settled_date c.args.settled.now) c.args.row.now c.args.past m c.args.gain c.loop-number.best.number c.loop-number.best.due c.loop-number.best.least) same c.loop-number.invariant.is

@@ -1,10 +1,10 @@
 use Rattle.std.proofs.Common.{◌≡◌, ◌-◌}
-use Rattle.settled_laws.specs.Forms.{date_of}
-use Rattle.forever_laws.specs.Searches.{IsSoonest, turns_to}
+use Rattle.settled_laws.specs.SettledForms.{settled_date}
+use Rattle.forever_laws.specs.LateSearches.{IsSoonest, turns_to}
 use Rattle.teg_forever.proofs.late.fewest_turns.Given as goal
 
 abbrev pub invariant-loop-number : goal.invariant-loop-number
 invariant-loop-number l = record {
-  is : IsSoonest (date_of l.settled) l.row l.fn.past (l.number - 1) l.fn.gain l.best.number l.best.due l.best.least;
+  is : IsSoonest (settled_date l.settled) l.row l.fn.past (l.number - 1) l.fn.gain l.best.number l.best.due l.best.least;
   turns : l.best.turns ≡ turns_to l.best.due l.best.least l.fn.gain;
 }

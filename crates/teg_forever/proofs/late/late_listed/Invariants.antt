@@ -1,7 +1,7 @@
 use Rattle.std.proofs.Common.{◌-◌}
-use Rattle.settled_laws.specs.Forms.{date_of}
+use Rattle.settled_laws.specs.SettledForms.{settled_date}
 use Rattle.forever_laws.specs.Late.{NoneLateTo}
 use Rattle.teg_forever.proofs.late.late_listed.Given as goal
 
 abbrev pub invariant-loop-number : goal.invariant-loop-number
-invariant-loop-number l = NoneLateTo (date_of l.settled) l.row (l.number - 1)
+invariant-loop-number l = NoneLateTo (settled_date l.settled) l.row (l.number - 1)

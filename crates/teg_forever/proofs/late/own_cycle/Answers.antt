@@ -2,7 +2,7 @@ use Rattle.std.proofs.Common.{◌≡◌, ℕ, pos, ap, subst, sym, ◌∙◌, to
 use Rattle.std.specs.Int.{w128}
 use Rattle.std.proofs.lemmas.Int.{to_z-of_z}
 use lib.IntN.{nat_abs}
-use Rattle.teg_forever.specs.Searches.{RisesIn}
+use Rattle.teg_forever.specs.LateFirings.{RisesIn}
 use Rattle.teg_forever.proofs.Cycles.{rises_in_period}
 use Rattle.teg_forever.proofs.late.own_cycle.Goals as goal
 

@@ -1,7 +1,7 @@
 use Rattle.std.proofs.Common.{ℕ, ◌≡◌, ◌<◌, ◌+◌, pos}
 use Rattle.dioid.specs.Dates.{move}
-use Rattle.settled_laws.specs.Forms.{date_of}
+use Rattle.settled_laws.specs.SettledForms.{settled_date}
 use Rattle.teg_forever.proofs.late.rises_in.Given as goal
 
 abbrev pub invariant-loop-number : goal.invariant-loop-number
-invariant-loop-number l = (k : ℕ) → l.settled.after < k → k < l.number → date_of l.settled l.transition.index (k + l.firings) ≡ move (pos l.rise) (date_of l.settled l.transition.index k)
+invariant-loop-number l = (k : ℕ) → l.settled.after < k → k < l.number → settled_date l.settled l.transition.index (k + l.firings) ≡ move (pos l.rise) (settled_date l.settled l.transition.index k)

@@ -1,5 +1,5 @@
 use Rattle.std.proofs.Common.{◌<◌, ◌+◌, ◌-◌, ◌*◌, ℕ, sym, subst, arith}
-use Rattle.teg_forever.specs.Searches.{IsSoonLate}
+use Rattle.teg_forever.specs.LateFirings.{IsSoonLate}
 use Rattle.teg_forever.proofs.LateTurns.{soon_by_turns}
 use Rattle.teg_forever.proofs.late.soonest_late.Goals as goal
 

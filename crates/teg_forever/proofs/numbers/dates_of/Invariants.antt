@@ -3,12 +3,12 @@ use Rattle.std.specs.Prelude.{nat_le}
 use Rattle.std.specs.List.{list_all}
 use Rattle.std.specs.Str.Parse.{digits_value}
 use Rattle.csv.specs.Records.{fields_of}
-use Rattle.teg_net.specs.Limits.{greatest_date}
-use Rattle.teg_forever.specs.Rows.{dates_in}
+use Rattle.teg_net.specs.Limits.{greatest_input_date}
+use Rattle.teg_forever.specs.EndlessFiles.{dates_of_fields}
 use Rattle.teg_forever.proofs.numbers.dates_of.Given as goal
 
 abbrev pub invariant-loop-index : goal.invariant-loop-index
 invariant-loop-index l = record {
-  same : l.dates.items ++ map (digits_value 10) (drop l.index (fields_of l.«record»)) ≡ dates_in (fields_of l.«record»);
-  small : list_all (λ d. nat_le d greatest_date) (map (digits_value 10) (drop l.index (fields_of l.«record»))) ≡ list_all (λ d. nat_le d greatest_date) (dates_in (fields_of l.«record»));
+  same : l.dates.items ++ map (digits_value 10) (drop l.index (fields_of l.«record»)) ≡ dates_of_fields (fields_of l.«record»);
+  small : list_all (λ d. nat_le d greatest_input_date) (map (digits_value 10) (drop l.index (fields_of l.«record»))) ≡ list_all (λ d. nat_le d greatest_input_date) (dates_of_fields (fields_of l.«record»));
 }

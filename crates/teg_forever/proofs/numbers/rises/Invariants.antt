@@ -1,5 +1,5 @@
 use Rattle.std.proofs.Common.{◌≡◌, drop}
-use Rattle.teg_forever.specs.Rows.{rises_from}
+use Rattle.teg_forever.specs.EndlessFiles.{rises_from}
 use Rattle.teg_forever.proofs.numbers.rises.Given as goal
 
 abbrev pub invariant-loop-date : goal.invariant-loop-date

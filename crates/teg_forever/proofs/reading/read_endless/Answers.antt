@@ -1,7 +1,7 @@
 use Rattle.std.proofs.Common.{◌≡◌, Ok}
 use Rattle.std.proofs.lemmas.Result.{IfOk-weaker}
-use Rattle.forever_laws.specs.Rows.{IsEndlessOf}
-use Rattle.teg_forever.specs.Rows.{endless_of}
+use Rattle.forever_laws.specs.EndlessRows.{IsEndlessOf}
+use Rattle.teg_forever.specs.EndlessFiles.{endless_of}
 use Rattle.teg_forever.proofs.RowRules.{endless_rules}
 use Rattle.teg_forever.proofs.reading.read_endless.Goals as goal
 

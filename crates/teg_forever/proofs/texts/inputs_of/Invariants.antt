@@ -1,5 +1,5 @@
 use Rattle.std.proofs.Common.{◌≡◌, ◌<◌, All, length, map}
-use Rattle.teg_forever.specs.Releases.{inputs_below}
+use Rattle.teg_forever.specs.LatestReleases.{inputs_below}
 use Rattle.teg_forever.proofs.texts.inputs_of.Given as goal
 
 abbrev pub invariant-loop-index : goal.invariant-loop-index

@@ -4,7 +4,7 @@ use Rattle.teg_net.specs.declared.entries.TransitionId.{TransitionId}
 use Rattle.teg_text.specs.Lines.{line_then}
 use Rattle.teg_text.proofs.Listing.{all_items}
 use Rattle.teg_forever.specs.declared.releases.Release.{Release}
-use Rattle.teg_forever.specs.Texts.{IsReleaseTold, release_line}
+use Rattle.teg_forever.specs.EndlessTexts.{IsReleaseTold, release_line}
 use Rattle.teg_forever.proofs.Written.{line_more}
 use Rattle.teg_forever.proofs.texts.push_releases.Goals as goal
 

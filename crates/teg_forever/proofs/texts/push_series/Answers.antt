@@ -4,7 +4,7 @@ use Rattle.std.proofs.lemmas.Int.{to_z-of_z}
 use Rattle.std.specs.Fmt.{signed_decimal}
 use Rattle.std.specs.List.{flat_map}
 use Rattle.dioid.specs.declared.dates.Date.{Date}
-use Rattle.teg_text.specs.Words.{date_word}
+use Rattle.teg_text.specs.ValueWords.{date_word}
 use Rattle.teg_text.proofs.Joining.{line_goes_on}
 use Rattle.teg_forever.proofs.Written.{told_on}
 use Rattle.teg_forever.proofs.texts.push_series.Goals as goal

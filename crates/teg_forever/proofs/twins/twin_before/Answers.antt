@@ -1,5 +1,5 @@
 use Rattle.std.proofs.Common.{◌≡◌, true, sym, ◌∙◌}
-use Rattle.teg_due.specs.Names.{is_input}
+use Rattle.teg_due.specs.RowNames.{is_input}
 use Rattle.teg_forever.proofs.SameWalks.{stands_next}
 use Rattle.teg_forever.proofs.twins.twin_before.Goals as goal
 

@@ -1,5 +1,5 @@
 use Rattle.std.proofs.Common.{◌≡◌, ◌≤◌, length}
-use Rattle.teg_forever.specs.Releases.{inputs_below}
+use Rattle.teg_forever.specs.LatestReleases.{inputs_below}
 use Rattle.teg_forever.proofs.twins.twin_before.Given as goal
 
 abbrev pub invariant-loop-index : goal.invariant-loop-index

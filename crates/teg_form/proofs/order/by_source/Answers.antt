@@ -1,6 +1,6 @@
 use Rattle.std.proofs.Common.{ℕ, ◌≡◌, ◌≤◌, length, arith, rules}
 use Rattle.std.proofs.lemmas.List.Sorted.{All-permutation, Contains-permutation, IsNonDecreasingBy-from_sort_by_key}
-use Rattle.teg_form.specs.Order.{IsMarkedPlace, marked_at}
+use Rattle.teg_form.specs.KeyOrder.{IsMarkedPlace, marked_at}
 use Rattle.teg_form.proofs.order.by_source.Goals as goal
 
 few_of : {n l i p : ℕ} → n ≡ l → l ≤ i → i ≤ p → n ≤ p

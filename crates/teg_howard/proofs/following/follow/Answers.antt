@@ -8,7 +8,7 @@ use mir.Val.{SFits}
 use mir.Syntax.{w128}
 use Rattle.teg_net.specs.Circuits.{from_of}
 use Rattle.teg_howard.specs.Policies.{offer_of}
-use Rattle.teg_howard.specs.FoundCircuits.{policy_of, value_of, potentials}
+use Rattle.teg_howard.specs.FoundCircuits.{policy_of, value_held, potentials}
 use Rattle.teg_howard.specs.Following.{Followed}
 use Rattle.teg_howard.proofs.Values.{followed_start, follow_step, held_at}
 use Rattle.teg_howard.proofs.Spreading.{Spreading, Waits, spread_less, spread_last, spread_start, spread_more, waits_follows}
@@ -17,7 +17,7 @@ use Rattle.teg_howard.proofs.following.follow.Goals as goal
 abbrev no_value : Option ℤ
 no_value = None
 
-all_none : (n t : ℕ) → value_of (replicate n None) t ≡ None
+all_none : (n t : ℕ) → value_held (replicate n None) t ≡ None
 all_none n t =
     ⊎_elim
     (λ (l : t < n). get_or-replicate n t None None l)
@@ -37,12 +37,12 @@ follow-init c =
     let links = c.in_ok-followers.ensures in
     let vs = c.in_ok-values.values.items in
     let filled : vs ≡ replicate (length parts) None = c.in_ok-values.ensures.items_if_clones_equal (search rules) in
-    let none : (t : ℕ) → value_of vs t ≡ None = (λ t. rw filled (all_none (length parts) t)) in
+    let none : (t : ℕ) → value_held vs t ≡ None = (λ t. rw filled (all_none (length parts) t)) in
     let ok = c.in_ok-values.values.ok in
     let long : length vs ≡ length parts = omega (arith, c.in_ok-values.ensures.len, ok.0) in
     let highest = c.in_ok-followers.followers.highest.items in
     let value : c.index.result.now ≡ get_or highest root None = get_or_read highest root c.index.result.now (omega (arith, r.member.in_range, links.highest_count)) c.index.ensures None in
-    let only = λ (t : ℕ) (n : t ≢ root). let q : value_of (set vs root (Some (pos 0))) t ≡ None = get_or-set_other vs root t (Some (pos 0)) None n ∙ none t in q in
+    let only = λ (t : ℕ) (n : t ≢ root). let q : value_held (set vs root (Some (pos 0))) t ≡ None = get_or-set_other vs root t (Some (pos 0)) None n ∙ none t in q in
     rw (c.in_ok-add.ensures, c.new-waiting.ensures.items, value)
     (spread_start net parts part π root a b (set vs root (Some (pos 0))) c.in_ok-followers.followers r.member links (followed_start net parts part a b root π vs r.member long none) only)
 

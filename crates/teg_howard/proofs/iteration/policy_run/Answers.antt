@@ -1,6 +1,6 @@
 use Rattle.std.proofs.Common.{◌≡◌, ◌++◌, ◌∷◌, [], length, ap, arith}
-use Rattle.teg_howard.specs.RoundStates.{GoesOn, IsLast}
-use Rattle.teg_howard.specs.Runs.{IsAnswerOf}
+use Rattle.teg_howard.specs.RoundStates.{IsNextRoundState, IsLastRound}
+use Rattle.teg_howard.specs.PolicyRuns.{IsAnswerOf}
 use Rattle.teg_howard.proofs.Runs.{run_more, run_all, rise_more, last_answers, last_keeps, last_pushed}
 use Rattle.teg_howard.proofs.Rising.{rise_by_case}
 use Rattle.teg_howard.proofs.Ending.{falls}
@@ -10,13 +10,13 @@ use Rattle.teg_howard.proofs.iteration.policy_run.Goals as goal
 pub rounds-smaller : goal.rounds-smaller
 rounds-smaller c =
     let st = c.rounds.state in
-    let goes : GoesOn c.args.net.now c.args.parts.now c.args.part c.next_state.new.policy st c.in-Some.next = rw c.in-Some.is at c.in_ok-next.ensures.some in
+    let goes : IsNextRoundState c.args.net.now c.args.parts.now c.args.part c.next_state.new.policy st c.in-Some.next = rw c.in-Some.is at c.in_ok-next.ensures.some in
     falls c.args.net.now c.args.parts.now c.args.part c.rounds.policy.items c.next_state.new.policy st c.in-Some.next c.rounds.invariant.standing goes.standing goes.rises
 
 pub rounds-preserved : goal.rounds-preserved
 rounds-preserved c =
     let st = c.rounds.state in
-    let goes : GoesOn c.args.net.now c.args.parts.now c.args.part c.next_state.new.policy st c.in-Some.next = rw c.in-Some.is at c.in_ok-next.ensures.some in
+    let goes : IsNextRoundState c.args.net.now c.args.parts.now c.args.part c.next_state.new.policy st c.in-Some.next = rw c.in-Some.is at c.in_ok-next.ensures.some in
     let ok = c.rounds.policy.ok in
     let long : length c.next_state.new.policy ≡ c.rounds.policy.len = omega (arith, c.next_state.auto.policy, ok.0, ap length c.deref_mut-in-rounds.ensures.value) in
     let step_back = written_back c.next_state.new.policy c.rounds.policy.items c.rounds.policy.len long in
@@ -28,12 +28,12 @@ rounds-preserved c =
 
 pub returns-clause-run : goal.returns-clause-run
 returns-clause-run c =
-    let last : IsLast c.args.net.now c.args.parts.now c.args.part c.rounds.state.round = rw c.in_default.is at c.in_ok-next.ensures.none in
+    let last : IsLastRound c.args.net.now c.args.parts.now c.args.part c.rounds.state.round = rw c.in_default.is at c.in_ok-next.ensures.none in
     rw c.in_ok-push-2.ensures.items (run_all c.args.net.now c.args.parts.now c.args.part c.rounds.rounds.items c.rounds.state.round c.rounds.invariant.run last)
 
 pub returns-clause-best : goal.returns-clause-best
 returns-clause-best c =
-    let last : IsLast c.args.net.now c.args.parts.now c.args.part c.rounds.state.round = rw c.in_default.is at c.in_ok-next.ensures.none in
+    let last : IsLastRound c.args.net.now c.args.parts.now c.args.part c.rounds.state.round = rw c.in_default.is at c.in_ok-next.ensures.none in
     last_answers c.args.net.now c.args.parts.now c.args.part c.rounds.policy.items c.rounds.state c.in_ok-answer.answer c.rounds.invariant.standing last c.in_ok-answer.ensures
 
 pub returns-clause-limits : goal.returns-clause-limits

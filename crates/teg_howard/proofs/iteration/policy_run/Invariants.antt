@@ -1,6 +1,6 @@
 use Rattle.std.proofs.Common.{◌++◌, ◌∷◌, []}
-use Rattle.teg_howard.specs.Rounds.{IsRunTo}
-use Rattle.teg_howard.specs.Runs.{AllRise}
+use Rattle.teg_howard.specs.PolicyRounds.{IsRunTo}
+use Rattle.teg_howard.specs.PolicyRuns.{AllRise}
 use Rattle.teg_howard.specs.RoundStates.{IsRoundState}
 use Rattle.teg_howard.proofs.Ending.{left_of}
 use Rattle.teg_howard.proofs.iteration.policy_run.Given as goal

@@ -5,8 +5,8 @@ use Rattle.teg_net.specs.Nets.{NetLists, IsNet}
 use Rattle.teg_net.specs.Circuits.{IsLive}
 use Rattle.teg_howard.specs.Policies.{Policy}
 use Rattle.teg_net.specs.Parts.{ListsMembers}
-use Rattle.teg_howard.specs.Rounds.{chosen_for, IsPolicyRun}
-use Rattle.teg_howard.specs.Laws.{AreSameRounds}
+use Rattle.teg_howard.specs.PolicyRounds.{chosen_for, IsPolicyRun}
+use Rattle.teg_howard.specs.OnePolicyRun.{AreSameRounds}
 use Rattle.teg_howard.proofs.Listing.{same_choices}
 use Rattle.teg_howard.proofs.Rising.{each_round}
 use Rattle.teg_howard.proofs.OneRun.{Equal, one_run}

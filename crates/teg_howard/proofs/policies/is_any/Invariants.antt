@@ -1,5 +1,5 @@
 use Rattle.std.proofs.Common.{ℕ, ◌<◌}
-use Rattle.teg_howard.specs.FoundCircuits.{IsMarked}
+use Rattle.teg_parts.specs.Components.{IsMarked}
 use Rattle.teg_howard.proofs.policies.is_any.Given as goal
 
 abbrev pub invariant-loop-is_marked : goal.invariant-loop-is_marked

@@ -1,6 +1,6 @@
 use Rattle.std.proofs.Common.{ℕ, ◌<◌, ◌≤◌, ◌≡◌, ◌≢◌, get_or}
 use Rattle.std.specs.Prelude.{Any}
-use Rattle.teg_due.specs.Dues.{greatest_due_number}
+use Rattle.teg_due.specs.DueFileRows.{greatest_due_number}
 use Rattle.teg_due.specs.declared.rows.DueRow.{DueRow}
 use Rattle.teg_jit.proofs.due_dates.greatest_number.Given as goal
 

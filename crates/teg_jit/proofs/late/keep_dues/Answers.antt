@@ -1,7 +1,7 @@
 use Rattle.std.proofs.Common.{◌≡◌, get_or}
 use Rattle.std.proofs.lemmas.List.{get_or_default}
 use Rattle.teg_due.specs.declared.rows.DueRow.{DueRow}
-use Rattle.teg_jit.specs.Refusals.{IsFirstLate}
+use Rattle.teg_jit.specs.LateRefusals.{IsFirstLateDue}
 use Rattle.teg_jit.proofs.Begun.{no_row}
 use Rattle.teg_jit.proofs.LateRows.{first_late_is}
 use Rattle.teg_jit.proofs.late.keep_dues.Goals as goal
@@ -19,6 +19,6 @@ returns-clause-late c =
     let i = c.in-Some.index in
     let r : DueRow = get_or rows i no_row in
     let at : (q : DueRow) → get_or rows i q ≡ r = λ q. get_or_default rows i q no_row first.2.within in
-    let is : IsFirstLate first.0 rows r.transition r.number r.date c.in-Some.least =
+    let is : IsFirstLateDue first.0 rows r.transition r.number r.date c.in-Some.least =
     first_late_is first.0 rows i c.in-Some.least r first.2.kept first.2.within at (first.2.is_least no_row) (first.2.late no_row) in
     ((first.0, first.1, rw c.from.ensures is), rw (c.from.ensures, c.start_date-start.ensures.value) c.in_ok-walk.ensures)

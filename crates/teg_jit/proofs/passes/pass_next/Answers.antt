@@ -1,7 +1,7 @@
 use Rattle.std.proofs.Common.{ℕ, ◌+◌, ◌<◌, ◌≡◌, length, sym, ap, arith, ◌∙◌}
 use Rattle.std.proofs.lemmas.List.{length-set}
 use Rattle.teg_net.specs.Nets.{IsNet}
-use Rattle.teg_dates.specs.Tables.{cell_of}
+use Rattle.teg_dates.specs.DateTables.{firing_position}
 use Rattle.teg_jit.specs.Plans.{latest_in}
 use Rattle.teg_jit.specs.GoingBack.{date_there}
 use Rattle.teg_jit.proofs.Passing.{next_none, next_some}
@@ -25,7 +25,7 @@ loop-index-preserved c =
       passed = λ due s order.
           elim c.match-date_at.branch [
             | in-Some w ↦
-                let cell : w.cell_of.result ≡ cell_of n i c.args.number = rw width at w.cell_of.ensures.value in
+                let cell : w.cell_of.result ≡ firing_position n i c.args.number = rw width at w.cell_of.ensures.value in
                 rw (w.dates-is, w.lower.ensures, cell)
                 (next_some net due order c.args.last c.args.number i w.in-Some.date c.loop-index.dates ok (c.loop-index.invariant.passed due s order) l c.requires.number c.requires.last (sym w.in-Some.is ∙ read))
             | in-None w ↦

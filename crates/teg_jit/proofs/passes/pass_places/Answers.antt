@@ -3,7 +3,7 @@ use Rattle.std.proofs.lemmas.List.{get_or_default, length-set}
 use Rattle.teg_net.specs.declared.entries.Place.{Place}
 use Rattle.teg_net.specs.Nets.{IsNet}
 use Rattle.teg_net.specs.Circuits.{place_at}
-use Rattle.teg_dates.specs.Tables.{cell_of}
+use Rattle.teg_dates.specs.DateTables.{firing_position}
 use Rattle.teg_jit.specs.declared.order.Depth.{Depth}
 use Rattle.teg_jit.specs.Plans.{latest_in}
 use Rattle.teg_jit.specs.GoingBack.{date_there}
@@ -53,7 +53,7 @@ loop-depth-preserved c = record {
       elim c.match-date_at.branch [
         | in-Some w ↦
             let some : Some w.in-Some.date ≡ date_there (latest_in n c.loop-depth.dates p.to.index (c.args.number + p.tokens)) = sym w.in-Some.is ∙ read in
-            let cell : w.cell_of.result ≡ cell_of n p.from.index c.args.number = rw (width, item) at w.cell_of.ensures.value in
+            let cell : w.cell_of.result ≡ firing_position n p.from.index c.args.number = rw (width, item) at w.cell_of.ensures.value in
             let room = c.requires.passed in
             let fits = (has_room net room.0 c.args.order.now c.args.last c.args.number n i i w.in-Some.date o.place c.loop-depth.dates room.2.0 ok room.2.1 room.2.2 (c.loop-depth.invariant.passed room.0 room.1) known.in_range c.requires.number some).0 in
             rw (w.dates-is, w.lower.ensures, cell, item)

@@ -2,10 +2,11 @@ use Rattle.std.proofs.Common.{ℕ, true, false, ◌≡◌, ◌<◌, ◌++◌, �
 use Rattle.std.proofs.lemmas.List.{get_or_read, length_push}
 use lib.ListN.{replicate}
 use Rattle.teg_net.specs.Circuits.{no_place, place_at}
-use Rattle.teg_parts.specs.PlacesAlong.{far_in, far_of, AddsPlacesAlong}
+use Rattle.teg_parts.specs.PlacesAlong.{far_in, AddsPlacesAlong}
 use Rattle.teg_parts.proofs.Marks.{unmarked, unmarked_less, work_less}
 use Rattle.teg_parts.proofs.Reaching.{IsSearch, far_in_net, search_start, taken_up, passed_over, gone_along, search_over}
 use Rattle.teg_parts.proofs.components.led_from.Goals as goal
+use Rattle.teg_parts.proofs.FarEnds.{far_of}
 
 pub search-init : goal.search-init
 search-init c =

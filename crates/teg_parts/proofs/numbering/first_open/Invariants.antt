@@ -1,5 +1,5 @@
 use Rattle.std.proofs.Common.{ℕ, ◌<◌}
-use Rattle.teg_parts.specs.Numbers.{IsOpenFor}
+use Rattle.teg_parts.specs.PartNumbers.{IsOpenFor}
 use Rattle.teg_parts.proofs.numbering.first_open.Given as goal
 
 abbrev pub invariant-loop-transition : goal.invariant-loop-transition

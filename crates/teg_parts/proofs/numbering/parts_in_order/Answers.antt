@@ -1,5 +1,5 @@
 use Rattle.std.proofs.Common.{ℕ, ◌≡◌, length, refl, ap, ◌∙◌, arith}
-use Rattle.teg_parts.specs.Numbers.{component_at, IsFree, IsFirstFree, IsGiven, AllNumbered}
+use Rattle.teg_parts.specs.PartNumbers.{component_at, IsFree, IsFirstFree, IsGiven, AllNumbered}
 use Rattle.teg_net.proofs.Reading.{written_back}
 use Rattle.teg_parts.proofs.Ordering.{numbered_more, all_numbered}
 use Rattle.teg_parts.proofs.numbering.parts_in_order.Goals as goal

@@ -1,12 +1,12 @@
 use Rattle.std.proofs.Common.{◌≡◌, ◌<◌, ◌≤◌, [], ◌∷◌, Some, length, subst, arith, ⊎_elim}
 use Rattle.std.proofs.lemmas.Bool.{cases_lt}
 use Rattle.std.proofs.lemmas.List.{length_push, get_or_push, get_or_append_left}
-use Rattle.teg_parts.specs.Numbers.{number_of}
+use Rattle.teg_parts.specs.PartNumbers.{part_number}
 use Rattle.teg_parts.proofs.Marks.{is_some_of}
 use Rattle.teg_parts.proofs.numbers.numbers_of.Goals as goal
 
 pub unwrap-requires : goal.unwrap-requires
-unwrap-requires c = is_some_of (number_of c.args.numbers.now c.loop-number.number-index) (c.requires c.loop-number.number-index c.loop-number-test.true)
+unwrap-requires c = is_some_of (part_number c.args.numbers.now c.loop-number.number-index) (c.requires c.loop-number.number-index c.loop-number-test.true)
 
 pub loop-number-preserved : goal.loop-number-preserved
 loop-number-preserved c =
@@ -26,6 +26,6 @@ loop-number-preserved c =
           (λ (q : i ≤ t).
           let e : i ≡ t = omega arith in
           let at : length old ≡ t = omega arith in
-          rw (get_or_push old x 0 t at) (subst (λ y. number_of numbers y ≡ Some x) e c.unwrap.ensures))
+          rw (get_or_push old x 0 t at) (subst (λ y. part_number numbers y ≡ Some x) e c.unwrap.ensures))
           (cases_lt t i);
     })

@@ -1,4 +1,4 @@
-use Rattle.teg_parts.specs.Numbers.{AreInOrderOf, AreInnerMarks}
+use Rattle.teg_parts.specs.PartNumbers.{AreInOrderOf, AreInnerMarks}
 use Rattle.teg_parts.proofs.Ordering.{are_parts}
 use Rattle.teg_parts.proofs.strong_parts.split.Goals as goal
 

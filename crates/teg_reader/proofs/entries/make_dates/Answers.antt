@@ -1,4 +1,4 @@
-use Rattle.teg_reader.specs.Trees.{as_number}
+use Rattle.teg_reader.specs.DocumentTrees.{as_number}
 use Rattle.teg_reader.proofs.TreeLemmas.{pushed_of}
 use Rattle.teg_reader.proofs.entries.make_dates.Goals as goal
 

@@ -1,6 +1,6 @@
 use Rattle.std.proofs.Common.{◌≡◌, map, take}
 use Rattle.toml.specs.View.{view}
-use Rattle.teg_reader.specs.Trees.{as_number}
+use Rattle.teg_reader.specs.DocumentTrees.{as_number}
 use Rattle.teg_reader.proofs.entries.make_dates.Given as goal
 
 abbrev pub invariant-loop-value : goal.invariant-loop-value

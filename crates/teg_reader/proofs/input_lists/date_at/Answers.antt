@@ -1,6 +1,6 @@
 use Rattle.std.proofs.Common.{ap, sym, ◌∙◌}
 use Rattle.toml.specs.View.{view}
-use Rattle.teg_reader.specs.Trees.{as_number}
+use Rattle.teg_reader.specs.DocumentTrees.{as_number}
 use Rattle.teg_reader.proofs.DateLemmas.{number_at_index}
 use Rattle.teg_reader.proofs.input_lists.date_at.Goals as goal
 

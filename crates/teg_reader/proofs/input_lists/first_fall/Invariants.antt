@@ -1,6 +1,6 @@
 use Rattle.std.proofs.Common.{◌≡◌, ◌+◌, ◌-◌, map, drop}
 use Rattle.toml.specs.View.{view}
-use Rattle.teg_reader.specs.Trees.{as_number}
+use Rattle.teg_reader.specs.DocumentTrees.{as_number}
 use Rattle.teg_reader.specs.InputLists.{first_fall}
 use Rattle.teg_reader.proofs.input_lists.first_fall.Given as goal
 

@@ -2,8 +2,8 @@ use Rattle.std.proofs.Common.{◌≡◌, bytes_eq, false, Some, is_some, map, ap
 use Rattle.std.specs.List.{position, position_or_len}
 use Rattle.std.specs.Map.Iter.{deref}
 use Rattle.toml.specs.View.{view}
-use Rattle.teg_reader.specs.Texts.{is_among}
-use Rattle.teg_reader.specs.Trees.{names_of}
+use Rattle.teg_reader.specs.TextLists.{is_among}
+use Rattle.teg_reader.specs.DocumentTrees.{entry_names}
 use Rattle.teg_reader.proofs.NumberLemmas.{TextKey, any_deref, position_deref, position_found}
 use Rattle.teg_reader.proofs.RoleLemmas.{position_in, within_entries, find_at, find_none}
 use Rattle.teg_reader.proofs.numbers.entry_named.Goals as goal
@@ -11,7 +11,7 @@ use Rattle.teg_reader.proofs.numbers.entry_named.Goals as goal
 pub returns-in-Some : goal.returns-in-Some
 returns-in-Some c =
     let found : position (λ (k : TextKey). bytes_eq c.args.text.now k.now) c.args.names.now.keys ≡ Some c.in-Some.index = sym c.get_index_of.ensures.index ∙ c.in-Some.is in
-    let there : position_or_len (bytes_eq c.args.text.now) (names_of (map view c.args.entries.now)) ≡ c.in-Some.index =
+    let there : position_or_len (bytes_eq c.args.text.now) (entry_names (map view c.args.entries.now)) ≡ c.in-Some.index =
     rw (← c.requires) (sym (position_deref c.args.text.now c.args.names.now.keys) ∙ position_found _ c.args.names.now.keys c.in-Some.index found) in
     let within = within_entries c.args.names.now.keys c.args.entries.now c.in-Some.index (position_in _ c.args.names.now.keys c.in-Some.index found) c.requires in
     ap (λ v. Some (view v)) c.index-entries-index.is ∙ sym (find_at c.args.text.now c.args.entries.now c.in-Some.index _ there within)

@@ -1,8 +1,8 @@
 use Rattle.std.proofs.Common.{◌≡◌, None}
 use Rattle.toml.specs.View.{view}
 use Rattle.teg_reader.specs.declared.keys.Key.TheVariants as key
-use Rattle.teg_reader.specs.Trees.{list_at, names_of}
-use Rattle.teg_reader.specs.Walks.{finding}
+use Rattle.teg_reader.specs.DocumentTrees.{array_at, entry_names}
+use Rattle.teg_reader.specs.PassWalks.{finding}
 use Rattle.teg_reader.specs.UnknownTransitions.{unknown_transition}
 use Rattle.teg_reader.proofs.ClearLemmas.{good_entries, transitions_named, places_named}
 use Rattle.teg_reader.proofs.GraphLemmas.{owners_known, owners_good}
@@ -18,5 +18,5 @@ pub look_for_bad_inputs-requires-clause-owners : goal.look_for_bad_inputs-requir
 look_for_bad_inputs-requires-clause-owners c =
     let top = view c.args.top.now in
     let good = good_entries top c.requires.good in
-    let known : finding (unknown_transition (names_of (list_at key.Transition (view c.args.top.now)))) (view c.args.top.now) ≡ None = rw (← c.requires.names) c.in_ok-look_at_all.ensures in
-    rw c.list_at.ensures (owners_good (list_at key.Transition top) (list_at key.Input top) (transitions_named top good) (owners_known top known))
+    let known : finding (unknown_transition (entry_names (array_at key.Transition (view c.args.top.now)))) (view c.args.top.now) ≡ None = rw (← c.requires.names) c.in_ok-look_at_all.ensures in
+    rw c.list_at.ensures (owners_good (array_at key.Transition top) (array_at key.Input top) (transitions_named top good) (owners_known top known))

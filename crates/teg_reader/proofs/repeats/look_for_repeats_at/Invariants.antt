@@ -1,6 +1,6 @@
 use Rattle.std.proofs.Common.{◌≡◌, ◌+◌, map}
 use Rattle.toml.specs.View.{view}
-use Rattle.teg_reader.specs.Walks.{first_finding}
+use Rattle.teg_reader.specs.PassWalks.{first_finding}
 use Rattle.teg_reader.specs.Repeats.{repeats_earlier}
 use Rattle.teg_reader.proofs.TreeLemmas.{entries_from}
 use Rattle.teg_reader.proofs.RepeatLemmas.{HasTexts, texts_before}

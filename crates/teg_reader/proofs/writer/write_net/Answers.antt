@@ -5,7 +5,7 @@ use Rattle.toml.specs.Data.{Members, members_depth}
 use Rattle.toml.specs.Parse.{parse_document}
 use Rattle.toml.specs.Text.{IsDocumentText}
 use Rattle.toml.specs.View.{table_view}
-use Rattle.teg_reader.specs.Documents.{tree_of}
+use Rattle.teg_reader.specs.Documents.{tree_of_bytes}
 use Rattle.teg_reader.specs.Layouts.{IsLaidOut}
 use Rattle.teg_reader.specs.Migrated.{migrated}
 use Rattle.teg_reader.proofs.DocumentLemmas.{tree_read, document_of}
@@ -29,5 +29,5 @@ pub returns-in-Ok-clause-document : goal.returns-in-Ok-clause-document
 returns-in-Ok-clause-document c =
     let shallow : members_depth (table_view c.in_ok-table.table) ≤ 80 = rw c.in_ok-table.ensures.table (net_depth c.args.net.now) in
     let read : parse_document (string_bytes c.in-Ok.text) ≡ Some (migrated c.args.net.now) = rw (← c.in_ok-table.ensures.table) (c.in-Ok.ensures.reads_back shallow) in
-    let tree : tree_of (string_bytes c.in-Ok.text) ≡ Some (migrated c.args.net.now) = tree_read (string_bytes c.in-Ok.text) (migrated c.args.net.now) (IsUtf8-string_bytes c.in-Ok.text) read in
+    let tree : tree_of_bytes (string_bytes c.in-Ok.text) ≡ Some (migrated c.args.net.now) = tree_read (string_bytes c.in-Ok.text) (migrated c.args.net.now) (IsUtf8-string_bytes c.in-Ok.text) read in
     rw c.into_bytes.ensures.value (document_of (string_bytes c.in-Ok.text) (migrated c.args.net.now) tree ∙ net_written c.args.net.now c.in_ok-table.ensures.rules)

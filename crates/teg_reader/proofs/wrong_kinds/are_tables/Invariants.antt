@@ -1,7 +1,7 @@
 use Rattle.std.proofs.Common.{◌≡◌, map, drop}
 use Rattle.std.specs.List.{list_all}
 use Rattle.toml.specs.View.{view}
-use Rattle.teg_reader.specs.Trees.{is_table}
+use Rattle.teg_reader.specs.DocumentTrees.{is_table}
 use Rattle.teg_reader.proofs.wrong_kinds.are_tables.Given as goal
 
 abbrev pub invariant-loop-value : goal.invariant-loop-value

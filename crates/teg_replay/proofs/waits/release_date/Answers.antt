@@ -1,5 +1,5 @@
 use Rattle.std.proofs.Common.{◌∙◌, ap}
-use Rattle.teg_net.specs.Inputs.{date_by}
+use Rattle.teg_net.specs.Inputs.{date_by_list}
 use Rattle.teg_net.proofs.InputDates.{found_rules}
 use Rattle.teg_replay.proofs.waits.release_date.Goals as goal
 
@@ -11,9 +11,9 @@ date-requires-clause-again c =
 pub returns-in-Some : goal.returns-in-Some
 returns-in-Some c =
     let first = (rw c.in-Some.is at c.input_list.ensures.list) ∙ c.requires.ends.lists c.args.transition.index c.requires.transition in
-    c.date.ensures.value ∙ ap (λ o. date_by o c.args.number) first
+    c.date.ensures.value ∙ ap (λ o. date_by_list o c.args.number) first
 
 pub returns-in-None : goal.returns-in-None
 returns-in-None c =
     let first = (rw c.in-None.is at c.input_list.ensures.list) ∙ c.requires.ends.lists c.args.transition.index c.requires.transition in
-    ap (λ o. date_by o c.args.number) first
+    ap (λ o. date_by_list o c.args.number) first

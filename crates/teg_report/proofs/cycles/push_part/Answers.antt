@@ -3,7 +3,7 @@ use Rattle.teg_net.specs.declared.answers.Potential.{Potential}
 use Rattle.teg_report.specs.Cycles.{potential_line, ratio_line}
 use Rattle.teg_text.specs.Lines.{line_then, written}
 use Rattle.teg_text.proofs.Joining.{two_then}
-use Rattle.teg_text.specs.Names.{circuit_line}
+use Rattle.teg_text.specs.WordsOfNames.{circuit_line}
 use Rattle.teg_report.proofs.cycles.push_part.Goals as goal
 
 pub returns-in_ok-push_each-in-Best : goal.returns-in_ok-push_each-in-Best

@@ -2,10 +2,10 @@ use Rattle.std.proofs.Common.{subst, ◌≡◌, [], ◌∷◌, ◌++◌, List, �
 use Rattle.std.specs.Fmt.{decimal}
 use Rattle.std.specs.List.{range_with_len}
 use Rattle.dioid.specs.declared.dates.Date.{Date}
-use Rattle.teg_dates.specs.Tables.{date_at}
-use Rattle.teg_report.specs.Lists.{dated_firing}
+use Rattle.teg_dates.specs.DateTables.{date_at}
+use Rattle.teg_report.specs.DateLists.{dated_firing}
 use Rattle.teg_text.specs.Lines.{further_then}
-use Rattle.teg_text.specs.Words.{IsDate, date_word}
+use Rattle.teg_text.specs.ValueWords.{IsDate, date_word}
 use Rattle.teg_text.proofs.Joining.{line_ends}
 use Rattle.teg_text.proofs.Listing.{all_below, more_after}
 use Rattle.teg_report.proofs.lists.push_line.Goals as goal

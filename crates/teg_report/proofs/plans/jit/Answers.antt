@@ -1,7 +1,7 @@
 use Rattle.std.proofs.Common.{rules, ◌≡◌, ◌+◌, ◌<◌, [], ◌++◌, List, ℕ, length, refl, ap, sym, ◌∙◌, string_bytes, arith}
 use Rattle.std.specs.List.{flat_map, range_with_len}
 use Rattle.teg_jit.specs.Plans.{latest_at}
-use Rattle.teg_report.specs.Plans.{IsLatestKept, numbers_line, planned_lines}
+use Rattle.teg_report.specs.PlanLines.{IsLatestKept, numbers_line, planned_lines}
 use Rattle.teg_text.specs.Lines.{line_then, written}
 use Rattle.teg_text.proofs.Joining.{line_append, written_flat_map}
 use Rattle.teg_text.proofs.Listing.{all_below, more_after}

@@ -1,7 +1,7 @@
 use Rattle.std.proofs.Common.{ℕ, ◌+◌, ◌<◌, ◌≡◌, ◌++◌, string_bytes}
 use Rattle.std.specs.List.{flat_map, range_with_len}
 use Rattle.teg_jit.specs.Plans.{latest_at}
-use Rattle.teg_report.specs.Plans.{IsLatestKept, planned_lines}
+use Rattle.teg_report.specs.PlanLines.{IsLatestKept, planned_lines}
 use Rattle.teg_text.specs.Lines.{written}
 use Rattle.teg_report.proofs.plans.jit.Given as goal
 

@@ -2,7 +2,7 @@ use Rattle.std.proofs.Common.{◌≡◌, ◌+◌, [], subst, ap, string_bytes, a
 use Rattle.std.specs.List.{range_with_len}
 use Rattle.teg_jit.specs.declared.answers.LatestDate.{LatestDate}
 use Rattle.teg_jit.specs.Plans.{latest_at}
-use Rattle.teg_report.specs.Plans.{IsLatestKept, latest_line, planned_line}
+use Rattle.teg_report.specs.PlanLines.{IsLatestKept, latest_line, planned_line}
 use Rattle.teg_text.specs.Lines.{line_then}
 use Rattle.teg_text.proofs.Joining.{lines_end}
 use Rattle.teg_text.proofs.Listing.{all_below, more_after}

@@ -1,7 +1,7 @@
 use Rattle.std.proofs.Common.{ℕ, ◌+◌, ◌<◌, ◌≡◌, ◌++◌, [], string_bytes}
 use Rattle.std.specs.List.{flat_map, range_with_len}
 use Rattle.teg_jit.specs.Plans.{latest_at}
-use Rattle.teg_report.specs.Plans.{IsLatestKept, planned_line}
+use Rattle.teg_report.specs.PlanLines.{IsLatestKept, planned_line}
 use Rattle.teg_text.specs.Lines.{line_then}
 use Rattle.teg_report.proofs.plans.push_transition.Given as goal
 

@@ -2,8 +2,8 @@ use Rattle.std.proofs.Common.{◌≡◌, ℕ, Result, Ok, Err, IfOk, ap, ◌∙�
 use Rattle.std.specs.Global.{Vec}
 use Rattle.std.specs.Option.{option_copied}
 use Rattle.teg_report.specs.Answering.{IsReadFrom, answer_in}
-use Rattle.teg_report.specs.Kept.{IsKept, IsPlain, IsTold}
-use Rattle.teg_report.specs.Meanings.{meant}
+use Rattle.teg_report.specs.KeptAnswers.{IsAnswerKept, IsPlain, IsAnswerTold}
+use Rattle.teg_report.specs.AnswerMeanings.{meant}
 use Rattle.teg_report.specs.Reports.{text_of}
 use Rattle.teg_report.proofs.ReadBack.{told_read}
 use Rattle.teg_report.proofs.reports.report.Goals as goal
@@ -17,8 +17,8 @@ pub returns-clause-told : goal.returns-clause-told
 returns-clause-told c =
     let net = option_copied c.args.net in
     let mine = meant c.args.answer.now in
-    let kept : IfOk c.text.result (λ _. IsPlain mine → IsKept mine) = c.text.ensures.kept in
-    by_both (λ (_ : Vec ℕ). IsPlain mine → IsKept mine) (λ (_ : Vec ℕ). IsPlain mine → IsKept mine) (λ (_ : Vec ℕ). IsPlain mine → IsTold net mine) c.text.result
+    let kept : IfOk c.text.result (λ _. IsPlain mine → IsAnswerKept mine) = c.text.ensures.kept in
+    by_both (λ (_ : Vec ℕ). IsPlain mine → IsAnswerKept mine) (λ (_ : Vec ℕ). IsPlain mine → IsAnswerKept mine) (λ (_ : Vec ℕ). IsPlain mine → IsAnswerTold net mine) c.text.result
     (λ _ h _ plain. record { keeps_rules = c.know_rules.ensures; about = c.requires; kept = h plain }) kept kept
 
 pub returns-clause-read_back : goal.returns-clause-read_back
@@ -27,7 +27,7 @@ returns-clause-read_back c =
     let mine = meant c.args.answer.now in
     by_both
     (λ (text : Vec ℕ). text.items ≡ text_of net mine)
-    (λ (text : Vec ℕ). IsPlain mine → IsKept mine)
+    (λ (text : Vec ℕ). IsPlain mine → IsAnswerKept mine)
     (λ (text : Vec ℕ). IsPlain mine → IsReadFrom net mine text.items)
     c.text.result
     (λ text is kept plain names named. ap (answer_in names) is ∙ told_read net names named mine (record { keeps_rules = c.know_rules.ensures; about = c.requires; kept = kept plain }))

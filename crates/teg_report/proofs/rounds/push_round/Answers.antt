@@ -1,9 +1,9 @@
 use Rattle.std.proofs.Common.{[], ◌∷◌, ◌++◌, List, ℕ, map, ap, ◌∙◌, string_bytes}
 use Rattle.teg_net.specs.declared.rounds.Choice.{Choice}
-use Rattle.teg_report.specs.Rounds.{choice_line, turn_line}
+use Rattle.teg_report.specs.RoundLines.{choice_line, turn_line}
 use Rattle.teg_text.specs.Lines.{line_then, written}
 use Rattle.teg_text.proofs.Joining.{two_then}
-use Rattle.teg_text.specs.Names.{circuit_line}
+use Rattle.teg_text.specs.WordsOfNames.{circuit_line}
 use Rattle.teg_report.proofs.rounds.push_round.Goals as goal
 
 pub returns-clause-text : goal.returns-clause-text

@@ -2,8 +2,8 @@ use Rattle.std.proofs.Common.{rules, ◌≡◌, ◌<◌, ◌^◌, ◌++◌, List
 use Rattle.std.proofs.lemmas.List.{get_or-map, length-map, take_all}
 use Rattle.std.proofs.lemmas.List.Elements.{All-more}
 use Rattle.std.specs.List.{range_with_len}
-use Rattle.teg_report.specs.Rounds.{IsRoundKept, RoundLists, IsRoundIn, no_round, round_lines}
-use Rattle.teg_report.specs.Meanings.{round_lists}
+use Rattle.teg_report.specs.RoundLines.{IsRoundKept, RoundLists, IsRoundIn, no_round, round_lines}
+use Rattle.teg_report.specs.AnswerMeanings.{round_lists}
 use Rattle.teg_text.specs.Lines.{written}
 use Rattle.teg_text.proofs.Joining.{written_flat_map}
 use Rattle.teg_text.proofs.Listing.{more_after}

@@ -4,9 +4,9 @@ use Rattle.std.proofs.lemmas.List.Elements.{All-more}
 use Rattle.std.specs.Global.{Vec}
 use Rattle.std.specs.List.{flat_map}
 use Rattle.teg_net.specs.declared.rounds.Round.{Round}
-use Rattle.teg_report.specs.Cycles.{PartLists, NoCircuitIn}
-use Rattle.teg_report.specs.Rounds.{IsRunKept, RoundLists, Run, IsRunIn, circuits_in, run_lines, runs_from}
-use Rattle.teg_report.specs.Meanings.{part_lists, round_lists, runs_lists}
+use Rattle.teg_report.specs.Cycles.{ToldPart, NoCircuitIn}
+use Rattle.teg_report.specs.RoundLines.{IsRunKept, RoundLists, Run, IsRunIn, circuits_in, run_lines, runs_from}
+use Rattle.teg_report.specs.AnswerMeanings.{part_lists, round_lists, runs_lists}
 use Rattle.teg_text.specs.Lines.{written}
 use Rattle.teg_text.proofs.Joining.{written_flat_map}
 use Rattle.teg_report.proofs.Runs.{best_at, circuits_more, next_list, no_run_more, one_run_more}
@@ -67,7 +67,7 @@ loop-number-preserved c =
           get_or-map (λ run. map round_lists run.items) lists told w.index-runs-told.result [] few
           ∙ (ap (λ (run : Vec Round). map round_lists run.items) (sym w.index-runs-told.is) ∙ ap (map round_lists) (sym w.deref.ensures.value)) in
           let next : get_or runs (circuits_in (take n parts)) [] ≡ map round_lists w.deref.result.now = ap (λ (j : ℕ). get_or runs j []) (sym c.loop-number.invariant.told) ∙ same in
-          let more : circuits_in (take (n + 1) parts) ≡ circuits_in (take n parts) + 1 = circuits_more parts n n_in ∙ ap (λ (p : PartLists). circuits_in (take n parts) + circuits_in (p ∷ [])) best in
+          let more : circuits_in (take (n + 1) parts) ≡ circuits_in (take n parts) + 1 = circuits_more parts n n_in ∙ ap (λ (p : ToldPart). circuits_in (take n parts) + circuits_in (p ∷ [])) best in
           let run : Run = (record { part = n; rounds = map round_lists w.deref.result.now }) in
           let one : runs_from 0 (take (n + 1) parts) runs ≡ runs_from 0 (take n parts) runs ++ run ∷ [] =
           one_run_more parts n runs _ _ _ n_in best (omega (arith, told_in, c.loop-number.invariant.told))
@@ -84,7 +84,7 @@ loop-number-preserved c =
       | in-NoCircuit w ↦
           let none : get_or parts n NoCircuitIn ≡ NoCircuitIn =
           get_or-map part_lists answers n c.index-parts-number.result NoCircuitIn within ∙ ap part_lists (sym c.index-parts-number.is ∙ w.in-NoCircuit.is) in
-          let more : circuits_in (take (n + 1) parts) ≡ circuits_in (take n parts) + 0 = circuits_more parts n n_in ∙ ap (λ (p : PartLists). circuits_in (take n parts) + circuits_in (p ∷ [])) none in
+          let more : circuits_in (take (n + 1) parts) ≡ circuits_in (take n parts) + 0 = circuits_more parts n n_in ∙ ap (λ (p : ToldPart). circuits_in (take n parts) + circuits_in (p ∷ [])) none in
           record {
             told = omega (arith, w.told-is, c.loop-number.invariant.told, more);
             text = ap string_bytes w.text-is ∙ (c.loop-number.invariant.text

@@ -1,11 +1,11 @@
 use Rattle.std.proofs.Common.{rules, ◌≡◌, ◌<◌, ◌^◌, [], ◌++◌, List, All, ℕ, length, map, unsigned_abs, pos, refl, subst, ap, sym, ◌∙◌, string_bytes, arith}
 use Rattle.std.proofs.lemmas.List.{get_or_default}
 use Rattle.std.specs.List.{range_with_len}
-use Rattle.settled_laws.specs.Forms.{row_of, step_of}
+use Rattle.settled_laws.specs.SettledForms.{row_of, step_of_form}
 use Rattle.teg_report.specs.SettledTexts.{settled_line}
 use Rattle.teg_text.specs.Lines.{line_then, written}
-use Rattle.teg_text.specs.Names.{settled_words}
-use Rattle.teg_text.specs.Words.{IsDate}
+use Rattle.teg_text.specs.WordsOfNames.{settled_words}
+use Rattle.teg_text.specs.ValueWords.{IsDate}
 use Rattle.teg_text.proofs.Joining.{line_append, lines_end}
 use Rattle.teg_text.proofs.Listing.{all_below, more_after}
 use Rattle.teg_report.proofs.settled.dates.Goals as goal
@@ -16,7 +16,7 @@ loop-index-preserved c =
     let f = c.args.settled.now in
     let k = c.loop-index.index in (
       more_after (λ t. line_then (settled_line net f t) []) _ _ _ _ 0 k k (omega arith) c.in_ok-push_row.ensures.text refl c.loop-index.invariant.0,
-      all_below (λ t. All IsDate (row_of f t) × (unsigned_abs (step_of f t) < 2 ^ 128)) k c.loop-index.invariant.1 (c.in_ok-push_row.ensures.dates, c.in_ok-push_row.ensures.step),
+      all_below (λ t. All IsDate (row_of f t) × (unsigned_abs (step_of_form f t) < 2 ^ 128)) k c.loop-index.invariant.1 (c.in_ok-push_row.ensures.dates, c.in_ok-push_row.ensures.step),
     )
 
 pub returns-clause-text : goal.returns-clause-text

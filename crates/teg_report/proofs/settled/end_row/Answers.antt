@@ -1,6 +1,6 @@
 use Rattle.std.proofs.Common.{rules, ◌≡◌, [], ◌∷◌, ◌++◌, codes, string_bytes}
 use Rattle.std.specs.Fmt.{signed_decimal}
-use Rattle.teg_text.specs.Words.{date_word}
+use Rattle.teg_text.specs.ValueWords.{date_word}
 use Rattle.teg_text.proofs.Joining.{line_goes_on}
 use Rattle.teg_report.proofs.settled.end_row.Goals as goal
 

@@ -3,7 +3,7 @@ use Rattle.std.proofs.lemmas.List.{get_or-map, length-map}
 use Rattle.std.proofs.lemmas.List.Elements.{All-map}
 use Rattle.std.proofs.lemmas.Simd.{map-map}
 use Rattle.teg_report.specs.declared.answer.TransferLine.{TransferLine}
-use Rattle.teg_report.specs.Meanings.{times_from, times_to}
+use Rattle.teg_report.specs.AnswerMeanings.{times_from, times_to}
 use Rattle.teg_report.specs.SettledTexts.{AreTimesToKept, TimesTo, from_line, to_line}
 use Rattle.teg_text.specs.Lines.{line_then, written}
 use Rattle.teg_text.proofs.Joining.{line_append}

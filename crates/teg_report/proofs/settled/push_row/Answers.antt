@@ -1,9 +1,9 @@
 use Rattle.std.proofs.Common.{rules, ◌≡◌, [], ◌++◌, List, ℕ, ℤ, codes, ap, ap₂, ◌∙◌, append_assoc, string_bytes}
 use Rattle.dioid.specs.declared.dates.Date.{Date}
-use Rattle.settled_laws.specs.Forms.{row_of, step_of}
+use Rattle.settled_laws.specs.SettledForms.{row_of, step_of_form}
 use Rattle.teg_report.specs.SettledTexts.{row_words}
 use Rattle.teg_text.specs.Lines.{further_then}
-use Rattle.teg_text.specs.Names.{name_of_transition}
+use Rattle.teg_text.specs.WordsOfNames.{name_of_transition}
 use Rattle.teg_report.proofs.settled.push_row.Goals as goal
 
 pub returns-clause-text : goal.returns-clause-text
@@ -11,7 +11,7 @@ returns-clause-text c =
     let f = c.args.settled.now in
     let i = c.args.index in
     let name = name_of_transition c.args.net.now (record { index = i }) in
-    let end = further_then (row_words (row_of f i) (step_of f i)) [] in
+    let end = further_then (row_words (row_of f i) (step_of_form f i)) [] in
     let pushed : string_bytes c.end_row.new.text ≡ string_bytes c.begin_row.new.text ++ further_then (row_words c.row.result.now c.step.result) [] = search rules in
     pushed
     ∙ (ap₂ (λ (ds : List Date) (s : ℤ). string_bytes c.begin_row.new.text ++ further_then (row_words ds s) []) c.row.ensures.value c.step.ensures.value

@@ -2,7 +2,7 @@ use Rattle.std.proofs.Common.{rules, ◌≡◌, ◌<◌, [], ◌++◌, List, ℕ
 use Rattle.std.specs.List.{flat_map}
 use Rattle.std.proofs.lemmas.List.{get_or-map, length-map, take_all}
 use Rattle.teg_report.specs.SettledTexts.{AreTimesKept, AreTimesIn, TimesFrom, from_lines, output_count, transfer_line}
-use Rattle.teg_report.specs.Meanings.{times_from}
+use Rattle.teg_report.specs.AnswerMeanings.{times_from}
 use Rattle.teg_text.specs.Lines.{line_then, written}
 use Rattle.teg_text.proofs.Joining.{line_append, written_flat_map}
 use Rattle.teg_text.proofs.Listing.{all_items, more_items}

@@ -1,5 +1,5 @@
 use Rattle.std.proofs.Common.{rules, ◌≡◌, [], ◌∙◌, codes, drop, get_or, string_bytes}
-use Rattle.teg_report.specs.Texts.{command_forms}
+use Rattle.teg_report.specs.ShortAnswers.{command_forms}
 use Rattle.teg_report.proofs.TextsWritten.{usage_joined}
 use Rattle.teg_report.proofs.usage.usage.Goals as goal
 

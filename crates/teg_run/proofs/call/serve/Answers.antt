@@ -1,6 +1,6 @@
 use Rattle.std.proofs.Common.{map, string_bytes}
 use Rattle.teg_run.specs.Requests.{request_of}
-use Rattle.teg_run.specs.Shown.{ShowsAsked}
+use Rattle.teg_run.specs.ShownFirings.{ShowsAsked}
 use Rattle.teg_run.proofs.Promises.{keeps_promises}
 use Rattle.teg_run.proofs.Showing.{serves_of}
 use Rattle.teg_run.proofs.ShownFiles.{shows_told}

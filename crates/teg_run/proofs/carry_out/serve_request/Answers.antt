@@ -3,7 +3,7 @@ use Rattle.teg_commands.specs.Calc.{SaysCalc}
 use Rattle.teg_commands.specs.Trial.{SaysTrial}
 use Rattle.teg_commands.proofs.Replayed.{nothing_shown}
 use Rattle.teg_run.specs.declared.request.Request.TheVariants.{OfNet, ValueOf, TrialOf}
-use Rattle.teg_run.specs.Shown.{Shows}
+use Rattle.teg_run.specs.ShownFirings.{Shows}
 use Rattle.teg_run.proofs.Answering.{closed_with}
 use Rattle.teg_run.proofs.Showing.{serves_with}
 use Rattle.teg_run.proofs.carry_out.serve_request.Goals as goal

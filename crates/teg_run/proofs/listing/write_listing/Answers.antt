@@ -1,6 +1,6 @@
 use Rattle.std.proofs.Common.{◌∙◌}
 use Rattle.std.proofs.lemmas.Result.{err_from_is_err_and}
-use Rattle.teg_commands.specs.Texts.{list_text}
+use Rattle.teg_commands.specs.CommandTexts.{list_text}
 use Rattle.teg_run.proofs.WrittenLists.{cut_up, head_cut, list_written}
 use Rattle.teg_run.proofs.listing.write_listing.Goals as goal
 

@@ -1,7 +1,7 @@
 use Rattle.std.proofs.Common.{◌≡◌, ◌+◌, map, refl, ap, ◌∙◌, arith}
 use Rattle.std.proofs.lemmas.Result.{err_from_is_err_and}
-use Rattle.teg_dates.specs.DateCells.{date_of}
-use Rattle.teg_run.specs.Lists.{lines_text}
+use Rattle.teg_dates.specs.DateCells.{date_of_cell}
+use Rattle.teg_run.specs.WrittenLists.{lines_text}
 use Rattle.teg_run.proofs.WrittenLists.{cut_up, gathered_none, gathered_more, gathered_cut, gathered_last}
 use Rattle.teg_run.proofs.listing.write_rows.Goals as goal
 
@@ -27,7 +27,7 @@ loop-number-preserved g c =
       block = c.put_row-end.ensures.same ∙ before.block;
       filled = c.in_ok-filled.ensures.0;
       gathered = λ x h.
-          gathered_more c.args.net.now x _ _ _ c.loop-number.block c.put_row-end.new.block (map date_of c.next_row.new.row) c.loop-number.filled c.put_row-end.result _ c.loop-number.number
+          gathered_more c.args.net.now x _ _ _ c.loop-number.block c.put_row-end.new.block (map date_of_cell c.next_row.new.row) c.loop-number.filled c.put_row-end.result _ c.loop-number.number
           (before.gathered x h) (rw before.number at (c.next_row.ensures.row.same x h)) c.put_row-end.ensures.text c.in_ok-filled.ensures;
     }
 
@@ -40,7 +40,7 @@ returns-in_err-filled g c = λ x h.
     let e = c.in_err-filled.field-0.0 in
     let p = err_from_is_err_and c.from_residual.result c.from_residual.ensures.1 in
     cut_up a d (lines_text c.args.net.now x c.args.count) c.from_residual.result p.0 e p.1
-    (gathered_cut c.args.net.now x a b d c.loop-number.block c.put_row-end.new.block (map date_of c.next_row.new.row) c.loop-number.filled c.put_row-end.result c.loop-number.number c.args.count e
+    (gathered_cut c.args.net.now x a b d c.loop-number.block c.put_row-end.new.block (map date_of_cell c.next_row.new.row) c.loop-number.filled c.put_row-end.result c.loop-number.number c.args.count e
     (before.gathered x h) (rw before.number at (c.next_row.ensures.row.same x h)) c.put_row-end.ensures.text c.in_err-filled.ensures (omega (arith, c.loop-number-test.true)))
 
 pub returns : goal.returns

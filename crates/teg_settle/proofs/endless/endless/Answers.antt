@@ -1,14 +1,14 @@
 use Rattle.std.proofs.Common.{ℕ, ◌<◌, ◌≤◌, arith, ⊎_elim}
 use Rattle.std.proofs.lemmas.Bool.{cases_lt}
-use Rattle.teg_settle.specs.Windows.{IsRefuted}
-use Rattle.teg_settle.specs.Endless.{HasFormBy, IsFormWithin}
+use Rattle.teg_settle.specs.ComparedRows.{IsRefuted}
+use Rattle.teg_settle.specs.Endless.{HasFormBy, IsSeenWithin}
 use Rattle.teg_settle.proofs.endless.endless.Goals as goal
 
 -- rows that are enough show a form, so their number stays below what is enough
 pub search-smaller : goal.search-smaller
 search-smaller g c =
     let known : HasFormBy c.args.net.now c.args.releases.now c.args.most g.enough = c.requires.1.1.1 in
-    let form : IsFormWithin _ known.dating c.args.most g.enough = known.form in
+    let form : IsSeenWithin _ known.dating c.args.most g.enough = known.form in
     let fits = form.fits in
     let count = c.in_ok-rows.ensures.count in
     let none : (period : ℕ) → IsRefuted c.args.net.now c.args.releases.now c.args.most c.in_ok-rows.rows.count period = rw c.in-None.is at c.seen.ensures in

@@ -1,5 +1,5 @@
 use Rattle.std.proofs.Common.{◌+◌, ◌-◌, ◌≤◌}
-use Rattle.teg_settle.specs.Windows.{AreRowsOf}
+use Rattle.teg_settle.specs.ComparedRows.{AreRowsOf}
 use Rattle.teg_settle.proofs.endless.endless.Given as goal
 
 abbrev pub invariant-search : goal.invariant-search

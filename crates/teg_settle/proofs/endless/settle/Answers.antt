@@ -1,7 +1,7 @@
 use Rattle.std.proofs.lemmas.Result.{IfOk-weaker}
-use Rattle.settled_laws.specs.Forms.{IsSettledFormOf}
-use Rattle.teg_settle.specs.Slopes.{HasSlopes}
-use Rattle.teg_settle.specs.Windows.{IsLeastForm}
+use Rattle.settled_laws.specs.SettledForms.{IsSettledFormOf}
+use Rattle.teg_settle.specs.SlopesOfNets.{HasSlopes}
+use Rattle.teg_settle.specs.ComparedRows.{IsLeastForm}
 use Rattle.teg_settle.proofs.OwnForms.{own_form, own_slopes}
 use Rattle.teg_settle.proofs.endless.settle.Goals as goal
 

@@ -1,7 +1,7 @@
 use Rattle.std.proofs.lemmas.Result.{IfOk-weaker, IfErr-weaker}
 use Rattle.teg_settle.specs.Alone.{AloneSettlesPast, IsAloneForm}
-use Rattle.teg_settle.specs.Refusals.{IsRightRefusal}
-use Rattle.teg_settle.specs.Windows.{IsLeastForm, LeastSettlesPast}
+use Rattle.teg_settle.specs.LimitRefusals.{IsRightSettleRefusal}
+use Rattle.teg_settle.specs.ComparedRows.{IsLeastForm, LeastSettlesPast}
 use Rattle.teg_settle.proofs.Limiting.{refusal_weaker}
 use Rattle.teg_settle.proofs.Transferring.{alone_here, alone_waits}
 use Rattle.teg_settle.proofs.limited.settle_alone.Goals as goal
@@ -24,6 +24,6 @@ returns-clause-too_long c =
     let made = c.in_ok-releases.ensures in
     let input = c.args.input.index in
     let limit = c.args.limit in
-    IfErr-weaker c.within.result (IsRightRefusal (LeastSettlesPast net r limit) limit) (IsRightRefusal (AloneSettlesPast net input limit) limit)
+    IfErr-weaker c.within.result (IsRightSettleRefusal (LeastSettlesPast net r limit) limit) (IsRightSettleRefusal (AloneSettlesPast net input limit) limit)
     (λ e. refusal_weaker (LeastSettlesPast net r limit) (AloneSettlesPast net input limit) limit e (λ h. (h.0, alone_here net r input c.requires.input made.tokens made.waits h.0 h.1, h.2)))
     c.within.ensures.too_long

@@ -1,9 +1,9 @@
 use Rattle.std.proofs.lemmas.Result.{IfOk-weaker, IfErr-weaker}
-use Rattle.settled_laws.specs.Forms.{IsSettledFormOf, NetSettlesPast}
-use Rattle.teg_settle.specs.Refusals.{IsRightRefusal}
-use Rattle.teg_settle.specs.Windows.{IsLeastForm, LeastSettlesPast}
+use Rattle.settled_laws.specs.SettledForms.{IsSettledFormOf, NetSettlesPast}
+use Rattle.teg_settle.specs.LimitRefusals.{IsRightSettleRefusal}
+use Rattle.teg_settle.specs.ComparedRows.{IsLeastForm, LeastSettlesPast}
 use Rattle.teg_settle.proofs.OwnForms.{own_form, own_refusal, own_slopes}
-use Rattle.teg_settle.specs.Slopes.{HasSlopes}
+use Rattle.teg_settle.specs.SlopesOfNets.{HasSlopes}
 use Rattle.teg_settle.proofs.limited.settle_within.Goals as goal
 
 pub returns-clause-form : goal.returns-clause-form
@@ -19,7 +19,7 @@ returns-clause-too_long c =
     let r = c.in_ok-releases.releases in
     let own = c.in_ok-releases.ensures in
     let limit = c.args.limit in
-    IfErr-weaker c.within.result (IsRightRefusal (LeastSettlesPast net r limit) limit) (IsRightRefusal (NetSettlesPast net limit) limit) (own_refusal net r own.tokens own.waits limit) c.within.ensures.too_long
+    IfErr-weaker c.within.result (IsRightSettleRefusal (LeastSettlesPast net r limit) limit) (IsRightSettleRefusal (NetSettlesPast net limit) limit) (own_refusal net r own.tokens own.waits limit) c.within.ensures.too_long
 
 pub returns-clause-slopes : goal.returns-clause-slopes
 returns-clause-slopes c =

@@ -1,5 +1,5 @@
 use Rattle.std.proofs.Common.{◌≡◌}
-use Rattle.teg_settle.specs.Windows.{AreRowsOf}
+use Rattle.teg_settle.specs.ComparedRows.{AreRowsOf}
 use Rattle.teg_settle.proofs.search.grow.Given as goal
 
 abbrev pub invariant-loop-number : goal.invariant-loop-number

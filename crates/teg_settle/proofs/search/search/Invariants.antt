@@ -1,5 +1,5 @@
 use Rattle.std.proofs.Common.{ℕ, ◌≤◌, ◌<◌, ◌-◌}
-use Rattle.teg_settle.specs.Windows.{AreRowsOf, IsRefuted}
+use Rattle.teg_settle.specs.ComparedRows.{AreRowsOf, IsRefuted}
 use Rattle.teg_settle.proofs.search.search.Given as goal
 
 abbrev pub invariant-loop-order : goal.invariant-loop-order

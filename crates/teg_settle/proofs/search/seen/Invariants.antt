@@ -1,5 +1,5 @@
 use Rattle.std.proofs.Common.{ℕ, ◌≤◌, ◌<◌}
-use Rattle.teg_settle.specs.Windows.{IsRefuted}
+use Rattle.teg_settle.specs.ComparedRows.{IsRefuted}
 use Rattle.teg_settle.proofs.search.seen.Given as goal
 
 abbrev pub invariant-loop-period : goal.invariant-loop-period

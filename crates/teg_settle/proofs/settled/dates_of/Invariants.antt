@@ -1,6 +1,6 @@
 use Rattle.std.proofs.Common.{ℕ, ◌+◌, ◌-◌, ◌≡◌, ◌≤◌, ◌<◌, length, get_or}
 use Rattle.dioid.specs.declared.dates.Date.TheVariants.{Early}
-use Rattle.teg_dates.specs.Tables.{date_at}
+use Rattle.teg_dates.specs.DateTables.{date_at}
 use Rattle.teg_settle.proofs.settled.dates_of.Given as goal
 
 abbrev pub invariant-loop-number : goal.invariant-loop-number

@@ -1,5 +1,5 @@
 use Rattle.std.proofs.Common.{ℕ, ◌≡◌, ◌<◌, length, get_or, pos}
-use Rattle.teg_settle.specs.Windows.{read_step}
+use Rattle.teg_settle.specs.ComparedRows.{read_step}
 use Rattle.teg_settle.proofs.shown.steps_of.Given as goal
 
 abbrev pub invariant-loop-index : goal.invariant-loop-index

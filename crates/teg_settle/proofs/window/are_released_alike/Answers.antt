@@ -4,8 +4,8 @@ use Rattle.std.specs.Int.{w128}
 use Rattle.std.proofs.lemmas.Bool.{false≢true}
 use Rattle.std.proofs.lemmas.Int.{to_z-of_z}
 use borrow.Author.Count.{below_more}
-use Rattle.teg_settle.specs.Releases.{release_by}
-use Rattle.teg_settle.specs.Windows.{GoesOnBy, read_step}
+use Rattle.teg_settle.specs.InitialReleases.{release_by}
+use Rattle.teg_settle.specs.ComparedRows.{GoesOnBy, read_step}
 use Rattle.teg_settle.proofs.window.are_released_alike.Goals as goal
 
 pub returns-then-not-is_released_alike : goal.returns-then-not-is_released_alike

@@ -1,6 +1,6 @@
 use Rattle.std.proofs.Common.{ℕ, ◌<◌}
-use Rattle.teg_settle.specs.Releases.{release_by}
-use Rattle.teg_settle.specs.Windows.{GoesOnBy, read_step}
+use Rattle.teg_settle.specs.InitialReleases.{release_by}
+use Rattle.teg_settle.specs.ComparedRows.{GoesOnBy, read_step}
 use Rattle.teg_settle.proofs.window.are_released_alike.Given as goal
 
 abbrev pub invariant-loop-index : goal.invariant-loop-index

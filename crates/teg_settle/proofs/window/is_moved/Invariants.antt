@@ -1,7 +1,7 @@
 use Rattle.std.proofs.Common.{ℕ, ◌≡◌, ◌+◌, ◌<◌}
 use Rattle.dioid.specs.Dates.{move}
-use Rattle.teg_dates.specs.Tables.{date_at}
-use Rattle.teg_settle.specs.Windows.{read_step}
+use Rattle.teg_dates.specs.DateTables.{date_at}
+use Rattle.teg_settle.specs.ComparedRows.{read_step}
 use Rattle.teg_settle.proofs.window.is_moved.Given as goal
 
 abbrev pub invariant-loop-index : goal.invariant-loop-index

@@ -3,7 +3,7 @@ use Rattle.std.proofs.lemmas.Bool.{cases_lt, false≢true}
 use Rattle.std.proofs.lemmas.Int.{to_z-of_z}
 use Rattle.dioid.specs.Dates.{move}
 use Rattle.settled_laws.proofs.Driven.{GoOn, goes_on_again}
-use Rattle.teg_settle.specs.Releases.{release_by}
+use Rattle.teg_settle.specs.InitialReleases.{release_by}
 use Rattle.teg_settle.proofs.window.is_released_alike.Goals as goal
 
 pub returns-then-not-is_step : goal.returns-then-not-is_step

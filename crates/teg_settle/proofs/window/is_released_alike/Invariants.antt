@@ -1,7 +1,7 @@
 use Rattle.std.proofs.Common.{ℕ, ◌+◌, ◌-◌, ◌≤◌, ◌<◌, ◌≡◌}
 use Rattle.dioid.specs.Dates.{move}
-use Rattle.teg_settle.specs.Releases.{release_by}
-use Rattle.teg_settle.specs.Windows.{most_window}
+use Rattle.teg_settle.specs.InitialReleases.{release_by}
+use Rattle.teg_settle.specs.ComparedRows.{most_window}
 use Rattle.teg_settle.proofs.window.is_released_alike.Given as goal
 
 abbrev pub invariant-loop-number : goal.invariant-loop-number

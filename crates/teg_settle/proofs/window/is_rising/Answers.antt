@@ -1,7 +1,7 @@
 use Rattle.std.proofs.Common.{◌<◌, ◌≤◌, ◌≡◌, arith, ⊎_elim}
 use Rattle.std.proofs.lemmas.Bool.{cases_lt}
 use Rattle.std.proofs.lemmas.List.{get_or_read}
-use Rattle.teg_settle.specs.Windows.{IsRisingPlace}
+use Rattle.teg_settle.specs.ComparedRows.{IsRisingPlace}
 use Rattle.teg_settle.proofs.window.is_rising.Goals as goal
 
 pub loop-place-preserved : goal.loop-place-preserved

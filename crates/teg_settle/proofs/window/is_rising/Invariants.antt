@@ -1,6 +1,6 @@
 use Rattle.std.proofs.Common.{ℕ, ◌<◌, length, get_or}
 use Rattle.teg_net.specs.declared.entries.Place.{Place}
-use Rattle.teg_settle.specs.Windows.{IsRisingPlace}
+use Rattle.teg_settle.specs.ComparedRows.{IsRisingPlace}
 use Rattle.teg_settle.proofs.window.is_rising.Given as goal
 
 abbrev pub invariant-loop-place : goal.invariant-loop-place

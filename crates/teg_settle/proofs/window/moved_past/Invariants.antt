@@ -1,5 +1,5 @@
 use Rattle.std.proofs.Common.{◌+◌, ◌≤◌}
-use Rattle.teg_settle.specs.Windows.{IsMovedPast}
+use Rattle.teg_settle.specs.ComparedRows.{IsMovedPast}
 use Rattle.teg_settle.proofs.window.moved_past.Given as goal
 
 abbrev pub invariant-loop-number : goal.invariant-loop-number

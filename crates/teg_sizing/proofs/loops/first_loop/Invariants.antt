@@ -1,5 +1,5 @@
 use Rattle.std.proofs.Common.{ℕ, ◌<◌}
-use Rattle.teg_sizing.specs.Paths.{NoneLeaves}
+use Rattle.teg_sizing.specs.TracedPaths.{NoneLeaves}
 use Rattle.teg_sizing.proofs.loops.first_loop.Given as goal
 
 abbrev pub invariant-loop-end : goal.invariant-loop-end

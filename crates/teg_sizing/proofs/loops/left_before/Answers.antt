@@ -5,7 +5,7 @@ use Rattle.teg_net.specs.declared.entries.Place.{Place}
 use Rattle.teg_net.specs.Nets.{NetLists}
 use Rattle.teg_net.specs.Circuits.{IsPath}
 use Rattle.teg_net.proofs.PathLaws.{IsPath-in_range}
-use Rattle.teg_sizing.specs.Paths.{no_id, left_at}
+use Rattle.teg_sizing.specs.TracedPaths.{no_id, transition_left_at}
 use Rattle.teg_net.proofs.Reading.{read_place}
 use Rattle.teg_sizing.proofs.loops.left_before.Goals as goal
 
@@ -13,7 +13,7 @@ in_net : (net : NetLists) (ps : List PlaceId) (own : List Place) (k : ℕ) → o
 in_net net ps own k e path l = rw e (IsPath-in_range net ps path k no_id l)
 
 -- the place at a position, as it is read
-left_read : (net : NetLists) (ps : List PlaceId) (own : List Place) (k : ℕ) (q : Place) → own ≡ net.places → IsPath net ps → k < length ps → q ≡ get_or own (get_or ps k no_id).index q → (get_or own (get_or ps k no_id).index q).from.index ≡ left_at net ps k
+left_read : (net : NetLists) (ps : List PlaceId) (own : List Place) (k : ℕ) (q : Place) → own ≡ net.places → IsPath net ps → k < length ps → q ≡ get_or own (get_or ps k no_id).index q → (get_or own (get_or ps k no_id).index q).from.index ≡ transition_left_at net ps k
 left_read net ps own k q e path l is = ap (λ (z : Place). z.from.index) (sym is) ∙ ap (λ (z : Place). z.from.index) (read_place net own (get_or ps k no_id) q e (IsPath-in_range net ps path k no_id l) is)
 
 pub bounds-own-places-2 : goal.bounds-own-places-2
@@ -46,5 +46,5 @@ loop-before-preserved c =
     (λ (m : k < c.loop-before.before). c.loop-before.invariant k m e)
     (λ (m : c.loop-before.before ≤ k).
     let is : k ≡ c.loop-before.before = omega arith in
-    c.if-own-places.false (there ∙ ap (left_at net ps) (sym is) ∙ e ∙ sym here))
+    c.if-own-places.false (there ∙ ap (transition_left_at net ps) (sym is) ∙ e ∙ sym here))
     (cases_lt k c.loop-before.before)

@@ -1,6 +1,6 @@
 use Rattle.std.proofs.Common.{◌≡◌, length, get_or, sym, subst, arith}
 use Rattle.std.proofs.lemmas.List.{get_or_default}
-use Rattle.teg_sizing.specs.Rounds.{no_cell}
+use Rattle.teg_sizing.specs.ValueRounds.{no_cell}
 use Rattle.teg_sizing.proofs.Offers.{FreshUpTo, fresh_more, fresh_end}
 use Rattle.teg_sizing.proofs.rounds.fresh.Goals as goal
 

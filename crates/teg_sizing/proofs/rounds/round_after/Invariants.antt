@@ -1,4 +1,4 @@
-use Rattle.teg_sizing.specs.Rounds.{IsRoundUpTo}
+use Rattle.teg_sizing.specs.ValueRounds.{IsRoundUpTo}
 use Rattle.teg_sizing.proofs.rounds.round_after.Given as goal
 
 abbrev pub invariant-loop-index : goal.invariant-loop-index

@@ -1,5 +1,5 @@
 use Rattle.std.proofs.Common.{◌≡◌, ◌≤◌, ◌+◌, length}
-use Rattle.teg_sizing.specs.Rounds.{AreRounds}
+use Rattle.teg_sizing.specs.ValueRounds.{AreRounds}
 use Rattle.teg_sizing.proofs.rounds.rounds.Given as goal
 
 abbrev pub invariant-loop-number : goal.invariant-loop-number

@@ -1,7 +1,7 @@
 use Rattle.std.proofs.Common.{List, ap, subst, ◌∙◌}
-use Rattle.teg_sizing.specs.declared.rounds.Cell.{Cell}
-use Rattle.teg_sizing.specs.Paths.{last_round}
-use Rattle.teg_sizing.specs.Surpluses.{NoneIsBetter, IsBetter}
+use Rattle.teg_sizing.specs.declared.rounds.ValueCell.{ValueCell}
+use Rattle.teg_sizing.specs.TracedPaths.{last_round}
+use Rattle.teg_sizing.specs.Surpluses.{NoneIsBetter, IsToldMore}
 use Rattle.teg_sizing.proofs.Looping.{none_above}
 use Rattle.teg_sizing.proofs.surpluses.above_apart.Goals as goal
 
@@ -13,4 +13,4 @@ returns-in_default-clause-none c =
 
 pub loop_of-requires-clause-better : goal.loop_of-requires-clause-better
 loop_of-requires-clause-better c =
-    rw c.deref-2.ensures.value (subst (λ (z : List Cell). IsBetter z c.in-Some.end) (c.last_cells.ensures ∙ ap last_round c.deref.ensures.value) c.in-Some.ensures.some)
+    rw c.deref-2.ensures.value (subst (λ (z : List ValueCell). IsToldMore z c.in-Some.end) (c.last_cells.ensures ∙ ap last_round c.deref.ensures.value) c.in-Some.ensures.some)

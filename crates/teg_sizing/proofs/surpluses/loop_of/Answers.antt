@@ -2,17 +2,17 @@ use Rattle.std.proofs.Common.{ℕ, ◌≡◌, ◌<◌, ◌-◌, List, length, sy
 use Rattle.teg_net.specs.declared.entries.PlaceId.{PlaceId}
 use Rattle.teg_net.specs.Nets.{NetLists, IsNet}
 use Rattle.teg_net.specs.Ratios.{Fraction}
-use Rattle.teg_sizing.specs.declared.rounds.Cell.{Cell}
-use Rattle.teg_sizing.specs.Paths.{trace_of, last_round}
-use Rattle.teg_sizing.specs.Surpluses.{IsBetter, AreRoundsApart}
+use Rattle.teg_sizing.specs.declared.rounds.ValueCell.{ValueCell}
+use Rattle.teg_sizing.specs.TracedPaths.{trace_of, last_round}
+use Rattle.teg_sizing.specs.Surpluses.{IsToldMore, AreRoundsApart}
 use Rattle.teg_sizing.proofs.Looping.{IsLongPath, long_path, above_found}
 use Rattle.teg_sizing.proofs.surpluses.loop_of.Goals as goal
 
 -- the path that is traced
-long_of : (net : NetLists) (r : Fraction) (p : PlaceId) (rounds : List (List Cell)) (ok : IsNet net) (h : AreRoundsApart net r p rounds) (t : ℕ) (path : List PlaceId) → IsBetter (last_round rounds) t → path ≡ trace_of net rounds (length rounds) t
+long_of : (net : NetLists) (r : Fraction) (p : PlaceId) (rounds : List (List ValueCell)) (ok : IsNet net) (h : AreRoundsApart net r p rounds) (t : ℕ) (path : List PlaceId) → IsToldMore (last_round rounds) t → path ≡ trace_of net rounds (length rounds) t
     → IsLongPath net r p h.first h.told.all ok h.starts h.told.are h.told.long path t
 long_of net r p rounds ok h t path better is =
-    let far = long_path net r p h.first h.told.all ok h.starts h.told.are h.told.long t (subst (λ (z : List Cell). IsBetter z t) h.told.last better) in
+    let far = long_path net r p h.first h.told.all ok h.starts h.told.are h.told.long t (subst (λ (z : List ValueCell). IsToldMore z t) h.told.last better) in
     subst (λ (z : List PlaceId). IsLongPath net r p h.first h.told.all ok h.starts h.told.are h.told.long z t) (sym (is ∙ h.told.paths t)) far
 
 pub trace-requires-clause-rounds : goal.trace-requires-clause-rounds

@@ -1,6 +1,6 @@
 use Rattle.std.proofs.Common.{ℕ, ◌≡◌, ◌+◌, List, length, ap, subst}
 use Rattle.teg_net.specs.declared.entries.Transition.{Transition}
-use Rattle.teg_sizing.specs.Paths.{HaveToldAll}
+use Rattle.teg_sizing.specs.TracedPaths.{HaveToldAll}
 use Rattle.teg_sizing.specs.Surpluses.{StartsEverywhere}
 use Rattle.teg_sizing.proofs.Traces.{of_net}
 use Rattle.teg_sizing.proofs.surpluses.rounds_apart.Goals as goal

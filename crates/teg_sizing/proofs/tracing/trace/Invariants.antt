@@ -1,5 +1,5 @@
 use Rattle.std.proofs.Common.{◌≡◌, ◌<◌, ◌≤◌, ◌++◌, length, reverse}
-use Rattle.teg_sizing.specs.Paths.{trace_of}
+use Rattle.teg_sizing.specs.TracedPaths.{trace_of}
 use Rattle.teg_sizing.proofs.tracing.trace.Given as goal
 
 abbrev pub invariant-loop-number : goal.invariant-loop-number

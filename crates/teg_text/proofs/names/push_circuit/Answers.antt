@@ -1,6 +1,6 @@
 use Rattle.std.proofs.Common.{[], ◌++◌, List, ℕ, map, codes, ap, ◌∙◌, append_assoc, string_bytes}
 use Rattle.teg_text.specs.Lines.{further_then}
-use Rattle.teg_text.specs.Names.{name_of_place}
+use Rattle.teg_text.specs.WordsOfNames.{name_of_place}
 use Rattle.teg_text.proofs.Joining.{line_ends}
 use Rattle.teg_text.proofs.names.push_circuit.Goals as goal
 

@@ -1,6 +1,6 @@
 use Rattle.std.proofs.Common.{◌≡◌, ◌++◌, ◌∷◌, take, string_bytes}
 use Rattle.std.specs.List.{flat_map}
-use Rattle.teg_text.specs.Names.{name_of_place}
+use Rattle.teg_text.specs.WordsOfNames.{name_of_place}
 use Rattle.teg_text.proofs.names.push_places.Given as goal
 
 abbrev pub invariant-loop-id : goal.invariant-loop-id

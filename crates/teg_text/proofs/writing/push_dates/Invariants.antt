@@ -1,6 +1,6 @@
 use Rattle.std.proofs.Common.{◌≡◌, ◌++◌, ◌∷◌, All, take, string_bytes}
 use Rattle.std.specs.List.{flat_map}
-use Rattle.teg_text.specs.Words.{IsDate, date_word}
+use Rattle.teg_text.specs.ValueWords.{IsDate, date_word}
 use Rattle.teg_text.proofs.writing.push_dates.Given as goal
 
 abbrev pub invariant-loop-date : goal.invariant-loop-date

@@ -1,5 +1,5 @@
 use Rattle.std.proofs.Common.{◌≡◌, ◌++◌, take, string_bytes}
-use Rattle.teg_text.specs.Words.{label_word}
+use Rattle.teg_text.specs.ValueWords.{label_word}
 use Rattle.teg_text.proofs.writing.push_label.Given as goal
 
 abbrev pub invariant-loop-byte : goal.invariant-loop-byte

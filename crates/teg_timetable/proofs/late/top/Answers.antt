@@ -1,7 +1,7 @@
 use Rattle.std.proofs.Common.{◌<◌, ◌≤◌, ◌+◌, ◌≡◌, max, subst, arith}
-use Rattle.teg_timetable.specs.Working.{IsTopUpTo}
 use Rattle.teg_timetable.proofs.Tops.{top_first, top_more}
 use Rattle.teg_timetable.proofs.late.top.Goals as goal
+use Rattle.teg_timetable.proofs.TopsUpTo.{IsTopUpTo}
 
 pub loop-number-init : goal.loop-number-init
 loop-number-init c =

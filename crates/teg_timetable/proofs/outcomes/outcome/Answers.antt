@@ -1,7 +1,7 @@
 use Rattle.std.proofs.Common.{ℕ, ◌<◌, ◌≤◌, ◌≡◌, List, length, get_or, inl, inr, subst, arith}
 use Rattle.std.specs.Prelude.{All, slice_index, ◌⊎◌}
 use Rattle.std.proofs.lemmas.List.{get_or_read}
-use Rattle.teg_timetable.specs.Spreads.{left_at}
+use Rattle.teg_timetable.specs.Spreads.{delay_left}
 use Rattle.teg_timetable.specs.Working.{AreBuilt, AreFeeders, AreGood, IsTop}
 use Rattle.teg_timetable.proofs.Feeding.{feeders_go_back, kept, recovered}
 use Rattle.teg_timetable.proofs.outcomes.outcome.Goals as goal
@@ -27,7 +27,7 @@ returns-then-most-eq0 c =
     let high = most_is tops c.deref.result.now c.highest-start.result c.index-most.result.now c.deref.ensures.value c.highest-start.ensures.in_range c.index-most.ensures c.highest-start.ensures.greatest in
     recovered c.args.net.now c.args.period c.args.table.now s c.requires.settled tops built (subst (λ (m : ℕ). All (λ t. t ≤ m) tops) c.if-most-eq0.true high) c.last_late.result
     (λ i k l a b. c.last_late.ensures.none i k (omega (arith, l, c.requires.width)) a b)
-    (last_as (length s.firsts) (length c.args.net.now.transitions) (left_at s) c.last_late.result c.requires.width c.last_late.ensures.last)
+    (last_as (length s.firsts) (length c.args.net.now.transitions) (delay_left s) c.last_late.result c.requires.width c.last_late.ensures.last)
 
 pub circuit_back-requires-clause-back : goal.circuit_back-requires-clause-back
 circuit_back-requires-clause-back c =

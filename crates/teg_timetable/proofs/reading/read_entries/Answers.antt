@@ -1,7 +1,7 @@
 use Rattle.std.proofs.Common.{◌≡◌, Ok}
 use Rattle.std.proofs.lemmas.Result.{IfOk-weaker}
 use Rattle.teg_timetable.specs.Entries.{entries_of}
-use Rattle.teg_timetable.specs.Rules.{AreEntriesOf}
+use Rattle.teg_timetable.specs.EntryRules.{AreEntriesOf}
 use Rattle.teg_timetable.proofs.EntryRules.{entry_rules}
 use Rattle.teg_timetable.proofs.reading.read_entries.Goals as goal
 

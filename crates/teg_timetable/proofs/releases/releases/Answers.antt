@@ -4,7 +4,7 @@ use Rattle.std.proofs.lemmas.List.{get_or_read}
 use Rattle.std.proofs.Math.Nat.{mul-le-mul_left, mul-le-mul_right}
 use Rattle.delay_laws.specs.declared.table.Delay.{Delay}
 use Rattle.delay_laws.specs.declared.table.Timetable.{Timetable}
-use Rattle.delay_laws.specs.Tables.{delay_given, delay_in, first_of, planned}
+use Rattle.delay_laws.specs.PlannedTimetables.{delay_given, delay_in, first_planned, planned}
 use Rattle.delay_laws.specs.Delays.{IsReleaseAt}
 use Rattle.teg_timetable.specs.Working.{AreBuilt, given_in}
 use Rattle.teg_timetable.proofs.Releasing.{given_number, given_small, next_is, releases_more}
@@ -21,7 +21,7 @@ plan_small period index low few =
     let b : period * 60000 ≤ 1000000 * 60000 = mul-le-mul_right 60000 low in
     omega arith
 
-own_is : (period : ℕ) (t : Timetable) (i index first by : ℕ) → first ≡ first_of t i → by ≡ delay_given t i (index + 1) → first + period * index + by ≡ planned period t i (index + 1) + delay_given t i (index + 1)
+own_is : (period : ℕ) (t : Timetable) (i index first by : ℕ) → first ≡ first_planned t i → by ≡ delay_given t i (index + 1) → first + period * index + by ≡ planned period t i (index + 1) + delay_given t i (index + 1)
 own_is period t i index first by is given =
     let n : index + 1 - 1 ≡ index = omega arith in
     let product : period * (index + 1 - 1) ≡ period * index = ap (λ (z : ℕ). period * z) n in

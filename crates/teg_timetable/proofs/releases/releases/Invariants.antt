@@ -1,11 +1,11 @@
 use Rattle.std.proofs.Common.{◌≡◌, ◌≤◌}
 use Rattle.delay_laws.specs.Delays.{IsReleaseAt}
-use Rattle.teg_timetable.specs.Working.{AreReleases}
+use Rattle.teg_timetable.specs.Working.{ArePlannedReleases}
 use Rattle.teg_timetable.proofs.releases.releases.Given as goal
 
 abbrev pub invariant-loop-index : goal.invariant-loop-index
 invariant-loop-index l = record {
-  dates : AreReleases l.period l.table l.transition l.index l.dates.items;
+  dates : ArePlannedReleases l.period l.table l.transition l.index l.dates.items;
   none : l.index ≡ 0 → l.latest ≡ 0;
   latest : 1 ≤ l.index → IsReleaseAt l.period l.table l.transition l.index l.latest;
   small : l.latest ≤ 100000000000;

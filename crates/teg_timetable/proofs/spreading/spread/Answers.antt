@@ -1,7 +1,7 @@
 use Rattle.std.proofs.Common.{◌+◌, ◌<◌, length, ap, sym, subst, ⊎_elim, arith}
 use Rattle.teg_check.proofs.Liveness.{ranking_is_live}
-use Rattle.teg_timetable.specs.Answers.{IsOutcomeIn, IsOver, IsSpread}
-use Rattle.teg_timetable.specs.Spreads.{Spread, left_at, outcome_told}
+use Rattle.teg_timetable.specs.DelayAnswers.{IsOutcomeIn, IsNetTooLarge, IsSpread}
+use Rattle.teg_timetable.specs.Spreads.{Spread, delay_left, outcome_told}
 use Rattle.teg_timetable.proofs.Settling.{outcome_in, settled_left, spread_is}
 use Rattle.teg_timetable.proofs.spreading.spread.Goals as goal
 
@@ -22,7 +22,7 @@ returns-clause-spread c =
     let left = c.in_ok-left.ensures in
     let many = ap length c.transitions-transitions.ensures.value in
     let wide = ap length c.places-places.ensures.value in
-    let not_over : IsOver net → ⊥ = ⊎_elim
+    let not_over : IsNetTooLarge net → ⊥ = ⊎_elim
     (λ (h : 200 < length net.transitions). omega (arith, h))
     (λ (h : 4000 < length net.transitions + length net.places). omega (arith, h)) in
     subst (IsSpread net c.args.period c.args.table.now c.args.limit) (sym c.new.ensures)
@@ -33,4 +33,4 @@ pub returns-clause-about : goal.returns-clause-about
 returns-clause-about c =
     let net = c.args.net.now in
     subst (λ (s : Spread). IsOutcomeIn net s.outcome) (sym c.new.ensures)
-    (outcome_in net c.args.period (left_at c.in_ok-left.left) (outcome_told c.in_ok-outcome.outcome) c.in_ok-outcome.ensures)
+    (outcome_in net c.args.period (delay_left c.in_ok-left.left) (outcome_told c.in_ok-outcome.outcome) c.in_ok-outcome.ensures)

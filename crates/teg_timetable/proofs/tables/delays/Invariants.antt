@@ -1,5 +1,5 @@
 use Rattle.std.proofs.Common.{◌≡◌, take}
-use Rattle.teg_timetable.specs.Tables.{delays_of}
+use Rattle.teg_timetable.specs.TimetableFiles.{delays_of}
 use Rattle.teg_timetable.proofs.tables.delays.Given as goal
 
 abbrev pub invariant-loop-entry : goal.invariant-loop-entry

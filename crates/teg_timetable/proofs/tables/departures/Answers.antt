@@ -1,6 +1,6 @@
 use Rattle.std.proofs.Common.{◌<◌, length, None, get_or, ◌∙◌, arith}
-use Rattle.teg_timetable.specs.declared.entries.Entry.{Entry}
-use Rattle.teg_timetable.specs.declared.entries.Entry.TheVariants.{Departure}
+use Rattle.teg_timetable.specs.declared.entries.TableEntry.{TableEntry}
+use Rattle.teg_timetable.specs.declared.entries.TableEntry.TheVariants.{Departure}
 use Rattle.teg_timetable.proofs.Splitting.{departure_more}
 use Rattle.teg_timetable.proofs.tables.departures.Goals as goal
 
@@ -8,7 +8,7 @@ pub loop-entry-preserved : goal.loop-entry-preserved
 loop-entry-preserved c =
     let old = c.loop-entry.invariant in
     let long = old.long in
-    let no_entry : Entry = Departure (record { index = 0 }) 0 in
+    let no_entry : TableEntry = Departure (record { index = 0 }) 0 in
     record {
       long = c.take_down.ensures.long ∙ old.long;
       each = λ t lt.

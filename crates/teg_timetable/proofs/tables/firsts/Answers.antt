@@ -1,5 +1,5 @@
 use Rattle.std.proofs.Common.{ℕ, ◌≡◌, Option, None, get_or, sym, subst, ◌∙◌}
-use Rattle.teg_timetable.specs.Tables.{departure_of}
+use Rattle.teg_timetable.specs.TimetableFiles.{departure_of}
 use Rattle.teg_timetable.proofs.Splitting.{missing_at}
 use Rattle.teg_timetable.proofs.tables.firsts.Goals as goal
 

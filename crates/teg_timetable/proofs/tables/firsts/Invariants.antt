@@ -1,5 +1,5 @@
 use Rattle.std.proofs.Common.{◌≡◌, Ok}
-use Rattle.teg_timetable.specs.Tables.{firsts_of}
+use Rattle.teg_timetable.specs.TimetableFiles.{firsts_of}
 use Rattle.teg_timetable.proofs.tables.firsts.Given as goal
 
 abbrev pub invariant-loop-t : goal.invariant-loop-t

@@ -1,8 +1,8 @@
 use Rattle.std.proofs.Common.{length, All, AllPairs, sym, subst, ap, ◌∙◌, arith}
 use Rattle.std.proofs.lemmas.Result.{err_from_is_err_and}
-use Rattle.delay_laws.specs.Tables.{IsDelayOf}
+use Rattle.delay_laws.specs.PlannedTimetables.{IsDelayOf}
 use Rattle.teg_timetable.specs.Entries.{entries_of}
-use Rattle.teg_timetable.specs.Tables.{delays_of, firsts_of}
+use Rattle.teg_timetable.specs.TimetableFiles.{delays_of, firsts_of}
 use Rattle.teg_timetable.proofs.Refused.{but_for_memory, entries_fine, firsts_fine}
 use Rattle.teg_timetable.proofs.Splitting.{AreApart, delays_apart, delays_in, firsts_are}
 use Rattle.teg_timetable.proofs.tables.read_timetable.Goals as goal

@@ -1,6 +1,6 @@
 use Rattle.std.proofs.Common.{[], ◌++◌, List, ℕ, codes, ap, ◌∙◌, append_assoc, string_bytes}
 use Rattle.teg_text.specs.Lines.{line_then}
-use Rattle.teg_text.specs.Names.{circuit_line}
+use Rattle.teg_text.specs.WordsOfNames.{circuit_line}
 use Rattle.teg_timetable.proofs.texts.push_kept.Goals as goal
 
 pub returns : goal.returns

@@ -1,8 +1,8 @@
 use Rattle.std.proofs.Common.{◌≡◌, [], length, refl, ap, arith}
 use Rattle.teg_text.specs.Lines.{line_then}
 use Rattle.teg_text.proofs.Listing.{all_below, more_after}
-use Rattle.teg_timetable.specs.Spreads.{delay_of}
-use Rattle.teg_timetable.specs.Texts.{AreSmall, delays_line, delays_up_to}
+use Rattle.teg_timetable.specs.Spreads.{delay_by_spread}
+use Rattle.teg_timetable.specs.TimetableTexts.{AreLeftDelaysShort, delays_line, delays_up_to}
 use Rattle.teg_timetable.proofs.texts.push_lines.Goals as goal
 
 pub loop-index-preserved : goal.loop-index-preserved
@@ -11,8 +11,8 @@ loop-index-preserved c =
     let s = c.args.delayed.now in
     let count = c.args.count in
     let k = c.loop-index.index in (
-      more_after (λ i. line_then (delays_line net i (delays_up_to (delay_of s i) count)) []) _ _ _ _ 0 k k (omega arith) c.in_ok-push_line.ensures.text refl c.loop-index.invariant.0,
-      all_below (λ i. AreSmall s i count) k c.loop-index.invariant.1 c.in_ok-push_line.ensures.small,
+      more_after (λ i. line_then (delays_line net i (delays_up_to (delay_by_spread s i) count)) []) _ _ _ _ 0 k k (omega arith) c.in_ok-push_line.ensures.text refl c.loop-index.invariant.0,
+      all_below (λ i. AreLeftDelaysShort s i count) k c.loop-index.invariant.1 c.in_ok-push_line.ensures.small,
     )
 
 pub returns-clause-text : goal.returns-clause-text

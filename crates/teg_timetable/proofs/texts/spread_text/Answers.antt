@@ -1,12 +1,12 @@
 use Rattle.std.proofs.Common.{rules, ℕ, ◌+◌, ◌≡◌, [], ◌++◌, List, map, length, sym, ap, subst, ◌∙◌, string_bytes, arith}
 use Rattle.std.specs.List.{range_with_len}
 use Rattle.std.proofs.lemmas.List.FromFn.{length-map-range_with_len}
-use Rattle.settled_laws.specs.Forms.{settled_length}
+use Rattle.settled_laws.specs.SettledForms.{settled_length}
 use Rattle.teg_text.specs.Lines.{line_then, written}
-use Rattle.teg_text.specs.Names.{settled_words}
+use Rattle.teg_text.specs.WordsOfNames.{settled_words}
 use Rattle.teg_text.proofs.Joining.{lines_end}
-use Rattle.teg_timetable.specs.Spreads.{OutcomeTold, delay_of}
-use Rattle.teg_timetable.specs.Texts.{IsOutcomeToldOf, delays_line, delays_lines, delays_up_to, outcome_lines}
+use Rattle.teg_timetable.specs.Spreads.{OutcomeTold, delay_by_spread}
+use Rattle.teg_timetable.specs.TimetableTexts.{IsOutcomeToldOf, delays_line, delays_lines, delays_up_to, outcome_lines}
 use Rattle.teg_timetable.proofs.Telling.{lines_from, three_parts, rows_small}
 use Rattle.teg_timetable.proofs.texts.spread_text.Goals as goal
 
@@ -16,7 +16,7 @@ returns-clause-text c =
     let s = c.args.delayed.now in
     let n = length net.transitions in
     let count = settled_length s.form in
-    let delays : ℕ → List ℕ = λ i. delays_up_to (delay_of s i) count in
+    let delays : ℕ → List ℕ = λ i. delays_up_to (delay_by_spread s i) count in
     let first = settled_words s.form.after s.form.period in
     let one = outcome_lines net s.outcome in
     let two = delays_lines net 0 (map delays (range_with_len 0 (length s.firsts))) in
@@ -44,7 +44,7 @@ returns-clause-told c =
     let after = c.after-after.ensures.value in
     let period = c.period-period.ensures.value in
     let size : c.after-after.result + c.period-period.result ≡ count = omega arith in
-    let delays : ℕ → List ℕ = λ i. delays_up_to (delay_of s i) count in
+    let delays : ℕ → List ℕ = λ i. delays_up_to (delay_by_spread s i) count in
     record {
       after_in = search rules;
       period_in = search rules;

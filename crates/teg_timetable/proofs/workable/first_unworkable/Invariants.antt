@@ -1,5 +1,5 @@
 use Rattle.std.proofs.Common.{ℕ, ◌<◌, get_or}
-use Rattle.delay_laws.specs.Tables.{IsWorkableAt}
+use Rattle.delay_laws.specs.PlannedTimetables.{IsWorkableAt}
 use Rattle.teg_net.specs.declared.entries.Place.{Place}
 use Rattle.teg_timetable.proofs.workable.first_unworkable.Given as goal
 

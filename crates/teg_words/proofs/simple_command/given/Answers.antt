@@ -3,7 +3,7 @@ use Rattle.std.specs.Prelude.{unwrap_or}
 use Rattle.clap.specs.Walk.{texts}
 use Rattle.clap.specs.Words.{Row, Text, all_of, first_of, found_of, rows_of}
 use Rattle.clap.proofs.WalkLemmas.{first_value-rows, raw_values-rows}
-use Rattle.teg_words.specs.Words.{flag_of, given_from, rest_of}
+use Rattle.teg_words.specs.CommandLineWords.{flag_of, given_from, rest_of}
 use Rattle.teg_words.proofs.simple_command.given.Goals as goal
 
 -- what rows give, where their parts are known

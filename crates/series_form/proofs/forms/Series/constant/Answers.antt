@@ -1,7 +1,7 @@
 use Rattle.std.proofs.Common.{sym, ap, List, pos, subst}
 use Rattle.dioid.specs.declared.dates.Date.{Date}
-use Rattle.series_laws.specs.Forms.{form_with}
-use Rattle.series_form.specs.Bounds.{IsSeries}
+use Rattle.series_laws.specs.SeriesForms.{form_with}
+use Rattle.series_form.specs.NumberBounds.{IsSeries}
 use Rattle.series_form.proofs.Finished.{constant_series}
 use Rattle.series_form.proofs.forms.Series.constant.Goals as goal
 

@@ -2,9 +2,9 @@ use Rattle.std.proofs.Common.{◌≡◌, ◌∙◌, ap, sym, subst, ℤ, List, t
 use Rattle.std.specs.Int.{w128}
 use Rattle.std.proofs.lemmas.Int.{to_z-of_z}
 use Rattle.dioid.specs.declared.dates.Date.{Date}
-use Rattle.series_laws.specs.Forms.{form_with}
-use Rattle.series_form.specs.Bounds.{IsSeries}
-use Rattle.series_form.proofs.Numbers.{small_fits}
+use Rattle.series_laws.specs.SeriesForms.{form_with}
+use Rattle.series_form.specs.NumberBounds.{IsSeries}
+use Rattle.series_form.proofs.DateNumbers.{small_fits}
 use Rattle.series_form.proofs.forms.Series.duplicate.Goals as goal
 
 pub invariant_of-result : goal.invariant_of-result

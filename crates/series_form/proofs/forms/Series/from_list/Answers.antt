@@ -4,11 +4,11 @@ use Rattle.std.proofs.lemmas.Int.{to_z-of_z}
 use Rattle.dioid.specs.declared.dates.Date.{Date}
 use Rattle.series_form.specs.declared.forms.SeriesRefused.{SeriesRefused}
 use Rattle.series_form.specs.declared.forms.SeriesRefused.TheVariants.{TooLong, TooGreat, OutOfMemory}
-use Rattle.series_laws.specs.Forms.{Form, form_with, value_at, HasValues}
-use Rattle.series_form.specs.Answer.{AnswersOf, IsShortest}
+use Rattle.series_laws.specs.SeriesForms.{Form, form_with, value_at, HasValues}
+use Rattle.series_form.specs.SeriesAnswers.{AnswersOf, IsShortestSeries}
 use Rattle.series_form.proofs.forms.Series.from_list.Goals as goal
 
-answered : (s : ℕ → Date) (n : ℕ) (r : Result Form SeriesRefused) → n ≤ 20000 → IsShortest s r → AnswersOf (λ f. HasValues f s) n n r
+answered : (s : ℕ → Date) (n : ℕ) (r : Result Form SeriesRefused) → n ≤ 20000 → IsShortestSeries s r → AnswersOf (λ f. HasValues f s) n n r
 answered s n (Ok f) short h = (h.0, h.1, short)
 answered s n (Err (TooLong m)) short h = absurd h
 answered s n (Err (TooGreat v)) short h = (short, h)
@@ -20,4 +20,4 @@ returns-in-Ok c =
     ap (λ (z : List Date). form_with z c.args.period (to_z w128 (of_z w128 c.args.step))) c.in-Ok.ensures
     ∙ ap (form_with c.args.values.now c.args.period) (to_z-of_z w128 c.args.step c.ranges.step) in
     answered (value_at (form_with c.args.values.now c.args.period c.args.step)) (length c.args.values.now) c.finish.result c.if-values-gt20000.false
-    (subst (λ (z : Form). IsShortest (value_at z) c.finish.result) same c.finish.ensures)
+    (subst (λ (z : Form). IsShortestSeries (value_at z) c.finish.result) same c.finish.ensures)

@@ -1,7 +1,7 @@
 use Rattle.std.proofs.Common.{List, subst}
 use Rattle.dioid.specs.declared.dates.Date.{Date}
-use Rattle.series_ops.specs.Cells.{greatest_listed}
-use Rattle.series_ops.specs.Listed.{AreUpTo}
+use Rattle.series_form.specs.SeriesLimits.{greatest_listed}
+use Rattle.series_ops.specs.ListFunctions.{AreUpTo}
 use Rattle.series_ops.proofs.CellLaws.{cells_up_to}
 use Rattle.series_ops.proofs.cells.Cells.len.Goals as goal
 

@@ -1,5 +1,5 @@
 use Rattle.std.proofs.Common.{ℕ, List, sym, subst}
-use Rattle.teg_cycle.specs.LastRounds.{AreRunsFrom, rounds_in}
+use Rattle.teg_cycle.specs.LastRounds.{AreRunsFrom, rounds_of_runs}
 use Rattle.teg_commands.proofs.CycleTold.{cycle_answer}
 use Rattle.teg_commands.proofs.live_net.LiveNet.cycle_with_runs.Goals as goal
 
@@ -12,4 +12,4 @@ pub returns-clause-runs : goal.returns-clause-runs
 returns-clause-runs c =
     let answer = c.in_ok-answer.answer in
     rw (← c.self.view_is)
-    (subst (λ (ps : List ℕ). AreRunsFrom c.self.inside.net ps 0 answer.parts.items (rounds_in c.in_ok-answer.runs.items)) (sym c.in_ok-answer.ensures.part_of) c.in_ok-answer.ensures.runs)
+    (subst (λ (ps : List ℕ). AreRunsFrom c.self.inside.net ps 0 answer.parts.items (rounds_of_runs c.in_ok-answer.runs.items)) (sym c.in_ok-answer.ensures.part_of) c.in_ok-answer.ensures.runs)

@@ -1,7 +1,7 @@
 use Rattle.std.proofs.Common.{◌+◌, ◌≡◌, ◌++◌, length, sym, ap, subst, ◌∙◌, arith}
 use Rattle.std.proofs.lemmas.List.{with_items_is}
 use Rattle.teg_dates.specs.Sources.{system_by}
-use Rattle.teg_dates.specs.Rows.{AreFirstLeast}
+use Rattle.teg_dates.specs.KeptRows.{AreFirstLeast}
 use Rattle.teg_dates.proofs.NextRow.{rows_of_first}
 use Rattle.teg_dates.proofs.rows.Rows.with_next.Goals as goal
 

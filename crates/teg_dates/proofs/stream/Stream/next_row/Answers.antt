@@ -1,6 +1,6 @@
 use Rattle.std.proofs.Common.{◌+◌, sym, subst, ap, arith}
 use Rattle.std.proofs.lemmas.List.{map-id}
-use Rattle.teg_model.specs.Datings.{listed, system_of}
+use Rattle.teg_model.specs.Datings.{listed_releases, system_of}
 use Rattle.teg_dates.specs.Streams.{IsStreamOf}
 use Rattle.teg_dates.proofs.Earliest.{bounds_stay, net_keeps_bounds}
 use Rattle.teg_dates.proofs.Keeping.{next_goes_on}
@@ -10,7 +10,7 @@ pub next_row-requires-clause-bounded : goal.next_row-requires-clause-bounded
 next_row-requires-clause-bounded c =
     let net = c.args.net.now in
     rw c.number-number.ensures.value
-    (bounds_stay (system_of net (listed net)) (c.self.inside.last.number + 1) (net_keeps_bounds net c.requires.stands.rules) (omega (arith, c.requires.few, ap (λ a. a.last.number) c.self.view_is)))
+    (bounds_stay (system_of net (listed_releases net)) (c.self.inside.last.number + 1) (net_keeps_bounds net c.requires.stands.rules) (omega (arith, c.requires.few, ap (λ a. a.last.number) c.self.view_is)))
 
 pub returns-clause-stands : goal.returns-clause-stands
 returns-clause-stands c =

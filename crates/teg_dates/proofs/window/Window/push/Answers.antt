@@ -1,6 +1,6 @@
 use Rattle.std.proofs.Common.{◌≡◌, length, ap, sym, ◌∙◌}
 use Rattle.std.proofs.lemmas.List.{with_items_is}
-use Rattle.teg_dates.specs.Windows.{WindowCells}
+use Rattle.teg_dates.specs.LastColumns.{WindowCells}
 use Rattle.teg_dates.proofs.Columns.{window_has_next}
 use Rattle.teg_dates.proofs.window.Window.push.Goals as goal
 

@@ -1,5 +1,5 @@
 use Rattle.teg_forever.specs.declared.divisions.Divided.{Divided}
-use Rattle.teg_forever.specs.Divisions.{IsPlaceOf}
+use Rattle.teg_forever.specs.Divisions.{IsDividedAt}
 use Rattle.teg_forever.proofs.Dividing.{divided, divisions_kept, kept_place, misfit}
 use Rattle.teg_forever.proofs.Residues.{each_ok}
 use Rattle.teg_forever.proofs.Series.{got}
@@ -16,7 +16,7 @@ returns-in-Ok-left-clause-divisions c =
 pub returns-in-Ok-left-clause-place : goal.returns-in-Ok-left-clause-place
 returns-in-Ok-left-clause-place c =
     let x : Divided = record { due = c.args.due; walk = c.args.walk; residual = c.in-Ok-left.residual } in
-    each_ok c.keep.result _ (IsPlaceOf c.keep.new.self.list.items c.args.due c.args.walk) c.keep.ensures.kept (λ place h. kept_place c.args.self.now.list.items c.keep.new.self.list.items x place h)
+    each_ok c.keep.result _ (IsDividedAt c.keep.new.self.list.items c.args.due c.args.walk) c.keep.ensures.kept (λ place h. kept_place c.args.self.now.list.items c.keep.new.self.list.items x place h)
 
 pub returns-in-Err-left-clause-misfit : goal.returns-in-Err-left-clause-misfit
 returns-in-Err-left-clause-misfit c =

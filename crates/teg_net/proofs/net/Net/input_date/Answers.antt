@@ -1,5 +1,5 @@
 use Rattle.std.proofs.Common.{◌≡◌, ◌∙◌, Some, ap, sym, subst}
-use Rattle.teg_net.specs.Inputs.{IsInputDate, input_date, date_by}
+use Rattle.teg_net.specs.Inputs.{IsInputDate, input_date, date_by_list}
 use Rattle.teg_net.proofs.InputDates.{found_rules, IsInputDate-input_date, list_date-most}
 use Rattle.teg_net.proofs.net.Net.input_date.Goals as goal
 
@@ -12,7 +12,7 @@ date-requires-clause-again c =
 pub returns-in-Some-clause-meaning : goal.returns-in-Some-clause-meaning
 returns-in-Some-clause-meaning c =
     let first = rw c.in-Some.is at c.list_of.ensures.first in
-    let is : c.date.result ≡ input_date c.args.self.now c.args.transition.index c.args.number = c.date.ensures.value ∙ ap (λ o. date_by o c.args.number) first in
+    let is : c.date.result ≡ input_date c.args.self.now c.args.transition.index c.args.number = c.date.ensures.value ∙ ap (λ o. date_by_list o c.args.number) first in
     subst (IsInputDate c.args.self.now c.args.transition.index c.args.number) (sym is)
     (IsInputDate-input_date c.args.self.now c.args.transition.index c.args.number c.list_of.ensures.rules c.requires.first)
 
@@ -25,6 +25,6 @@ returns-in-Some-clause-most c =
 pub returns-in-None-clause-meaning : goal.returns-in-None-clause-meaning
 returns-in-None-clause-meaning c =
     let first = rw c.in-None.is at c.list_of.ensures.first in
-    let is : Some 0 ≡ input_date c.args.self.now c.args.transition.index c.args.number = ap (λ o. date_by o c.args.number) first in
+    let is : Some 0 ≡ input_date c.args.self.now c.args.transition.index c.args.number = ap (λ o. date_by_list o c.args.number) first in
     subst (IsInputDate c.args.self.now c.args.transition.index c.args.number) (sym is)
     (IsInputDate-input_date c.args.self.now c.args.transition.index c.args.number c.list_of.ensures.rules c.requires.first)

@@ -1,5 +1,5 @@
 use Rattle.std.proofs.Common.{◌≡◌, ◌≤◌, sym, subst}
-use Rattle.teg_net.specs.Limits.{greatest_date}
+use Rattle.teg_net.specs.Limits.{greatest_input_date}
 use Rattle.teg_net.specs.ReadyDates.{start_date, IsStartDate}
 use Rattle.teg_net.proofs.StartDates.{start_date-whole, IsStartDate-start_date, start_date-most}
 use Rattle.teg_net.proofs.net.Net.start_date.Goals as goal
@@ -12,4 +12,4 @@ returns-clause-meaning c =
 pub returns-clause-most : goal.returns-clause-most
 returns-clause-most c =
     let is : c.loop-place.start ≡ start_date c.args.self.now c.args.transition.index c.args.number = start_date-whole c.args.self.now _ _ _ _ _ c.loop-place.invariant c.places-place-items.ensures.value c.loop-place-test.false in
-    subst (λ n. n ≤ greatest_date) (sym is) (start_date-most c.args.self.now c.args.transition.index c.args.number c.places-place-items.ensures.rules)
+    subst (λ n. n ≤ greatest_input_date) (sym is) (start_date-most c.args.self.now c.args.transition.index c.args.number c.places-place-items.ensures.rules)

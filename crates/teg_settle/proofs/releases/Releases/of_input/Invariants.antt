@@ -1,5 +1,5 @@
 use Rattle.std.proofs.Common.{ℕ, ◌≡◌, ◌<◌, length}
-use Rattle.teg_settle.specs.Releases.{wait_in, wait_from}
+use Rattle.teg_settle.specs.InitialReleases.{wait_in, wait_from}
 use Rattle.teg_settle.proofs.releases.Releases.of_input.Given as goal
 
 abbrev pub invariant-loop-index : goal.invariant-loop-index

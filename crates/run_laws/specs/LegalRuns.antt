@@ -1,0 +1,46 @@
+-- How runs stand to the least dating, and that no failing firing is legal.
+use Rattle.std.specs.Prelude.{ℕ, pos, ◌<◌, ◌≤◌, ◌≡◌, List, Option, Some, length}
+use Rattle.dioid.specs.declared.dates.Date.{Date}
+use Rattle.dioid.specs.declared.dates.Date.TheVariants.{At}
+use Rattle.dioid.specs.Dates.{IsAtMostDate}
+use Rattle.teg_net.specs.declared.entries.PlaceId.{PlaceId}
+use Rattle.teg_net.specs.Nets.{NetLists, IsNet}
+use Rattle.teg_net.specs.Circuits.{IsLive}
+use Rattle.teg_model.specs.Datings.{IsLeastDating}
+use Rattle.run_laws.specs.declared.fired.Fired.{Fired}
+use Rattle.run_laws.specs.FiringFailures.{IsFirstLateToken, IsBackInTime, IsBeforeRelease}
+use Rattle.run_laws.specs.Runs.{firing_date, next_number, IsLegalAfter, IsLegalRun}
+use Rattle.run_laws.specs.Earliest.{IsEarliest}
+
+-- no firing of the run comes before its date in x
+abbrev pub IsNotEarly : NetLists → (ℕ → ℕ → Date) → List Fired → Type 0
+IsNotEarly net x run = (t k date : ℕ) → t < length net.transitions → 1 ≤ k → firing_date run t k ≡ Some date → IsAtMostDate (x t k) (At (pos date))
+
+-- each firing of the run comes at its date in x
+abbrev pub IsDatedBy : NetLists → (ℕ → ℕ → Date) → List Fired → Type 0
+IsDatedBy net x run = (t k date : ℕ) → t < length net.transitions → 1 ≤ k → firing_date run t k ≡ Some date → x t k ≡ At (pos date)
+
+-- no firing of a legal run comes before its least date
+abbrev pub LegalRunsAreNotEarly : Type 0
+LegalRunsAreNotEarly =
+    (net : NetLists) (x : ℕ → ℕ → Date) (run : List Fired) → IsNet net → IsLive net
+    → IsLeastDating net x → IsLegalRun net run → IsNotEarly net x run
+
+-- where all firings so far came at their least dates, the earliest date of one that may follow is its least date
+abbrev pub EarliestIsLeast : Type 0
+EarliestIsLeast =
+    (net : NetLists) (x : ℕ → ℕ → Date) (run : List Fired) (f : Fired) (date : ℕ) → IsNet net → IsLive net
+    → IsLeastDating net x → IsLegalRun net run → IsDatedBy net x run → IsLegalAfter net run f
+    → IsEarliest net run f.transition.index (next_number run f.transition.index) date → x f.transition.index (next_number run f.transition.index) ≡ At (pos date)
+
+-- a firing that fails in one of the three ways may not follow the run
+pub record FailuresAreNotLegal : Type 0 where
+  pub late : (net : NetLists) (run : List Fired) (f : Fired) (id : PlaceId) (there : Option ℕ) → IsFirstLateToken net run f id there → IsLegalAfter net run f → ⊥
+  pub back : (net : NetLists) (run : List Fired) (f : Fired) (last : ℕ) → IsBackInTime net run f last → IsLegalAfter net run f → ⊥
+  pub unreleased : (net : NetLists) (run : List Fired) (f : Fired) (release : Option ℕ) → IsBeforeRelease net run f release → IsLegalAfter net run f → ⊥
+
+-- no firing fails in two of them
+pub record FailuresAreOne : Type 0 where
+  pub late_not_back : (net : NetLists) (run : List Fired) (f : Fired) (id : PlaceId) (there : Option ℕ) (last : ℕ) → IsFirstLateToken net run f id there → IsBackInTime net run f last → ⊥
+  pub late_not_unreleased : (net : NetLists) (run : List Fired) (f : Fired) (id : PlaceId) (there release : Option ℕ) → IsFirstLateToken net run f id there → IsBeforeRelease net run f release → ⊥
+  pub back_not_unreleased : (net : NetLists) (run : List Fired) (f : Fired) (last : ℕ) (release : Option ℕ) → IsBackInTime net run f last → IsBeforeRelease net run f release → ⊥

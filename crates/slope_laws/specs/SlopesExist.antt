@@ -1,0 +1,34 @@
+-- What holds of the slopes of the least dating of a live net (chapter 3).
+use Rattle.std.specs.Prelude.{ℕ, ℤ, ◌+◌, ◌<◌, ◌≤◌, ◌≡◌, length}
+use Rattle.dioid.specs.declared.dates.Date.{Date}
+use Rattle.dioid.specs.declared.dates.Date.TheVariants.{Never}
+use Rattle.dioid.specs.Dates.{move}
+use Rattle.teg_net.specs.declared.entries.InputList.{InputList}
+use Rattle.teg_net.specs.Nets.{NetLists, IsNet}
+use Rattle.teg_net.specs.Circuits.{IsLive}
+use Rattle.teg_model.specs.Datings.{IsLeastDating}
+use Rattle.settled_laws.specs.SettledForms.{SettledForm, StandsFor, step_of_form}
+use Rattle.slope_laws.specs.Slopes.{IsEndedTowards, HasSlope}
+
+-- a date is Never only where a list that ends reaches t, where one does some date is, and from then on all are
+pub record NeverByEndedLists (net : NetLists) (dates : ℕ → Date) (t : ℕ) : Type 0 where
+  pub ended : (k : ℕ) → 1 ≤ k → dates k ≡ Never → (l : InputList) × IsEndedTowards net t l
+  pub never : (l : InputList) → IsEndedTowards net t l → (k : ℕ) × (1 ≤ k) × (dates k ≡ Never)
+  pub on : (k j : ℕ) → 1 ≤ k → dates k ≡ Never → dates (k + j) ≡ Never
+
+-- in a live net
+abbrev pub NeversComeFromEndedLists : Type 0
+NeversComeFromEndedLists = (net : NetLists) → IsNet net → IsLive net → (x : ℕ → ℕ → Date) → IsLeastDating net x
+    → (t : ℕ) → t < length net.transitions → NeverByEndedLists net (x t) t
+
+-- where the dates of one transition of a live net repeat past some number, they have its slope
+abbrev pub FormsHaveSlopes : Type 0
+FormsHaveSlopes = (net : NetLists) → IsNet net → IsLive net → (x : ℕ → ℕ → Date) → IsLeastDating net x
+    → (t after period : ℕ) (step : ℤ) → t < length net.transitions → 1 ≤ period
+    → ((k : ℕ) → after < k → x t (k + period) ≡ move step (x t k)) → HasSlope net (x t) t after period step
+
+-- so do those of each transition in each settled form of the least dating
+abbrev pub SettledFormsHaveSlopes : Type 0
+SettledFormsHaveSlopes = (net : NetLists) → IsNet net → IsLive net → (x : ℕ → ℕ → Date) → IsLeastDating net x
+    → (f : SettledForm) → StandsFor (length net.transitions) f x
+    → (t : ℕ) → t < length net.transitions → HasSlope net (x t) t f.after f.period (step_of_form f t)

@@ -1,0 +1,52 @@
+-- Working definitions of what the search for a late firing goes by.
+use Rattle.std.specs.Prelude.{ℕ, pos, ◌+◌, ◌*◌, ◌<◌, ◌≤◌, ◌≡◌, length}
+use Rattle.dioid.specs.declared.dates.Date.{Date}
+use Rattle.dioid.specs.declared.dates.Date.TheVariants.{At}
+use Rattle.dioid.specs.Dates.{move}
+use Rattle.teg_net.specs.Nets.{NetLists}
+use Rattle.teg_model.specs.DateBounds.{greatest_least_date}
+use Rattle.teg_model.specs.Datings.{IsLeastUnder}
+use Rattle.settled_laws.specs.SettledForms.{SettledForm, StandsFor, settled_date, step_of_form}
+use Rattle.due_laws.specs.MeetingDueDates.{inputs_at_zero}
+use Rattle.forever_laws.specs.declared.rows.EndlessRow.{EndlessRow}
+use Rattle.forever_laws.specs.EndlessRows.{IsEndlessRow}
+use Rattle.forever_laws.specs.Late.{IsLeastLate}
+use Rattle.teg_forever.specs.declared.late.Soonest.{Soonest}
+use Rattle.teg_forever.specs.declared.late.CommonPeriod.{CommonPeriod}
+
+-- the form stands for the least dating of the net with all inputs at 0
+pub record IsZeroForm (net : NetLists) (f : SettledForm) : Type 0 where
+  pub dating : ℕ → ℕ → Date
+  pub least : IsLeastUnder net inputs_at_zero dating
+  pub stands : StandsFor (length net.transitions) f dating
+
+-- the row keeps the rules of some net
+abbrev pub IsGoingRow : EndlessRow → Type 0
+IsGoingRow r = (net : NetLists) × IsEndlessRow net r
+
+-- the dates of the transition are numbers from 0 on, and so is its step, which is not great
+pub record IsClimbing (f : SettledForm) (t : ℕ) : Type 0 where
+  pub in_range : t < length f.rows
+  pub numbers : (k : ℕ) → 1 ≤ k → (m : ℕ) × (settled_date f t k ≡ At (pos m))
+  pub step : ℕ
+  pub step_is : step_of_form f t ≡ pos step
+  pub step_low : step ≤ greatest_least_date
+
+-- past the settling number the dates of the transition go on by its step in a period
+pub record GoesOnBySteps (f : SettledForm) (t : ℕ) : Type 0 where
+  pub again : (k : ℕ) → f.after < k → settled_date f t (k + f.period) ≡ move (step_of_form f t) (settled_date f t k)
+
+-- past the settling number the dates of the transition rise by so much in so many firings
+abbrev pub RisesIn : SettledForm → ℕ → ℕ → ℕ → Type 0
+RisesIn f t firings rise = (k : ℕ) → f.after < k → settled_date f t (k + firings) ≡ move (pos rise) (settled_date f t k)
+
+-- the least late number of the row, and how great it is
+pub record IsSoonLate (f : SettledForm) (r : EndlessRow) (k due least : ℕ) : Type 0 where
+  pub is : IsLeastLate (settled_date f) r k due least
+  pub number_in : k < 100000000000000000000000
+  pub due_in : due < 100000000000000000000000000000000000
+  pub least_in : least < 100000000000000000000000000000000000
+
+-- the number, so many turns on, is the least late number of the row
+abbrev pub IsLateAfter : SettledForm → EndlessRow → CommonPeriod → Soonest → Type 0
+IsLateAfter f r turn s = IsSoonLate f r (s.number + s.turns * turn.firings) (s.due + s.turns * turn.fall) (s.least + s.turns * turn.rise)

@@ -1,9 +1,0 @@
--- Working definition of the command whose text is written as it is made.
-use Rattle.std.specs.Prelude.{ℕ, Option, Some, None}
-use Rattle.teg_run.specs.declared.request.NetCommand.{NetCommand}
-use Rattle.teg_run.specs.declared.request.NetCommand.TheVariants.{List as ListNet}
-
--- how many numbers the list of dates has that is asked for
-abbrev pub listed : NetCommand → Option ℕ
-listed (ListNet count) = Some count
-listed command = None

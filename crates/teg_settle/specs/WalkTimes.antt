@@ -1,0 +1,18 @@
+-- That the times of walks from an input settle, in one way.
+use Rattle.std.specs.Prelude.{ℕ, ◌<◌, ◌≡◌}
+use Rattle.teg_net.specs.Nets.{NetLists, IsNet, IsInput}
+use Rattle.teg_net.specs.Circuits.{IsLive}
+use Rattle.settled_laws.specs.SettledForms.{SettledForm, settled_length}
+use Rattle.teg_settle.specs.Transfers.{IsTransferOf, TransferSettlesPast}
+
+-- in a live net the greatest times of walks from the first firing of an input have a shortest settled form
+abbrev pub WalkTimesSettle : Type 0
+WalkTimesSettle = (net : NetLists) → IsNet net → IsLive net → (input : ℕ) → IsInput net input → (f : SettledForm) × IsTransferOf net input f
+
+-- they have one shortest form
+abbrev pub TransfersAreOne : Type 0
+TransfersAreOne = (net : NetLists) (input : ℕ) (f g : SettledForm) → IsTransferOf net input f → IsTransferOf net input g → f ≡ g
+
+-- and where each form is longer than a limit, so is this one
+abbrev pub TransferLimitsAreTold : Type 0
+TransferLimitsAreTold = (net : NetLists) (input limit : ℕ) (f : SettledForm) → IsTransferOf net input f → TransferSettlesPast net input limit → limit < settled_length f
