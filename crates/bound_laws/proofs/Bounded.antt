@@ -7,15 +7,15 @@ use Rattle.std.proofs.lemmas.Bool.{cases_lt}
 use Rattle.std.proofs.lemmas.List.{get_or-append_right, length-append}
 use Rattle.std.proofs.lemmas.List.FromFn.{get_or-map-range_with_len, length-map-range_with_len}
 use Rattle.std.proofs.Math.Nat.{mul-le-mul_right, mul-le-mul_left}
-use Rattle.dioid.specs.declared.dates.Date.{Date}
-use Rattle.dioid.specs.declared.dates.Date.TheVariants.{At}
-use Rattle.dioid.specs.Dates.{delayed}
-use Rattle.teg_net.specs.declared.entries.PlaceId.{PlaceId}
-use Rattle.teg_net.specs.declared.entries.Place.{Place}
-use Rattle.teg_net.specs.Nets.{NetLists, IsNet, IsPlaceOf}
-use Rattle.teg_net.specs.Circuits.{no_place, place_at, from_of, IsPathBetween, IsCircuit, IsLive, time_of, tokens_of}
-use Rattle.teg_net.proofs.PathLaws.{IsPathBetween-in_range}
-use Rattle.teg_model.specs.Datings.{IsLeastDating, extended_places, implicit_place}
+use Rattle.settled_laws.specs.dioid.declared.dates.Date.{Date}
+use Rattle.settled_laws.specs.dioid.declared.dates.Date.TheVariants.{At}
+use Rattle.settled_laws.specs.dioid.Dates.{delayed}
+use Rattle.settled_laws.specs.teg_net.declared.entries.PlaceId.{PlaceId}
+use Rattle.settled_laws.specs.teg_net.declared.entries.Place.{Place}
+use Rattle.settled_laws.specs.teg_net.Nets.{NetLists, IsNet, IsPlaceOf}
+use Rattle.settled_laws.specs.teg_net.Circuits.{no_place, place_at, from_of, IsPathBetween, IsCircuit, IsLive, time_of, tokens_of}
+use Rattle.settled_laws.proofs.teg_net_proofs.PathLaws.{IsPathBetween-in_range}
+use Rattle.settled_laws.specs.teg_model.Datings.{IsLeastDating, extended_places, implicit_place}
 use Rattle.teg_loops.specs.Loops.{EndsBelow}
 use Rattle.teg_loops.proofs.Taking.{Keeps, sum_most}
 use Rattle.teg_loops.proofs.Straight.{loop_short}
@@ -23,7 +23,7 @@ use Rattle.bound_laws.proofs.Best.{Setting, IsCriticalIn}
 use Rattle.bound_laws.proofs.Onward.{IsCommonIn, goes_on, start_in}
 use Rattle.bound_laws.specs.Critical.{IsCriticalAt, IsCommon, IsStrong}
 use Rattle.std.proofs.lemmas.List.Sums.{sum_by-cons}
-use Rattle.number_laws.proofs.Numbers.{some_of}
+use Rattle.settled_laws.proofs.number_laws_proofs.Numbers.{some_of}
 use Rattle.teg_loops.proofs.Taking.{closed_keeps}
 use Rattle.bound_laws.specs.PastTheBound.{DatesGoOnPastTheBound, factorial, FactorialsAreCommon, StepsAreWhole, StillNetsStayAtZero}
 use Rattle.bound_laws.proofs.Unrolled.{unrolled, own_is, own_path, path_in, same_sums, once_in, IsWait, kinds}

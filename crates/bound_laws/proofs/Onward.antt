@@ -5,11 +5,11 @@ use Rattle.std.proofs.lemmas.Bool.{cases_lt}
 use Rattle.std.proofs.lemmas.List.{length-append}
 use Rattle.std.proofs.lemmas.List.Sums.{sum_by-append}
 use Rattle.std.proofs.Math.Nat.{mul-le-mul_right, mul-le-mul_left}
-use Rattle.number_laws.proofs.Numbers.{some_times}
-use Rattle.teg_net.specs.declared.entries.PlaceId.{PlaceId}
-use Rattle.teg_net.specs.Nets.{NetLists}
-use Rattle.teg_net.specs.Circuits.{place_at, IsPathBetween, time_of, tokens_of}
-use Rattle.teg_net.proofs.PathLaws.{IsPathBetween-append}
+use Rattle.settled_laws.proofs.number_laws_proofs.Numbers.{some_times}
+use Rattle.settled_laws.specs.teg_net.declared.entries.PlaceId.{PlaceId}
+use Rattle.settled_laws.specs.teg_net.Nets.{NetLists}
+use Rattle.settled_laws.specs.teg_net.Circuits.{place_at, IsPathBetween, time_of, tokens_of}
+use Rattle.settled_laws.proofs.teg_net_proofs.PathLaws.{IsPathBetween-append}
 use Rattle.teg_loops.specs.Loops.{EndsBelow}
 use Rattle.teg_loops.proofs.Taking.{Keeps, closed_keeps}
 use Rattle.teg_loops.specs.ClosedPieces.{HasRound}

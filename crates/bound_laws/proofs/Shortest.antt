@@ -3,12 +3,12 @@ use Rattle.std.proofs.Common.{ℕ, zero, suc, ◌+◌, ◌*◌, ◌≤◌, ◌�
 use Rattle.std.specs.Prelude.{ℤ, pos}
 use Rattle.std.specs.Int.{◌∣◌}
 use Rattle.std.proofs.lemmas.Nat.Gcd.{le_of_dvd}
-use Rattle.dioid.specs.declared.dates.Date.{Date}
-use Rattle.teg_net.specs.Nets.{NetLists}
-use Rattle.teg_model.specs.Datings.{IsLeastDating}
+use Rattle.settled_laws.specs.dioid.declared.dates.Date.{Date}
+use Rattle.settled_laws.specs.teg_net.Nets.{NetLists}
+use Rattle.settled_laws.specs.teg_model.Datings.{IsLeastDating}
 use Rattle.bound_laws.specs.Critical.{IsStrong, IsCommon, bound_of}
 use Rattle.bound_laws.specs.PastTheBound.{factorial}
-use Rattle.dioid.proofs.Moves.{delayed_is_move}
+use Rattle.settled_laws.proofs.dioid_proofs.Moves.{delayed_is_move}
 use Rattle.settled_laws.specs.SettledForms.{SettledForm, RepeatsAfter, IsShortestForm, step_of_form}
 use Rattle.settled_laws.proofs.Repeating.{HasPeriod, HasCommon, gcd_period, lowered}
 use Rattle.bound_laws.specs.Periods.{FormsKeepTheBound}

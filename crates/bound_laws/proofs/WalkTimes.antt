@@ -3,23 +3,23 @@ use Rattle.std.proofs.Common.{ℕ, pos, suc, ◌+◌, ◌-◌, ◌*◌, ◌<◌,
 use Rattle.std.specs.Prelude.{All, Any}
 use Rattle.std.proofs.lemmas.Int.{ints}
 use Rattle.std.proofs.lemmas.List.Sums.{sum_by-append, sum_by-cons}
-use Rattle.dioid.specs.declared.dates.Date.{Date}
-use Rattle.dioid.specs.declared.dates.Date.TheVariants.{Early, At, Never}
-use Rattle.dioid.specs.Dates.{IsAtMostDate, delayed, later_of}
-use Rattle.teg_net.specs.declared.entries.PlaceId.{PlaceId}
-use Rattle.teg_net.specs.declared.entries.Place.{Place}
-use Rattle.teg_net.specs.Nets.{NetLists, IsNet, IsInput}
-use Rattle.teg_net.specs.Circuits.{place_at, IsPathBetween, IsLive, time_of, tokens_of}
-use Rattle.teg_net.specs.Walks.{walk_time}
-use Rattle.teg_net.proofs.PathLaws.{IsPathBetween-append}
-use Rattle.teg_model.specs.Datings.{IsLeastDating, listed_releases, at_input, implicit_place}
-use Rattle.teg_model.specs.Starts.{start_of_firing}
-use Rattle.teg_model.specs.WalkDates.{IsDateOfWalk, IsGreatestOfWalks}
-use Rattle.teg_model.proofs.OfNet.{implicit_is, input_or_not, net_ends}
-use Rattle.teg_model.proofs.GreatestWalks.{least_is_walk}
-use Rattle.teg_model.proofs.LiveRanks.{live_ranks}
-use Rattle.teg_net.specs.ReadyDates.{ready_date, start_date}
-use Rattle.teg_net.proofs.StartDates.{IsStartDate-start_date}
+use Rattle.settled_laws.specs.dioid.declared.dates.Date.{Date}
+use Rattle.settled_laws.specs.dioid.declared.dates.Date.TheVariants.{Early, At, Never}
+use Rattle.settled_laws.specs.dioid.Dates.{IsAtMostDate, delayed, later_of}
+use Rattle.settled_laws.specs.teg_net.declared.entries.PlaceId.{PlaceId}
+use Rattle.settled_laws.specs.teg_net.declared.entries.Place.{Place}
+use Rattle.settled_laws.specs.teg_net.Nets.{NetLists, IsNet, IsInput}
+use Rattle.settled_laws.specs.teg_net.Circuits.{place_at, IsPathBetween, IsLive, time_of, tokens_of}
+use Rattle.settled_laws.specs.teg_net.Walks.{walk_time}
+use Rattle.settled_laws.proofs.teg_net_proofs.PathLaws.{IsPathBetween-append}
+use Rattle.settled_laws.specs.teg_model.Datings.{IsLeastDating, listed_releases, at_input, implicit_place}
+use Rattle.settled_laws.specs.teg_model.Starts.{start_of_firing}
+use Rattle.settled_laws.specs.teg_model.WalkDates.{IsDateOfWalk, IsGreatestOfWalks}
+use Rattle.settled_laws.proofs.teg_model_proofs.OfNet.{implicit_is, input_or_not, net_ends}
+use Rattle.settled_laws.proofs.teg_model_proofs.GreatestWalks.{least_is_walk}
+use Rattle.settled_laws.proofs.teg_model_proofs.LiveRanks.{live_ranks}
+use Rattle.settled_laws.specs.teg_net.ReadyDates.{ready_date, start_date}
+use Rattle.settled_laws.proofs.teg_net_proofs.StartDates.{IsStartDate-start_date}
 use Rattle.std.proofs.lemmas.Bool.{cases_lt}
 use Rattle.std.proofs.lemmas.List.{get_or_past}
 use Rattle.bound_laws.specs.Critical.{AllReadyAtZero}

@@ -1,8 +1,8 @@
 -- Critical circuits, and the bound past which the dates of a net go on by steps.
 use Rattle.std.specs.Prelude.{ℕ, ◌+◌, ◌-◌, ◌*◌, ◌<◌, ◌≤◌, ◌≡◌, List, All, length}
-use Rattle.teg_net.specs.declared.entries.PlaceId.{PlaceId}
-use Rattle.teg_net.specs.Nets.{NetLists, IsNet, IsInput}
-use Rattle.teg_net.specs.Circuits.{IsPathBetween, IsCircuit, IsLive, time_of, tokens_of}
+use Rattle.settled_laws.specs.teg_net.declared.entries.PlaceId.{PlaceId}
+use Rattle.settled_laws.specs.teg_net.Nets.{NetLists, IsNet, IsInput}
+use Rattle.settled_laws.specs.teg_net.Circuits.{IsPathBetween, IsCircuit, IsLive, time_of, tokens_of}
 
 -- a circuit of ratio a/b, told from transition c on
 pub record IsCriticalAt (net : NetLists) (a b c : ℕ) (ps : List PlaceId) : Type 0 where

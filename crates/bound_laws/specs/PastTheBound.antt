@@ -1,13 +1,13 @@
 -- What holds of the dates past the bound.
 use Rattle.std.specs.Prelude.{ℕ, zero, suc, pos, ◌+◌, ◌*◌, ◌<◌, ◌≤◌, ◌≡◌, List, length}
-use Rattle.dioid.specs.declared.dates.Date.TheVariants.{At}
-use Rattle.teg_net.specs.declared.entries.PlaceId.{PlaceId}
-use Rattle.teg_net.specs.Nets.{IsNet, IsInput}
-use Rattle.teg_net.specs.Circuits.{IsPathBetween, IsCircuit, IsLive, time_of}
-use Rattle.dioid.specs.declared.dates.Date.{Date}
-use Rattle.dioid.specs.Dates.{delayed}
-use Rattle.teg_net.specs.Nets.{NetLists}
-use Rattle.teg_model.specs.Datings.{IsLeastDating}
+use Rattle.settled_laws.specs.dioid.declared.dates.Date.TheVariants.{At}
+use Rattle.settled_laws.specs.teg_net.declared.entries.PlaceId.{PlaceId}
+use Rattle.settled_laws.specs.teg_net.Nets.{IsNet, IsInput}
+use Rattle.settled_laws.specs.teg_net.Circuits.{IsPathBetween, IsCircuit, IsLive, time_of}
+use Rattle.settled_laws.specs.dioid.declared.dates.Date.{Date}
+use Rattle.settled_laws.specs.dioid.Dates.{delayed}
+use Rattle.settled_laws.specs.teg_net.Nets.{NetLists}
+use Rattle.settled_laws.specs.teg_model.Datings.{IsLeastDating}
 use Rattle.bound_laws.specs.Critical.{AllReadyAtZero, IsStrong, IsCommon, bound_of}
 
 -- past the bound each date comes S after that of L firings before, for each common multiple L and its step S

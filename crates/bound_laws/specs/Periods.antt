@@ -1,9 +1,9 @@
 -- How soon a net becomes periodic, and with which period (chapter 3, cyclicity).
 use Rattle.std.specs.Prelude.{ℕ, ◌≤◌, length}
 use Rattle.std.specs.Int.{◌∣◌}
-use Rattle.dioid.specs.declared.dates.Date.{Date}
-use Rattle.teg_net.specs.Nets.{NetLists}
-use Rattle.teg_model.specs.Datings.{IsLeastDating}
+use Rattle.settled_laws.specs.dioid.declared.dates.Date.{Date}
+use Rattle.settled_laws.specs.teg_net.Nets.{NetLists}
+use Rattle.settled_laws.specs.teg_model.Datings.{IsLeastDating}
 use Rattle.settled_laws.specs.SettledForms.{SettledForm, IsShortestForm}
 use Rattle.bound_laws.specs.Critical.{IsStrong, IsCommon, bound_of}
 

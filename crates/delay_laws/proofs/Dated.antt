@@ -4,23 +4,23 @@ use Rattle.std.specs.Prelude.{All, pos, negsuc}
 use Rattle.std.proofs.lemmas.Bool.{cases_lt}
 use Rattle.std.proofs.lemmas.Bool.Decides.{nat_tests}
 use Rattle.std.proofs.lemmas.Int.{ints}
-use Rattle.dioid.specs.declared.dates.Date.{Date}
-use Rattle.dioid.specs.declared.dates.Date.TheVariants.{Early, At, Never}
-use Rattle.dioid.specs.Dates.{IsAtMostDate}
-use Rattle.dioid.specs.DateOrder.{Le}
-use Rattle.dioid.proofs.AtMost.{le_is, le_trans, le_never, le_antisym}
-use Rattle.dioid.proofs.Moves.{at_inj}
-use Rattle.teg_net.specs.declared.entries.Place.{Place}
-use Rattle.teg_net.specs.Nets.{NetLists}
-use Rattle.teg_model.specs.Systems.{System, available_in, IsFeasibleIn, IsLeastIn}
-use Rattle.teg_model.specs.LiveRanks.{HasEndsInRange, IsRanked}
-use Rattle.teg_model.specs.Datings.{extended_places, initial_date, system_with}
-use Rattle.teg_model.specs.LeastDatings.{AreSameOn}
-use Rattle.teg_model.proofs.OfNet.{all_extended, all_extended_in, ranks_extended}
-use Rattle.teg_model.proofs.Tokens.{available_after, available_first, available_same}
-use Rattle.teg_model.proofs.LeastOver.{least_over, least_over_is_least}
-use Rattle.teg_model.proofs.LiveRanks.{live_is_ranked}
-use Rattle.teg_model.proofs.DateFunctions.{Dating}
+use Rattle.periodic_laws.specs.dioid.declared.dates.Date.{Date}
+use Rattle.periodic_laws.specs.dioid.declared.dates.Date.TheVariants.{Early, At, Never}
+use Rattle.periodic_laws.specs.dioid.Dates.{IsAtMostDate}
+use Rattle.periodic_laws.specs.dioid.DateOrder.{Le}
+use Rattle.periodic_laws.proofs.dioid_proofs.AtMost.{le_is, le_trans, le_never, le_antisym}
+use Rattle.periodic_laws.proofs.dioid_proofs.Moves.{at_inj}
+use Rattle.periodic_laws.specs.teg_net.declared.entries.Place.{Place}
+use Rattle.periodic_laws.specs.teg_net.Nets.{NetLists}
+use Rattle.periodic_laws.specs.teg_model.Systems.{System, available_in, IsFeasibleIn, IsLeastIn}
+use Rattle.periodic_laws.specs.teg_model.LiveRanks.{HasEndsInRange, IsRanked}
+use Rattle.periodic_laws.specs.teg_model.Datings.{extended_places, initial_date, system_with}
+use Rattle.periodic_laws.specs.teg_model.LeastDatings.{AreSameOn}
+use Rattle.periodic_laws.proofs.teg_model_proofs.OfNet.{all_extended, all_extended_in, ranks_extended}
+use Rattle.periodic_laws.proofs.teg_model_proofs.Tokens.{available_after, available_first, available_same}
+use Rattle.periodic_laws.proofs.teg_model_proofs.LeastOver.{least_over, least_over_is_least}
+use Rattle.periodic_laws.proofs.teg_model_proofs.LiveRanks.{live_is_ranked}
+use Rattle.periodic_laws.proofs.teg_model_proofs.DateFunctions.{Dating}
 use Rattle.delay_laws.specs.declared.table.Timetable.{Timetable}
 use Rattle.delay_laws.specs.PlannedTimetables.{planned, AreDelaysUpTo, IsWorkableAt, IsWorkable}
 use Rattle.delay_laws.specs.Delays.{IsRelease, IsDelayedBy, AreAbovePlan, AreDelaysLeft}

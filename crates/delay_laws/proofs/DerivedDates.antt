@@ -5,23 +5,23 @@ use Rattle.std.proofs.lemmas.Bool.{cases_lt}
 use Rattle.std.proofs.lemmas.Bool.Decides.{nat_tests}
 use Rattle.std.proofs.lemmas.Int.{ints}
 use Rattle.std.proofs.lemmas.List.{get_or_default}
-use Rattle.dioid.specs.declared.dates.Date.TheVariants.{At}
-use Rattle.dioid.specs.Dates.{IsAtMostDate, delayed}
-use Rattle.dioid.specs.DateOrder.{Le}
-use Rattle.dioid.proofs.AtMost.{le_refl, le_is, le_trans, le_antisym}
-use Rattle.teg_net.specs.declared.entries.Place.{Place}
-use Rattle.teg_net.specs.declared.entries.PlaceId.{PlaceId}
-use Rattle.teg_net.specs.Nets.{NetLists, IsNet}
-use Rattle.teg_net.specs.Circuits.{no_place, place_at, IsLive}
-use Rattle.teg_model.specs.Systems.{available_in, IsFeasibleIn}
-use Rattle.teg_model.specs.LiveRanks.{HasEndsInRange, IsRanked}
-use Rattle.teg_model.specs.Datings.{implicit_place, initial_date, available_at, listed_releases, IsFeasibleUnder, IsLeastDating, system_with}
-use Rattle.teg_model.specs.LeastDatings.{IsTight}
-use Rattle.teg_model.proofs.Delays.{delayed_not}
-use Rattle.teg_model.proofs.OfNet.{net_ends, all_extended_in, extended_has, implicit_is, tight_of_least}
-use Rattle.teg_model.proofs.Tokens.{available_after, available_first, available_same, implicit_keeps}
-use Rattle.teg_model.proofs.LiveRanks.{live_is_ranked}
-use Rattle.teg_model.proofs.DateFunctions.{Dating}
+use Rattle.periodic_laws.specs.dioid.declared.dates.Date.TheVariants.{At}
+use Rattle.periodic_laws.specs.dioid.Dates.{IsAtMostDate, delayed}
+use Rattle.periodic_laws.specs.dioid.DateOrder.{Le}
+use Rattle.periodic_laws.proofs.dioid_proofs.AtMost.{le_refl, le_is, le_trans, le_antisym}
+use Rattle.periodic_laws.specs.teg_net.declared.entries.Place.{Place}
+use Rattle.periodic_laws.specs.teg_net.declared.entries.PlaceId.{PlaceId}
+use Rattle.periodic_laws.specs.teg_net.Nets.{NetLists, IsNet}
+use Rattle.periodic_laws.specs.teg_net.Circuits.{no_place, place_at, IsLive}
+use Rattle.periodic_laws.specs.teg_model.Systems.{available_in, IsFeasibleIn}
+use Rattle.periodic_laws.specs.teg_model.LiveRanks.{HasEndsInRange, IsRanked}
+use Rattle.periodic_laws.specs.teg_model.Datings.{implicit_place, initial_date, available_at, listed_releases, IsFeasibleUnder, IsLeastDating, system_with}
+use Rattle.periodic_laws.specs.teg_model.LeastDatings.{IsTight}
+use Rattle.periodic_laws.proofs.teg_model_proofs.Delays.{delayed_not}
+use Rattle.periodic_laws.proofs.teg_model_proofs.OfNet.{net_ends, all_extended_in, extended_has, implicit_is, tight_of_least}
+use Rattle.periodic_laws.proofs.teg_model_proofs.Tokens.{available_after, available_first, available_same, implicit_keeps}
+use Rattle.periodic_laws.proofs.teg_model_proofs.LiveRanks.{live_is_ranked}
+use Rattle.periodic_laws.proofs.teg_model_proofs.DateFunctions.{Dating}
 use Rattle.delay_laws.specs.declared.table.Timetable.{Timetable}
 use Rattle.delay_laws.specs.Delays.{IsRelease, IsDelayedBy, together}
 use Rattle.delay_laws.specs.ReleaseNets.{IsSamePlace, release_place, IsReleaseNet}
@@ -29,7 +29,7 @@ use Rattle.delay_laws.proofs.Releases.{release_rises}
 use Rattle.delay_laws.proofs.ReleaseLists.{lists_release}
 use Rattle.delay_laws.proofs.Derived.{which, leads_below, stays_live}
 use Rattle.delay_laws.proofs.Steps.{together_first, together_second}
-use Rattle.settled_laws.proofs.Alike.{AreAlike}
+use Rattle.periodic_laws.proofs.settled_laws_proofs.Alike.{AreAlike}
 
 -- ---- places and datings
 

@@ -3,16 +3,16 @@ use Rattle.std.proofs.Common.{ℕ, ◌+◌, ◌-◌, ◌*◌, ◌<◌, ◌≤◌
 use Rattle.std.specs.Prelude.{pos}
 use Rattle.std.proofs.lemmas.Int.{ints}
 use Rattle.std.proofs.Math.Nat.{mul-le-mul_left}
-use Rattle.dioid.specs.declared.dates.Date.TheVariants.{At}
-use Rattle.dioid.proofs.Moves.{at_inj}
-use Rattle.teg_net.specs.declared.entries.Place.{Place}
-use Rattle.teg_net.specs.Circuits.{no_place}
-use Rattle.teg_model.specs.Systems.{available_in}
-use Rattle.teg_model.specs.Datings.{implicit_place, extended_places, initial_date, system_with}
-use Rattle.teg_model.proofs.OfNet.{which_place}
-use Rattle.teg_model.proofs.Tokens.{available_after}
-use Rattle.teg_model.proofs.LiveRanks.{live_is_ranked}
-use Rattle.teg_model.proofs.DateFunctions.{Dating}
+use Rattle.periodic_laws.specs.dioid.declared.dates.Date.TheVariants.{At}
+use Rattle.periodic_laws.proofs.dioid_proofs.Moves.{at_inj}
+use Rattle.periodic_laws.specs.teg_net.declared.entries.Place.{Place}
+use Rattle.periodic_laws.specs.teg_net.Circuits.{no_place}
+use Rattle.periodic_laws.specs.teg_model.Systems.{available_in}
+use Rattle.periodic_laws.specs.teg_model.Datings.{implicit_place, extended_places, initial_date, system_with}
+use Rattle.periodic_laws.proofs.teg_model_proofs.OfNet.{which_place}
+use Rattle.periodic_laws.proofs.teg_model_proofs.Tokens.{available_after}
+use Rattle.periodic_laws.proofs.teg_model_proofs.LiveRanks.{live_is_ranked}
+use Rattle.periodic_laws.proofs.teg_model_proofs.DateFunctions.{Dating}
 use Rattle.delay_laws.specs.declared.table.Timetable.{Timetable}
 use Rattle.delay_laws.specs.PlannedTimetables.{first_planned, planned, IsWorkableAt}
 use Rattle.delay_laws.specs.Delays.{IsDelayedBy, AreAbovePlan}

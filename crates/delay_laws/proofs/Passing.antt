@@ -3,16 +3,16 @@ use Rattle.std.proofs.Common.{ℕ, zero, suc, ◌+◌, ◌-◌, ◌*◌, ◌<◌
 use Rattle.std.specs.Prelude.{All, ◌⊎◌}
 use Rattle.std.proofs.lemmas.Bool.{cases_lt}
 use Rattle.std.proofs.lemmas.List.Elements.{All-cons}
-use Rattle.teg_net.specs.declared.entries.Place.{Place}
-use Rattle.teg_net.specs.Nets.{NetLists}
-use Rattle.teg_net.specs.Circuits.{no_place}
-use Rattle.teg_model.specs.Systems.{System, available, IsLeastIn}
-use Rattle.teg_model.specs.LiveRanks.{IsRanked}
-use Rattle.teg_model.specs.Datings.{initial_date, system_with}
-use Rattle.teg_model.proofs.OfNet.{ranks_extended}
-use Rattle.teg_model.proofs.Tokens.{available_same}
-use Rattle.teg_model.proofs.LeastOver.{least_over, least_over_is_least, least_is_attained, only_least_in}
-use Rattle.teg_model.proofs.DateFunctions.{Dating}
+use Rattle.periodic_laws.specs.teg_net.declared.entries.Place.{Place}
+use Rattle.periodic_laws.specs.teg_net.Nets.{NetLists}
+use Rattle.periodic_laws.specs.teg_net.Circuits.{no_place}
+use Rattle.periodic_laws.specs.teg_model.Systems.{System, available, IsLeastIn}
+use Rattle.periodic_laws.specs.teg_model.LiveRanks.{IsRanked}
+use Rattle.periodic_laws.specs.teg_model.Datings.{initial_date, system_with}
+use Rattle.periodic_laws.proofs.teg_model_proofs.OfNet.{ranks_extended}
+use Rattle.periodic_laws.proofs.teg_model_proofs.Tokens.{available_same}
+use Rattle.periodic_laws.proofs.teg_model_proofs.LeastOver.{least_over, least_over_is_least, least_is_attained, only_least_in}
+use Rattle.periodic_laws.proofs.teg_model_proofs.DateFunctions.{Dating}
 use Rattle.delay_laws.specs.declared.table.Timetable.{Timetable}
 use Rattle.delay_laws.specs.DelayOutcomes.{HasDelayPast, IsGreatestPast}
 use Rattle.delay_laws.specs.SettlingLaws.{AreSettledDelays}

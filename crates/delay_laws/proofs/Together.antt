@@ -3,14 +3,14 @@ use Rattle.std.proofs.Common.{ℕ, ◌+◌, ◌-◌, ◌*◌, ◌<◌, ◌≤◌
 use Rattle.std.specs.Prelude.{pos}
 use Rattle.std.proofs.lemmas.Bool.{cases_lt}
 use Rattle.std.proofs.lemmas.Int.{ints}
-use Rattle.dioid.specs.declared.dates.Date.{Date}
-use Rattle.dioid.specs.declared.dates.Date.TheVariants.{At}
-use Rattle.dioid.specs.Dates.{move}
-use Rattle.dioid.specs.DateOrder.{Le}
-use Rattle.dioid.proofs.AtMost.{le_is, le_trans}
-use Rattle.teg_net.specs.Nets.{NetLists}
-use Rattle.teg_model.specs.Datings.{initial_date}
-use Rattle.teg_model.proofs.DateFunctions.{Dating}
+use Rattle.periodic_laws.specs.dioid.declared.dates.Date.{Date}
+use Rattle.periodic_laws.specs.dioid.declared.dates.Date.TheVariants.{At}
+use Rattle.periodic_laws.specs.dioid.Dates.{move}
+use Rattle.periodic_laws.specs.dioid.DateOrder.{Le}
+use Rattle.periodic_laws.proofs.dioid_proofs.AtMost.{le_is, le_trans}
+use Rattle.periodic_laws.specs.teg_net.Nets.{NetLists}
+use Rattle.periodic_laws.specs.teg_model.Datings.{initial_date}
+use Rattle.periodic_laws.proofs.teg_model_proofs.DateFunctions.{Dating}
 use Rattle.periodic_laws.specs.PeriodicDates.{IsPeriodic, ArePeriodic}
 use Rattle.periodic_laws.specs.LinearSystem.{LeastInArePeriodic, PeriodicDatingsSettle}
 use Rattle.delay_laws.specs.declared.table.Timetable.{Timetable}

@@ -1,11 +1,11 @@
 -- What holds of the dates that a delayed timetable leads to (chapters 2 and 3).
 use Rattle.std.specs.Prelude.{ℕ, pos, ◌≤◌, ◌<◌, ◌≡◌, length}
-use Rattle.dioid.specs.declared.dates.Date.{Date}
-use Rattle.dioid.specs.declared.dates.Date.TheVariants.{At}
-use Rattle.teg_net.specs.Nets.{NetLists}
-use Rattle.teg_net.specs.Circuits.{IsLive}
-use Rattle.teg_model.specs.LiveRanks.{HasEndsInRange}
-use Rattle.teg_model.specs.LeastDatings.{AreSameOn}
+use Rattle.periodic_laws.specs.dioid.declared.dates.Date.{Date}
+use Rattle.periodic_laws.specs.dioid.declared.dates.Date.TheVariants.{At}
+use Rattle.periodic_laws.specs.teg_net.Nets.{NetLists}
+use Rattle.periodic_laws.specs.teg_net.Circuits.{IsLive}
+use Rattle.periodic_laws.specs.teg_model.LiveRanks.{HasEndsInRange}
+use Rattle.periodic_laws.specs.teg_model.LeastDatings.{AreSameOn}
 use Rattle.delay_laws.specs.declared.table.Timetable.{Timetable}
 use Rattle.delay_laws.specs.PlannedTimetables.{planned, AreDelaysUpTo, IsPastDelays, IsWorkable}
 use Rattle.delay_laws.specs.Delays.{IsRelease, IsDelayedBy, AreAbovePlan}

@@ -1,11 +1,11 @@
 -- The dates that a delayed timetable leads to: the releases, the delayed dating, and the delays that are left (chapters 2 and 3).
 use Rattle.std.specs.Prelude.{ℕ, pos, ◌+◌, ◌-◌, ◌≤◌, ◌<◌, ◌≡◌, length, nat_lt, if◌then◌else◌}
-use Rattle.dioid.specs.declared.dates.Date.{Date}
-use Rattle.dioid.specs.declared.dates.Date.TheVariants.{At}
-use Rattle.teg_net.specs.Nets.{NetLists}
-use Rattle.teg_model.specs.Systems.{IsLeastIn}
-use Rattle.teg_model.specs.Datings.{initial_date, system_with}
-use Rattle.settled_laws.specs.SettledForms.{SettledForm, IsShortestForm, SettlesPast}
+use Rattle.periodic_laws.specs.dioid.declared.dates.Date.{Date}
+use Rattle.periodic_laws.specs.dioid.declared.dates.Date.TheVariants.{At}
+use Rattle.periodic_laws.specs.teg_net.Nets.{NetLists}
+use Rattle.periodic_laws.specs.teg_model.Systems.{IsLeastIn}
+use Rattle.periodic_laws.specs.teg_model.Datings.{initial_date, system_with}
+use Rattle.periodic_laws.specs.settled_laws.SettledForms.{SettledForm, IsShortestForm, SettlesPast}
 use Rattle.delay_laws.specs.declared.table.Timetable.{Timetable}
 use Rattle.delay_laws.specs.PlannedTimetables.{planned, delay_given}
 

@@ -3,17 +3,17 @@ use Rattle.std.proofs.Common.{ℕ, ◌+◌, ◌<◌, ◌≤◌, ◌≡◌, ◌�
 use Rattle.std.specs.Prelude.{pos, ◌-ℤ◌, ◌⊎◌}
 use Rattle.std.proofs.lemmas.Int.{ints}
 use Rattle.std.proofs.lemmas.List.Sums.{sum_by-cons}
-use Rattle.dioid.specs.declared.dates.Date.{Date}
-use Rattle.dioid.specs.declared.dates.Date.TheVariants.{Early, At, Never}
-use Rattle.dioid.specs.Dates.{IsAtMostDate, delayed}
-use Rattle.dioid.proofs.DateOrder.{at_most_is, at_most_trans, never_last, delayed_rises}
-use Rattle.teg_net.specs.declared.entries.PlaceId.{PlaceId}
-use Rattle.teg_net.specs.declared.entries.Place.{Place}
-use Rattle.teg_net.specs.Nets.{NetLists}
-use Rattle.teg_net.specs.Circuits.{no_place, place_at}
-use Rattle.teg_net.specs.declared.walks.Step.{Step}
-use Rattle.teg_net.specs.declared.walks.Step.TheVariants.{By, Next}
-use Rattle.teg_net.specs.Walks.{Walks, step_time, walk_time}
+use Rattle.teg_model.specs.dioid.declared.dates.Date.{Date}
+use Rattle.teg_model.specs.dioid.declared.dates.Date.TheVariants.{Early, At, Never}
+use Rattle.teg_model.specs.dioid.Dates.{IsAtMostDate, delayed}
+use Rattle.teg_model.proofs.dioid_proofs.DateOrder.{at_most_is, at_most_trans, never_last, delayed_rises}
+use Rattle.teg_model.specs.teg_net.declared.entries.PlaceId.{PlaceId}
+use Rattle.teg_model.specs.teg_net.declared.entries.Place.{Place}
+use Rattle.teg_model.specs.teg_net.Nets.{NetLists}
+use Rattle.teg_model.specs.teg_net.Circuits.{no_place, place_at}
+use Rattle.teg_model.specs.teg_net.declared.walks.Step.{Step}
+use Rattle.teg_model.specs.teg_net.declared.walks.Step.TheVariants.{By, Next}
+use Rattle.teg_model.specs.teg_net.Walks.{Walks, step_time, walk_time}
 use Rattle.teg_model.specs.LiveRanks.{HasEndsInRange}
 use Rattle.teg_model.specs.Datings.{IsFeasibleUnder, initial_date, system_of}
 use Rattle.teg_model.proofs.OfNet.{feasible_in}

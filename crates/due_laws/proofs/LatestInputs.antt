@@ -4,13 +4,13 @@ use Rattle.std.specs.Prelude.{pos, All}
 use Rattle.std.proofs.lemmas.Option.{slice_get_past}
 use Rattle.std.proofs.lemmas.List.{get_or_default}
 use Rattle.std.proofs.lemmas.Bool.{cases_lt}
-use Rattle.dioid.specs.declared.dates.Date.TheVariants.{At}
-use Rattle.dioid.specs.Dates.{IsAtMostDate}
-use Rattle.dioid.proofs.DateOrder.{at_most_refl, at_most_trans}
-use Rattle.teg_net.specs.declared.entries.PlaceId.{PlaceId}
-use Rattle.teg_net.specs.declared.entries.Place.{Place}
-use Rattle.teg_net.specs.Nets.{NetLists, IsInput}
-use Rattle.teg_net.specs.Circuits.{no_place, place_at}
+use Rattle.teg_model.specs.dioid.declared.dates.Date.TheVariants.{At}
+use Rattle.teg_model.specs.dioid.Dates.{IsAtMostDate}
+use Rattle.teg_model.proofs.dioid_proofs.DateOrder.{at_most_refl, at_most_trans}
+use Rattle.teg_model.specs.teg_net.declared.entries.PlaceId.{PlaceId}
+use Rattle.teg_model.specs.teg_net.declared.entries.Place.{Place}
+use Rattle.teg_model.specs.teg_net.Nets.{NetLists, IsInput}
+use Rattle.teg_model.specs.teg_net.Circuits.{no_place, place_at}
 use Rattle.teg_model.specs.LiveRanks.{HasEndsInRange}
 use Rattle.teg_model.specs.Datings.{implicit_place, extended_places, initial_date, available_at, IsFeasibleUnder, IsLeastUnder, system_of}
 use Rattle.teg_model.proofs.LeastOver.{least_over}

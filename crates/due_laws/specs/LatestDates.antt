@@ -1,13 +1,13 @@
 -- The latest dates of firings, and the walks that show that a date is tight or late (chapter 5).
 use Rattle.std.specs.Prelude.{ℕ, pos, ◌+◌, ◌<◌, ◌≤◌, ◌≡◌, ◌≢◌, List, length, Option, Some}
-use Rattle.dioid.specs.declared.dates.Date.{Date}
-use Rattle.dioid.specs.declared.dates.Date.TheVariants.{At, Never}
-use Rattle.dioid.specs.Dates.{IsAtMostDate, delayed}
-use Rattle.teg_net.specs.Nets.{NetLists}
-use Rattle.teg_net.specs.ReadyDates.{start_date}
-use Rattle.teg_net.specs.declared.walks.Step.{Step}
-use Rattle.teg_net.specs.declared.walks.Walk.{Walk}
-use Rattle.teg_net.specs.Walks.{Walks, IsWalk, walk_time}
+use Rattle.teg_model.specs.dioid.declared.dates.Date.{Date}
+use Rattle.teg_model.specs.dioid.declared.dates.Date.TheVariants.{At, Never}
+use Rattle.teg_model.specs.dioid.Dates.{IsAtMostDate, delayed}
+use Rattle.teg_model.specs.teg_net.Nets.{NetLists}
+use Rattle.teg_model.specs.teg_net.ReadyDates.{start_date}
+use Rattle.teg_model.specs.teg_net.declared.walks.Step.{Step}
+use Rattle.teg_model.specs.teg_net.declared.walks.Walk.{Walk}
+use Rattle.teg_model.specs.teg_net.Walks.{Walks, IsWalk, walk_time}
 
 -- a walk from firing k of transition t leads to a firing that is due, and its due date less the time of the walk is this date
 pub record IsDateToDue (net : NetLists) (due : ℕ → ℕ → Option ℕ) (t k : ℕ) (date : Date) : Type 0 where

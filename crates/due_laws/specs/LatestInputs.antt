@@ -1,11 +1,11 @@
 -- What holds of due dates, of the inputs that meet them and of latest dates (chapter 5).
 use Rattle.std.specs.Prelude.{ℕ, ◌≡◌, ◌↔◌, List, Option, Some}
-use Rattle.dioid.specs.declared.dates.Date.{Date}
-use Rattle.dioid.specs.declared.dates.Date.TheVariants.{Never}
-use Rattle.teg_net.specs.Nets.{NetLists, IsNet}
-use Rattle.teg_net.specs.Circuits.{IsLive}
-use Rattle.teg_net.specs.declared.walks.Step.{Step}
-use Rattle.teg_net.specs.Walks.{Walks}
+use Rattle.teg_model.specs.dioid.declared.dates.Date.{Date}
+use Rattle.teg_model.specs.dioid.declared.dates.Date.TheVariants.{Never}
+use Rattle.teg_model.specs.teg_net.Nets.{NetLists, IsNet}
+use Rattle.teg_model.specs.teg_net.Circuits.{IsLive}
+use Rattle.teg_model.specs.teg_net.declared.walks.Step.{Step}
+use Rattle.teg_model.specs.teg_net.Walks.{Walks}
 use Rattle.due_laws.specs.MeetingDueDates.{InputsMeet, AreLatestInputs, inputs_at_zero}
 use Rattle.due_laws.specs.LatestDates.{IsLatestDate, AreLatestDates}
 

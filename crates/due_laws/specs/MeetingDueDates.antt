@@ -1,10 +1,10 @@
 -- Due dates, and the inputs that meet them (chapter 5). What is due is a function of the firing: by a list of rows, or
 -- without end.
 use Rattle.std.specs.Prelude.{ℕ, pos, ◌+◌, ◌<◌, ◌≤◌, ◌≡◌, length, Option, Some}
-use Rattle.dioid.specs.declared.dates.Date.{Date}
-use Rattle.dioid.specs.declared.dates.Date.TheVariants.{At}
-use Rattle.dioid.specs.Dates.{IsAtMostDate}
-use Rattle.teg_net.specs.Nets.{NetLists, IsInput}
+use Rattle.teg_model.specs.dioid.declared.dates.Date.{Date}
+use Rattle.teg_model.specs.dioid.declared.dates.Date.TheVariants.{At}
+use Rattle.teg_model.specs.dioid.Dates.{IsAtMostDate}
+use Rattle.teg_model.specs.teg_net.Nets.{NetLists, IsInput}
 use Rattle.teg_model.specs.Datings.{IsLeastUnder}
 
 -- no firing comes after a date at which it is due

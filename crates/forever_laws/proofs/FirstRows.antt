@@ -2,11 +2,11 @@
 use Rattle.std.proofs.Common.{ℕ, zero, suc, ◌+◌, ◌*◌, ◌<◌, ◌≡◌, List, [], ◌∷◌, Some, length, get_or, take, refl, arith, ⊎_elim, ◌⊎◌, inl, inr}
 use Rattle.std.specs.Prelude.{All, slice_get}
 use Rattle.std.proofs.lemmas.List.Elements.{All-cons}
-use Rattle.dioid.specs.declared.dates.Date.{Date}
-use Rattle.teg_net.specs.Limits.{most_place_tokens, greatest_hold, greatest_input_date}
-use Rattle.teg_net.specs.Nets.{NetLists, IsNet}
-use Rattle.teg_net.specs.Circuits.{IsLive}
-use Rattle.teg_model.specs.Datings.{IsLeastUnder}
+use Rattle.teg_settle.specs.dioid.declared.dates.Date.{Date}
+use Rattle.teg_settle.specs.teg_net.Limits.{most_place_tokens, greatest_hold, greatest_input_date}
+use Rattle.teg_settle.specs.teg_net.Nets.{NetLists, IsNet}
+use Rattle.teg_settle.specs.teg_net.Circuits.{IsLive}
+use Rattle.teg_settle.specs.teg_model.Datings.{IsLeastUnder}
 use Rattle.due_laws.specs.MeetingDueDates.{inputs_at_zero}
 use Rattle.bound_laws.proofs.Unrolled.{unrolled}
 use Rattle.forever_laws.specs.declared.rows.EndlessRow.{EndlessRow}

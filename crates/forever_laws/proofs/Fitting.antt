@@ -4,25 +4,25 @@ use Rattle.std.specs.Int.RustNames.{unsigned_abs}
 use Rattle.std.proofs.lemmas.Bool.{cases_lt}
 use Rattle.std.proofs.lemmas.Int.{ints}
 use Rattle.std.proofs.lemmas.List.{get_or_past, length-map}
-use Rattle.dioid.specs.declared.dates.Date.{Date}
-use Rattle.dioid.specs.declared.dates.Date.TheVariants.{Early, At, Never}
-use Rattle.dioid.specs.Dates.{move}
-use Rattle.series_laws.specs.Periodic.{Rising}
-use Rattle.series_laws.specs.SeriesForms.{Form, form_with, size_of, repeat_start, value_at, HasValues, IsCanonical, canonical_of}
-use Rattle.series_laws.proofs.FormValues.{value_in, value_repeats}
-use Rattle.series_laws.proofs.Canonical.{canonical_is, canonical_values, canonical_short, one_canonical}
-use Rattle.series_form.specs.NumberBounds.{IsSmallDate, HasSmallNumbers, IsSeries}
-use Rattle.teg_net.specs.Nets.{NetLists, IsNet}
-use Rattle.teg_net.specs.Circuits.{IsLive}
-use Rattle.teg_net.specs.Limits.{greatest_input_date}
-use Rattle.teg_net.specs.Walks.{walk_time}
-use Rattle.teg_model.specs.DateBounds.{IsDateWithin}
-use Rattle.teg_model.specs.Datings.{IsLeastUnder, system_of}
-use Rattle.teg_model.proofs.LeastOver.{least_over}
-use Rattle.teg_model.proofs.LiveRanks.{live_is_ranked}
-use Rattle.teg_model.proofs.OfNet.{least_of, least_of_system, net_ends}
+use Rattle.teg_settle.specs.dioid.declared.dates.Date.{Date}
+use Rattle.teg_settle.specs.dioid.declared.dates.Date.TheVariants.{Early, At, Never}
+use Rattle.teg_settle.specs.dioid.Dates.{move}
+use Rattle.teg_settle.specs.series_laws.Periodic.{Rising}
+use Rattle.teg_settle.specs.series_laws.SeriesForms.{Form, form_with, size_of, repeat_start, value_at, HasValues, IsCanonical, canonical_of}
+use Rattle.teg_settle.proofs.series_laws_proofs.FormValues.{value_in, value_repeats}
+use Rattle.teg_settle.proofs.series_laws_proofs.Canonical.{canonical_is, canonical_values, canonical_short, one_canonical}
+use Rattle.teg_settle.specs.series_form.NumberBounds.{IsSmallDate, HasSmallNumbers, IsSeries}
+use Rattle.teg_settle.specs.teg_net.Nets.{NetLists, IsNet}
+use Rattle.teg_settle.specs.teg_net.Circuits.{IsLive}
+use Rattle.teg_settle.specs.teg_net.Limits.{greatest_input_date}
+use Rattle.teg_settle.specs.teg_net.Walks.{walk_time}
+use Rattle.teg_settle.specs.teg_model.DateBounds.{IsDateWithin}
+use Rattle.teg_settle.specs.teg_model.Datings.{IsLeastUnder, system_of}
+use Rattle.teg_settle.proofs.teg_model_proofs.LeastOver.{least_over}
+use Rattle.teg_settle.proofs.teg_model_proofs.LiveRanks.{live_is_ranked}
+use Rattle.teg_settle.proofs.teg_model_proofs.OfNet.{least_of, least_of_system, net_ends}
 use Rattle.due_laws.specs.MeetingDueDates.{inputs_at_zero}
-use Rattle.settled_laws.specs.SettledForms.{settled_length, row_of, step_of_form}
+use Rattle.teg_settle.specs.settled_laws.SettledForms.{settled_length, row_of, step_of_form}
 use Rattle.teg_settle.specs.Transfers.{IsGreatestWalkTime}
 use Rattle.forever_laws.specs.declared.rows.EndlessRow.{EndlessRow}
 use Rattle.forever_laws.specs.EndlessRows.{IsEndlessRow, most_endless_dates}

@@ -11,3 +11,9 @@ pub mod Residuals
 pub mod FirstRows
 pub mod OneColumn
 pub mod Fitting
+pub use Rattle.teg_settle.proofs.number_laws_proofs as number_laws_proofs
+pub use Rattle.teg_settle.proofs.dioid_proofs as dioid_proofs
+pub use Rattle.teg_settle.proofs.dioid_matrix_proofs as dioid_matrix_proofs
+pub use Rattle.teg_settle.proofs.series_laws_proofs as series_laws_proofs
+pub use Rattle.teg_settle.proofs.series_form_proofs as series_form_proofs
+pub use Rattle.teg_settle.proofs.settled_laws_proofs as settled_laws_proofs

@@ -1,22 +1,22 @@
 -- Each input has columns of walk series and due series, and only one of each.
 use Rattle.std.proofs.Common.{ℕ, ℤ, pos, zero, suc, ◌+◌, ◌<◌, ◌≤◌, ◌≡◌, List, Option, Some, None, length, sym, ap, ap₂, subst, ◌∙◌, arith, ⊎_elim, inl, inr}
 use Rattle.std.specs.Prelude.{slice_get}
-use Rattle.dioid.specs.declared.algebra.Residuated.{Ghosts as ResiduatedOf}
-use Rattle.dioid.specs.declared.dates.Date.{Date}
-use Rattle.dioid.specs.Dates.{IsAtMostDate, move}
-use Rattle.dioid.proofs.DateOrder.{same_by_at_most}
-use Rattle.dioid_matrix.specs.Residuals.{meet_below, lefts}
-use Rattle.series_laws.specs.SeriesForms.{Form, form_with, value_at, repeat_start, HasValues, IsCanonical, canonical_of}
-use Rattle.series_laws.proofs.Canonical.{one_canonical, canonical_is, canonical_values}
-use Rattle.series_laws.proofs.FormValues.{value_repeats}
-use Rattle.series_ops.specs.declared.gains.Gain.{Gain}
-use Rattle.series_ops.specs.Gains.{gain_of, gain_zero}
-use Rattle.teg_net.specs.Nets.{NetLists, IsNet}
-use Rattle.teg_model.proofs.DateFunctions.{Dating}
-use Rattle.settled_laws.specs.SettledForms.{SettledForm, row_of, step_of_form, StandsFor}
+use Rattle.teg_settle.specs.dioid.declared.algebra.Residuated.{Ghosts as ResiduatedOf}
+use Rattle.teg_settle.specs.dioid.declared.dates.Date.{Date}
+use Rattle.teg_settle.specs.dioid.Dates.{IsAtMostDate, move}
+use Rattle.teg_settle.proofs.dioid_proofs.DateOrder.{same_by_at_most}
+use Rattle.teg_settle.specs.dioid_matrix.Residuals.{meet_below, lefts}
+use Rattle.teg_settle.specs.series_laws.SeriesForms.{Form, form_with, value_at, repeat_start, HasValues, IsCanonical, canonical_of}
+use Rattle.teg_settle.proofs.series_laws_proofs.Canonical.{one_canonical, canonical_is, canonical_values}
+use Rattle.teg_settle.proofs.series_laws_proofs.FormValues.{value_repeats}
+use Rattle.teg_settle.specs.series_ops.declared.gains.Gain.{Gain}
+use Rattle.teg_settle.specs.series_ops.Gains.{gain_of, gain_zero}
+use Rattle.teg_settle.specs.teg_net.Nets.{NetLists, IsNet}
+use Rattle.teg_settle.proofs.teg_model_proofs.DateFunctions.{Dating}
+use Rattle.teg_settle.specs.settled_laws.SettledForms.{SettledForm, row_of, step_of_form, StandsFor}
 use Rattle.teg_settle.specs.WalkTimes.{WalkTimesSettle}
 use Rattle.teg_settle.specs.Transfers.{IsGreatestWalkTime, IsTransferOf}
-use Rattle.periodic_laws.specs.Equations.{gains}
+use Rattle.teg_settle.specs.periodic_laws.Equations.{gains}
 use Rattle.forever_laws.specs.declared.rows.EndlessRow.{EndlessRow}
 use Rattle.forever_laws.specs.EndlessRows.{IsEndlessRow}
 use Rattle.forever_laws.specs.SeriesColumns.{IsWalkSeries, due_date_at, IsDueSeries, gain_residuals, IsSeriesList, listed_dates}

@@ -3,31 +3,31 @@ use Rattle.std.proofs.Common.{ℕ, zero, suc, ◌+◌, ◌-◌, ◌<◌, ◌≤�
 use Rattle.std.specs.Prelude.{pos, slice_get}
 use Rattle.std.proofs.lemmas.Bool.{cases_lt}
 use Rattle.std.proofs.lemmas.Int.{ints}
-use Rattle.dioid.specs.declared.dates.Date.{Date}
-use Rattle.dioid.specs.declared.dates.Date.TheVariants.{Early, At, Never}
-use Rattle.dioid.specs.Dates.{IsAtMostDate, delayed, date_product, date_left, earlier_of}
-use Rattle.dioid.specs.DateOrder.{Le}
-use Rattle.dioid.proofs.DateOrder.{at_most_is, at_most_trans, earlier_either, delayed_rises, delayed_is_product}
-use Rattle.dioid.proofs.AtMost.{le_refl, le_is, le_trans, le_never, product_le, earlier_le_left, earlier_le_right}
-use Rattle.series_laws.specs.Residual.{IsLeftAt, least_of_first}
-use Rattle.series_laws.specs.SeriesForms.{Form, value_at, IsForm, IsCanonical}
-use Rattle.series_laws.specs.declared.plans.Slopes.{Slopes}
-use Rattle.series_laws.specs.declared.plans.Slopes.TheVariants.{Equal, First, Second}
-use Rattle.series_laws.specs.Needs.{tail_of, slopes_of, form_least}
-use Rattle.series_laws.specs.ProductNeeds.{offsets_of, left_by_slopes, left_by, residual_at, form_left}
-use Rattle.series_laws.proofs.Items.{times_commutes}
-use Rattle.series_laws.proofs.Lefts.{left_is, form_left_is, form_left_values}
-use Rattle.series_laws.proofs.StarParts.{from_left}
-use Rattle.series_laws.proofs.Sums.{form_least_is, form_least_values}
-use Rattle.series_ops.specs.declared.gains.Gain.{Gain}
-use Rattle.teg_net.specs.declared.walks.Step.{Step}
-use Rattle.teg_net.specs.Nets.{NetLists, IsNet}
-use Rattle.teg_net.specs.Walks.{Walks, walk_time}
-use Rattle.teg_model.specs.Datings.{as_date}
-use Rattle.teg_model.proofs.OfNet.{net_ends}
-use Rattle.teg_model.proofs.Tokens.{not_before_zero}
-use Rattle.teg_model.proofs.WalkSteps.{walk_below}
-use Rattle.teg_model.proofs.DateFunctions.{Dating}
+use Rattle.teg_settle.specs.dioid.declared.dates.Date.{Date}
+use Rattle.teg_settle.specs.dioid.declared.dates.Date.TheVariants.{Early, At, Never}
+use Rattle.teg_settle.specs.dioid.Dates.{IsAtMostDate, delayed, date_product, date_left, earlier_of}
+use Rattle.teg_settle.specs.dioid.DateOrder.{Le}
+use Rattle.teg_settle.proofs.dioid_proofs.DateOrder.{at_most_is, at_most_trans, earlier_either, delayed_rises, delayed_is_product}
+use Rattle.teg_settle.proofs.dioid_proofs.AtMost.{le_refl, le_is, le_trans, le_never, product_le, earlier_le_left, earlier_le_right}
+use Rattle.teg_settle.specs.series_laws.Residual.{IsLeftAt, least_of_first}
+use Rattle.teg_settle.specs.series_laws.SeriesForms.{Form, value_at, IsForm, IsCanonical}
+use Rattle.teg_settle.specs.series_laws.declared.plans.Slopes.{Slopes}
+use Rattle.teg_settle.specs.series_laws.declared.plans.Slopes.TheVariants.{Equal, First, Second}
+use Rattle.teg_settle.specs.series_laws.Needs.{tail_of, slopes_of, form_least}
+use Rattle.teg_settle.specs.series_laws.ProductNeeds.{offsets_of, left_by_slopes, left_by, residual_at, form_left}
+use Rattle.teg_settle.proofs.series_laws_proofs.Items.{times_commutes}
+use Rattle.teg_settle.proofs.series_laws_proofs.Lefts.{left_is, form_left_is, form_left_values}
+use Rattle.teg_settle.proofs.series_laws_proofs.StarParts.{from_left}
+use Rattle.teg_settle.proofs.series_laws_proofs.Sums.{form_least_is, form_least_values}
+use Rattle.teg_settle.specs.series_ops.declared.gains.Gain.{Gain}
+use Rattle.teg_settle.specs.teg_net.declared.walks.Step.{Step}
+use Rattle.teg_settle.specs.teg_net.Nets.{NetLists, IsNet}
+use Rattle.teg_settle.specs.teg_net.Walks.{Walks, walk_time}
+use Rattle.teg_settle.specs.teg_model.Datings.{as_date}
+use Rattle.teg_settle.proofs.teg_model_proofs.OfNet.{net_ends}
+use Rattle.teg_settle.proofs.teg_model_proofs.Tokens.{not_before_zero}
+use Rattle.teg_settle.proofs.teg_model_proofs.WalkSteps.{walk_below}
+use Rattle.teg_settle.proofs.teg_model_proofs.DateFunctions.{Dating}
 use Rattle.teg_settle.specs.Transfers.{IsGreatestWalkTime}
 use Rattle.due_laws.specs.MeetingDueDates.{InputsMeet, inputs_at_zero}
 use Rattle.due_laws.specs.LatestDates.{IsDateToDue, IsLatestDate}

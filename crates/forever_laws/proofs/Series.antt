@@ -2,21 +2,21 @@
 use Rattle.std.proofs.Common.{ℕ, ℤ, pos, ◌+◌, ◌-◌, ◌<◌, ◌≤◌, ◌≡◌, List, [], ◌∷◌, ◌++◌, length, get_or, refl, sym, ap, subst, ◌∙◌, arith, ⊎_elim}
 use Rattle.std.proofs.lemmas.Int.{ints}
 use Rattle.std.proofs.lemmas.List.{get_or-map, length-map}
-use Rattle.dioid.specs.declared.dates.Date.{Date}
-use Rattle.dioid.specs.declared.dates.Date.TheVariants.{Early, At}
-use Rattle.dioid.specs.Dates.{IsAtMostDate, move}
-use Rattle.dioid.specs.DateOrder.{Le}
-use Rattle.series_laws.specs.Periodic.{Rising, Repeats}
-use Rattle.series_laws.specs.SeriesForms.{form_with, value_at, HasValues, table}
-use Rattle.series_laws.proofs.FormValues.{form_values, table_length, table_at, same_lists}
-use Rattle.series_laws.proofs.Repeating.{rising_by_one}
-use Rattle.teg_net.specs.declared.walks.Step.{Step}
-use Rattle.teg_net.specs.declared.walks.Step.TheVariants.{Next}
-use Rattle.teg_net.specs.Nets.{NetLists}
-use Rattle.teg_net.specs.Walks.{Walks, walk_time}
-use Rattle.teg_model.specs.Datings.{as_date}
-use Rattle.teg_model.proofs.WalkSteps.{walk_append, walk_time-append}
-use Rattle.settled_laws.specs.SettledForms.{settled_length, row_of, step_of_form, StandsFor}
+use Rattle.teg_settle.specs.dioid.declared.dates.Date.{Date}
+use Rattle.teg_settle.specs.dioid.declared.dates.Date.TheVariants.{Early, At}
+use Rattle.teg_settle.specs.dioid.Dates.{IsAtMostDate, move}
+use Rattle.teg_settle.specs.dioid.DateOrder.{Le}
+use Rattle.teg_settle.specs.series_laws.Periodic.{Rising, Repeats}
+use Rattle.teg_settle.specs.series_laws.SeriesForms.{form_with, value_at, HasValues, table}
+use Rattle.teg_settle.proofs.series_laws_proofs.FormValues.{form_values, table_length, table_at, same_lists}
+use Rattle.teg_settle.proofs.series_laws_proofs.Repeating.{rising_by_one}
+use Rattle.teg_settle.specs.teg_net.declared.walks.Step.{Step}
+use Rattle.teg_settle.specs.teg_net.declared.walks.Step.TheVariants.{Next}
+use Rattle.teg_settle.specs.teg_net.Nets.{NetLists}
+use Rattle.teg_settle.specs.teg_net.Walks.{Walks, walk_time}
+use Rattle.teg_settle.specs.teg_model.Datings.{as_date}
+use Rattle.teg_settle.proofs.teg_model_proofs.WalkSteps.{walk_append, walk_time-append}
+use Rattle.teg_settle.specs.settled_laws.SettledForms.{settled_length, row_of, step_of_form, StandsFor}
 use Rattle.teg_settle.specs.Transfers.{IsGreatestWalkTime, AreWalkTimes}
 use Rattle.forever_laws.specs.declared.rows.EndlessRow.{EndlessRow}
 use Rattle.forever_laws.specs.SeriesColumns.{due_date_at, listed_dates, IsSeriesList}

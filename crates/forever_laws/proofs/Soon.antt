@@ -4,22 +4,22 @@ use Rattle.std.specs.Prelude.{pos}
 use Rattle.std.proofs.lemmas.Bool.{cases_lt}
 use Rattle.std.proofs.lemmas.Int.{ints}
 use Rattle.std.proofs.Math.Nat.{mul-le-mul_right, mul-le-mul_left}
-use Rattle.number_laws.proofs.Numbers.{some_of}
-use Rattle.dioid.specs.declared.dates.Date.{Date}
-use Rattle.dioid.specs.declared.dates.Date.TheVariants.{At}
-use Rattle.teg_net.specs.declared.entries.PlaceId.{PlaceId}
-use Rattle.teg_net.specs.Limits.{most_place_tokens, greatest_hold, greatest_input_date}
-use Rattle.teg_net.specs.Nets.{NetLists, IsNet}
-use Rattle.teg_net.specs.Circuits.{no_place, place_at, IsPathBetween, IsCircuit, IsLive, time_of, tokens_of}
-use Rattle.teg_model.specs.Datings.{IsLeastUnder, extended_places}
-use Rattle.teg_model.proofs.OfNet.{net_ends, all_extended_in}
-use Rattle.teg_model.proofs.LiveRanks.{live_ranks}
-use Rattle.teg_model.proofs.Within.{AreWithin, least_within}
+use Rattle.teg_settle.proofs.number_laws_proofs.Numbers.{some_of}
+use Rattle.teg_settle.specs.dioid.declared.dates.Date.{Date}
+use Rattle.teg_settle.specs.dioid.declared.dates.Date.TheVariants.{At}
+use Rattle.teg_settle.specs.teg_net.declared.entries.PlaceId.{PlaceId}
+use Rattle.teg_settle.specs.teg_net.Limits.{most_place_tokens, greatest_hold, greatest_input_date}
+use Rattle.teg_settle.specs.teg_net.Nets.{NetLists, IsNet}
+use Rattle.teg_settle.specs.teg_net.Circuits.{no_place, place_at, IsPathBetween, IsCircuit, IsLive, time_of, tokens_of}
+use Rattle.teg_settle.specs.teg_model.Datings.{IsLeastUnder, extended_places}
+use Rattle.teg_settle.proofs.teg_model_proofs.OfNet.{net_ends, all_extended_in}
+use Rattle.teg_settle.proofs.teg_model_proofs.LiveRanks.{live_ranks}
+use Rattle.teg_settle.proofs.teg_model_proofs.Within.{AreWithin, least_within}
 use Rattle.due_laws.specs.MeetingDueDates.{inputs_at_zero}
 use Rattle.bound_laws.proofs.Unrolled.{unrolled, same_sums, IsWait, kinds}
 use Rattle.bound_laws.proofs.WalkTimes.{number_of}
-use Rattle.teg_loops.specs.Loops.{EndsBelow}
-use Rattle.teg_loops.proofs.Taking.{sum_most}
+use Rattle.teg_settle.specs.teg_loops.Loops.{EndsBelow}
+use Rattle.teg_settle.proofs.teg_loops_proofs.Taking.{sum_most}
 use Rattle.forever_laws.specs.declared.rows.EndlessRow.{EndlessRow}
 use Rattle.forever_laws.specs.EndlessRows.{IsEndlessRow}
 use Rattle.forever_laws.specs.Late.{IsLateAt}

@@ -3,15 +3,15 @@ use Rattle.std.proofs.Common.{ℕ, ℤ, zero, suc, ◌+◌, ◌-◌, ◌*◌, �
 use Rattle.std.specs.Prelude.{pos}
 use Rattle.std.proofs.lemmas.Bool.{cases_lt}
 use Rattle.std.proofs.lemmas.Int.{ints}
-use Rattle.dioid.specs.declared.dates.Date.{Date}
-use Rattle.dioid.specs.declared.dates.Date.TheVariants.{At}
-use Rattle.dioid.specs.Dates.{IsAtMostDate, move}
-use Rattle.dioid.proofs.Moves.{at_inj}
-use Rattle.teg_net.specs.Nets.{NetLists, IsNet}
-use Rattle.teg_net.specs.Circuits.{IsLive}
-use Rattle.teg_model.specs.Datings.{IsLeastUnder}
-use Rattle.teg_model.proofs.Tokens.{dates_climb}
-use Rattle.settled_laws.specs.SettledForms.{step_of_form}
+use Rattle.teg_settle.specs.dioid.declared.dates.Date.{Date}
+use Rattle.teg_settle.specs.dioid.declared.dates.Date.TheVariants.{At}
+use Rattle.teg_settle.specs.dioid.Dates.{IsAtMostDate, move}
+use Rattle.teg_settle.proofs.dioid_proofs.Moves.{at_inj}
+use Rattle.teg_settle.specs.teg_net.Nets.{NetLists, IsNet}
+use Rattle.teg_settle.specs.teg_net.Circuits.{IsLive}
+use Rattle.teg_settle.specs.teg_model.Datings.{IsLeastUnder}
+use Rattle.teg_settle.proofs.teg_model_proofs.Tokens.{dates_climb}
+use Rattle.teg_settle.specs.settled_laws.SettledForms.{step_of_form}
 use Rattle.due_laws.specs.MeetingDueDates.{inputs_at_zero}
 use Rattle.bound_laws.proofs.WalkTimes.{number_of}
 use Rattle.forever_laws.specs.declared.rows.EndlessRow.{EndlessRow}

@@ -4,29 +4,29 @@ use Rattle.std.specs.Prelude.{pos, Any}
 use Rattle.std.proofs.lemmas.Bool.{cases_lt}
 use Rattle.std.proofs.lemmas.Int.{ints}
 use Rattle.std.proofs.lemmas.List.Sums.{sum_by-append}
-use Rattle.dioid.specs.declared.dates.Date.{Date}
-use Rattle.dioid.specs.declared.dates.Date.TheVariants.{Early, At}
-use Rattle.dioid.specs.Dates.{IsAtMostDate, delayed, later_of}
-use Rattle.dioid.proofs.DateOrder.{later_is_left}
-use Rattle.teg_net.specs.declared.entries.PlaceId.{PlaceId}
-use Rattle.teg_net.specs.declared.entries.Place.{Place}
-use Rattle.teg_net.specs.Limits.{most_place_tokens}
-use Rattle.teg_net.specs.Nets.{NetLists, IsNet, IsInput}
-use Rattle.teg_net.specs.Circuits.{place_at, IsPathBetween, IsLive, time_of, tokens_of}
-use Rattle.teg_net.specs.Walks.{Walks, walk_time}
-use Rattle.teg_net.specs.ReadyDates.{ready_date, start_date}
-use Rattle.teg_net.proofs.StartDates.{IsStartDate-start_date}
-use Rattle.teg_net.proofs.PathLaws.{IsPathBetween-append}
-use Rattle.teg_model.specs.Datings.{IsLeastUnder, at_input}
-use Rattle.teg_model.specs.Starts.{start_of_firing}
-use Rattle.teg_model.specs.WalkDates.{IsDateOfWalk, IsGreatestOfWalks}
-use Rattle.teg_model.proofs.OfNet.{input_or_not, net_ends}
-use Rattle.teg_model.proofs.GreatestWalks.{least_is_walk}
-use Rattle.teg_model.proofs.LiveRanks.{live_ranks}
+use Rattle.teg_settle.specs.dioid.declared.dates.Date.{Date}
+use Rattle.teg_settle.specs.dioid.declared.dates.Date.TheVariants.{Early, At}
+use Rattle.teg_settle.specs.dioid.Dates.{IsAtMostDate, delayed, later_of}
+use Rattle.teg_settle.proofs.dioid_proofs.DateOrder.{later_is_left}
+use Rattle.teg_settle.specs.teg_net.declared.entries.PlaceId.{PlaceId}
+use Rattle.teg_settle.specs.teg_net.declared.entries.Place.{Place}
+use Rattle.teg_settle.specs.teg_net.Limits.{most_place_tokens}
+use Rattle.teg_settle.specs.teg_net.Nets.{NetLists, IsNet, IsInput}
+use Rattle.teg_settle.specs.teg_net.Circuits.{place_at, IsPathBetween, IsLive, time_of, tokens_of}
+use Rattle.teg_settle.specs.teg_net.Walks.{Walks, walk_time}
+use Rattle.teg_settle.specs.teg_net.ReadyDates.{ready_date, start_date}
+use Rattle.teg_settle.proofs.teg_net_proofs.StartDates.{IsStartDate-start_date}
+use Rattle.teg_settle.proofs.teg_net_proofs.PathLaws.{IsPathBetween-append}
+use Rattle.teg_settle.specs.teg_model.Datings.{IsLeastUnder, at_input}
+use Rattle.teg_settle.specs.teg_model.Starts.{start_of_firing}
+use Rattle.teg_settle.specs.teg_model.WalkDates.{IsDateOfWalk, IsGreatestOfWalks}
+use Rattle.teg_settle.proofs.teg_model_proofs.OfNet.{input_or_not, net_ends}
+use Rattle.teg_settle.proofs.teg_model_proofs.GreatestWalks.{least_is_walk}
+use Rattle.teg_settle.proofs.teg_model_proofs.LiveRanks.{live_ranks}
 use Rattle.due_laws.specs.MeetingDueDates.{inputs_at_zero}
 use Rattle.bound_laws.proofs.Unrolled.{unrolled, Pathed, pathed, Stepped, stepped}
 use Rattle.bound_laws.proofs.WalkTimes.{number_of, Waiting, waiting}
-use Rattle.teg_loops.proofs.Visits.{rounds, rounds_lead, rounds_sum}
+use Rattle.teg_settle.proofs.teg_loops_proofs.Visits.{rounds, rounds_lead, rounds_sum}
 use Rattle.forever_laws.proofs.Late.{ReachedFrom}
 
 -- the start of a firing

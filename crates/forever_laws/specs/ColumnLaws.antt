@@ -1,12 +1,12 @@
 -- What holds of columns of walk series and due series: each input has them, and only one of each; and walk times have one length.
 use Rattle.std.specs.Prelude.{ℕ, ◌<◌, ◌≡◌, List, length}
-use Rattle.dioid_matrix.specs.Residuals.{RowFits}
-use Rattle.series_ops.specs.declared.gains.Gain.{Gain}
-use Rattle.teg_net.specs.Nets.{NetLists, IsNet, IsInput}
-use Rattle.teg_net.specs.Circuits.{IsLive}
-use Rattle.settled_laws.specs.SettledForms.{SettledForm, settled_length}
+use Rattle.teg_settle.specs.dioid_matrix.Residuals.{RowFits}
+use Rattle.teg_settle.specs.series_ops.declared.gains.Gain.{Gain}
+use Rattle.teg_settle.specs.teg_net.Nets.{NetLists, IsNet, IsInput}
+use Rattle.teg_settle.specs.teg_net.Circuits.{IsLive}
+use Rattle.teg_settle.specs.settled_laws.SettledForms.{SettledForm, settled_length}
 use Rattle.teg_settle.specs.Transfers.{IsTransferOf, TransferSettlesPast}
-use Rattle.periodic_laws.specs.Equations.{gains}
+use Rattle.teg_settle.specs.periodic_laws.Equations.{gains}
 use Rattle.forever_laws.specs.declared.rows.EndlessRow.{EndlessRow}
 use Rattle.forever_laws.specs.EndlessRows.{IsEndlessOf}
 use Rattle.forever_laws.specs.SeriesColumns.{AreSeriesColumns, gain_residuals}

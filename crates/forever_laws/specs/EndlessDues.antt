@@ -1,20 +1,20 @@
 -- What holds of endless due dates: late numbers, their search and their bound, latest inputs, and series of walk times and due dates.
 use Rattle.std.specs.Prelude.{ℕ, pos, ◌+◌, ◌-◌, ◌*◌, ◌^◌, ◌<◌, ◌≤◌, ◌≡◌, ◌≢◌, ◌⊎◌, ◌↔◌, List, Option, length, All}
-use Rattle.dioid.specs.declared.dates.Date.{Date}
-use Rattle.dioid.specs.declared.dates.Date.TheVariants.{At, Never}
-use Rattle.series_laws.specs.SeriesForms.{Form, value_at}
-use Rattle.series_form.specs.NumberBounds.{IsSeries}
-use Rattle.series_ops.specs.declared.gains.Gain.{Gain}
-use Rattle.teg_net.specs.Nets.{NetLists, IsNet, IsInput, without_inputs}
-use Rattle.teg_net.specs.Circuits.{IsLive}
-use Rattle.teg_model.specs.Datings.{IsLeastUnder, IsLeastDating}
-use Rattle.settled_laws.specs.SettledForms.{SettledForm, StandsFor, row_of, step_of_form, settled_length}
+use Rattle.teg_settle.specs.dioid.declared.dates.Date.{Date}
+use Rattle.teg_settle.specs.dioid.declared.dates.Date.TheVariants.{At, Never}
+use Rattle.teg_settle.specs.series_laws.SeriesForms.{Form, value_at}
+use Rattle.teg_settle.specs.series_form.NumberBounds.{IsSeries}
+use Rattle.teg_settle.specs.series_ops.declared.gains.Gain.{Gain}
+use Rattle.teg_settle.specs.teg_net.Nets.{NetLists, IsNet, IsInput, without_inputs}
+use Rattle.teg_settle.specs.teg_net.Circuits.{IsLive}
+use Rattle.teg_settle.specs.teg_model.Datings.{IsLeastUnder, IsLeastDating}
+use Rattle.teg_settle.specs.settled_laws.SettledForms.{SettledForm, StandsFor, row_of, step_of_form, settled_length}
 use Rattle.teg_settle.specs.Transfers.{IsGreatestWalkTime, IsTransferOf}
 use Rattle.due_laws.specs.MeetingDueDates.{InputsMeet, AreLatestInputs, inputs_at_zero}
 use Rattle.due_laws.specs.LatestDates.{IsLatestDate}
 use Rattle.due_laws.specs.LatestInputs.{LeadsToNoDue}
 use Rattle.forever_laws.specs.declared.rows.EndlessRow.{EndlessRow}
-use Rattle.teg_net.specs.Inputs.{moved_by}
+use Rattle.teg_settle.specs.teg_net.Inputs.{moved_by}
 use Rattle.forever_laws.specs.EndlessRows.{due_on, row_due, IsEndlessRow, IsEndlessOf}
 use Rattle.forever_laws.specs.Late.{IsLateAt, NoneLateTo, NoneLate, IsLeastLate, IsFirstLateRow}
 use Rattle.forever_laws.specs.LateSearches.{IsCommonPeriodOf, turns_to, IsSoonest}

@@ -1,17 +1,17 @@
 -- The series of walk times and of due dates: shift k stands for firing k + 1 (chapter 5).
 use Rattle.std.specs.Prelude.{ℕ, ℤ, pos, ◌+◌, ◌<◌, ◌≤◌, ◌≡◌, List, Some, length, map, slice_get}
-use Rattle.dioid.specs.declared.algebra.Residuated.{Ghosts as ResiduatedOf}
-use Rattle.dioid.specs.declared.dates.Date.{Date}
-use Rattle.dioid.specs.declared.dates.Date.TheVariants.{At}
-use Rattle.dioid_matrix.specs.Residuals.{meet_below, lefts}
-use Rattle.series_laws.specs.Periodic.{Rising}
-use Rattle.series_laws.specs.SeriesForms.{Form, form_with, value_at, IsCanonical, HasValues}
-use Rattle.series_ops.specs.declared.gains.Gain.{Gain}
-use Rattle.series_ops.specs.Gains.{gain_left, gain_meet, LeftFits, MeetFits}
-use Rattle.teg_net.specs.Nets.{NetLists}
-use Rattle.teg_model.specs.Datings.{as_date}
+use Rattle.teg_settle.specs.dioid.declared.algebra.Residuated.{Ghosts as ResiduatedOf}
+use Rattle.teg_settle.specs.dioid.declared.dates.Date.{Date}
+use Rattle.teg_settle.specs.dioid.declared.dates.Date.TheVariants.{At}
+use Rattle.teg_settle.specs.dioid_matrix.Residuals.{meet_below, lefts}
+use Rattle.teg_settle.specs.series_laws.Periodic.{Rising}
+use Rattle.teg_settle.specs.series_laws.SeriesForms.{Form, form_with, value_at, IsCanonical, HasValues}
+use Rattle.teg_settle.specs.series_ops.declared.gains.Gain.{Gain}
+use Rattle.teg_settle.specs.series_ops.Gains.{gain_left, gain_meet, LeftFits, MeetFits}
+use Rattle.teg_settle.specs.teg_net.Nets.{NetLists}
+use Rattle.teg_settle.specs.teg_model.Datings.{as_date}
 use Rattle.teg_settle.specs.Transfers.{IsGreatestWalkTime}
-use Rattle.periodic_laws.specs.Equations.{gains}
+use Rattle.teg_settle.specs.periodic_laws.Equations.{gains}
 use Rattle.forever_laws.specs.declared.rows.EndlessRow.{EndlessRow}
 use Rattle.forever_laws.specs.EndlessRows.{row_due}
 

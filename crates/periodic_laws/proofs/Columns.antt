@@ -2,13 +2,13 @@
 use Rattle.std.proofs.Common.{ℕ, ◌+◌}
 use Rattle.dioid_matrix.specs.MatrixStars.{star_of, IsLeastSolution, StarsAreLeast}
 use Rattle.dioid_matrix.proofs.Order.{total_is}
-use Rattle.series_laws.specs.SeriesForms.{IsCanonical}
+use Rattle.series_ops.specs.series_laws.SeriesForms.{IsCanonical}
 use Rattle.series_ops.specs.declared.gains.Gain.{Gain}
 use Rattle.series_ops.specs.Gains.{gain_product}
 use Rattle.series_ops.specs.Proved.GainLaws.{gains_closed, gain_laws}
-use Rattle.teg_model.specs.Systems.{System}
-use Rattle.teg_model.specs.LiveRanks.{AreRanks}
-use Rattle.teg_model.proofs.DateFunctions.{Dating}
+use Rattle.settled_laws.specs.teg_model.Systems.{System}
+use Rattle.settled_laws.specs.teg_model.LiveRanks.{AreRanks}
+use Rattle.settled_laws.proofs.teg_model_proofs.DateFunctions.{Dating}
 use Rattle.settled_laws.specs.SettledForms.{SettledForm, RepeatsAfter, IsShortestForm}
 use Rattle.periodic_laws.specs.PeriodicDates.{ArePeriodic}
 use Rattle.periodic_laws.specs.Equations.{gains, gain_stars, AreCoefficients}

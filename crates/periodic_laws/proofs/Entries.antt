@@ -4,15 +4,15 @@ use Rattle.std.specs.Prelude.{All}
 use Rattle.std.proofs.lemmas.Bool.{cases_lt}
 use Rattle.std.proofs.lemmas.Bool.Decides.{nat_tests}
 use Rattle.std.proofs.lemmas.List.Elements.{All-tail}
-use Rattle.dioid.specs.declared.dates.Date.{Date}
-use Rattle.dioid.specs.declared.dates.Date.TheVariants.{Early, At}
-use Rattle.dioid.specs.DateOrder.{Le}
-use Rattle.dioid.proofs.AtMost.{le_is, le_trans, early_le, le_later_left, le_later_right, later_le}
-use Rattle.series_laws.specs.Pointwise.{sum_at}
+use Rattle.series_ops.specs.dioid.declared.dates.Date.{Date}
+use Rattle.series_ops.specs.dioid.declared.dates.Date.TheVariants.{Early, At}
+use Rattle.series_ops.specs.dioid.DateOrder.{Le}
+use Rattle.series_ops.proofs.dioid_proofs.AtMost.{le_is, le_trans, early_le, le_later_left, le_later_right, later_le}
+use Rattle.series_ops.specs.series_laws.Pointwise.{sum_at}
 use Rattle.series_ops.specs.declared.gains.Gain.{Gain}
 use Rattle.series_ops.specs.Gains.{gain_zero}
-use Rattle.teg_net.specs.declared.entries.Place.{Place}
-use Rattle.teg_model.proofs.DateFunctions.{InitialDates}
+use Rattle.settled_laws.specs.teg_net.declared.entries.Place.{Place}
+use Rattle.settled_laws.proofs.teg_model_proofs.DateFunctions.{InitialDates}
 use Rattle.periodic_laws.specs.Equations.{stair, entry_of_place, entry_at, tokens_at, start_place_at, start_at}
 use Rattle.periodic_laws.specs.GainColumns.{stair_gain, place_gain, entry_of_places, tokens_gain, start_place, start_of_places, right_side}
 use Rattle.periodic_laws.proofs.Values.{Holds, zero_holds, sum_holds, stair_holds}

@@ -3,31 +3,31 @@ use Rattle.std.proofs.Common.{◌≡◌, refl, ap, arith, ℕ, pos, zero, suc, �
 use Rattle.std.specs.Prelude.{All}
 use Rattle.std.proofs.lemmas.Int.{ints}
 use Rattle.std.proofs.lemmas.Bool.{cases_lt}
-use Rattle.dioid.specs.declared.dates.Date.{Date}
-use Rattle.dioid.specs.declared.dates.Date.TheVariants.{Early, At, Never}
-use Rattle.dioid.specs.Dates.{IsAtMostDate, later_of, delayed, date_product, date_left}
-use Rattle.dioid.specs.Proved.DateLaws.{times_early}
-use Rattle.dioid.proofs.DateOrder.{delayed_rises}
+use Rattle.series_ops.specs.dioid.declared.dates.Date.{Date}
+use Rattle.series_ops.specs.dioid.declared.dates.Date.TheVariants.{Early, At, Never}
+use Rattle.series_ops.specs.dioid.Dates.{IsAtMostDate, later_of, delayed, date_product, date_left}
+use Rattle.series_ops.specs.dioid.Proved.DateLaws.{times_early}
+use Rattle.series_ops.proofs.dioid_proofs.DateOrder.{delayed_rises}
 use Rattle.dioid_matrix.specs.Sums.{dot}
-use Rattle.dioid.specs.DateOrder.{Le}
-use Rattle.dioid.proofs.AtMost.{le_refl, le_is, le_trans, le_antisym, early_le, le_later_left, le_later_right, later_le, product_le}
-use Rattle.series_laws.specs.Periodic.{Rising}
-use Rattle.series_laws.specs.Pointwise.{sum_at}
-use Rattle.series_laws.specs.SeriesForms.{value_at, IsCanonical}
-use Rattle.series_laws.specs.Product.{product_at}
-use Rattle.series_laws.proofs.ProductsRepeat.{le_product, product_at_le}
-use Rattle.series_laws.proofs.StarParts.{to_left, from_left}
-use Rattle.series_laws.proofs.Items.{times_commutes}
+use Rattle.series_ops.specs.dioid.DateOrder.{Le}
+use Rattle.series_ops.proofs.dioid_proofs.AtMost.{le_refl, le_is, le_trans, le_antisym, early_le, le_later_left, le_later_right, later_le, product_le}
+use Rattle.series_ops.specs.series_laws.Periodic.{Rising}
+use Rattle.series_ops.specs.series_laws.Pointwise.{sum_at}
+use Rattle.series_ops.specs.series_laws.SeriesForms.{value_at, IsCanonical}
+use Rattle.series_ops.specs.series_laws.Product.{product_at}
+use Rattle.series_ops.proofs.series_laws_proofs.ProductsRepeat.{le_product, product_at_le}
+use Rattle.series_ops.proofs.series_laws_proofs.StarParts.{to_left, from_left}
+use Rattle.series_ops.proofs.series_laws_proofs.Items.{times_commutes}
 use Rattle.series_ops.specs.declared.gains.Gain.{Gain}
 use Rattle.series_ops.specs.Gains.{gain_sum, gain_product}
-use Rattle.teg_net.specs.declared.entries.Place.{Place}
-use Rattle.teg_net.specs.Circuits.{no_place}
-use Rattle.teg_model.specs.Systems.{System, available, IsFeasibleIn}
-use Rattle.teg_model.specs.LiveRanks.{AreRanks}
-use Rattle.teg_model.specs.Datings.{implicit_place}
-use Rattle.teg_model.proofs.LeastOver.{falls}
-use Rattle.teg_model.proofs.Tokens.{available_after, available_first, implicit_after}
-use Rattle.teg_model.proofs.DateFunctions.{Dating}
+use Rattle.settled_laws.specs.teg_net.declared.entries.Place.{Place}
+use Rattle.settled_laws.specs.teg_net.Circuits.{no_place}
+use Rattle.settled_laws.specs.teg_model.Systems.{System, available, IsFeasibleIn}
+use Rattle.settled_laws.specs.teg_model.LiveRanks.{AreRanks}
+use Rattle.settled_laws.specs.teg_model.Datings.{implicit_place}
+use Rattle.settled_laws.proofs.teg_model_proofs.LeastOver.{falls}
+use Rattle.settled_laws.proofs.teg_model_proofs.Tokens.{available_after, available_first, implicit_after}
+use Rattle.settled_laws.proofs.teg_model_proofs.DateFunctions.{Dating}
 use Rattle.periodic_laws.specs.Equations.{gains, stair, entry_at, start_at}
 use Rattle.periodic_laws.proofs.Values.{Holds, holds_own, sum_holds, product_holds, total_at, total_holds, le_total, total_le, stair_before, stair_from}
 use Rattle.periodic_laws.specs.GainColumns.{entry_of_places, right_side}

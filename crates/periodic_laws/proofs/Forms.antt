@@ -6,14 +6,14 @@ use Rattle.std.specs.List.{range_with_len}
 use Rattle.std.proofs.lemmas.Int.{ints}
 use Rattle.std.proofs.lemmas.List.Elements.{All-map}
 use Rattle.std.proofs.lemmas.List.FromFn.{get_or-map-range_with_len, length-map-range_with_len}
-use Rattle.dioid.specs.declared.dates.Date.{Date}
-use Rattle.dioid.specs.declared.dates.Date.TheVariants.{Early, Never}
-use Rattle.dioid.specs.Dates.{move}
-use Rattle.series_laws.specs.Periodic.{Repeats, times}
-use Rattle.series_laws.specs.SeriesForms.{Form, repeat_start, value_at, IsForm, IsCanonical, table}
-use Rattle.series_laws.proofs.Repeating.{repeats_times}
-use Rattle.series_laws.proofs.FormValues.{value_repeats, table_length, table_at}
-use Rattle.series_laws.proofs.LeastForms.{never_start, early_start}
+use Rattle.series_ops.specs.dioid.declared.dates.Date.{Date}
+use Rattle.series_ops.specs.dioid.declared.dates.Date.TheVariants.{Early, Never}
+use Rattle.series_ops.specs.dioid.Dates.{move}
+use Rattle.series_ops.specs.series_laws.Periodic.{Repeats, times}
+use Rattle.series_ops.specs.series_laws.SeriesForms.{Form, repeat_start, value_at, IsForm, IsCanonical, table}
+use Rattle.series_ops.proofs.series_laws_proofs.Repeating.{repeats_times}
+use Rattle.series_ops.proofs.series_laws_proofs.FormValues.{value_repeats, table_length, table_at}
+use Rattle.series_ops.proofs.series_laws_proofs.LeastForms.{never_start, early_start}
 use Rattle.settled_laws.specs.SettledForms.{RepeatsAfter, IsTail, SettledForm, row_date, step_of_form, HasSizes, StandsFor, IsShortestForm}
 use Rattle.settled_laws.proofs.Shortest.{shortest_exists}
 use Rattle.periodic_laws.specs.RepeatNumbers.{common_start, common_period, common_step}

@@ -4,26 +4,26 @@ use Rattle.std.specs.Prelude.{slice_get, slice_index}
 use Rattle.std.specs.List.Sorted.{IsNonDecreasing}
 use Rattle.std.proofs.lemmas.Int.{ints}
 use Rattle.std.proofs.lemmas.Bool.{cases_lt}
-use Rattle.dioid.specs.declared.dates.Date.{Date}
-use Rattle.dioid.specs.declared.dates.Date.TheVariants.{Early, At, Never}
-use Rattle.dioid.specs.DateOrder.{Le}
-use Rattle.dioid.specs.Dates.{move}
-use Rattle.dioid.proofs.AtMost.{le_refl, le_is, le_trans, le_never, move_le}
-use Rattle.dioid.proofs.Moves.{move_zero}
-use Rattle.series_laws.specs.Periodic.{Rising, Repeats}
-use Rattle.series_laws.proofs.Repeating.{rising_by_one, by_steps}
-use Rattle.series_laws.specs.SeriesForms.{canonical_of}
-use Rattle.series_laws.proofs.Canonical.{canonical_is, canonical_values}
+use Rattle.series_ops.specs.dioid.declared.dates.Date.{Date}
+use Rattle.series_ops.specs.dioid.declared.dates.Date.TheVariants.{Early, At, Never}
+use Rattle.series_ops.specs.dioid.DateOrder.{Le}
+use Rattle.series_ops.specs.dioid.Dates.{move}
+use Rattle.series_ops.proofs.dioid_proofs.AtMost.{le_refl, le_is, le_trans, le_never, move_le}
+use Rattle.series_ops.proofs.dioid_proofs.Moves.{move_zero}
+use Rattle.series_ops.specs.series_laws.Periodic.{Rising, Repeats}
+use Rattle.series_ops.proofs.series_laws_proofs.Repeating.{rising_by_one, by_steps}
+use Rattle.series_ops.specs.series_laws.SeriesForms.{canonical_of}
+use Rattle.series_ops.proofs.series_laws_proofs.Canonical.{canonical_is, canonical_values}
 use Rattle.series_ops.specs.Gains.{gain_of}
-use Rattle.teg_net.specs.declared.entries.Again.{Again}
-use Rattle.teg_net.specs.declared.entries.InputList.{InputList}
-use Rattle.teg_net.specs.declared.entries.Role.{Role}
-use Rattle.teg_net.specs.declared.entries.Role.TheVariants.{Internal, Input, Output}
-use Rattle.teg_net.specs.declared.entries.Transition.{Transition}
-use Rattle.teg_net.specs.Nets.{NetLists, IsNet, IsInputOf, ListGoesOn, EndsOrGoesOn}
-use Rattle.teg_net.specs.Inputs.{moved_by, IsInputDates, list_date, date_by_list, list_of_input}
-use Rattle.teg_net.proofs.InputDates.{IsInputDates-list_date, found_rules}
-use Rattle.teg_model.specs.Datings.{as_date, listed_releases, by_role, by_transition, at_input}
+use Rattle.settled_laws.specs.teg_net.declared.entries.Again.{Again}
+use Rattle.settled_laws.specs.teg_net.declared.entries.InputList.{InputList}
+use Rattle.settled_laws.specs.teg_net.declared.entries.Role.{Role}
+use Rattle.settled_laws.specs.teg_net.declared.entries.Role.TheVariants.{Internal, Input, Output}
+use Rattle.settled_laws.specs.teg_net.declared.entries.Transition.{Transition}
+use Rattle.settled_laws.specs.teg_net.Nets.{NetLists, IsNet, IsInputOf, ListGoesOn, EndsOrGoesOn}
+use Rattle.settled_laws.specs.teg_net.Inputs.{moved_by, IsInputDates, list_date, date_by_list, list_of_input}
+use Rattle.settled_laws.proofs.teg_net_proofs.InputDates.{IsInputDates-list_date, found_rules}
+use Rattle.settled_laws.specs.teg_model.Datings.{as_date, listed_releases, by_role, by_transition, at_input}
 use Rattle.periodic_laws.specs.GainColumns.{turn_of_list, begin_of_list, period_of_list, begin_of, release_gain}
 use Rattle.periodic_laws.proofs.Values.{Holds}
 

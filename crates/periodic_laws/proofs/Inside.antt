@@ -2,15 +2,15 @@
 use Rattle.std.proofs.Common.{◌≡◌, refl, ap, arith, ℕ, pos, ◌+◌, ◌-◌, ◌≤◌, ◌<◌, sym, ◌∙◌, subst, ⊎_elim, true, false, cond, ltb}
 use Rattle.std.proofs.lemmas.Bool.{cases_lt}
 use Rattle.std.proofs.lemmas.Bool.Decides.{nat_tests}
-use Rattle.dioid.specs.declared.dates.Date.{Date}
-use Rattle.dioid.specs.declared.dates.Date.TheVariants.{Early}
-use Rattle.dioid.specs.Dates.{move}
-use Rattle.dioid.specs.DateOrder.{Le}
-use Rattle.dioid.proofs.AtMost.{le_is, le_trans}
-use Rattle.series_laws.specs.Periodic.{Repeats}
-use Rattle.series_laws.specs.SeriesForms.{Form, repeat_start, value_at, IsCanonical, canonical_of}
-use Rattle.series_laws.proofs.Repeating.{rising_by_one}
-use Rattle.series_laws.proofs.FormValues.{value_repeats}
+use Rattle.series_ops.specs.dioid.declared.dates.Date.{Date}
+use Rattle.series_ops.specs.dioid.declared.dates.Date.TheVariants.{Early}
+use Rattle.series_ops.specs.dioid.Dates.{move}
+use Rattle.series_ops.specs.dioid.DateOrder.{Le}
+use Rattle.series_ops.proofs.dioid_proofs.AtMost.{le_is, le_trans}
+use Rattle.series_ops.specs.series_laws.Periodic.{Repeats}
+use Rattle.series_ops.specs.series_laws.SeriesForms.{Form, repeat_start, value_at, IsCanonical, canonical_of}
+use Rattle.series_ops.proofs.series_laws_proofs.Repeating.{rising_by_one}
+use Rattle.series_ops.proofs.series_laws_proofs.FormValues.{value_repeats}
 use Rattle.series_ops.specs.declared.gains.Gain.{Gain}
 use Rattle.series_ops.specs.Gains.{gain_of}
 use Rattle.periodic_laws.specs.PeriodicDates.{IsPeriodic, ArePeriodic}

@@ -2,16 +2,16 @@
 use Rattle.std.proofs.Common.{◌≡◌, refl, ap, ℕ, ◌≤◌, ◌<◌, length}
 use Rattle.std.specs.Prelude.{All}
 use Rattle.std.proofs.lemmas.Option.{slice_get_past}
-use Rattle.dioid.specs.declared.dates.Date.TheVariants.{Early}
+use Rattle.series_ops.specs.dioid.declared.dates.Date.TheVariants.{Early}
 use Rattle.dioid_matrix.specs.MatrixStars.{StarsAreLeast}
-use Rattle.teg_net.specs.Nets.{NetLists, IsNet}
-use Rattle.teg_model.specs.Systems.{System, IsLeastIn}
-use Rattle.teg_model.specs.LiveRanks.{HasEndsInRange}
-use Rattle.teg_model.specs.Datings.{IsLeastDating, IsLeastUnder, initial_date, extended_places, system_of, system_with, listed_releases, at_input, by_transition}
-use Rattle.teg_model.proofs.LeastOver.{least_over, least_over_is_least}
-use Rattle.teg_model.proofs.OfNet.{net_ends, all_extended_in, implicit_is, ranks_extended, feasible_in, feasible_from, least_of_system, least_of}
-use Rattle.teg_model.proofs.LiveRanks.{live_is_ranked}
-use Rattle.teg_model.proofs.DateFunctions.{Dating, InitialDates}
+use Rattle.settled_laws.specs.teg_net.Nets.{NetLists, IsNet}
+use Rattle.settled_laws.specs.teg_model.Systems.{System, IsLeastIn}
+use Rattle.settled_laws.specs.teg_model.LiveRanks.{HasEndsInRange}
+use Rattle.settled_laws.specs.teg_model.Datings.{IsLeastDating, IsLeastUnder, initial_date, extended_places, system_of, system_with, listed_releases, at_input, by_transition}
+use Rattle.settled_laws.proofs.teg_model_proofs.LeastOver.{least_over, least_over_is_least}
+use Rattle.settled_laws.proofs.teg_model_proofs.OfNet.{net_ends, all_extended_in, implicit_is, ranks_extended, feasible_in, feasible_from, least_of_system, least_of}
+use Rattle.settled_laws.proofs.teg_model_proofs.LiveRanks.{live_is_ranked}
+use Rattle.settled_laws.proofs.teg_model_proofs.DateFunctions.{Dating, InitialDates}
 use Rattle.periodic_laws.specs.PeriodicDates.{IsPeriodic}
 use Rattle.periodic_laws.specs.Equations.{gains, gain_stars}
 use Rattle.periodic_laws.specs.GainColumns.{entry_of_places, right_side, column, release_gain}

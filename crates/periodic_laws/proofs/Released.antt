@@ -3,12 +3,12 @@ use Rattle.std.proofs.Common.{◌≡◌, arith, ℕ, ◌-◌, ◌≤◌, ◌<◌
 use Rattle.std.specs.Prelude.{All}
 use Rattle.std.proofs.lemmas.Bool.{cases_lt}
 use Rattle.std.proofs.lemmas.Bool.Decides.{nat_tests}
-use Rattle.dioid.specs.DateOrder.{Le}
-use Rattle.dioid.proofs.AtMost.{le_is, le_trans, early_le}
-use Rattle.teg_net.specs.declared.entries.Place.{Place}
-use Rattle.teg_model.specs.Systems.{System, IsFeasibleIn, IsLeastIn}
-use Rattle.teg_model.proofs.Tokens.{available_same}
-use Rattle.teg_model.proofs.DateFunctions.{Dating, InitialDates}
+use Rattle.series_ops.specs.dioid.DateOrder.{Le}
+use Rattle.series_ops.proofs.dioid_proofs.AtMost.{le_is, le_trans, early_le}
+use Rattle.settled_laws.specs.teg_net.declared.entries.Place.{Place}
+use Rattle.settled_laws.specs.teg_model.Systems.{System, IsFeasibleIn, IsLeastIn}
+use Rattle.settled_laws.proofs.teg_model_proofs.Tokens.{available_same}
+use Rattle.settled_laws.proofs.teg_model_proofs.DateFunctions.{Dating, InitialDates}
 use Rattle.periodic_laws.proofs.Fixed.{IsLeastOn}
 use Rattle.periodic_laws.proofs.Inside.{inside, inside_is, inside_not}
 

@@ -2,21 +2,21 @@
 use Rattle.std.proofs.Common.{◌≡◌, refl, ap, arith, ℕ, pos, zero, suc, ◌+◌, ◌≤◌, ◌<◌, sym, ◌∙◌, ⊎_elim, true, false, ltb}
 use Rattle.std.proofs.lemmas.Bool.{cases_lt}
 use Rattle.std.proofs.lemmas.Bool.Decides.{nat_tests}
-use Rattle.dioid.specs.Dates.{later_of}
-use Rattle.dioid.specs.declared.dates.Date.{Date}
-use Rattle.dioid.specs.declared.dates.Date.TheVariants.{Early}
+use Rattle.series_ops.specs.dioid.Dates.{later_of}
+use Rattle.series_ops.specs.dioid.declared.dates.Date.{Date}
+use Rattle.series_ops.specs.dioid.declared.dates.Date.TheVariants.{Early}
 use Rattle.dioid_matrix.specs.Sums.{total_of_first}
-use Rattle.dioid.specs.DateOrder.{Le}
-use Rattle.dioid.specs.Dates.{move}
-use Rattle.dioid.proofs.AtMost.{le_is, le_trans, early_le, le_later_left, le_later_right, later_le}
-use Rattle.dioid.proofs.Moves.{move_zero}
-use Rattle.series_laws.specs.Periodic.{Rising, Repeats}
-use Rattle.series_laws.specs.Pointwise.{sum_at}
-use Rattle.series_laws.specs.SeriesForms.{value_at, HasValues, IsCanonical}
-use Rattle.series_laws.proofs.Canonical.{constant_is, canonical_is, canonical_values}
-use Rattle.series_laws.proofs.Sums.{form_sum_values}
-use Rattle.series_laws.specs.Product.{product_at}
-use Rattle.series_laws.proofs.Products.{form_product_values}
+use Rattle.series_ops.specs.dioid.DateOrder.{Le}
+use Rattle.series_ops.specs.dioid.Dates.{move}
+use Rattle.series_ops.proofs.dioid_proofs.AtMost.{le_is, le_trans, early_le, le_later_left, le_later_right, later_le}
+use Rattle.series_ops.proofs.dioid_proofs.Moves.{move_zero}
+use Rattle.series_ops.specs.series_laws.Periodic.{Rising, Repeats}
+use Rattle.series_ops.specs.series_laws.Pointwise.{sum_at}
+use Rattle.series_ops.specs.series_laws.SeriesForms.{value_at, HasValues, IsCanonical}
+use Rattle.series_ops.proofs.series_laws_proofs.Canonical.{constant_is, canonical_is, canonical_values}
+use Rattle.series_ops.proofs.series_laws_proofs.Sums.{form_sum_values}
+use Rattle.series_ops.specs.series_laws.Product.{product_at}
+use Rattle.series_ops.proofs.series_laws_proofs.Products.{form_product_values}
 use Rattle.series_ops.specs.declared.gains.Gain.{Gain}
 use Rattle.series_ops.specs.Gains.{gain_zero, gain_sum, gain_product}
 use Rattle.series_ops.specs.Proved.GainLaws.{gains_closed}

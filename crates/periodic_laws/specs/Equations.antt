@@ -1,13 +1,13 @@
 -- The linear system of places over gains: shift k of a series stands for firing k + 1 (chapter 5).
 use Rattle.std.specs.Prelude.{◌≡◌, ℕ, zero, suc, pos, ◌+◌, List, [], ◌∷◌, true, eqb, ltb, cond, ◌&&◌}
-use Rattle.dioid.specs.declared.dates.Date.{Date}
-use Rattle.dioid.specs.declared.dates.Date.TheVariants.{Early}
-use Rattle.dioid.specs.declared.algebra.Dioid.{Ghosts as DioidOf}
-use Rattle.dioid.specs.declared.algebra.Kleene.{Ghosts as KleeneOf}
-use Rattle.teg_net.specs.declared.entries.Place.{Place}
-use Rattle.dioid.specs.Dates.{later_of}
-use Rattle.teg_model.specs.Systems.{System}
-use Rattle.series_laws.specs.SeriesForms.{value_at, monomial_at}
+use Rattle.series_ops.specs.dioid.declared.dates.Date.{Date}
+use Rattle.series_ops.specs.dioid.declared.dates.Date.TheVariants.{Early}
+use Rattle.series_ops.specs.dioid.declared.algebra.Dioid.{Ghosts as DioidOf}
+use Rattle.series_ops.specs.dioid.declared.algebra.Kleene.{Ghosts as KleeneOf}
+use Rattle.settled_laws.specs.teg_net.declared.entries.Place.{Place}
+use Rattle.series_ops.specs.dioid.Dates.{later_of}
+use Rattle.settled_laws.specs.teg_model.Systems.{System}
+use Rattle.series_ops.specs.series_laws.SeriesForms.{value_at, monomial_at}
 use Rattle.series_ops.specs.declared.gains.Gain.{Gain}
 use Rattle.series_ops.specs.Gains.{IsCanonicalGain, gain_zero, gain_one, gain_sum, gain_product, gain_star, GainSumFits, ProductFits, StarFits}
 

@@ -1,19 +1,19 @@
 -- The gains of the linear system of places, and its least solution: they are told by lists alone (chapter 5).
 use Rattle.std.specs.Prelude.{ℕ, pos, zero, suc, ◌+◌, ◌-◌, List, [], ◌∷◌, Option, Some, None, length, eqb, cond, ◌&&◌}
-use Rattle.dioid.specs.declared.dates.Date.{Date}
-use Rattle.dioid.specs.declared.dates.Date.TheVariants.{Early, At}
+use Rattle.series_ops.specs.dioid.declared.dates.Date.{Date}
+use Rattle.series_ops.specs.dioid.declared.dates.Date.TheVariants.{Early, At}
 use Rattle.dioid_matrix.specs.MatrixStars.{star_of}
 use Rattle.dioid_matrix.specs.Sums.{dot}
-use Rattle.series_laws.specs.SeriesForms.{Form, canonical_of}
+use Rattle.series_ops.specs.series_laws.SeriesForms.{Form, canonical_of}
 use Rattle.series_ops.specs.declared.gains.Gain.{Gain}
 use Rattle.series_ops.specs.Gains.{gain_of, gain_zero, gain_sum}
-use Rattle.teg_net.specs.declared.entries.Again.{Again}
-use Rattle.teg_net.specs.declared.entries.InputList.{InputList}
-use Rattle.teg_net.specs.declared.entries.Place.{Place}
-use Rattle.teg_net.specs.Nets.{NetLists}
-use Rattle.teg_net.specs.Inputs.{list_of_input}
-use Rattle.teg_model.specs.Systems.{System}
-use Rattle.teg_model.specs.Datings.{at_input, listed_releases, system_of}
+use Rattle.settled_laws.specs.teg_net.declared.entries.Again.{Again}
+use Rattle.settled_laws.specs.teg_net.declared.entries.InputList.{InputList}
+use Rattle.settled_laws.specs.teg_net.declared.entries.Place.{Place}
+use Rattle.settled_laws.specs.teg_net.Nets.{NetLists}
+use Rattle.settled_laws.specs.teg_net.Inputs.{list_of_input}
+use Rattle.settled_laws.specs.teg_model.Systems.{System}
+use Rattle.settled_laws.specs.teg_model.Datings.{at_input, listed_releases, system_of}
 use Rattle.periodic_laws.specs.Equations.{gains, gain_stars, stair}
 
 -- ---- the coefficients

@@ -1,17 +1,17 @@
 -- What holds of the least datings of live nets and of their systems: they are the least solution of a linear system over
 -- gains, and they settle (chapters 3 and 5).
 use Rattle.std.specs.Prelude.{ℕ, ◌+◌, ◌<◌, ◌≡◌, length}
-use Rattle.dioid.specs.declared.dates.Date.{Date}
+use Rattle.series_ops.specs.dioid.declared.dates.Date.{Date}
 use Rattle.dioid_matrix.specs.MatrixStars.{IsLeastSolution, star_of}
 use Rattle.dioid_matrix.specs.Sums.{dot}
-use Rattle.series_laws.specs.SeriesForms.{value_at}
+use Rattle.series_ops.specs.series_laws.SeriesForms.{value_at}
 use Rattle.series_ops.specs.declared.gains.Gain.{Gain}
-use Rattle.teg_net.specs.declared.entries.Place.{Place}
-use Rattle.teg_net.specs.Nets.{NetLists, IsNet}
-use Rattle.teg_net.specs.Circuits.{IsLive}
-use Rattle.teg_model.specs.Systems.{IsLeastIn}
-use Rattle.teg_model.specs.LiveRanks.{HasEndsInRange}
-use Rattle.teg_model.specs.Datings.{IsLeastDating, listed_releases, system_of, system_with}
+use Rattle.settled_laws.specs.teg_net.declared.entries.Place.{Place}
+use Rattle.settled_laws.specs.teg_net.Nets.{NetLists, IsNet}
+use Rattle.settled_laws.specs.teg_net.Circuits.{IsLive}
+use Rattle.settled_laws.specs.teg_model.Systems.{IsLeastIn}
+use Rattle.settled_laws.specs.teg_model.LiveRanks.{HasEndsInRange}
+use Rattle.settled_laws.specs.teg_model.Datings.{IsLeastDating, listed_releases, system_of, system_with}
 use Rattle.settled_laws.specs.SettledForms.{SettledForm, RepeatsAfter, IsShortestForm, IsSettledFormOf}
 use Rattle.periodic_laws.specs.PeriodicDates.{ArePeriodic}
 use Rattle.periodic_laws.specs.Equations.{gains, gain_stars, AreCoefficients}

@@ -1,7 +1,7 @@
 -- Dates of firings that never fall, and that repeat past some number.
 use Rattle.std.specs.Prelude.{ℕ, ℤ, ◌+◌, ◌<◌, ◌≤◌, ◌≡◌}
-use Rattle.dioid.specs.declared.dates.Date.{Date}
-use Rattle.dioid.specs.Dates.{IsAtMostDate, move}
+use Rattle.series_ops.specs.dioid.declared.dates.Date.{Date}
+use Rattle.series_ops.specs.dioid.Dates.{IsAtMostDate, move}
 
 -- from number 1 on the dates never fall, and past some number they go on by a step in each period
 pub record IsPeriodic (dates : ℕ → Date) : Type 0 where

@@ -1,9 +1,9 @@
 -- From which number on the least dating of a net repeats, in which period and by which steps: told by the lists of the net
 -- alone.
 use Rattle.std.specs.Prelude.{ℕ, ℤ, zero, suc, ◌*◌, ◌/◌, max, length}
-use Rattle.series_laws.specs.Periodic.{times}
-use Rattle.series_laws.specs.SeriesForms.{Form, repeat_start}
-use Rattle.teg_net.specs.Nets.{NetLists}
+use Rattle.series_ops.specs.series_laws.Periodic.{times}
+use Rattle.series_ops.specs.series_laws.SeriesForms.{Form, repeat_start}
+use Rattle.settled_laws.specs.teg_net.Nets.{NetLists}
 use Rattle.periodic_laws.specs.GainColumns.{dates_form}
 
 -- the greatest of f 0, .., f (n - 1)

@@ -5,3 +5,4 @@ pub mod Failing
 pub mod InOrder
 pub mod Least
 pub mod Prefixes
+pub use Rattle.teg_model.proofs as teg_model_proofs

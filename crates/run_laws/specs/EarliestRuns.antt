@@ -1,9 +1,9 @@
 -- The earliest run of a dating: its firings in the order of their dates.
 use Rattle.std.specs.Prelude.{ℕ, pos, ◌<◌, ◌≤◌, ◌≡◌, ◌≢◌, ◌⊎◌, List, length, All, AllPairs, Contains, slice_index_or, take}
-use Rattle.dioid.specs.declared.dates.Date.{Date}
-use Rattle.dioid.specs.declared.dates.Date.TheVariants.{At, Never}
-use Rattle.dioid.specs.Dates.{IsAtMostDate}
-use Rattle.teg_net.specs.Nets.{NetLists, IsNet}
+use Rattle.teg_model.specs.dioid.declared.dates.Date.{Date}
+use Rattle.teg_model.specs.dioid.declared.dates.Date.TheVariants.{At, Never}
+use Rattle.teg_model.specs.dioid.Dates.{IsAtMostDate}
+use Rattle.teg_model.specs.teg_net.Nets.{NetLists, IsNet}
 use Rattle.teg_model.specs.Datings.{IsLeastDating}
 use Rattle.run_laws.specs.declared.fired.Fired.{Fired}
 use Rattle.run_laws.specs.Runs.{IsLegalRun}

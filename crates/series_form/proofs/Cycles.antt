@@ -3,11 +3,11 @@ use Rattle.std.proofs.Common.{◌≡◌, refl, ap, arith, ℕ, zero, suc, ◌+�
 use Rattle.std.proofs.lemmas.Bool.Decides.{nat_tests}
 use Rattle.std.proofs.lemmas.Nat.{mod_below, div-add-mod', div_below}
 use Rattle.std.proofs.Math.Nat.{le_of_mul-le-mul_right, mod-mod_of_dvd, add-mul-mod_self_right, dvd-mul_left, eq-or-lt_of_le, mul-mod_left}
-use Rattle.number_laws.proofs.Numbers.{zero_test}
+use Rattle.series_laws.proofs.number_laws_proofs.Numbers.{zero_test}
 use Rattle.series_laws.specs.Needs.{turns_of, common}
 use Rattle.series_laws.proofs.FormValues.{first_ge, first_le}
 use Rattle.series_laws.proofs.Sums.{common_second}
-use Rattle.number_laws.proofs.Pigeons.{pigeons, difference}
+use Rattle.series_laws.proofs.number_laws_proofs.Pigeons.{pigeons, difference}
 
 -- no fewer turns of a are a multiple of w
 pub turns_least : (a w m q : ℕ) → 0 < w → 0 < m → m * a ≡ q * w → turns_of a w ≤ m

@@ -8,9 +8,9 @@ use Rattle.std.proofs.lemmas.Bool.{cases_lt}
 use Rattle.std.proofs.lemmas.Bool.Decides.{nat_tests}
 use Rattle.std.proofs.lemmas.Nat.{mod_below, div-add-mod', div_below, mul-le}
 use Rattle.std.proofs.Math.Nat.{mul-le-mul_right, add-mul-mod_self_right, eq-or-lt_of_le}
-use Rattle.dioid.specs.declared.dates.Date.{Date}
-use Rattle.dioid.specs.declared.dates.Date.TheVariants.{At}
-use Rattle.dioid.specs.Dates.{move}
+use Rattle.series_laws.specs.dioid.declared.dates.Date.{Date}
+use Rattle.series_laws.specs.dioid.declared.dates.Date.TheVariants.{At}
+use Rattle.series_laws.specs.dioid.Dates.{move}
 use Rattle.series_laws.specs.Periodic.{Repeats, times}
 use Rattle.series_laws.proofs.Repeating.{repeats_times}
 use Rattle.series_laws.specs.SeriesForms.{Form, size_of, repeat_start, value_at, IsForm, gap}
@@ -19,7 +19,7 @@ use Rattle.series_laws.proofs.Sums.{form_repeats_own, common_positive, common_se
 use Rattle.series_form.specs.NumberBounds.{IsSeries, IsMagnitudeUpTo}
 use Rattle.series_form.specs.Leads.{AreNumberSeries, NoGreaterLead, IsReach, climb_of, cover_of, gain_from_before, height_past, lead_past, integer_of_date, place_before, width_of}
 use Rattle.series_form.proofs.Cycles.{comes_low, turns_least, turns_some}
-use Rattle.number_laws.proofs.Pigeons.{difference}
+use Rattle.series_laws.proofs.number_laws_proofs.Pigeons.{difference}
 use Rattle.series_form.specs.SeriesLimits.{greatest_value, most_covering_shifts, greatest_moderate, greatest_height}
 use Rattle.series_form.proofs.DateNumbers.{abs_sum, abs_difference, moderate_fits, within_fits}
 use Rattle.series_form.proofs.Finished.{value_up_to, up_to_more, gap_up_to}

@@ -8,3 +8,5 @@ pub mod DateNumbers
 pub mod PointwiseTables
 pub mod Same
 pub mod Steps
+pub use Rattle.series_laws.proofs.number_laws_proofs as number_laws_proofs
+pub use Rattle.series_laws.proofs.dioid_proofs as dioid_proofs

@@ -19,3 +19,5 @@ pub mod StarParts
 pub mod StarsRepeat
 pub mod Sums
 pub mod SumsRepeat
+pub use Rattle.number_laws.proofs as number_laws_proofs
+pub use Rattle.dioid.proofs as dioid_proofs

@@ -9,3 +9,4 @@ pub mod ProductNeeds
 pub mod Residual
 pub mod StarOf
 pub mod SeriesStars
+pub use Rattle.dioid.specs as dioid

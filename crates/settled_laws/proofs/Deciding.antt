@@ -3,10 +3,10 @@ use Rattle.std.proofs.Common.{ℕ, ℤ, zero, suc, pos, ◌+◌, ◌-◌, ◌<�
 use Rattle.std.specs.Prelude.{◌⊎◌}
 use Rattle.std.proofs.lemmas.Bool.{cases_lt}
 use Rattle.std.proofs.lemmas.Int.{ints, by_lt_z}
-use Rattle.dioid.specs.declared.dates.Date.{Date}
-use Rattle.dioid.specs.declared.dates.Date.TheVariants.{Early, At, Never}
-use Rattle.dioid.specs.Dates.{move}
-use Rattle.dioid.proofs.Moves.{at_inj, move_swap}
+use Rattle.teg_model.specs.dioid.declared.dates.Date.{Date}
+use Rattle.teg_model.specs.dioid.declared.dates.Date.TheVariants.{Early, At, Never}
+use Rattle.teg_model.specs.dioid.Dates.{move}
+use Rattle.teg_model.proofs.dioid_proofs.Moves.{at_inj, move_swap}
 use Rattle.teg_model.proofs.DateFunctions.{Dating}
 use Rattle.settled_laws.specs.SettledForms.{RepeatsAfter}
 

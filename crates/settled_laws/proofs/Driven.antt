@@ -3,11 +3,11 @@ use Rattle.std.proofs.Common.{ℕ, ℤ, zero, suc, ◌+◌, ◌-◌, ◌<◌, �
 use Rattle.std.specs.Prelude.{All}
 use Rattle.std.proofs.lemmas.Bool.{cases_lt}
 use Rattle.std.proofs.lemmas.Bool.Decides.{nat_tests}
-use Rattle.dioid.specs.declared.dates.Date.{Date}
-use Rattle.dioid.specs.Dates.{IsAtMostDate, delayed, move}
-use Rattle.dioid.proofs.DateOrder.{at_most_refl, same_by_at_most}
-use Rattle.dioid.proofs.Moves.{delayed_move}
-use Rattle.teg_net.specs.declared.entries.Place.{Place}
+use Rattle.teg_model.specs.dioid.declared.dates.Date.{Date}
+use Rattle.teg_model.specs.dioid.Dates.{IsAtMostDate, delayed, move}
+use Rattle.teg_model.proofs.dioid_proofs.DateOrder.{at_most_refl, same_by_at_most}
+use Rattle.teg_model.proofs.dioid_proofs.Moves.{delayed_move}
+use Rattle.teg_model.specs.teg_net.declared.entries.Place.{Place}
 use Rattle.teg_model.specs.Systems.{System}
 use Rattle.teg_model.specs.LiveRanks.{AreRanks}
 use Rattle.teg_model.proofs.Delays.{delayed_not}

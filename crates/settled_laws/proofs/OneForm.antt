@@ -1,6 +1,6 @@
 -- A net has one shortest settled form, whichever least dating tells it.
 use Rattle.std.proofs.Common.{length}
-use Rattle.teg_net.specs.Nets.{NetLists}
+use Rattle.teg_model.specs.teg_net.Nets.{NetLists}
 use Rattle.teg_model.specs.Datings.{IsLeastDating, listed_releases}
 use Rattle.teg_model.proofs.Tokens.{dates_climb}
 use Rattle.teg_model.proofs.OfNet.{only_least}

@@ -4,8 +4,8 @@ use Prim.Native.Nat.{◌∣◌}
 use Rattle.std.specs.Int.{IsGcd}
 use Rattle.std.proofs.lemmas.Bool.{cases_lt}
 use Rattle.std.proofs.lemmas.Nat.Gcd.{dvd_refl, le_of_dvd, IsGcd-from_sub, IsGcd-swap}
-use Rattle.dioid.specs.Dates.{move}
-use Rattle.dioid.proofs.Moves.{move_swap, move_injective, move_between}
+use Rattle.teg_model.specs.dioid.Dates.{move}
+use Rattle.teg_model.proofs.dioid_proofs.Moves.{move_swap, move_injective, move_between}
 use Rattle.teg_model.proofs.DateFunctions.{Dating}
 use Rattle.settled_laws.specs.SettledForms.{RepeatsAfter}
 

@@ -3,12 +3,12 @@ use Rattle.std.proofs.Common.{ℕ, ℤ, zero, suc, pos, ◌+◌, ◌-◌, ◌<�
 use Rattle.std.specs.Prelude.{negsuc, ◌≤ℤ◌, All, ◌⊎◌}
 use Rattle.std.proofs.lemmas.Bool.Decides.{nat_tests}
 use Rattle.std.proofs.lemmas.Int.{ints, by_lt_z}
-use Rattle.dioid.specs.declared.dates.Date.{Date}
-use Rattle.dioid.specs.declared.dates.Date.TheVariants.{Early, At, Never}
-use Rattle.dioid.specs.Dates.{IsAtMostDate, delayed, move}
-use Rattle.dioid.proofs.DateOrder.{at_least_never}
-use Rattle.teg_net.specs.declared.entries.Place.{Place}
-use Rattle.teg_net.specs.Circuits.{no_place}
+use Rattle.teg_model.specs.dioid.declared.dates.Date.{Date}
+use Rattle.teg_model.specs.dioid.declared.dates.Date.TheVariants.{Early, At, Never}
+use Rattle.teg_model.specs.dioid.Dates.{IsAtMostDate, delayed, move}
+use Rattle.teg_model.proofs.dioid_proofs.DateOrder.{at_least_never}
+use Rattle.teg_model.specs.teg_net.declared.entries.Place.{Place}
+use Rattle.teg_model.specs.teg_net.Circuits.{no_place}
 use Rattle.teg_model.specs.Systems.{System, available, IsFeasibleIn}
 use Rattle.teg_model.proofs.DateFunctions.{Dating}
 use Rattle.settled_laws.proofs.Everywhere.{Repeats, Climbing, IsRising}

@@ -4,12 +4,12 @@ use Rattle.std.proofs.Common.{ℕ, ℤ, zero, suc, ◌+◌, ◌-◌, ◌<◌, �
 use Rattle.std.specs.Prelude.{◌≤ℤ◌, All, ◌⊎◌}
 use Rattle.std.proofs.lemmas.Bool.{cases_lt}
 use Rattle.std.proofs.lemmas.Bool.Decides.{nat_tests}
-use Rattle.dioid.specs.declared.dates.Date.TheVariants.{Early, Never}
-use Rattle.dioid.specs.Dates.{IsAtMostDate, move}
-use Rattle.dioid.proofs.DateOrder.{at_most_refl, never_last}
-use Rattle.dioid.proofs.Moves.{move_rises, delayed_move, moved_again}
-use Rattle.teg_net.specs.declared.entries.Place.{Place}
-use Rattle.teg_net.specs.Circuits.{no_place}
+use Rattle.teg_model.specs.dioid.declared.dates.Date.TheVariants.{Early, Never}
+use Rattle.teg_model.specs.dioid.Dates.{IsAtMostDate, move}
+use Rattle.teg_model.proofs.dioid_proofs.DateOrder.{at_most_refl, never_last}
+use Rattle.teg_model.proofs.dioid_proofs.Moves.{move_rises, delayed_move, moved_again}
+use Rattle.teg_model.specs.teg_net.declared.entries.Place.{Place}
+use Rattle.teg_model.specs.teg_net.Circuits.{no_place}
 use Rattle.teg_model.specs.Systems.{System, available, IsFeasibleIn, IsTightIn}
 use Rattle.teg_model.specs.LiveRanks.{AreRanks}
 use Rattle.teg_model.proofs.LeastOver.{least_over, least_is_feasible, least_is_attained, least_over_is_least, only_least_in}

@@ -5,11 +5,11 @@ use Rattle.std.specs.List.{range_with_len}
 use Rattle.std.proofs.lemmas.Bool.{cases_lt}
 use Rattle.std.proofs.lemmas.List.Elements.{All-map}
 use Rattle.std.proofs.lemmas.List.FromFn.{get_or-map-range_with_len, length-map-range_with_len}
-use Rattle.dioid.specs.declared.dates.Date.{Date}
-use Rattle.dioid.specs.declared.dates.Date.TheVariants.{Early, Never}
-use Rattle.dioid.specs.Dates.{IsAtMostDate, move}
-use Rattle.dioid.proofs.DateOrder.{at_most_early, at_least_never}
-use Rattle.dioid.proofs.Moves.{same_move}
+use Rattle.teg_model.specs.dioid.declared.dates.Date.{Date}
+use Rattle.teg_model.specs.dioid.declared.dates.Date.TheVariants.{Early, Never}
+use Rattle.teg_model.specs.dioid.Dates.{IsAtMostDate, move}
+use Rattle.teg_model.proofs.dioid_proofs.DateOrder.{at_most_early, at_least_never}
+use Rattle.teg_model.proofs.dioid_proofs.Moves.{same_move}
 use Rattle.teg_model.proofs.DateFunctions.{Dating}
 use Rattle.settled_laws.specs.SettledForms.{RepeatsAfter, IsTail, SettledForm, settled_length, row_of, row_date, step_of_form, HasSizes, StandsFor, IsShortestForm, IsSettlingLength, NeverFalls}
 use Rattle.settled_laws.proofs.Repeating.{period_least, after_least}

@@ -1,10 +1,10 @@
 -- One date decides a whole tail that never falls: once Never it is Never, and Early past the first number it is Early.
 use Rattle.std.proofs.Common.{ℕ, ℤ, zero, suc, ◌+◌, ◌-◌, ◌<◌, ◌≤◌, ◌≡◌, sym, ap, ◌∙◌, arith, ⊎_elim}
 use Rattle.std.proofs.lemmas.Bool.{cases_lt}
-use Rattle.dioid.specs.declared.dates.Date.TheVariants.{Early, Never}
-use Rattle.dioid.specs.Dates.{move}
-use Rattle.dioid.proofs.DateOrder.{at_most_early, at_least_never}
-use Rattle.dioid.proofs.Moves.{moved_to_never}
+use Rattle.teg_model.specs.dioid.declared.dates.Date.TheVariants.{Early, Never}
+use Rattle.teg_model.specs.dioid.Dates.{move}
+use Rattle.teg_model.proofs.dioid_proofs.DateOrder.{at_most_early, at_least_never}
+use Rattle.teg_model.proofs.dioid_proofs.Moves.{moved_to_never}
 use Rattle.teg_model.proofs.DateFunctions.{Dating}
 use Rattle.settled_laws.proofs.Everywhere.{Repeats, Climbing, IsNeverPast, IsEarlyPast}
 

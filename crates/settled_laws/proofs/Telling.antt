@@ -4,8 +4,8 @@ use Rattle.std.specs.Prelude.{◌*ℤ◌}
 use lib.IntN.{suc_ℤ-*ℤ, zero-*ℤ}
 use Rattle.std.proofs.lemmas.Bool.{cases_lt}
 use Rattle.std.proofs.lemmas.Bool.Decides.{nat_tests}
-use Rattle.dioid.specs.Dates.{move}
-use Rattle.dioid.proofs.Moves.{move_zero, move_move}
+use Rattle.teg_model.specs.dioid.Dates.{move}
+use Rattle.teg_model.proofs.dioid_proofs.Moves.{move_zero, move_move}
 use Rattle.teg_model.proofs.DateFunctions.{Dating}
 use Rattle.settled_laws.specs.SettledForms.{RepeatsAfter, SettledForm, settled_length, step_of_form, row_date, periods_past, settled_date_past, settled_date, StandsFor}
 

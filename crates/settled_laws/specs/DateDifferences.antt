@@ -1,7 +1,7 @@
 -- Working definitions of what is read off two dates of a row.
 use Rattle.std.specs.Prelude.{ℤ, pos, ◌-ℤ◌}
-use Rattle.dioid.specs.declared.dates.Date.{Date}
-use Rattle.dioid.specs.declared.dates.Date.TheVariants.{Early, At, Never}
+use Rattle.teg_model.specs.dioid.declared.dates.Date.{Date}
+use Rattle.teg_model.specs.dioid.declared.dates.Date.TheVariants.{Early, At, Never}
 
 -- the step from one date to another, 0 where one of them is no number
 abbrev pub between : Date → Date → ℤ

@@ -1,7 +1,7 @@
 -- What holds of settled forms of any dating (chapter 3).
 use Rattle.std.specs.Prelude.{ℕ, ◌<◌, ◌≤◌, ◌≡◌}
-use Rattle.dioid.specs.declared.dates.Date.{Date}
-use Rattle.teg_net.specs.Nets.{NetLists}
+use Rattle.teg_model.specs.dioid.declared.dates.Date.{Date}
+use Rattle.teg_model.specs.teg_net.Nets.{NetLists}
 use Rattle.settled_laws.specs.SettledForms.{SettledForm, settled_length, settled_date, StandsFor, IsShortestForm, IsSettlingLength, NeverFalls, IsSettledFormOf, NetSettlesPast}
 
 -- a dating that has a settled form has one whose number and period are both least, and its length is the settling length

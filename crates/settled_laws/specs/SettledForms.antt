@@ -1,9 +1,9 @@
 -- Settled forms: past some number the dates go on by a fixed step in each period (chapter 3, cyclicity).
 use Rattle.std.specs.Prelude.{ℕ, ℤ, pos, ◌+◌, ◌-◌, ◌*◌, ◌/◌, ◌*ℤ◌, ◌<◌, ◌≤◌, ◌≡◌, ◌⊎◌, List, [], length, All, slice_index_or, nat_le, if◌then◌else◌}
-use Rattle.dioid.specs.declared.dates.Date.{Date}
-use Rattle.dioid.specs.declared.dates.Date.TheVariants.{Early, Never}
-use Rattle.dioid.specs.Dates.{IsAtMostDate, move}
-use Rattle.teg_net.specs.Nets.{NetLists}
+use Rattle.teg_model.specs.dioid.declared.dates.Date.{Date}
+use Rattle.teg_model.specs.dioid.declared.dates.Date.TheVariants.{Early, Never}
+use Rattle.teg_model.specs.dioid.Dates.{IsAtMostDate, move}
+use Rattle.teg_model.specs.teg_net.Nets.{NetLists}
 use Rattle.teg_model.specs.Datings.{IsLeastDating}
 
 -- past `after` the dates of each of the first `count` transitions go on by its step in each period

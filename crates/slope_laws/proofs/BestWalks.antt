@@ -4,23 +4,23 @@ use Rattle.std.specs.Prelude.{pos, negsuc, All, sum_by}
 use Rattle.std.proofs.lemmas.Bool.{cases_lt}
 use Rattle.std.proofs.lemmas.Int.{ints}
 use Rattle.std.proofs.lemmas.List.Sums.{sum_by-cons}
-use Rattle.dioid.specs.declared.dates.Date.{Date}
-use Rattle.dioid.specs.declared.dates.Date.TheVariants.{Early, At, Never}
-use Rattle.dioid.specs.Dates.{IsAtMostDate, delayed}
-use Rattle.dioid.proofs.DateOrder.{at_most_is, at_most_trans, later_left}
-use Rattle.teg_net.specs.declared.entries.PlaceId.{PlaceId}
-use Rattle.teg_net.specs.Limits.{greatest_hold, most_place_tokens}
-use Rattle.teg_net.specs.Nets.{NetLists, IsNet}
-use Rattle.teg_net.specs.ReadyDates.{start_date}
-use Rattle.teg_net.specs.Circuits.{place_at, IsLive, time_of, tokens_of}
-use Rattle.teg_net.specs.Parts.{Reaches}
-use Rattle.teg_net.specs.Walks.{walk_time}
-use Rattle.teg_model.specs.Datings.{IsLeastUnder, at_input}
-use Rattle.teg_model.specs.Starts.{start_of_firing}
-use Rattle.teg_model.specs.WalkDates.{IsDateOfWalk}
-use Rattle.teg_model.proofs.GreatestWalks.{least_is_walk}
-use Rattle.teg_model.proofs.LiveRanks.{live_ranks}
-use Rattle.teg_model.proofs.OfNet.{net_ends}
+use Rattle.settled_laws.specs.dioid.declared.dates.Date.{Date}
+use Rattle.settled_laws.specs.dioid.declared.dates.Date.TheVariants.{Early, At, Never}
+use Rattle.settled_laws.specs.dioid.Dates.{IsAtMostDate, delayed}
+use Rattle.settled_laws.proofs.dioid_proofs.DateOrder.{at_most_is, at_most_trans, later_left}
+use Rattle.settled_laws.specs.teg_net.declared.entries.PlaceId.{PlaceId}
+use Rattle.settled_laws.specs.teg_net.Limits.{greatest_hold, most_place_tokens}
+use Rattle.settled_laws.specs.teg_net.Nets.{NetLists, IsNet}
+use Rattle.settled_laws.specs.teg_net.ReadyDates.{start_date}
+use Rattle.settled_laws.specs.teg_net.Circuits.{place_at, IsLive, time_of, tokens_of}
+use Rattle.settled_laws.specs.teg_net.Parts.{Reaches}
+use Rattle.settled_laws.specs.teg_net.Walks.{walk_time}
+use Rattle.settled_laws.specs.teg_model.Datings.{IsLeastUnder, at_input}
+use Rattle.settled_laws.specs.teg_model.Starts.{start_of_firing}
+use Rattle.settled_laws.specs.teg_model.WalkDates.{IsDateOfWalk}
+use Rattle.settled_laws.proofs.teg_model_proofs.GreatestWalks.{least_is_walk}
+use Rattle.settled_laws.proofs.teg_model_proofs.LiveRanks.{live_ranks}
+use Rattle.settled_laws.proofs.teg_model_proofs.OfNet.{net_ends}
 use Rattle.teg_loops.specs.Loops.{IsCircuitTowards, IsSplit}
 use Rattle.teg_loops.proofs.Splitting.{split}
 use Rattle.slope_laws.proofs.Sums.{sum_small, times_add, times_le, le_times, at_least}

@@ -2,11 +2,11 @@
 use Rattle.std.proofs.Common.{ℕ, zero, suc, ◌+◌, ◌-◌, ◌*◌, ◌<◌, ◌≤◌, ◌≡◌, ◌≢◌, ◌⊎◌, List, [], ◌∷◌, Option, Some, None, length, get_or, refl, sym, ap, subst, ◌∙◌, arith, inl, inr, ⊎_elim}
 use Rattle.std.specs.Prelude.{All, Contains, unwrap_or, ⊤}
 use Rattle.std.proofs.lemmas.Bool.{cases_lt, cases_eq}
-use Rattle.teg_net.specs.declared.entries.Again.{Again}
-use Rattle.teg_net.specs.declared.entries.InputList.{InputList}
-use Rattle.teg_net.specs.Nets.{NetLists, IsNet, IsInputOf, ListGoesOn, EndsOrGoesOn}
-use Rattle.teg_net.specs.Inputs.{moved_by, GoOnBy, IsInputDates, input_date}
-use Rattle.teg_net.proofs.InputDates.{AreInputDates-input_date}
+use Rattle.settled_laws.specs.teg_net.declared.entries.Again.{Again}
+use Rattle.settled_laws.specs.teg_net.declared.entries.InputList.{InputList}
+use Rattle.settled_laws.specs.teg_net.Nets.{NetLists, IsNet, IsInputOf, ListGoesOn, EndsOrGoesOn}
+use Rattle.settled_laws.specs.teg_net.Inputs.{moved_by, GoOnBy, IsInputDates, input_date}
+use Rattle.settled_laws.proofs.teg_net_proofs.InputDates.{AreInputDates-input_date}
 
 -- what the net says of one of its lists, and the dates that the list gives
 pub dates_of_list : (net : NetLists) (l : InputList) → IsNet net → Contains net.inputs l → IsInputOf net l × IsInputDates l (input_date net l.transition.index)

@@ -2,13 +2,13 @@
 use Rattle.std.proofs.Common.{ℕ, ℤ, zero, suc, pos, ◌+◌, ◌-◌, ◌*◌, ◌<◌, ◌≤◌, ◌≡◌, ◌≢◌, refl, sym, ap, ◌∙◌, arith}
 use Rattle.std.specs.Prelude.{◌+ℤ◌, negsuc}
 use Rattle.std.proofs.lemmas.Int.{ints}
-use Rattle.dioid.specs.declared.dates.Date.{Date}
-use Rattle.dioid.specs.declared.dates.Date.TheVariants.{Early, At, Never}
-use Rattle.dioid.specs.Dates.{IsAtMostDate, move}
-use Rattle.dioid.proofs.DateOrder.{at_most_is, at_most_trans}
-use Rattle.dioid.proofs.Moves.{moved_to_never, delayed_is_move}
-use Rattle.teg_model.specs.Datings.{listed_releases}
-use Rattle.teg_model.proofs.Tokens.{not_before_zero, dates_climb}
+use Rattle.settled_laws.specs.dioid.declared.dates.Date.{Date}
+use Rattle.settled_laws.specs.dioid.declared.dates.Date.TheVariants.{Early, At, Never}
+use Rattle.settled_laws.specs.dioid.Dates.{IsAtMostDate, move}
+use Rattle.settled_laws.proofs.dioid_proofs.DateOrder.{at_most_is, at_most_trans}
+use Rattle.settled_laws.proofs.dioid_proofs.Moves.{moved_to_never, delayed_is_move}
+use Rattle.settled_laws.specs.teg_model.Datings.{listed_releases}
+use Rattle.settled_laws.proofs.teg_model_proofs.Tokens.{not_before_zero, dates_climb}
 use Rattle.settled_laws.specs.SettledForms.{IsTail, step_of_form}
 use Rattle.slope_laws.specs.SlopesExist.{FormsHaveSlopes, SettledFormsHaveSlopes}
 use Rattle.slope_laws.proofs.Lower.{climb_many}

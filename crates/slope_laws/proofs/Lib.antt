@@ -7,3 +7,4 @@ pub mod Starts
 pub mod Slopes
 pub mod Nevers
 pub mod FormSlopes
+pub use Rattle.teg_loops.proofs as teg_loops_proofs

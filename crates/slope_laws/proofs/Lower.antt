@@ -4,16 +4,16 @@ use Rattle.std.specs.Prelude.{pos}
 use Rattle.std.proofs.lemmas.Bool.{cases_lt}
 use Rattle.std.proofs.lemmas.Int.{ints}
 use Rattle.std.proofs.lemmas.List.Sums.{sum_by-cons}
-use Rattle.dioid.specs.declared.dates.Date.{Date}
-use Rattle.dioid.specs.declared.dates.Date.TheVariants.{At}
-use Rattle.dioid.specs.Dates.{IsAtMostDate, delayed}
-use Rattle.dioid.proofs.DateOrder.{at_most_refl, at_most_trans, delayed_rises, delayed_later}
-use Rattle.teg_net.specs.declared.entries.PlaceId.{PlaceId}
-use Rattle.teg_net.specs.declared.entries.Place.{Place}
-use Rattle.teg_net.specs.Nets.{NetLists, IsNet}
-use Rattle.teg_net.specs.Circuits.{place_at, IsPathBetween, time_of, tokens_of}
-use Rattle.teg_model.proofs.Delays.{delayed_twice, delayed_not}
-use Rattle.teg_model.proofs.WalkSteps.{Keeps}
+use Rattle.settled_laws.specs.dioid.declared.dates.Date.{Date}
+use Rattle.settled_laws.specs.dioid.declared.dates.Date.TheVariants.{At}
+use Rattle.settled_laws.specs.dioid.Dates.{IsAtMostDate, delayed}
+use Rattle.settled_laws.proofs.dioid_proofs.DateOrder.{at_most_refl, at_most_trans, delayed_rises, delayed_later}
+use Rattle.settled_laws.specs.teg_net.declared.entries.PlaceId.{PlaceId}
+use Rattle.settled_laws.specs.teg_net.declared.entries.Place.{Place}
+use Rattle.settled_laws.specs.teg_net.Nets.{NetLists, IsNet}
+use Rattle.settled_laws.specs.teg_net.Circuits.{place_at, IsPathBetween, time_of, tokens_of}
+use Rattle.settled_laws.proofs.teg_model_proofs.Delays.{delayed_twice, delayed_not}
+use Rattle.settled_laws.proofs.teg_model_proofs.WalkSteps.{Keeps}
 use Rattle.slope_laws.proofs.Sums.{times_add, times_le}
 use Rattle.slope_laws.proofs.BestWalks.{GoesBy}
 

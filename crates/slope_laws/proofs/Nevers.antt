@@ -1,26 +1,26 @@
 -- Where dates are Never.
 use Rattle.std.proofs.Common.{ℕ, zero, suc, ◌+◌, ◌-◌, ◌<◌, ◌≤◌, ◌≡◌, ◌≢◌, Option, Some, None, length, get_or, refl, sym, ap, subst, ◌∙◌, arith, ⊎_elim}
 use Rattle.std.specs.Prelude.{pos, All, Contains}
-use Rattle.dioid.specs.declared.dates.Date.{Date}
-use Rattle.dioid.specs.declared.dates.Date.TheVariants.{Early, At, Never}
-use Rattle.dioid.specs.Dates.{delayed, later_of}
-use Rattle.dioid.proofs.DateOrder.{at_most_is, at_least_never, later_either}
-use Rattle.teg_net.specs.declared.entries.Again.{Again}
-use Rattle.teg_net.specs.declared.entries.InputList.{InputList}
-use Rattle.teg_net.specs.Nets.{NetLists, IsNet, IsInput, ListGoesOn}
-use Rattle.teg_net.specs.Inputs.{moved_by, IsInputDates, input_date}
-use Rattle.teg_net.specs.Circuits.{tokens_of}
-use Rattle.teg_net.specs.Parts.{Reaches}
-use Rattle.teg_net.specs.ReadyDates.{start_date}
-use Rattle.teg_net.specs.Walks.{walk_time}
-use Rattle.teg_net.proofs.InputDates.{AreInputDates-input_date}
-use Rattle.teg_model.specs.Datings.{listed_releases, as_date, at_input}
-use Rattle.teg_model.specs.Starts.{start_of_firing}
-use Rattle.teg_model.specs.WalkDates.{IsDateOfWalk}
-use Rattle.teg_model.proofs.GreatestWalks.{least_is_walk}
-use Rattle.teg_model.proofs.LiveRanks.{live_ranks}
-use Rattle.teg_model.proofs.OfNet.{net_ends, input_or_not}
-use Rattle.teg_model.proofs.Tokens.{dates_climb}
+use Rattle.settled_laws.specs.dioid.declared.dates.Date.{Date}
+use Rattle.settled_laws.specs.dioid.declared.dates.Date.TheVariants.{Early, At, Never}
+use Rattle.settled_laws.specs.dioid.Dates.{delayed, later_of}
+use Rattle.settled_laws.proofs.dioid_proofs.DateOrder.{at_most_is, at_least_never, later_either}
+use Rattle.settled_laws.specs.teg_net.declared.entries.Again.{Again}
+use Rattle.settled_laws.specs.teg_net.declared.entries.InputList.{InputList}
+use Rattle.settled_laws.specs.teg_net.Nets.{NetLists, IsNet, IsInput, ListGoesOn}
+use Rattle.settled_laws.specs.teg_net.Inputs.{moved_by, IsInputDates, input_date}
+use Rattle.settled_laws.specs.teg_net.Circuits.{tokens_of}
+use Rattle.settled_laws.specs.teg_net.Parts.{Reaches}
+use Rattle.settled_laws.specs.teg_net.ReadyDates.{start_date}
+use Rattle.settled_laws.specs.teg_net.Walks.{walk_time}
+use Rattle.settled_laws.proofs.teg_net_proofs.InputDates.{AreInputDates-input_date}
+use Rattle.settled_laws.specs.teg_model.Datings.{listed_releases, as_date, at_input}
+use Rattle.settled_laws.specs.teg_model.Starts.{start_of_firing}
+use Rattle.settled_laws.specs.teg_model.WalkDates.{IsDateOfWalk}
+use Rattle.settled_laws.proofs.teg_model_proofs.GreatestWalks.{least_is_walk}
+use Rattle.settled_laws.proofs.teg_model_proofs.LiveRanks.{live_ranks}
+use Rattle.settled_laws.proofs.teg_model_proofs.OfNet.{net_ends, input_or_not}
+use Rattle.settled_laws.proofs.teg_model_proofs.Tokens.{dates_climb}
 use Rattle.slope_laws.specs.Slopes.{IsEndedTowards}
 use Rattle.slope_laws.specs.SlopesExist.{NeversComeFromEndedLists}
 use Rattle.slope_laws.proofs.WalkPaths.{IsPathOf, walk_path}

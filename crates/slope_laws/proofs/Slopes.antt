@@ -3,23 +3,23 @@ use Rattle.std.proofs.Common.{ℕ, zero, suc, ◌+◌, ◌*◌, ◌<◌, ◌≤�
 use Rattle.std.specs.Prelude.{pos}
 use Rattle.std.proofs.lemmas.Bool.{cases_eq}
 use Rattle.std.proofs.lemmas.Int.{ints}
-use Rattle.dioid.specs.declared.dates.Date.{Date}
-use Rattle.dioid.specs.declared.dates.Date.TheVariants.{At}
-use Rattle.dioid.specs.Dates.{IsAtMostDate, delayed}
-use Rattle.dioid.proofs.DateOrder.{at_most_trans}
-use Rattle.teg_net.specs.declared.entries.PlaceId.{PlaceId}
-use Rattle.teg_net.specs.declared.entries.Again.{Again}
-use Rattle.teg_net.specs.declared.entries.InputList.{InputList}
-use Rattle.teg_net.specs.Limits.{greatest_input_date, greatest_every, most_input_dates}
-use Rattle.teg_net.specs.Nets.{NetLists, IsNet}
-use Rattle.teg_net.specs.Inputs.{input_date}
-use Rattle.teg_net.specs.Circuits.{no_place, IsPathBetween, IsLive, time_of, tokens_of}
+use Rattle.settled_laws.specs.dioid.declared.dates.Date.{Date}
+use Rattle.settled_laws.specs.dioid.declared.dates.Date.TheVariants.{At}
+use Rattle.settled_laws.specs.dioid.Dates.{IsAtMostDate, delayed}
+use Rattle.settled_laws.proofs.dioid_proofs.DateOrder.{at_most_trans}
+use Rattle.settled_laws.specs.teg_net.declared.entries.PlaceId.{PlaceId}
+use Rattle.settled_laws.specs.teg_net.declared.entries.Again.{Again}
+use Rattle.settled_laws.specs.teg_net.declared.entries.InputList.{InputList}
+use Rattle.settled_laws.specs.teg_net.Limits.{greatest_input_date, greatest_every, most_input_dates}
+use Rattle.settled_laws.specs.teg_net.Nets.{NetLists, IsNet}
+use Rattle.settled_laws.specs.teg_net.Inputs.{input_date}
+use Rattle.settled_laws.specs.teg_net.Circuits.{no_place, IsPathBetween, IsLive, time_of, tokens_of}
 use Rattle.teg_loops.specs.Loops.{IsCircuitTowards}
-use Rattle.teg_model.specs.Datings.{IsLeastDating, listed_releases, as_date}
-use Rattle.teg_model.proofs.OfNet.{feasible_in}
-use Rattle.teg_model.proofs.Tokens.{not_before_zero, dates_climb}
-use Rattle.teg_model.proofs.WalkSteps.{Keeps, feasible_keeps_in}
-use Rattle.teg_model.specs.Datings.{initial_date, system_of}
+use Rattle.settled_laws.specs.teg_model.Datings.{IsLeastDating, listed_releases, as_date}
+use Rattle.settled_laws.proofs.teg_model_proofs.OfNet.{feasible_in}
+use Rattle.settled_laws.proofs.teg_model_proofs.Tokens.{not_before_zero, dates_climb}
+use Rattle.settled_laws.proofs.teg_model_proofs.WalkSteps.{Keeps, feasible_keeps_in}
+use Rattle.settled_laws.specs.teg_model.Datings.{initial_date, system_of}
 use Rattle.slope_laws.specs.Slopes.{IsGoingOnTowards, IsSlope}
 use Rattle.slope_laws.proofs.BestWalks.{GoesBy, Tight, go_round_or}
 use Rattle.slope_laws.proofs.EndedLists.{dates_of_list, rule_of, list_grows}

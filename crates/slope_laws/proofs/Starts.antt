@@ -3,22 +3,22 @@ use Rattle.std.proofs.Common.{ℕ, zero, suc, ◌+◌, ◌-◌, ◌*◌, ◌<◌
 use Rattle.std.specs.Prelude.{pos, All, Contains}
 use Rattle.std.proofs.lemmas.Bool.{cases_lt}
 use Rattle.std.proofs.lemmas.Int.{ints}
-use Rattle.dioid.specs.declared.dates.Date.{Date}
-use Rattle.dioid.specs.declared.dates.Date.TheVariants.{Early, At, Never}
-use Rattle.dioid.specs.Dates.{later_of}
-use Rattle.dioid.proofs.DateOrder.{at_most_is, later_either}
-use Rattle.teg_net.specs.declared.entries.Again.{Again}
-use Rattle.teg_net.specs.declared.entries.InputList.{InputList}
-use Rattle.teg_net.specs.Limits.{greatest_input_date, greatest_every, most_input_dates}
-use Rattle.teg_net.specs.Nets.{NetLists, IsNet, IsInput, ListGoesOn}
-use Rattle.teg_net.specs.Inputs.{IsInputDates, input_date}
-use Rattle.teg_net.specs.Parts.{Reaches}
-use Rattle.teg_net.specs.ReadyDates.{start_date}
-use Rattle.teg_net.proofs.InputDates.{AreInputDates-input_date}
-use Rattle.teg_net.proofs.StartDates.{start_date-most}
-use Rattle.teg_model.specs.Datings.{listed_releases, as_date, at_input}
-use Rattle.teg_model.specs.Starts.{start_of_firing}
-use Rattle.teg_model.proofs.OfNet.{input_or_not}
+use Rattle.settled_laws.specs.dioid.declared.dates.Date.{Date}
+use Rattle.settled_laws.specs.dioid.declared.dates.Date.TheVariants.{Early, At, Never}
+use Rattle.settled_laws.specs.dioid.Dates.{later_of}
+use Rattle.settled_laws.proofs.dioid_proofs.DateOrder.{at_most_is, later_either}
+use Rattle.settled_laws.specs.teg_net.declared.entries.Again.{Again}
+use Rattle.settled_laws.specs.teg_net.declared.entries.InputList.{InputList}
+use Rattle.settled_laws.specs.teg_net.Limits.{greatest_input_date, greatest_every, most_input_dates}
+use Rattle.settled_laws.specs.teg_net.Nets.{NetLists, IsNet, IsInput, ListGoesOn}
+use Rattle.settled_laws.specs.teg_net.Inputs.{IsInputDates, input_date}
+use Rattle.settled_laws.specs.teg_net.Parts.{Reaches}
+use Rattle.settled_laws.specs.teg_net.ReadyDates.{start_date}
+use Rattle.settled_laws.proofs.teg_net_proofs.InputDates.{AreInputDates-input_date}
+use Rattle.settled_laws.proofs.teg_net_proofs.StartDates.{start_date-most}
+use Rattle.settled_laws.specs.teg_model.Datings.{listed_releases, as_date, at_input}
+use Rattle.settled_laws.specs.teg_model.Starts.{start_of_firing}
+use Rattle.settled_laws.proofs.teg_model_proofs.OfNet.{input_or_not}
 use Rattle.slope_laws.specs.Slopes.{IsGoingOnTowards}
 use Rattle.slope_laws.proofs.Sums.{times_add, times_le, more_of}
 use Rattle.slope_laws.proofs.EndedLists.{dates_of_list, goes_past, rule_of, again_or_not, ends_past, list_or_none, le_or_lt, some_is, IsSomeDate, moved_from}

@@ -1,13 +1,13 @@
 -- The path that a walk goes along, and how much of it may be off circuits.
 use Rattle.std.proofs.Common.{ℕ, suc, ◌+◌, ◌*◌, ◌<◌, ◌≤◌, ◌≡◌, List, [], ◌∷◌, length, refl, arith}
 use Rattle.std.proofs.lemmas.List.Sums.{sum_by-cons}
-use Rattle.teg_net.specs.declared.entries.PlaceId.{PlaceId}
-use Rattle.teg_net.specs.declared.walks.Step.{Step}
-use Rattle.teg_net.specs.declared.walks.Step.TheVariants.{By, Next}
-use Rattle.teg_net.specs.Limits.{greatest_hold, most_place_tokens}
-use Rattle.teg_net.specs.Nets.{NetLists, IsNet}
-use Rattle.teg_net.specs.Circuits.{no_place, place_at, IsPathBetween, IsCircuit, time_of, tokens_of}
-use Rattle.teg_net.specs.Walks.{Walks, step_time, walk_time}
+use Rattle.settled_laws.specs.teg_net.declared.entries.PlaceId.{PlaceId}
+use Rattle.settled_laws.specs.teg_net.declared.walks.Step.{Step}
+use Rattle.settled_laws.specs.teg_net.declared.walks.Step.TheVariants.{By, Next}
+use Rattle.settled_laws.specs.teg_net.Limits.{greatest_hold, most_place_tokens}
+use Rattle.settled_laws.specs.teg_net.Nets.{NetLists, IsNet}
+use Rattle.settled_laws.specs.teg_net.Circuits.{no_place, place_at, IsPathBetween, IsCircuit, time_of, tokens_of}
+use Rattle.settled_laws.specs.teg_net.Walks.{Walks, step_time, walk_time}
 use Rattle.teg_loops.specs.Loops.{EndsBelow, IsStraight}
 use Rattle.teg_loops.proofs.Straight.{straight_short, loop_short}
 use Rattle.teg_loops.proofs.Taking.{sum_most}

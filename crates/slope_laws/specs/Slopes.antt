@@ -1,13 +1,13 @@
 -- By how much the dates of a transition rise in a period (chapter 3).
 use Rattle.std.specs.Prelude.{ℕ, ℤ, pos, ◌*◌, ◌≤◌, ◌≡◌, ◌⊎◌, ◌↔◌, List, Some, None, Contains}
-use Rattle.dioid.specs.declared.dates.Date.{Date}
-use Rattle.dioid.specs.declared.dates.Date.TheVariants.{Never}
-use Rattle.teg_net.specs.declared.entries.PlaceId.{PlaceId}
-use Rattle.teg_net.specs.declared.entries.Again.{Again}
-use Rattle.teg_net.specs.declared.entries.InputList.{InputList}
-use Rattle.teg_net.specs.Nets.{NetLists}
-use Rattle.teg_net.specs.Circuits.{time_of, tokens_of}
-use Rattle.teg_net.specs.Parts.{Reaches}
+use Rattle.settled_laws.specs.dioid.declared.dates.Date.{Date}
+use Rattle.settled_laws.specs.dioid.declared.dates.Date.TheVariants.{Never}
+use Rattle.settled_laws.specs.teg_net.declared.entries.PlaceId.{PlaceId}
+use Rattle.settled_laws.specs.teg_net.declared.entries.Again.{Again}
+use Rattle.settled_laws.specs.teg_net.declared.entries.InputList.{InputList}
+use Rattle.settled_laws.specs.teg_net.Nets.{NetLists}
+use Rattle.settled_laws.specs.teg_net.Circuits.{time_of, tokens_of}
+use Rattle.settled_laws.specs.teg_net.Parts.{Reaches}
 use Rattle.teg_loops.specs.Loops.{IsCircuitTowards}
 use Rattle.settled_laws.specs.SettledForms.{IsTail}
 

@@ -1,12 +1,12 @@
 -- What holds of the slopes of the least dating of a live net (chapter 3).
 use Rattle.std.specs.Prelude.{ℕ, ℤ, ◌+◌, ◌<◌, ◌≤◌, ◌≡◌, length}
-use Rattle.dioid.specs.declared.dates.Date.{Date}
-use Rattle.dioid.specs.declared.dates.Date.TheVariants.{Never}
-use Rattle.dioid.specs.Dates.{move}
-use Rattle.teg_net.specs.declared.entries.InputList.{InputList}
-use Rattle.teg_net.specs.Nets.{NetLists, IsNet}
-use Rattle.teg_net.specs.Circuits.{IsLive}
-use Rattle.teg_model.specs.Datings.{IsLeastDating}
+use Rattle.settled_laws.specs.dioid.declared.dates.Date.{Date}
+use Rattle.settled_laws.specs.dioid.declared.dates.Date.TheVariants.{Never}
+use Rattle.settled_laws.specs.dioid.Dates.{move}
+use Rattle.settled_laws.specs.teg_net.declared.entries.InputList.{InputList}
+use Rattle.settled_laws.specs.teg_net.Nets.{NetLists, IsNet}
+use Rattle.settled_laws.specs.teg_net.Circuits.{IsLive}
+use Rattle.settled_laws.specs.teg_model.Datings.{IsLeastDating}
 use Rattle.settled_laws.specs.SettledForms.{SettledForm, StandsFor, step_of_form}
 use Rattle.slope_laws.specs.Slopes.{IsEndedTowards, HasSlope}
 

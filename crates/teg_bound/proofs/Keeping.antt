@@ -4,16 +4,16 @@ use Rattle.std.specs.Prelude.{pos, All}
 use Rattle.std.specs.Int.{◌∣◌}
 use Rattle.std.proofs.lemmas.Bool.{cases_eq, cases_Bool, eqb-true, eq-eqb}
 use Rattle.std.proofs.Math.Nat.{div-mul_cancel, one-dvd, mul-le-mul_right}
-use Rattle.dioid.specs.declared.dates.Date.{Date}
-use Rattle.dioid.specs.declared.dates.Date.TheVariants.{At}
-use Rattle.dioid.specs.Dates.{move}
-use Rattle.teg_net.specs.declared.entries.PlaceId.{PlaceId}
-use Rattle.teg_net.specs.Nets.{NetLists, IsNet}
-use Rattle.teg_net.specs.Ratios.{Fraction}
-use Rattle.teg_net.specs.Circuits.{IsCircuit, IsLive, time_of, tokens_of}
-use Rattle.teg_net.specs.GreatestRatios.{IsGreatestRatio, IsAnyPlace}
-use Rattle.teg_model.specs.Datings.{IsLeastDating}
-use Rattle.settled_laws.specs.SettledForms.{RepeatsAfter}
+use Rattle.bound_laws.specs.dioid.declared.dates.Date.{Date}
+use Rattle.bound_laws.specs.dioid.declared.dates.Date.TheVariants.{At}
+use Rattle.bound_laws.specs.dioid.Dates.{move}
+use Rattle.bound_laws.specs.teg_net.declared.entries.PlaceId.{PlaceId}
+use Rattle.bound_laws.specs.teg_net.Nets.{NetLists, IsNet}
+use Rattle.bound_laws.specs.teg_net.Ratios.{Fraction}
+use Rattle.bound_laws.specs.teg_net.Circuits.{IsCircuit, IsLive, time_of, tokens_of}
+use Rattle.bound_laws.specs.teg_net.GreatestRatios.{IsGreatestRatio, IsAnyPlace}
+use Rattle.bound_laws.specs.teg_model.Datings.{IsLeastDating}
+use Rattle.bound_laws.specs.settled_laws.SettledForms.{RepeatsAfter}
 use Rattle.bound_laws.specs.Critical.{IsStrong, IsCommon, AllReadyAtZero, bound_of}
 use Rattle.bound_laws.proofs.Bounded.{still_nets_stay_at_zero_by}
 use Rattle.bound_laws.proofs.Shortest.{forms_keep_the_bound}

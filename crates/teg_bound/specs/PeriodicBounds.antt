@@ -1,15 +1,15 @@
 -- How soon a net becomes periodic, and with which period (chapter 3, cyclicity).
 use Rattle.std.specs.Prelude.{ℕ, ◌^◌, ◌<◌, ◌≤◌, ◌≡◌, ◌⊎◌, ◌==◌, if◌then◌else◌, List, [], length, All, Any}
 use Rattle.std.specs.Int.{◌∣◌}
-use Rattle.dioid.specs.declared.dates.Date.{Date}
-use Rattle.teg_net.specs.declared.entries.PlaceId.{PlaceId}
-use Rattle.teg_net.specs.Nets.{NetLists, IsInput}
-use Rattle.teg_net.specs.Ratios.{Fraction, IsLowestTerms}
-use Rattle.teg_net.specs.Circuits.{tokens_of}
-use Rattle.teg_net.specs.Parts.{Reaches}
-use Rattle.teg_net.specs.GreatestRatios.{IsGreatestRatio, IsAnyPlace}
-use Rattle.teg_model.specs.Datings.{IsLeastDating}
-use Rattle.settled_laws.specs.SettledForms.{SettledForm, IsShortestForm}
+use Rattle.bound_laws.specs.dioid.declared.dates.Date.{Date}
+use Rattle.bound_laws.specs.teg_net.declared.entries.PlaceId.{PlaceId}
+use Rattle.bound_laws.specs.teg_net.Nets.{NetLists, IsInput}
+use Rattle.bound_laws.specs.teg_net.Ratios.{Fraction, IsLowestTerms}
+use Rattle.bound_laws.specs.teg_net.Circuits.{tokens_of}
+use Rattle.bound_laws.specs.teg_net.Parts.{Reaches}
+use Rattle.bound_laws.specs.teg_net.GreatestRatios.{IsGreatestRatio, IsAnyPlace}
+use Rattle.bound_laws.specs.teg_model.Datings.{IsLeastDating}
+use Rattle.bound_laws.specs.settled_laws.SettledForms.{SettledForm, IsShortestForm}
 use Rattle.bound_laws.specs.Critical.{IsCriticalAt, AllReadyAtZero, bound_of}
 use Rattle.teg_bound.specs.declared.bound.BoundAnswer.{BoundAnswer}
 use Rattle.teg_bound.specs.declared.bound.BoundAnswer.TheVariants.{Bound, HasInputs, NoPlace, NotStrong, ReadyDates}

@@ -13,7 +13,7 @@ use Rattle.teg_calc.specs.ExpressionTrees.{Tree}
 use Rattle.teg_calc.specs.ParseAnswers.{count_of_byte, open_brackets}
 use Rattle.teg_calc.specs.Readers.{Level, Stand, State, state, start, operand, within, operator, step, takes_comma, sign_of, digit_of, begun_by, letters_of, gone_on, date_on, shift_on, factor_of, factored_outside, operand_by, operator_by, word_end, word_on, letter_by, name_by, token_by, step_by, within_step, behind_step}
 use Rattle.teg_calc.proofs.Signs.{IsSign, is_open, is_close, sign_is, decide}
-use Rattle.number_laws.proofs.Numbers.{same_number}
+use Rattle.series_ops.proofs.number_laws_proofs.Numbers.{same_number}
 use Rattle.teg_calc.proofs.TextRuns.{run}
 
 -- ---- bytes that open or close no bracket

@@ -2,7 +2,7 @@
 use Rattle.std.proofs.Common.{◌≡◌, refl, arith, ℕ, Bool, true, false}
 use Rattle.std.specs.Prelude.{◌==◌}
 use Rattle.std.proofs.lemmas.Bool.Decides.{nat_tests}
-use Rattle.number_laws.proofs.Numbers.{same_number}
+use Rattle.series_ops.proofs.number_laws_proofs.Numbers.{same_number}
 use Rattle.teg_calc.specs.declared.bytes.Sign.{Sign}
 use Rattle.teg_calc.specs.declared.bytes.Sign.TheVariants.{Blank, Open, Close, Comma, Plus, Dot, Other}
 use Rattle.teg_calc.specs.Readers.{sign_of}

@@ -15,7 +15,7 @@ use Rattle.teg_calc.specs.ExpressionTrees.{Tree}
 use Rattle.teg_calc.specs.Grammar.{FactorText, eps_word, never_word, blanks, spaced, factor_text, factor_tree}
 use Rattle.teg_calc.specs.Readers.{Level, level, Stand, State, state, start, operand, within, operator, step, nested, multiplied, sign_of, begun_by, letters_of, gone_on, factor_of, factored, behind_step, within_step, operand_by, word_end, word_on, letter_by, name_by, token_by, step_by}
 use Rattle.teg_calc.proofs.Signs.{IsSign, is_blank, is_open, sign_is, decide}
-use Rattle.number_laws.proofs.Numbers.{same_number}
+use Rattle.series_ops.proofs.number_laws_proofs.Numbers.{same_number}
 use Rattle.teg_calc.proofs.Holding.{IsHead, IsCallHead, IsNameText, Holds}
 use Rattle.teg_calc.proofs.TokenSteps.{IfPart, begun_text, gone_text, letters_more}
 use Rattle.teg_calc.proofs.Behind.{reached, opens, blank_more, factor_holds, spaced_token, token_text, with_byte, part_more, ends_holds, operator_holds}

@@ -10,7 +10,7 @@ use Rattle.teg_calc.specs.declared.tokens.Part.{Part}
 use Rattle.teg_calc.specs.declared.tokens.Part.TheVariants.{Letters, Unit as UnitPart, Name, Shift, Delta, Date}
 use Rattle.teg_calc.specs.Readers.{digit_of, begun_by, gone_on, shift_on, date_on}
 use Rattle.teg_calc.proofs.Signs.{decide}
-use Rattle.number_laws.proofs.Numbers.{same_number}
+use Rattle.series_ops.proofs.number_laws_proofs.Numbers.{same_number}
 use Rattle.teg_calc.proofs.Holding.{AreDigitsOf, IsPartText, IsLetters, IsShiftText, IsDateText}
 
 -- where there is a part, its text is this

@@ -2,3 +2,5 @@ pub mod Liveness
 pub mod ExitLaws
 pub mod Trail
 pub mod Ranking
+pub use Rattle.teg_net.proofs.number_laws_proofs as number_laws_proofs
+pub use Rattle.teg_net.proofs as teg_net_proofs

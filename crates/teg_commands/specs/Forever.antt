@@ -1,7 +1,7 @@
 -- What is said of the latest inputs of a live net for a file of due dates without end.
 use Rattle.std.specs.Prelude.{ℕ, ◌≡◌, ◌≢◌, ◌⊎◌, List, Ok, Err}
-use Rattle.forever_laws.specs.declared.rows.EndlessRow.{EndlessRow}
-use Rattle.forever_laws.specs.EndlessRows.{IsEndlessOf}
+use Rattle.teg_forever.specs.forever_laws.declared.rows.EndlessRow.{EndlessRow}
+use Rattle.teg_forever.specs.forever_laws.EndlessRows.{IsEndlessOf}
 use Rattle.teg_forever.specs.declared.releases.ForeverRefusal.{ForeverRefusal}
 use Rattle.teg_forever.specs.declared.releases.ForeverRefusal.TheVariants.{Late, TooLong, TooWide, OutOfMemory}
 use Rattle.teg_forever.specs.declared.releases.Release.{Release}
@@ -10,8 +10,8 @@ use Rattle.teg_forever.specs.declared.rows.EndlessRefusal.TheVariants.{OutOfMemo
 use Rattle.teg_forever.specs.LatestReleases.{AreEndlessReleases, ForeverRefused}
 use Rattle.teg_forever.specs.EndlessFiles.{endless_of}
 use Rattle.teg_forever.specs.EndlessTexts.{Answered, Faulty, answer_lines}
-use Rattle.teg_net.specs.Nets.{NetLists}
-use Rattle.teg_text.specs.Lines.{written}
+use Rattle.teg_report.specs.teg_net.Nets.{NetLists}
+use Rattle.teg_report.specs.teg_text.Lines.{written}
 use Rattle.teg_commands.specs.declared.outcome.Verdict.{Verdict}
 use Rattle.teg_commands.specs.declared.outcome.Verdict.TheVariants.{Done as VerdictDone, Late as VerdictLate, Schedule as VerdictSchedule, TooLong as VerdictTooLong}
 

@@ -1,9 +1,9 @@
 -- What is said of a timetable of a live net and its delays.
 use Rattle.std.specs.Prelude.{ℕ, ◌≡◌, ◌⊎◌, List, Option, Ok, Err}
-use Rattle.delay_laws.specs.declared.table.Timetable.{Timetable}
-use Rattle.delay_laws.specs.PlannedTimetables.{IsTableOf}
-use Rattle.teg_net.specs.Nets.{NetLists}
-use Rattle.teg_text.specs.Lines.{written}
+use Rattle.teg_timetable.specs.delay_laws.declared.table.Timetable.{Timetable}
+use Rattle.teg_timetable.specs.delay_laws.PlannedTimetables.{IsTableOf}
+use Rattle.teg_report.specs.teg_net.Nets.{NetLists}
+use Rattle.teg_report.specs.teg_text.Lines.{written}
 use Rattle.teg_timetable.specs.declared.refusals.DelayRefusal.{DelayRefusal}
 use Rattle.teg_timetable.specs.declared.refusals.DelayRefusal.TheVariants.{TooLarge, Unworkable, TooLong, OutOfMemory}
 use Rattle.teg_timetable.specs.declared.refusals.TableRefusal.{TableRefusal}

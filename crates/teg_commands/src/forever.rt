@@ -1,7 +1,7 @@
 //! The latest inputs of a live net by which due dates without end are met.
 ghost use Rattle.std.specs.Prelude.{◌≡◌, ◌≤◌, IfNone, IfSome, length};
-ghost use Rattle.csv_records.specs.Records.{most_file_bytes};
-ghost use Rattle.forever_laws.specs.EndlessRows.{IsEndlessOf};
+ghost use Rattle.teg_report.specs.csv_records.Records.{most_file_bytes};
+ghost use Rattle.teg_forever.specs.forever_laws.EndlessRows.{IsEndlessOf};
 ghost use Rattle.teg_commands.specs.Forever.{EndsUnreleased, SaysEndless, SaysForever, SaysUnreleased, TellsBadEndless};
 ghost use Rattle.teg_commands.specs.CommandOutcomes.{Tells, outcome_of};
 ghost use Rattle.teg_forever.specs.LatestReleases.{ForeverRefused};

@@ -1,10 +1,10 @@
 //! How the delays of a timetable spread through a live net.
 ghost use Rattle.std.specs.Prelude.{◌≡◌, ◌≤◌, IfNone, IfSome, length};
-ghost use Rattle.csv_records.specs.Records.{most_file_bytes};
-ghost use Rattle.delay_laws.specs.PlannedTimetables.{IsTableOf};
+ghost use Rattle.teg_report.specs.csv_records.Records.{most_file_bytes};
+ghost use Rattle.teg_timetable.specs.delay_laws.PlannedTimetables.{IsTableOf};
 ghost use Rattle.teg_commands.specs.CommandOutcomes.{Tells, outcome_of};
 ghost use Rattle.teg_commands.specs.Timetable.{EndsUnspread, SaysDelays, SaysTimetable, SaysUnspread, TellsBadTable};
-ghost use Rattle.teg_settle.specs.LimitRefusals.{greatest_limit};
+ghost use Rattle.teg_report.specs.teg_settle.LimitRefusals.{greatest_limit};
 ghost use Rattle.teg_timetable.specs.DelayAnswers.{IsDelayRefusal};
 ghost use Rattle.teg_timetable.specs.Spreads.{greatest_period};
 ghost use Rattle.teg_timetable.specs.TimetableFiles.{IsTableRefusalIn};

@@ -1,17 +1,17 @@
 -- What the meet of the residuals over the rows tells of an input.
 use Rattle.std.proofs.Common.{ℕ, ◌+◌, ◌-◌, ◌≤◌, ◌≡◌, ◌==◌, true, List, [], ◌∷◌, Option, Some, None, Result, Ok, Err, length, refl, sym, subst, ap, ◌∙◌, arith}
 use Rattle.std.specs.Prelude.{IfNone, IfOk, OnOk, slice_get}
-use Rattle.series_laws.specs.SeriesForms.{Form, value_at}
-use Rattle.series_form.specs.NumberBounds.{IsSeries}
-use Rattle.series_ops.specs.declared.gains.Gain.{Gain}
-use Rattle.series_ops.specs.Gains.{gain_zero}
-use Rattle.teg_net.specs.declared.entries.TransitionId.{TransitionId}
-use Rattle.teg_net.specs.Nets.{NetLists, IsNet, IsInput}
-use Rattle.teg_net.specs.Circuits.{IsLive}
-use Rattle.settled_laws.specs.SettledForms.{SettledForm, settled_length}
-use Rattle.teg_settle.specs.Transfers.{IsTransferOf}
-use Rattle.due_laws.specs.MeetingDueDates.{InputsMeet, inputs_at_zero}
-use Rattle.due_laws.specs.LatestDates.{IsLatestDate}
+use Rattle.forever_laws.specs.series_laws.SeriesForms.{Form, value_at}
+use Rattle.forever_laws.specs.series_form.NumberBounds.{IsSeries}
+use Rattle.forever_laws.specs.series_ops.declared.gains.Gain.{Gain}
+use Rattle.forever_laws.specs.series_ops.Gains.{gain_zero}
+use Rattle.forever_laws.specs.teg_net.declared.entries.TransitionId.{TransitionId}
+use Rattle.forever_laws.specs.teg_net.Nets.{NetLists, IsNet, IsInput}
+use Rattle.forever_laws.specs.teg_net.Circuits.{IsLive}
+use Rattle.forever_laws.specs.settled_laws.SettledForms.{SettledForm, settled_length}
+use Rattle.forever_laws.specs.teg_settle.Transfers.{IsTransferOf}
+use Rattle.forever_laws.specs.due_laws.MeetingDueDates.{InputsMeet, inputs_at_zero}
+use Rattle.forever_laws.specs.due_laws.LatestDates.{IsLatestDate}
 use Rattle.forever_laws.specs.declared.rows.EndlessRow.{EndlessRow}
 use Rattle.forever_laws.specs.EndlessRows.{IsEndlessOf, due_on}
 use Rattle.forever_laws.specs.SeriesColumns.{AreSeriesColumns, residual_over}
@@ -25,7 +25,7 @@ use Rattle.teg_forever.specs.LatestReleases.{IsFine, IsReleaseOf, ForeverRefused
 use Rattle.teg_forever.specs.InputAnswers.{IsReleaseBy, IsStopped, AreReleasesBelow}
 use Rattle.teg_forever.specs.Divisions.{IsMeetOver}
 use Rattle.teg_forever.proofs.InputLists.{input_within}
-use Rattle.number_laws.proofs.Numbers.{same_number}
+use Rattle.forever_laws.proofs.number_laws_proofs.Numbers.{same_number}
 
 module _ (net : NetLists) (rows : List EndlessRow) (u : ℕ) (ok : IsNet net) (live : IsLive net) (ends : IsEndlessOf net rows) (input : IsInput net u) (exist : ColumnsExist) (m : Gain) (meet : IsMeetOver net rows u (length rows) m) where
   -- an input whose walk times settle is fine where each row fits

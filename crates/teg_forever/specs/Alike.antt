@@ -1,7 +1,7 @@
 -- Working definitions of the dates that a settled form tells of its transitions.
 use Rattle.std.specs.Prelude.{ℕ, ◌≡◌}
-use Rattle.series_laws.specs.SeriesForms.{Form, form_with}
-use Rattle.settled_laws.specs.SettledForms.{SettledForm, row_of, step_of_form}
+use Rattle.forever_laws.specs.series_laws.SeriesForms.{Form, form_with}
+use Rattle.forever_laws.specs.settled_laws.SettledForms.{SettledForm, row_of, step_of_form}
 
 -- the dates of a transition, which go on by the period and its step
 abbrev pub told_form : SettledForm → ℕ → Form

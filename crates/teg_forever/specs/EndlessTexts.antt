@@ -2,9 +2,9 @@
 use Rattle.std.specs.Prelude.{ℕ, ◌<◌, ◌≡◌, ◌^◌, List, [], ◌∷◌, ◌++◌, length, map, codes, All, Result, Ok, Err, ⊤}
 use Rattle.std.specs.List.{zip}
 use Rattle.std.specs.Fmt.{decimal, signed_decimal}
-use Rattle.series_laws.specs.SeriesForms.{Form}
-use Rattle.series_form.specs.NumberBounds.{IsSeries}
-use Rattle.teg_net.specs.Nets.{NetLists, IsNet}
+use Rattle.forever_laws.specs.series_laws.SeriesForms.{Form}
+use Rattle.forever_laws.specs.series_form.NumberBounds.{IsSeries}
+use Rattle.forever_laws.specs.teg_net.Nets.{NetLists, IsNet}
 use Rattle.teg_text.specs.Faults.{row_line}
 use Rattle.teg_text.specs.Lines.{phrase, written}
 use Rattle.teg_text.specs.WordsOfNames.{name_of_transition}

@@ -1,13 +1,13 @@
 -- Working definitions of what the search for a late firing goes by.
 use Rattle.std.specs.Prelude.{ℕ, pos, ◌+◌, ◌*◌, ◌<◌, ◌≤◌, ◌≡◌, length}
-use Rattle.dioid.specs.declared.dates.Date.{Date}
-use Rattle.dioid.specs.declared.dates.Date.TheVariants.{At}
-use Rattle.dioid.specs.Dates.{move}
-use Rattle.teg_net.specs.Nets.{NetLists}
-use Rattle.teg_model.specs.DateBounds.{greatest_least_date}
-use Rattle.teg_model.specs.Datings.{IsLeastUnder}
-use Rattle.settled_laws.specs.SettledForms.{SettledForm, StandsFor, settled_date, step_of_form}
-use Rattle.due_laws.specs.MeetingDueDates.{inputs_at_zero}
+use Rattle.forever_laws.specs.dioid.declared.dates.Date.{Date}
+use Rattle.forever_laws.specs.dioid.declared.dates.Date.TheVariants.{At}
+use Rattle.forever_laws.specs.dioid.Dates.{move}
+use Rattle.forever_laws.specs.teg_net.Nets.{NetLists}
+use Rattle.forever_laws.specs.teg_model.DateBounds.{greatest_least_date}
+use Rattle.forever_laws.specs.teg_model.Datings.{IsLeastUnder}
+use Rattle.forever_laws.specs.settled_laws.SettledForms.{SettledForm, StandsFor, settled_date, step_of_form}
+use Rattle.forever_laws.specs.due_laws.MeetingDueDates.{inputs_at_zero}
 use Rattle.forever_laws.specs.declared.rows.EndlessRow.{EndlessRow}
 use Rattle.forever_laws.specs.EndlessRows.{IsEndlessRow}
 use Rattle.forever_laws.specs.Late.{IsLeastLate}

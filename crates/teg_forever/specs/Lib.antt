@@ -7,3 +7,4 @@ pub mod Divisions
 pub mod LateFirings
 pub mod EndlessTexts
 pub mod Twins
+pub use Rattle.forever_laws.specs as forever_laws

@@ -1,14 +1,14 @@
 //! The numbers of a record of endless due dates.
 ghost use Rattle.std.specs.Prelude.{◌≡◌, ◌≤◌, ◌<◌, [], true, IfOk, length, get_or, option_map, nat_le};
 ghost use Rattle.std.specs.List.{list_all};
-ghost use Rattle.csv.specs.Records.{fields_of};
-ghost use Rattle.csv_records.specs.NumberFields.{is_number, number_up_to};
-ghost use Rattle.teg_net.specs.Limits.{greatest_firing_number, greatest_input_date};
+ghost use Rattle.teg_due.specs.csv.Records.{fields_of};
+ghost use Rattle.teg_due.specs.csv_records.NumberFields.{is_number, number_up_to};
+ghost use Rattle.forever_laws.specs.teg_net.Limits.{greatest_firing_number, greatest_input_date};
 ghost use Rattle.teg_forever.specs.EndlessFiles.{has_numbers, IsLimited, AreDatesOfFields, goes_on, rises_from};
 
-use csv_records::{ByteRecord, is_number, number_up_to};
+use forever_laws::teg_net::OutOfMemory;
 use std::alloc::Global;
-use teg_net::OutOfMemory;
+use teg_due::csv_records::{ByteRecord, is_number, number_up_to};
 
 // The greatest gap and the greatest date.
 const GREATEST_DATE: u64 = 1_000_000_000_000;

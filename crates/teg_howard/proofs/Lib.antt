@@ -25,3 +25,7 @@ pub mod Exits
 pub mod Unique
 pub mod Lowest_terms
 pub mod OneRun
+pub use Rattle.teg_check.proofs.number_laws_proofs as number_laws_proofs
+pub use Rattle.teg_check.proofs.teg_net_proofs as teg_net_proofs
+pub use Rattle.teg_check.proofs as teg_check_proofs
+pub use Rattle.teg_parts.proofs as teg_parts_proofs

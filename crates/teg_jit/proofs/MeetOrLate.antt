@@ -4,22 +4,22 @@ use Rattle.std.specs.Prelude.{All}
 use Rattle.std.proofs.lemmas.Bool.{cases_lt}
 use Rattle.std.proofs.lemmas.Int.{ints}
 use Rattle.std.proofs.lemmas.List.{get_or_default}
-use Rattle.teg_net.specs.Nets.{NetLists, IsNet}
-use Rattle.teg_net.specs.Circuits.{IsLive}
-use Rattle.teg_net.specs.ReadyDates.{start_date}
-use Rattle.teg_net.specs.Walks.{walk_time}
-use Rattle.teg_model.specs.Datings.{IsLeastUnder, system_of}
+use Rattle.teg_dates.specs.teg_net.Nets.{NetLists, IsNet}
+use Rattle.teg_dates.specs.teg_net.Circuits.{IsLive}
+use Rattle.teg_dates.specs.teg_net.ReadyDates.{start_date}
+use Rattle.teg_dates.specs.teg_net.Walks.{walk_time}
+use Rattle.teg_dates.specs.teg_model.Datings.{IsLeastUnder, system_of}
 use Rattle.due_laws.specs.MeetingDueDates.{inputs_at_zero}
-use Rattle.teg_model.proofs.LeastOver.{least_over}
-use Rattle.teg_model.proofs.LiveRanks.{live_is_ranked}
-use Rattle.teg_model.proofs.OfNet.{net_ends, least_of, least_of_system}
+use Rattle.teg_dates.proofs.teg_model_proofs.LeastOver.{least_over}
+use Rattle.teg_dates.proofs.teg_model_proofs.LiveRanks.{live_is_ranked}
+use Rattle.teg_dates.proofs.teg_model_proofs.OfNet.{net_ends, least_of, least_of_system}
 use Rattle.teg_due.specs.declared.rows.DueRow.{DueRow}
 use Rattle.teg_due.specs.RowRules.{IsDueOf}
 use Rattle.teg_jit.specs.PlansAndLateness.{IsLate, MeetOrLate}
 use Rattle.teg_jit.specs.LateRefusals.{KeepsRow}
 use Rattle.teg_jit.proofs.Begun.{no_row}
-use Rattle.teg_model.proofs.LiveRanks.{rank_bound, rank_in, ranks_in}
-use Rattle.teg_model.proofs.DateFunctions.{Dating}
+use Rattle.teg_dates.proofs.teg_model_proofs.LiveRanks.{rank_bound, rank_in, ranks_in}
+use Rattle.teg_dates.proofs.teg_model_proofs.DateFunctions.{Dating}
 use Rattle.teg_jit.proofs.LateWalks.{Reached, reached}
 use Rattle.teg_jit.proofs.LateRows.{all_kept, first_late_is}
 

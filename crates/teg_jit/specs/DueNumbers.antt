@@ -1,9 +1,9 @@
 -- Working definitions of the rows of a due list in the order of their numbers, and of the least dates at them.
 use Rattle.std.specs.Prelude.{ℕ, pos, ◌<◌, ◌≤◌, ◌≡◌, List, length, All, Contains, map, slice_index_or}
 use Rattle.std.specs.List.Sorted.{IsNonDecreasingBy}
-use Rattle.dioid.specs.declared.dates.Date.{Date}
-use Rattle.dioid.specs.declared.dates.Date.TheVariants.{At}
-use Rattle.teg_net.specs.Nets.{NetLists}
+use Rattle.teg_dates.specs.dioid.declared.dates.Date.{Date}
+use Rattle.teg_dates.specs.dioid.declared.dates.Date.TheVariants.{At}
+use Rattle.teg_dates.specs.teg_net.Nets.{NetLists}
 use Rattle.teg_dates.specs.DateCells.{date_of_cell}
 use Rattle.teg_dates.specs.Streams.{IsLeastRow}
 use Rattle.teg_due.specs.declared.rows.DueRow.{DueRow}

@@ -1,11 +1,11 @@
 -- Working definitions of the passes of one number, going back: how far the latest dates are settled.
 use Rattle.std.specs.Prelude.{ℕ, ◌+◌, ◌*◌, ◌<◌, ◌≤◌, ◌≡◌, List, length, slice_index_or, Option, Some, None, nat_lt, if◌then◌else◌}
-use Rattle.dioid.specs.declared.dates.Date.{Date}
-use Rattle.dioid.specs.Dates.{IsAtMostDate, delayed}
-use Rattle.teg_net.specs.declared.entries.PlaceId.{PlaceId}
-use Rattle.teg_net.specs.Nets.{NetLists}
-use Rattle.teg_net.specs.Circuits.{place_at}
-use Rattle.teg_model.specs.Datings.{IsFeasibleUnder}
+use Rattle.teg_dates.specs.dioid.declared.dates.Date.{Date}
+use Rattle.teg_dates.specs.dioid.Dates.{IsAtMostDate, delayed}
+use Rattle.teg_dates.specs.teg_net.declared.entries.PlaceId.{PlaceId}
+use Rattle.teg_dates.specs.teg_net.Nets.{NetLists}
+use Rattle.teg_dates.specs.teg_net.Circuits.{place_at}
+use Rattle.teg_dates.specs.teg_model.Datings.{IsFeasibleUnder}
 use Rattle.due_laws.specs.MeetingDueDates.{KeepsDues, inputs_at_zero}
 use Rattle.teg_jit.specs.declared.answers.Onward.{Onward}
 use Rattle.teg_jit.specs.declared.answers.Onward.TheVariants.{Due, By}

@@ -16,7 +16,7 @@ use Rattle.teg_loops.specs.Loops.{EndsBelow}
 use Rattle.teg_loops.specs.ClosedPieces.{HasRound}
 use Rattle.teg_loops.specs.PathSplitting.{LongPathsComeRound}
 use Rattle.teg_loops.proofs.Stops.{met, met_at, met_below, to_met, from_met}
-use Rattle.number_laws.proofs.Pigeons.{pigeons, difference}
+use Rattle.teg_net.proofs.number_laws_proofs.Pigeons.{pigeons, difference}
 
 abbrev meets : NetLists → ℕ → List PlaceId → ℕ → ℕ
 meets net b ps i = get_or (met net b ps) i 0

@@ -12,3 +12,6 @@ pub mod Within
 pub mod ListDates
 pub mod NetBound
 pub mod LiveRanks
+pub use Rattle.teg_net.proofs.number_laws_proofs as number_laws_proofs
+pub use Rattle.dioid.proofs as dioid_proofs
+pub use Rattle.teg_net.proofs as teg_net_proofs

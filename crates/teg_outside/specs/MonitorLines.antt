@@ -30,4 +30,4 @@ high_water_line tokens = codes "high water " ++ decimal tokens
 
 -- the line of a greatest lateness
 abbrev pub lateness_line : ℕ → List ℕ
-lateness_line late = codes "greatest_in lateness " ++ decimal late
+lateness_line late = codes "greatest lateness " ++ decimal late

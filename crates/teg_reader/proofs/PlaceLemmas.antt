@@ -12,7 +12,7 @@ use Rattle.teg_reader.specs.Holds.{hold_with_duration, too_slow}
 use Rattle.teg_reader.specs.PassWalks.{first_of_entries}
 use Rattle.teg_reader.specs.Documents.{bad_places}
 use Rattle.teg_reader.proofs.Facts.{negated, or_true}
-use Rattle.number_laws.proofs.Numbers.{same_number}
+use Rattle.teg_net.proofs.number_laws_proofs.Numbers.{same_number}
 use Rattle.teg_reader.proofs.ClearLemmas.{neither, all_passed}
 use Rattle.teg_reader.proofs.GraphLemmas.{none_unless}
 

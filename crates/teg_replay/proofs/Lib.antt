@@ -7,3 +7,4 @@ mod Latest
 mod Playing
 mod Replaying
 mod Shown
+pub use Rattle.run_laws.proofs as run_laws_proofs

@@ -4,3 +4,4 @@ pub mod Games
 pub mod RunsAndLeastDates
 pub mod Replays
 pub mod Waits
+pub use Rattle.run_laws.specs as run_laws

@@ -4,7 +4,7 @@ use Rattle.teg_run.specs.declared.status.Status.{Status}
 use Rattle.teg_commands.specs.declared.outcome.Verdict.{Verdict}
 use Rattle.teg_run.specs.Statuses.{status_of}
 
--- with a status and the whole of its text, or for want of memory
+-- how the work ends: with a status and the whole of its text, or for want of memory
 pub data Ending : Type 0 where
   Whole : (status : Status) (text : List ℕ) → Ending
   Lost : Ending

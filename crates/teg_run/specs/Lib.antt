@@ -13,3 +13,4 @@ pub mod Says
 pub mod ShownFirings
 pub mod Statuses
 pub mod Writing
+pub use Rattle.teg_commands.specs.teg_outside as teg_outside

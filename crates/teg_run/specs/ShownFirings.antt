@@ -1,13 +1,13 @@
 -- What the monitors of a call were shown, by what the reads of the call gave. Of the monitors before and now it is given what they would
 -- print by the further firings that they would see; `is_told` is false where memory ran out.
 use Rattle.std.specs.Prelude.{ℕ, ◌≡◌, ◌≢◌, Bool, true, false, List, [], ◌∷◌, Option, Some, None, Result, Ok}
-use Rattle.teg_net.specs.Nets.{NetLists}
-use Rattle.teg_outside.specs.declared.monitor.Firing.{Firing}
-use Rattle.teg_outside.specs.declared.shelf.ShelfFault.{ShelfFault}
-use Rattle.teg_outside.specs.Shelves.{ShelfState}
-use Rattle.teg_outside.specs.Sinks.{SinkState}
+use Rattle.teg_commands.specs.teg_net.Nets.{NetLists}
+use Rattle.teg_commands.specs.teg_outside.declared.monitor.Firing.{Firing}
+use Rattle.teg_commands.specs.teg_outside.declared.shelf.ShelfFault.{ShelfFault}
+use Rattle.teg_commands.specs.teg_outside.Shelves.{ShelfState}
+use Rattle.teg_commands.specs.teg_outside.Sinks.{SinkState}
 use Rattle.teg_commands.specs.Replay.{ShowsNothing, ShowsReplay}
-use Rattle.teg_report.specs.declared.answer.Which.{Which}
+use Rattle.teg_commands.specs.teg_report.declared.answer.Which.{Which}
 use Rattle.teg_run.specs.declared.request.FileCommand.{FileCommand}
 use Rattle.teg_run.specs.declared.request.FileCommand.TheVariants.{Jit as JitNet, Replay as ReplayNet, Forever as ForeverNet, Timetable as TimetableNet}
 use Rattle.teg_run.specs.declared.request.Request.{Request}
@@ -24,19 +24,19 @@ use Rattle.teg_run.specs.WholeCalls.{Finished}
 use Rattle.teg_run.specs.Says.{Asked}
 use Rattle.teg_run.specs.Statuses.{IsOwn}
 
--- of a live net and the bytes of a second file: the accepted firings of a log, and nothing of another file
+-- what is shown of a live net and the bytes of a second file: the accepted firings of a log, and nothing of another file
 abbrev pub ShowsFiles : FileCommand → NetLists → List ℕ → (before now : List Firing → List (List ℕ)) → (is_told : Bool) → Type 0
 ShowsFiles JitNet net bytes before now is_told = ShowsNothing before now
 ShowsFiles ReplayNet net bytes before now is_told = ShowsReplay net bytes before now is_told
 ShowsFiles ForeverNet net bytes before now is_told = ShowsNothing before now
 ShowsFiles (TimetableNet period limit) net bytes before now is_told = ShowsNothing before now
 
--- of a live net, by the replies for the second file
+-- what is shown of a live net, by the replies for the second file
 abbrev pub ShowsSecond : FileCommand → NetLists → (before now : List Firing → List (List ℕ)) → List (Result (List ℕ) ShelfFault) → (is_told : Bool) → Type 0
 ShowsSecond command net before now (Ok bytes ∷ []) is_told = ShowsFiles command net bytes before now is_told
 ShowsSecond command net before now replies is_told = ShowsNothing before now
 
--- by the replies for the net and the second file, which is read only after an accepted net
+-- what is shown by the replies for the net and the second file, which is read only after an accepted net
 abbrev pub ShowsBoth : FileCommand → (before now : List Firing → List (List ℕ)) → List (Result (List ℕ) ShelfFault) → (is_told : Bool) → Type 0
 ShowsBoth command before now (reply ∷ second ∷ replies) is_told =
     (net : NetLists) × OpensNet reply (Accepted net) × ShowsSecond command net before now (second ∷ replies) is_told
@@ -60,7 +60,7 @@ abbrev pub AnsweredAndShown : (List (Result (List ℕ) ShelfFault) → Status �
 AnsweredAndShown says shows files old new ending =
     (replies : List (Result (List ℕ) ShelfFault)) × ReadsAll old new files replies × EndsWith (says replies) ending × shows replies (is_whole ending)
 
--- such an ending, and its writing
+-- an ending so answered and shown, and its writing
 abbrev pub ServesAndShows : (List (Result (List ℕ) ShelfFault) → Status → List ℕ → Type 0) → (List (Result (List ℕ) ShelfFault) → Bool → Type 0) →
     List (Which × List ℕ) → ShelfState → ShelfState → SinkState → SinkState → Status → Type 0
 ServesAndShows says shows files shelf shelf' sink sink' status =

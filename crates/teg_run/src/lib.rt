@@ -6,7 +6,7 @@
 //! words ask for, what the reads gave and what answer they lead to, and how that answer was written.
 //! The other fields say what follows from it, one promise each. [`serve`] promises the same, hands the
 //! monitors back, and says what they were shown: by the replies of the shelf (`ShowsJust` in
-//! `specs/Shown.antt`), and by the files, where they are told (`ShowsTold`).
+//! `specs/ShownFirings.antt`), and by the files, where they are told (`ShowsTold`).
 //! It stands on `teg_commands` for what each command comes to, on `teg_words`, `teg_reader` and
 //! `teg_check` for what is accepted, on `teg_report` for the texts, and on `teg_outside`.
 //! Its examples stand in `worked_examples`.
@@ -30,5 +30,6 @@ mod writing;
 
 pub use call::{serve, workbench};
 pub use status::Status;
+pub use teg_outside;
 pub use trial_net::make_trial;
 pub use watched::run_watched;

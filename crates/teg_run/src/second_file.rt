@@ -1,7 +1,7 @@
 //! A second file: its bytes, or why there are none.
 ghost use Rattle.std.specs.Prelude.{◌≡◌, ◌≤◌, IfOk, IfSome, length};
-ghost use Rattle.teg_outside.specs.Shelves.{replied};
-ghost use Rattle.csv_records.specs.Records.{most_file_bytes};
+ghost use Rattle.teg_commands.specs.teg_outside.Shelves.{replied};
+ghost use Rattle.teg_commands.specs.csv_records.Records.{most_file_bytes};
 ghost use Rattle.teg_run.specs.CallMeanings.{opening_of};
 ghost use Rattle.teg_run.specs.Openings.{OpensBytes};
 ghost use Rattle.teg_run.specs.Reads.{OpenedBy};
@@ -21,6 +21,7 @@ pub struct FileBytes {
 
 impl Model for FileBytes {
     ghost use Rattle.std.specs.Prelude.{◌≤◌, List, ℕ, length};
+    ghost use Rattle.teg_commands.specs.csv_records.Records.{most_file_bytes};
 
     ghost Value = { List ℕ };
 

@@ -4,28 +4,28 @@ use Rattle.std.specs.Prelude.{pos, All, ◌⊎◌, slice_get}
 use Rattle.std.proofs.lemmas.Bool.{cases_lt}
 use Rattle.std.proofs.lemmas.Int.{ints}
 use Rattle.std.proofs.lemmas.List.{get_or_past}
-use Rattle.dioid.specs.declared.dates.Date.{Date}
-use Rattle.dioid.specs.declared.dates.Date.TheVariants.{Early, At}
-use Rattle.dioid.specs.Dates.{IsAtMostDate}
-use Rattle.dioid.proofs.DateOrder.{at_most_early}
-use Rattle.teg_net.specs.Limits.{greatest_hold, greatest_firing_number}
-use Rattle.teg_net.specs.Nets.{NetLists, IsNet, IsInput, IsInputOf}
-use Rattle.teg_net.specs.Circuits.{no_place}
-use Rattle.teg_model.specs.Systems.{System, IsLeastIn}
-use Rattle.teg_model.specs.LiveRanks.{AreRanks}
-use Rattle.teg_model.specs.DateBounds.{IsDateWithin, IsBoundedBy, greatest_least_date}
-use Rattle.teg_model.specs.Datings.{implicit_place, extended_places, listed_releases}
-use Rattle.teg_model.proofs.LeastOver.{least_over, least_is_feasible, least_is_tight, least_over_is_least}
-use Rattle.teg_model.proofs.OfNet.{all_extended, all_extended_in, implicit_is, ranks_extended}
-use Rattle.teg_model.proofs.Tokens.{implicit_gives}
-use Rattle.teg_model.proofs.Within.{within_more, least_in_within, net_is_bounded}
-use Rattle.teg_model.proofs.ListDates.{first_bound, listed_within}
-use Rattle.teg_model.proofs.DateFunctions.{Dating}
+use Rattle.periodic_laws.specs.dioid.declared.dates.Date.{Date}
+use Rattle.periodic_laws.specs.dioid.declared.dates.Date.TheVariants.{Early, At}
+use Rattle.periodic_laws.specs.dioid.Dates.{IsAtMostDate}
+use Rattle.periodic_laws.proofs.dioid_proofs.DateOrder.{at_most_early}
+use Rattle.periodic_laws.specs.teg_net.Limits.{greatest_hold, greatest_firing_number}
+use Rattle.periodic_laws.specs.teg_net.Nets.{NetLists, IsNet, IsInput, IsInputOf}
+use Rattle.periodic_laws.specs.teg_net.Circuits.{no_place}
+use Rattle.periodic_laws.specs.teg_model.Systems.{System, IsLeastIn}
+use Rattle.periodic_laws.specs.teg_model.LiveRanks.{AreRanks}
+use Rattle.periodic_laws.specs.teg_model.DateBounds.{IsDateWithin, IsBoundedBy, greatest_least_date}
+use Rattle.periodic_laws.specs.teg_model.Datings.{implicit_place, extended_places, listed_releases}
+use Rattle.periodic_laws.proofs.teg_model_proofs.LeastOver.{least_over, least_is_feasible, least_is_tight, least_over_is_least}
+use Rattle.periodic_laws.proofs.teg_model_proofs.OfNet.{all_extended, all_extended_in, implicit_is, ranks_extended}
+use Rattle.periodic_laws.proofs.teg_model_proofs.Tokens.{implicit_gives}
+use Rattle.periodic_laws.proofs.teg_model_proofs.Within.{within_more, least_in_within, net_is_bounded}
+use Rattle.periodic_laws.proofs.teg_model_proofs.ListDates.{first_bound, listed_within}
+use Rattle.periodic_laws.proofs.teg_model_proofs.DateFunctions.{Dating}
 use Rattle.teg_dates.specs.KeptRows.{KeepsBounds}
 use Rattle.teg_dates.proofs.Ranking.{rank_of, ranks_of}
-use Rattle.settled_laws.proofs.Everywhere.{Climbing}
-use Rattle.settled_laws.proofs.Settling.{HasNoRelease, FollowsRelease}
-use Rattle.settled_laws.proofs.Driven.{source_follows}
+use Rattle.periodic_laws.proofs.settled_laws_proofs.Everywhere.{Climbing}
+use Rattle.periodic_laws.proofs.settled_laws_proofs.Settling.{HasNoRelease, FollowsRelease}
+use Rattle.periodic_laws.proofs.settled_laws_proofs.Driven.{source_follows}
 use Rattle.teg_settle.specs.declared.releases.Tokens.{Tokens}
 use Rattle.teg_settle.specs.declared.releases.Tokens.TheVariants.{Ready, Absent}
 use Rattle.teg_settle.specs.declared.releases.Wait.{Wait}

@@ -1,11 +1,11 @@
 -- What rows of a net show, in the words of its least dating.
 use Rattle.std.proofs.Common.{ℕ, ◌<◌, ◌≤◌, ◌≡◌, Option, Some, None, IsSome, IfSome, IfNone, MatchOption, length, refl, sym, arith}
-use Rattle.teg_net.specs.Nets.{NetLists}
-use Rattle.teg_net.specs.Circuits.{IsLive}
-use Rattle.teg_model.specs.Datings.{IsLeastDating, listed_releases, system_of}
-use Rattle.teg_model.proofs.OfNet.{only_least}
-use Rattle.teg_model.proofs.DateFunctions.{Dating}
-use Rattle.settled_laws.proofs.Everywhere.{same_repeats}
+use Rattle.periodic_laws.specs.teg_net.Nets.{NetLists}
+use Rattle.periodic_laws.specs.teg_net.Circuits.{IsLive}
+use Rattle.periodic_laws.specs.teg_model.Datings.{IsLeastDating, listed_releases, system_of}
+use Rattle.periodic_laws.proofs.teg_model_proofs.OfNet.{only_least}
+use Rattle.periodic_laws.proofs.teg_model_proofs.DateFunctions.{Dating}
+use Rattle.periodic_laws.proofs.settled_laws_proofs.Everywhere.{same_repeats}
 use Rattle.periodic_laws.specs.LinearSystem.{LeastDatingsRepeat}
 use Rattle.periodic_laws.specs.RepeatNumbers.{repeats_past, repeats_in, repeats_by}
 use Rattle.teg_dates.specs.DateTables.{TableDates}

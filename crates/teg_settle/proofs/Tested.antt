@@ -4,23 +4,23 @@ use Rattle.std.specs.Prelude.{ℤ, All, ◌⊎◌, ◌≤ℤ◌}
 use Rattle.std.proofs.lemmas.Bool.{cases_lt}
 use Rattle.std.proofs.lemmas.Int.{ints}
 use Rattle.std.proofs.lemmas.List.{get_or_default}
-use Rattle.dioid.specs.declared.dates.Date.TheVariants.{Early, Never}
-use Rattle.dioid.specs.Dates.{move}
-use Rattle.teg_net.specs.declared.entries.Place.{Place}
-use Rattle.teg_net.specs.Nets.{NetLists, IsPlaceOf}
-use Rattle.teg_net.specs.Circuits.{no_place}
-use Rattle.teg_model.specs.Systems.{System}
-use Rattle.teg_model.specs.DateBounds.{greatest_least_date}
-use Rattle.teg_model.proofs.LeastOver.{only_least_in}
-use Rattle.teg_model.proofs.Within.{within_more}
-use Rattle.teg_model.proofs.OfNet.{all_extended, extended_has}
-use Rattle.teg_model.proofs.DateFunctions.{Dating}
-use Rattle.settled_laws.specs.SettledForms.{RepeatsAfter}
-use Rattle.settled_laws.specs.DateDifferences.{between}
-use Rattle.settled_laws.proofs.Everywhere.{Repeats, everywhere, on_first, same_repeats}
-use Rattle.settled_laws.proofs.Settling.{HasNoRelease, FollowsRelease}
-use Rattle.settled_laws.proofs.Seen.{IsRisingAt, accepted_repeats, read_steps, form_is_rising_at, form_is_alike}
-use Rattle.settled_laws.proofs.Repeating.{later_form, period_least, after_least}
+use Rattle.periodic_laws.specs.dioid.declared.dates.Date.TheVariants.{Early, Never}
+use Rattle.periodic_laws.specs.dioid.Dates.{move}
+use Rattle.periodic_laws.specs.teg_net.declared.entries.Place.{Place}
+use Rattle.periodic_laws.specs.teg_net.Nets.{NetLists, IsPlaceOf}
+use Rattle.periodic_laws.specs.teg_net.Circuits.{no_place}
+use Rattle.periodic_laws.specs.teg_model.Systems.{System}
+use Rattle.periodic_laws.specs.teg_model.DateBounds.{greatest_least_date}
+use Rattle.periodic_laws.proofs.teg_model_proofs.LeastOver.{only_least_in}
+use Rattle.periodic_laws.proofs.teg_model_proofs.Within.{within_more}
+use Rattle.periodic_laws.proofs.teg_model_proofs.OfNet.{all_extended, extended_has}
+use Rattle.periodic_laws.proofs.teg_model_proofs.DateFunctions.{Dating}
+use Rattle.periodic_laws.specs.settled_laws.SettledForms.{RepeatsAfter}
+use Rattle.periodic_laws.specs.settled_laws.DateDifferences.{between}
+use Rattle.periodic_laws.proofs.settled_laws_proofs.Everywhere.{Repeats, everywhere, on_first, same_repeats}
+use Rattle.periodic_laws.proofs.settled_laws_proofs.Settling.{HasNoRelease, FollowsRelease}
+use Rattle.periodic_laws.proofs.settled_laws_proofs.Seen.{IsRisingAt, accepted_repeats, read_steps, form_is_rising_at, form_is_alike}
+use Rattle.periodic_laws.proofs.settled_laws_proofs.Repeating.{later_form, period_least, after_least}
 use Rattle.teg_dates.specs.DateTables.{TableDates, HasDatesOf, date_at}
 use Rattle.teg_settle.specs.declared.releases.Releases.{Releases}
 use Rattle.teg_settle.specs.InitialReleases.{system_for}

@@ -1,16 +1,16 @@
 -- Working definitions of what rows of the least dating show of a period.
 use Rattle.std.specs.Prelude.{ℕ, ℤ, ◌+◌, ◌-◌, ◌^◌, ◌<◌, ◌≤◌, ◌≤ℤ◌, ◌≡◌, ◌⊎◌, List, length, All}
-use Rattle.dioid.specs.declared.dates.Date.{Date}
-use Rattle.dioid.specs.declared.dates.Date.TheVariants.{Early, Never}
-use Rattle.dioid.specs.Dates.{move}
-use Rattle.teg_net.specs.declared.entries.Place.{Place}
-use Rattle.teg_net.specs.Limits.{greatest_firing_number}
-use Rattle.teg_net.specs.Nets.{NetLists, IsNet}
-use Rattle.teg_check.specs.Ranks.{IsRanking}
-use Rattle.teg_model.specs.Systems.{IsLeastIn}
-use Rattle.teg_model.specs.DateBounds.{IsDateWithin, greatest_least_date}
-use Rattle.settled_laws.specs.SettledForms.{SettledForm, RepeatsAfter, IsShortestForm}
-use Rattle.settled_laws.specs.DateDifferences.{between}
+use Rattle.periodic_laws.specs.dioid.declared.dates.Date.{Date}
+use Rattle.periodic_laws.specs.dioid.declared.dates.Date.TheVariants.{Early, Never}
+use Rattle.periodic_laws.specs.dioid.Dates.{move}
+use Rattle.periodic_laws.specs.teg_net.declared.entries.Place.{Place}
+use Rattle.periodic_laws.specs.teg_net.Limits.{greatest_firing_number}
+use Rattle.periodic_laws.specs.teg_net.Nets.{NetLists, IsNet}
+use Rattle.teg_dates.specs.teg_check.Ranks.{IsRanking}
+use Rattle.periodic_laws.specs.teg_model.Systems.{IsLeastIn}
+use Rattle.periodic_laws.specs.teg_model.DateBounds.{IsDateWithin, greatest_least_date}
+use Rattle.periodic_laws.specs.settled_laws.SettledForms.{SettledForm, RepeatsAfter, IsShortestForm}
+use Rattle.periodic_laws.specs.settled_laws.DateDifferences.{between}
 use Rattle.teg_dates.specs.DateTables.{TableDates, HasDatesOf, date_at}
 use Rattle.teg_dates.specs.KeptRows.{IsRows, AreLeastRows}
 use Rattle.teg_settle.specs.declared.releases.Releases.{Releases}

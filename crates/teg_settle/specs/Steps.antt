@@ -1,10 +1,10 @@
 -- What rows of a net's least dating show of its settled form, without a row more.
 use Rattle.std.specs.Prelude.{ℕ, ℤ, ◌+◌, ◌≤◌, ◌≡◌, length}
-use Rattle.dioid.specs.declared.dates.Date.{Date}
-use Rattle.teg_net.specs.Limits.{most_place_tokens}
-use Rattle.teg_net.specs.Nets.{NetLists}
-use Rattle.teg_model.specs.Datings.{IsLeastDating}
-use Rattle.settled_laws.specs.SettledForms.{RepeatsAfter}
+use Rattle.periodic_laws.specs.dioid.declared.dates.Date.{Date}
+use Rattle.periodic_laws.specs.teg_net.Limits.{most_place_tokens}
+use Rattle.periodic_laws.specs.teg_net.Nets.{NetLists}
+use Rattle.periodic_laws.specs.teg_model.Datings.{IsLeastDating}
+use Rattle.periodic_laws.specs.settled_laws.SettledForms.{RepeatsAfter}
 use Rattle.periodic_laws.specs.RepeatNumbers.{repeats_past, repeats_in}
 use Rattle.teg_dates.specs.DateTables.{TableDates}
 use Rattle.teg_settle.specs.declared.releases.Tokens.TheVariants.{Ready}

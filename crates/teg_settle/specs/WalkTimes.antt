@@ -1,8 +1,8 @@
 -- That the times of walks from an input settle, in one way.
 use Rattle.std.specs.Prelude.{ℕ, ◌<◌, ◌≡◌}
-use Rattle.teg_net.specs.Nets.{NetLists, IsNet, IsInput}
-use Rattle.teg_net.specs.Circuits.{IsLive}
-use Rattle.settled_laws.specs.SettledForms.{SettledForm, settled_length}
+use Rattle.periodic_laws.specs.teg_net.Nets.{NetLists, IsNet, IsInput}
+use Rattle.periodic_laws.specs.teg_net.Circuits.{IsLive}
+use Rattle.periodic_laws.specs.settled_laws.SettledForms.{SettledForm, settled_length}
 use Rattle.teg_settle.specs.Transfers.{IsTransferOf, TransferSettlesPast}
 
 -- in a live net the greatest times of walks from the first firing of an input have a shortest settled form

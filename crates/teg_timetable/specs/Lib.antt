@@ -7,3 +7,4 @@ pub mod Spreads
 pub mod Working
 pub mod DelayAnswers
 pub mod TimetableTexts
+pub use Rattle.delay_laws.specs as delay_laws

@@ -2,10 +2,10 @@
 use Rattle.std.specs.Prelude.{ℕ, ◌+◌, ◌<◌, ◌≤◌, ◌≡◌, ◌^◌, List, [], ◌∷◌, ◌++◌, length, map, codes, All, Option, Some, None, ⊤}
 use Rattle.std.specs.Fmt.{decimal}
 use Rattle.std.specs.List.{range_with_len}
-use Rattle.teg_net.specs.declared.entries.PlaceId.{PlaceId}
-use Rattle.teg_net.specs.declared.entries.TransitionId.{TransitionId}
-use Rattle.teg_net.specs.Nets.{NetLists, IsNet}
-use Rattle.teg_net.specs.Circuits.{AreInRange}
+use Rattle.teg_settle.specs.teg_net.declared.entries.PlaceId.{PlaceId}
+use Rattle.teg_settle.specs.teg_net.declared.entries.TransitionId.{TransitionId}
+use Rattle.teg_settle.specs.teg_net.Nets.{NetLists, IsNet}
+use Rattle.teg_settle.specs.teg_net.Circuits.{AreInRange}
 use Rattle.teg_text.specs.Faults.{row_line}
 use Rattle.teg_text.specs.Lines.{phrase, written}
 use Rattle.teg_text.specs.WordsOfNames.{circuit_line, name_of_place, name_of_transition, settled_words}
@@ -13,7 +13,7 @@ use Rattle.teg_timetable.specs.declared.refusals.TableRefusal.{TableRefusal}
 use Rattle.teg_timetable.specs.declared.refusals.TableRefusal.TheVariants as table
 use Rattle.teg_timetable.specs.declared.refusals.DelayRefusal.{DelayRefusal}
 use Rattle.teg_timetable.specs.declared.refusals.DelayRefusal.TheVariants as delay
-use Rattle.settled_laws.specs.SettledForms.{settled_length}
+use Rattle.teg_settle.specs.settled_laws.SettledForms.{settled_length}
 use Rattle.teg_timetable.specs.Spreads.{Spread, OutcomeTold, RecoveredTold, KeptTold, delay_by_spread}
 
 -- what is told of a timetable: that its file is too long or could not be read; how its delays spread, with the delays left of each

@@ -1,5 +1,5 @@
 use Rattle.std.proofs.Common.{arith}
-use Rattle.series_laws.proofs.FormValues.{same_lists}
+use Rattle.forever_laws.proofs.series_laws_proofs.FormValues.{same_lists}
 use Rattle.teg_forever.proofs.alike.are_same.Goals as goal
 
 pub returns : goal.returns

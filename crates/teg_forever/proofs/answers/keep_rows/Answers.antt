@@ -1,7 +1,7 @@
 use Rattle.std.proofs.Common.{◌≤◌, Option, All, length, refl, subst}
 use Rattle.std.specs.Prelude.{IfSome}
 use Rattle.std.proofs.lemmas.List.{take_all}
-use Rattle.settled_laws.specs.SettledForms.{settled_date}
+use Rattle.forever_laws.specs.settled_laws.SettledForms.{settled_date}
 use Rattle.teg_text.proofs.Listing.{all_items}
 use Rattle.forever_laws.specs.Late.{NoneLate}
 use Rattle.teg_forever.specs.declared.late.LateFiring.{LateFiring}

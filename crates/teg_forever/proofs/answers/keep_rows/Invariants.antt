@@ -1,5 +1,5 @@
 use Rattle.std.proofs.Common.{All, take}
-use Rattle.settled_laws.specs.SettledForms.{settled_date}
+use Rattle.forever_laws.specs.settled_laws.SettledForms.{settled_date}
 use Rattle.forever_laws.specs.Late.{NoneLate}
 use Rattle.teg_forever.proofs.answers.keep_rows.Given as goal
 

@@ -1,11 +1,11 @@
 use Rattle.std.proofs.Common.{◌≡◌, ◌∙◌, ℤ, ℕ, List, sym, ap, subst, length, to_z, of_z}
 use Rattle.std.specs.Int.{w128}
 use Rattle.std.proofs.lemmas.Int.{to_z-of_z}
-use Rattle.dioid.specs.declared.dates.Date.{Date}
-use Rattle.series_form.specs.SeriesAnswers.{AnswersOf}
-use Rattle.series_laws.specs.SeriesForms.{Form, HasValues, form_with, value_at}
-use Rattle.series_laws.specs.Periodic.{Rising}
-use Rattle.settled_laws.specs.SettledForms.{row_of, step_of_form}
+use Rattle.forever_laws.specs.dioid.declared.dates.Date.{Date}
+use Rattle.forever_laws.specs.series_form.SeriesAnswers.{AnswersOf}
+use Rattle.forever_laws.specs.series_laws.SeriesForms.{Form, HasValues, form_with, value_at}
+use Rattle.forever_laws.specs.series_laws.Periodic.{Rising}
+use Rattle.forever_laws.specs.settled_laws.SettledForms.{row_of, step_of_form}
 use Rattle.teg_forever.specs.Alike.{told_form}
 use Rattle.teg_forever.proofs.gains.told_series.Goals as goal
 

@@ -1,5 +1,5 @@
 use Rattle.std.proofs.Common.{◌≡◌, ◌≤◌, [], arith, length}
-use Rattle.settled_laws.specs.SettledForms.{row_of, settled_length}
+use Rattle.forever_laws.specs.settled_laws.SettledForms.{row_of, settled_length}
 use Rattle.teg_forever.specs.Alike.{told_form}
 use Rattle.teg_forever.specs.LatestReleases.{longest_form}
 use Rattle.teg_forever.proofs.Series.{walk_made, walk_fits}

@@ -1,5 +1,5 @@
 use Rattle.std.proofs.Common.{◌≡◌, ◌-◌}
-use Rattle.settled_laws.specs.SettledForms.{settled_date}
+use Rattle.forever_laws.specs.settled_laws.SettledForms.{settled_date}
 use Rattle.forever_laws.specs.LateSearches.{IsSoonest, turns_to}
 use Rattle.teg_forever.proofs.late.fewest_turns.Given as goal
 

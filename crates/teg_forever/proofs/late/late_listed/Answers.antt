@@ -1,5 +1,5 @@
 use Rattle.std.proofs.Common.{◌≡◌, ◌+◌, ◌-◌, arith, subst}
-use Rattle.settled_laws.specs.SettledForms.{settled_date}
+use Rattle.forever_laws.specs.settled_laws.SettledForms.{settled_date}
 use Rattle.forever_laws.specs.Late.{NoneLateTo}
 use Rattle.teg_forever.proofs.LateNumbers.{first_found, none_more, none_less}
 use Rattle.teg_forever.proofs.late.late_listed.Goals as goal

@@ -1,5 +1,5 @@
 use Rattle.std.proofs.Common.{◌-◌}
-use Rattle.settled_laws.specs.SettledForms.{settled_date}
+use Rattle.forever_laws.specs.settled_laws.SettledForms.{settled_date}
 use Rattle.forever_laws.specs.Late.{NoneLateTo}
 use Rattle.teg_forever.proofs.late.late_listed.Given as goal
 

@@ -1,6 +1,6 @@
 use Rattle.std.proofs.Common.{ℕ, ◌≡◌, ◌<◌, ◌+◌, pos}
-use Rattle.dioid.specs.Dates.{move}
-use Rattle.settled_laws.specs.SettledForms.{settled_date}
+use Rattle.forever_laws.specs.dioid.Dates.{move}
+use Rattle.forever_laws.specs.settled_laws.SettledForms.{settled_date}
 use Rattle.teg_forever.proofs.late.rises_in.Given as goal
 
 abbrev pub invariant-loop-number : goal.invariant-loop-number

@@ -2,8 +2,8 @@ use Rattle.std.proofs.Common.{◌≡◌, ◌++◌, drop, map}
 use Rattle.std.specs.Prelude.{nat_le}
 use Rattle.std.specs.List.{list_all}
 use Rattle.std.specs.Str.Parse.{digits_value}
-use Rattle.csv.specs.Records.{fields_of}
-use Rattle.teg_net.specs.Limits.{greatest_input_date}
+use Rattle.teg_due.specs.csv.Records.{fields_of}
+use Rattle.forever_laws.specs.teg_net.Limits.{greatest_input_date}
 use Rattle.teg_forever.specs.EndlessFiles.{dates_of_fields}
 use Rattle.teg_forever.proofs.numbers.dates_of.Given as goal
 

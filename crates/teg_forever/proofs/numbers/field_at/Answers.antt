@@ -1,6 +1,6 @@
 use Rattle.std.proofs.Common.{sym}
-use Rattle.csv.specs.Records.{fields_of}
-use Rattle.csv.proofs.RecordFacts.{field-get, field-there}
+use Rattle.teg_due.specs.csv.Records.{fields_of}
+use Rattle.teg_due.proofs.csv_proofs.RecordFacts.{field-get, field-there}
 use Rattle.teg_forever.proofs.numbers.field_at.Goals as goal
 
 pub unreachable-requires : goal.unreachable-requires

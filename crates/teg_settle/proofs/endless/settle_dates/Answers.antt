@@ -1,5 +1,5 @@
 use Rattle.std.proofs.lemmas.Result.{IfOk-weaker}
-use Rattle.settled_laws.specs.SettledForms.{IsSettledFormOf}
+use Rattle.periodic_laws.specs.settled_laws.SettledForms.{IsSettledFormOf}
 use Rattle.teg_settle.specs.ComparedRows.{IsLeastForm}
 use Rattle.teg_settle.proofs.OwnForms.{own_form}
 use Rattle.teg_settle.proofs.endless.settle_dates.Goals as goal

@@ -1,5 +1,5 @@
 use Rattle.std.proofs.lemmas.Result.{IfOk-weaker, IfErr-weaker}
-use Rattle.settled_laws.specs.SettledForms.{IsSettledFormOf, NetSettlesPast}
+use Rattle.periodic_laws.specs.settled_laws.SettledForms.{IsSettledFormOf, NetSettlesPast}
 use Rattle.teg_settle.specs.LimitRefusals.{IsRightSettleRefusal}
 use Rattle.teg_settle.specs.ComparedRows.{IsLeastForm, LeastSettlesPast}
 use Rattle.teg_settle.proofs.OwnForms.{own_form, own_refusal, own_slopes}

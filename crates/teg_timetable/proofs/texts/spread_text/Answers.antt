@@ -1,7 +1,7 @@
 use Rattle.std.proofs.Common.{rules, ℕ, ◌+◌, ◌≡◌, [], ◌++◌, List, map, length, sym, ap, subst, ◌∙◌, string_bytes, arith}
 use Rattle.std.specs.List.{range_with_len}
 use Rattle.std.proofs.lemmas.List.FromFn.{length-map-range_with_len}
-use Rattle.settled_laws.specs.SettledForms.{settled_length}
+use Rattle.teg_settle.specs.settled_laws.SettledForms.{settled_length}
 use Rattle.teg_text.specs.Lines.{line_then, written}
 use Rattle.teg_text.specs.WordsOfNames.{settled_words}
 use Rattle.teg_text.proofs.Joining.{lines_end}

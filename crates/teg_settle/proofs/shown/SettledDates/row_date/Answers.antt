@@ -1,5 +1,5 @@
 use Rattle.std.proofs.Common.{length, sym, ap, ◌∙◌, arith}
-use Rattle.settled_laws.specs.SettledForms.{row_date, settled_length}
+use Rattle.periodic_laws.specs.settled_laws.SettledForms.{row_date, settled_length}
 use Rattle.teg_settle.proofs.Showing.{date_shown, rows_shown}
 use Rattle.teg_settle.proofs.shown.SettledDates.row_date.Goals as goal
 
