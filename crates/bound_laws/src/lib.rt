@@ -2,9 +2,10 @@
 //!
 //! For a strongly connected live net without inputs, whose tokens are all ready at 0, a number read
 //! off the net bounds the number past which its dates go on by steps, and the period divides every
-//! common multiple of the tokens of critical circuits, one through each critical transition. The one
-//! contract: each law is the contract of a function that does nothing when it runs. The crate stands
-//! on `teg_model` for datings, on `settled_laws` for forms and on `teg_loops` for loops of paths.
+//! common multiple of the tokens of critical circuits, one through each critical transition. The
+//! one contract: each law is the contract of a function that does nothing when it runs. The crate
+//! stands on `settled_laws` for settled forms, on `teg_loops` for loops of paths, on `teg_model`
+//! for datings, on `teg_net` for nets, and on `dioid` for dates.
 #![tactic(auto)]
 
 mod laws;

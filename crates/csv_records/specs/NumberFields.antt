@@ -4,7 +4,7 @@ use Rattle.std.specs.Char.{is_ascii_digit}
 use Rattle.std.specs.List.{list_all}
 use Rattle.std.specs.Str.Parse.{digits_value}
 
--- one digit or more, and nothing else; leading zeros are allowed
+-- the text is one digit or more, and nothing else; leading zeros are allowed
 abbrev pub is_number : List ℕ → Bool
 is_number field = not (length field == 0) && list_all is_ascii_digit field
 

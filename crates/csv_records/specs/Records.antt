@@ -26,7 +26,7 @@ IsBetween s = ends_at_end s ≡ false
 abbrev pub records_left : State → List ℕ → List (List (List ℕ))
 records_left s xs = records_from default_config (length xs + 1) s xs
 
--- the same of bytes that may not be told
+-- the records of the bytes that are left, from this state on; none where the bytes are not told
 abbrev pub records_left_of : State → Option (List ℕ) → List (List (List ℕ))
 records_left_of s None = []
 records_left_of s (Some xs) = records_left s xs

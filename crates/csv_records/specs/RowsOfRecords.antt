@@ -2,7 +2,7 @@
 use Rattle.std.specs.Prelude.{ℕ, Bool, ◌+◌, ◌==◌, ◌&&◌, ◌++◌, ◌∷◌, [], List, Result, Ok, Err, if◌then◌else◌}
 
 module _ {R E : Type 0} where
-  -- these rows and one more, or why there is none
+  -- the rows that were read with one more behind them, or why that one is refused
   abbrev pub with_read_row : List R → Result R E → Result (List R) E
   with_read_row rows (Ok row) = Ok (rows ++ row ∷ [])
   with_read_row rows (Err why) = Err why

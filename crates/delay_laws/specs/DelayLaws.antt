@@ -15,7 +15,7 @@ abbrev pub DelayedDatingsExist : Type 0
 DelayedDatingsExist = (net : NetLists) → HasEndsInRange net → IsLive net → (period : ℕ) (t : Timetable)
     → (x : ℕ → ℕ → Date) × (w : ℕ → ℕ → Date) × IsDelayedBy net period t x w
 
--- and no other at the departures of the net
+-- any two delayed datings of a timetable are the same at the departures of the net, and so are their releases
 abbrev pub DelayedDatingsAreOne : Type 0
 DelayedDatingsAreOne = (net : NetLists) → HasEndsInRange net → (period : ℕ) (t : Timetable) (x w y v : ℕ → ℕ → Date)
     → IsDelayedBy net period t x w → IsDelayedBy net period t y v → AreSameOn net x y × AreSameOn net w v
@@ -31,6 +31,6 @@ abbrev pub ReleasesFollowThePlan : Type 0
 ReleasesFollowThePlan = (net : NetLists) (period : ℕ) (t : Timetable) (w : ℕ → ℕ → Date) → IsRelease net period t w
     → (i k : ℕ) → i < length net.transitions → 1 ≤ k → IsPastDelays period t i k → w i k ≡ At (pos (planned period t i k))
 
--- and each transition comes past them
+-- each transition has a departure from which on its departures are past the delays that are given
 abbrev pub EachDelayPasses : Type 0
 EachDelayPasses = (period : ℕ) → 1 ≤ period → (t : Timetable) (i : ℕ) → (number : ℕ) × (1 ≤ number) × ((k : ℕ) → number ≤ k → IsPastDelays period t i k)

@@ -42,7 +42,7 @@ IsFormOfDelays net period t f =
     (x : ℕ → ℕ → Date) × (w : ℕ → ℕ → Date) × IsDelayedBy net period t x w
     × IsShortestForm (length net.transitions + length net.transitions) f (together (length net.transitions) x w)
 
--- they have no form of at most this length
+-- the delayed dating and the releases together have no settled form of at most this length
 abbrev pub DelaysSettlePast : NetLists → ℕ → Timetable → ℕ → Type 0
 DelaysSettlePast net period t limit =
     (x : ℕ → ℕ → Date) × (w : ℕ → ℕ → Date) × IsDelayedBy net period t x w

@@ -13,11 +13,11 @@ FormsAreOfEach = (net : NetLists) → HasEndsInRange net → (period : ℕ) (t :
     → (x w : ℕ → ℕ → Date) → IsDelayedBy net period t x w
     → IsShortestForm (length net.transitions + length net.transitions) f (together (length net.transitions) x w)
 
--- there is one
+-- a timetable has one settled form of delays in a net
 abbrev pub FormsOfDelaysAreOne : Type 0
 FormsOfDelaysAreOne = (net : NetLists) → HasEndsInRange net → (period : ℕ) (t : Timetable) (f g : SettledForm) → IsFormOfDelays net period t f → IsFormOfDelays net period t g → f ≡ g
 
--- and one delay left at each departure
+-- a timetable leaves one delay at each departure of a net
 abbrev pub DelaysLeftAreOne : Type 0
 DelaysLeftAreOne = (net : NetLists) → HasEndsInRange net → (period : ℕ) (t : Timetable) (a b : ℕ → ℕ → ℕ) → AreDelaysLeft net period t a → AreDelaysLeft net period t b
     → (i k : ℕ) → i < length net.transitions → 1 ≤ k → a i k ≡ b i k

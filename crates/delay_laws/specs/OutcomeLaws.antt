@@ -42,13 +42,13 @@ CircuitsKeepDelays = (net : NetLists) (period : ℕ) (t : Timetable) → HasEnds
     → All (λ p. HasNoSpare net period t p) circuit → All (λ p. HasDelayPast delay after again most (from_of net p)) circuit
     → KeepsDelays net period delay circuit
 
--- so the delays die out or are kept
+-- where the plan leaves time for each place of a live net, its delays die out or are kept
 abbrev pub DelaysDieOutOrAreKept : Type 0
 DelaysDieOutOrAreKept = (net : NetLists) → HasEndsInRange net → IsLive net → (period : ℕ) → 1 ≤ period → (t : Timetable) → IsWorkable net period t
     → (delay : ℕ → ℕ → ℕ) (after again : ℕ) → AreSettledDelays net period t delay after again
     → ((last : ℕ) × IsRecovered net delay last) ⊎ ((circuit : List PlaceId) × KeepsDelays net period delay circuit)
 
--- and not both
+-- no delays both die out and are kept
 abbrev pub NoDelaysDieOutAndAreKept : Type 0
 NoDelaysDieOutAndAreKept = (net : NetLists) → HasEndsInRange net → (period : ℕ) (delay : ℕ → ℕ → ℕ) (last : ℕ) (circuit : List PlaceId)
     → IsRecovered net delay last → KeepsDelays net period delay circuit → ⊥

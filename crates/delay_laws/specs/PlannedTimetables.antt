@@ -46,7 +46,7 @@ planned period t i k = first_planned t i + period * (k - 1)
 abbrev pub delay_in : List Delay → ℕ → ℕ → ℕ
 delay_in ds i s = option_map_or (λ d. d.by) (find (λ d. (d.transition.index == i) && (d.number == s)) ds) 0
 
--- the same of a timetable
+-- the delay that the timetable gives departure s of transition i, 0 where it gives none
 abbrev pub delay_given : Timetable → ℕ → ℕ → ℕ
 delay_given t i s = delay_in t.delays.items i s
 

@@ -8,7 +8,7 @@ use Rattle.delay_laws.specs.declared.table.Timetable.{Timetable}
 use Rattle.delay_laws.specs.PlannedTimetables.{IsPastDelays}
 use Rattle.delay_laws.specs.Delays.{IsReleaseAt}
 
--- the same place but for its name
+-- p and q are the same place but for their names
 pub record IsSamePlace (p q : Place) : Type 0 where
   pub from : p.from.index ≡ q.from.index
   pub to : p.to.index ≡ q.to.index

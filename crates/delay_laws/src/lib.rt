@@ -1,11 +1,12 @@
 //! How delays spread through a timetable (chapters 2 and 3).
 //!
-//! A timetable plans a first departure of each transition, from which it departs again every period.
-//! The definitions say what the planned dates are, what a table of delays makes of them, when a
-//! timetable can be kept by a net, which delays are left at each firing, and whether they die out or
-//! are kept for ever. The laws, of any live net, are the contracts of functions that do nothing when
-//! they run. The crate stands on `teg_model` for datings, on `settled_laws` and `periodic_laws` for
-//! settled forms, on `teg_loops` for circuits and on `dioid` for dates.
+//! A timetable plans a first departure of each transition, from which it departs again every
+//! period. The definitions say what the planned dates are, what a table of delays makes of them,
+//! when a timetable can be kept by a net, which delays are left at each firing, and whether they
+//! die out or are kept for ever. The laws, of any live net, are the contracts of functions that do
+//! nothing when they run. The crate stands on `periodic_laws` for that dates settle, on `teg_loops`
+//! for circuits, on `settled_laws` for settled forms, on `teg_model` for datings, on `teg_net` for
+//! nets, and on `dioid` for dates.
 #![tactic(auto)]
 
 mod laws;

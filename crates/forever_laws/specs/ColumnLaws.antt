@@ -22,7 +22,7 @@ ColumnsAreOne = (net : NetLists) (input : ℕ) (rows : List EndlessRow) (walks d
     → AreSeriesColumns net input rows walks dues → AreSeriesColumns net input rows other_walks other_dues
     → (i : ℕ) → i < length rows → (walks i ≡ other_walks i) × (dues i ≡ other_dues i)
 
--- so a row fits in both or in none
+-- a row fits in all columns of an input or in none
 abbrev pub RowsFitAlike : Type 0
 RowsFitAlike = (net : NetLists) (input : ℕ) (rows : List EndlessRow) (walks dues other_walks other_dues : ℕ → Gain)
     → AreSeriesColumns net input rows walks dues → AreSeriesColumns net input rows other_walks other_dues

@@ -69,7 +69,7 @@ abbrev pub EndlessMeetOrLate : Type 0
 EndlessMeetOrLate = (net : NetLists) → IsNet net → IsLive net → (rows : List EndlessRow) → IsEndlessOf net rows → (x : ℕ → ℕ → Date) → IsLeastUnder net inputs_at_zero x
     → InputsMeet net (due_on rows) inputs_at_zero ⊎ ((r : EndlessRow) × (k : ℕ) × (due : ℕ) × (least : ℕ) × IsFirstLateRow x rows r k due least)
 
--- and not both
+-- where a row has a late number, inputs at 0 do not meet the due dates
 abbrev pub EndlessLateExcludesMeet : Type 0
 EndlessLateExcludesMeet = (net : NetLists) → IsNet net → IsLive net → (rows : List EndlessRow) → IsEndlessOf net rows → (x : ℕ → ℕ → Date) → IsLeastUnder net inputs_at_zero x
     → (r : EndlessRow) (k due least : ℕ) → IsFirstLateRow x rows r k due least → InputsMeet net (due_on rows) inputs_at_zero → ⊥
@@ -113,7 +113,7 @@ abbrev pub TransfersAreSeries : Type 0
 TransfersAreSeries = (net : NetLists) → IsNet net → (input : ℕ) (f : SettledForm) → IsTransferOf net input f → (t : ℕ) → t < length net.transitions
     → IsSeriesList (row_of f t) f.period (step_of_form f t) (λ k d. IsGreatestWalkTime net input t (k + 1) d)
 
--- and the listed dates of a due row are a list of the due dates
+-- the listed dates of a due row are a list of its due dates
 abbrev pub DuesAreSeries : Type 0
 DuesAreSeries = (net : NetLists) (r : EndlessRow) → IsEndlessRow net r
     → IsSeriesList (listed_dates r) r.every (pos r.gap) (λ k d. d ≡ due_date_at r k)
@@ -124,7 +124,8 @@ DuesAreSeries = (net : NetLists) (r : EndlessRow) → IsEndlessRow net r
 abbrev pub DueSeriesFit : Type 0
 DueSeriesFit = (net : NetLists) (r : EndlessRow) → IsEndlessRow net r → (d : Form) → IsDueSeries r d → IsSeries d
 
--- so has that of walk times in a live net, where their settled form is of at most 20,000 numbers
+-- the canonical form of walk times in a live net has at most 20,000 values, and numbers of a magnitude up to 10^18, where their
+-- settled form is of at most 20,000 numbers
 abbrev pub WalkSeriesFit : Type 0
 WalkSeriesFit = (net : NetLists) → IsNet net → IsLive net → (input : ℕ) → IsInput net input
     → (f : SettledForm) → IsTransferOf net input f → settled_length f ≤ 20000

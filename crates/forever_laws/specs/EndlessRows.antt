@@ -19,7 +19,7 @@ again_of_row r = record { every = r.every; gap = r.gap }
 abbrev pub row_due : EndlessRow → ℕ → Option ℕ
 row_due r k = list_date r.dates (Some (again_of_row r)) k
 
--- the same where there may be no row
+-- the date at which the row makes firing k due; none where there is no row
 abbrev pub due_by : Option EndlessRow → ℕ → Option ℕ
 due_by None k = None
 due_by (Some r) k = row_due r k

@@ -1,14 +1,14 @@
 //! Due dates without end, and the latest inputs that meet them, as laws (chapter 5).
 //!
 //! A row gives a transition a due date for each firing: a list that goes on past its end. The
-//! definitions say which firings come too late for a row, and where such a firing is looked for; the
-//! laws, that the least late number of a row is found so and is not great, and that the meet of the
-//! residuals of due series by series of walk times has the latest dates of a transition. Each law is
-//! the contract of a function that does nothing when it runs. The one plain type is that of a row.
-//! The crate stands on `due_laws` for due dates of any kind, on `teg_settle` for what series of walk
-//! times are, on `series_laws`, `series_ops` and `dioid_matrix` for residuals, on `settled_laws` for
-//! settled forms, on `teg_loops` for loops of walks, and on `teg_net`, `teg_model` and `dioid` for
-//! datings.
+//! definitions say which firings come too late for a row, and where such a firing is looked for;
+//! the laws, that the least late number of a row is found so and is not great, and that the meet of
+//! the residuals of due series by series of walk times has the latest dates of a transition. Each
+//! law is the contract of a function that does nothing when it runs. The one plain type is that of
+//! a row. The crate stands on `due_laws` for due dates of any kind, on `teg_settle` for what series
+//! of walk times are, on `bound_laws` for walks as paths, on `series_laws`, `series_form`,
+//! `series_ops`, `periodic_laws` and `dioid_matrix` for residuals, on `settled_laws` for settled
+//! forms, on `teg_model` for datings, on `teg_net` for nets, and on `dioid` for dates.
 #![tactic(auto)]
 
 mod laws;

@@ -54,7 +54,7 @@ tokens_at dates (suc m) k = later_of (tokens_at dates m k) (stair m (dates (m + 
 abbrev pub start_place_at : (Place → ℕ → Date) → Place → ℕ → ℕ → Date
 start_place_at initial p i k = cond (eqb p.to.index i) (tokens_at (initial p) p.tokens k) Early
 
--- the same of the places into i
+-- what the initial tokens of the places into i add to the right side for i
 abbrev pub start_at : (Place → ℕ → Date) → List Place → ℕ → ℕ → Date
 start_at initial [] i k = Early
 start_at initial (p ∷ ps) i k = later_of (start_place_at initial p i k) (start_at initial ps i k)

@@ -40,7 +40,7 @@ tokens_gain dates (suc m) = gain_sum (tokens_gain dates m) (stair_gain m (dates 
 unfoldable pub start_place : (Place → ℕ → Date) → Place → ℕ → Gain
 start_place initial p i = cond (eqb p.to.index i) (tokens_gain (initial p) p.tokens) gain_zero
 
--- the same of all places into i
+-- the initial tokens of all places into i
 unfoldable pub start_of_places : (Place → ℕ → Date) → List Place → ℕ → Gain
 start_of_places initial [] i = gain_zero
 start_of_places initial (p ∷ ps) i = gain_sum (start_place initial p i) (start_of_places initial ps i)
@@ -65,7 +65,7 @@ abbrev pub begin_of_list : ℕ → Option Again → ℕ
 begin_of_list long None = long
 begin_of_list long (Some a) = long - a.every
 
--- the same of an input that may have no list
+-- the number of shifts after which the list of an input repeats, 1 where there is none
 abbrev pub period_of_list : Option InputList → ℕ
 period_of_list None = 1
 period_of_list (Some l) = turn_of_list l.again

@@ -40,11 +40,11 @@ LeastDatingsSolve = (net : NetLists) → IsNet net → IsLive net → IsNetSolve
 abbrev pub SettlesShortest : NetLists → Type 0
 SettlesShortest net = (f : SettledForm) × IsSettledFormOf net f
 
--- that of every live net has one
+-- the least dating of every live net has a shortest settled form
 abbrev pub LiveNetsSettle : Type 0
 LiveNetsSettle = (net : NetLists) → IsNet net → IsLive net → SettlesShortest net
 
--- and the lists of the net alone tell numbers by which it repeats
+-- the lists of a live net alone tell numbers by which its least dating repeats
 abbrev pub LeastDatingsRepeat : Type 0
 LeastDatingsRepeat = (net : NetLists) → IsNet net → IsLive net → (x : ℕ → ℕ → Date) → IsLeastDating net x
     → RepeatsAfter (length net.transitions) x (repeats_past net) (repeats_in net) (repeats_by net)
@@ -60,7 +60,7 @@ LeastInArePeriodic = (net : NetLists) → HasEndsInRange net → IsLive net → 
     → IsLeastIn (system_with net initial release) x
     → ArePeriodic (length net.transitions) x
 
--- so there is such a least dating, and it has a shortest settled form
+-- a system of a live net whose releases never fall and repeat has a least dating, and this has a shortest settled form
 abbrev pub SystemsSettle : Type 0
 SystemsSettle = (net : NetLists) → HasEndsInRange net → IsLive net → (initial : Place → ℕ → Date) (release : ℕ → ℕ → Date)
     → ArePeriodic (length net.transitions) release

@@ -12,6 +12,6 @@ pub record IsPeriodic (dates : ℕ → Date) : Type 0 where
   pub rises : (k : ℕ) → 1 ≤ k → IsAtMostDate (dates k) (dates (k + 1))
   pub again : (k : ℕ) → after < k → dates (k + period) ≡ move step (dates k)
 
--- so are the dates of each of the first `count` transitions, each in a period of its own
+-- the dates of each of the first `count` transitions never fall, and past some number go on by a step in each period of its own
 abbrev pub ArePeriodic : ℕ → (ℕ → ℕ → Date) → Type 0
 ArePeriodic count x = (t : ℕ) → t < count → IsPeriodic (x t)

@@ -11,7 +11,7 @@ abbrev pub greatest_of : (ℕ → ℕ) → ℕ → ℕ
 greatest_of f zero = 0
 greatest_of f (suc n) = max (greatest_of f n) (f n)
 
--- their product
+-- the product of f 0, .., f (n - 1)
 abbrev pub product_of : (ℕ → ℕ) → ℕ → ℕ
 product_of f zero = 1
 product_of f (suc n) = product_of f n * f n

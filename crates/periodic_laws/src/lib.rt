@@ -5,11 +5,11 @@
 //! The least dating is the least solution of one linear system over gains, the star of the entries
 //! times the right side. Gains are closed under the operations, so the solution has canonical
 //! forms, and these repeat. The same holds of every system of a live net whose releases never fall
-//! and repeat, whatever the dates of its initial tokens. Each law is the contract of a function that
-//! does nothing when it runs. No operand has to fit a type: the laws speak of the unbounded model.
-//! The crate stands on `dioid_matrix` for the law of stars, on `series_laws`, `series_form` and
-//! `series_ops` for gains, on `teg_net`, `teg_model` and `dioid` for datings, and on `settled_laws`
-//! for settled forms.
+//! and repeat, whatever the dates of its initial tokens. Each law is the contract of a function
+//! that does nothing when it runs. No operand has to fit a type: the laws speak of the unbounded
+//! model. The crate stands on `dioid_matrix` for the law of stars, on `series_ops` and
+//! `series_laws` for gains, on `settled_laws` for settled forms, on `teg_model` for datings, on
+//! `teg_net` for nets, and on `dioid` for dates.
 #![tactic(auto)]
 
 mod laws;

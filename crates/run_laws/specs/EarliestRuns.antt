@@ -21,15 +21,15 @@ date_of_firing x f = x f.transition f.number
 abbrev pub IsBeforeDate : Date → Date → Type 0
 IsBeforeDate a b = IsAtMostDate b a → ⊥
 
--- by rank, then by index
+-- transition s comes before t by rank, then by index
 abbrev pub ComesBeforeByRank : (ℕ → ℕ) → ℕ → ℕ → Type 0
 ComesBeforeByRank rank s t = (rank s < rank t) ⊎ ((rank s ≡ rank t) × (s < t))
 
--- by firing number, then by rank and index
+-- firing a comes before b by firing number, then by rank and index
 abbrev pub ComesBeforeByNumber : (ℕ → ℕ) → Numbered → Numbered → Type 0
 ComesBeforeByNumber rank a b = (a.number < b.number) ⊎ ((a.number ≡ b.number) × ComesBeforeByRank rank a.transition b.transition)
 
--- by date, then by firing number, then by rank, then by index
+-- firing a comes before b by date, then by firing number, then by rank, then by index
 abbrev pub ComesBefore : (ℕ → ℕ → Date) → (ℕ → ℕ) → Numbered → Numbered → Type 0
 ComesBefore x rank a b = IsBeforeDate (date_of_firing x a) (date_of_firing x b) ⊎ ((date_of_firing x a ≡ date_of_firing x b) × ComesBeforeByNumber rank a b)
 
@@ -65,7 +65,7 @@ EarliestRunsAreLegal =
     (net : NetLists) (x : ℕ → ℕ → Date) (most : ℕ) (run : List Fired) → IsNet net
     → IsLeastDating net x → IsEarliestRun net x most run → IsLegalRun net run
 
--- and so are the first firings of each
+-- the first firings of an earliest run of the least dating are a legal run
 abbrev pub PartsOfEarliestRunsAreLegal : Type 0
 PartsOfEarliestRunsAreLegal =
     (net : NetLists) (x : ℕ → ℕ → Date) (most n : ℕ) (run : List Fired) → IsNet net

@@ -43,7 +43,7 @@ IsReleasedBy net t k date = IsInput net t → IsThereBy date (input_date net t k
 abbrev pub last_date : List Fired → Option ℕ
 last_date run = option_map (λ f. f.date) (slice_get run (length run - 1))
 
--- it is not before the date of the last firing, if there is one
+-- the date is not before that of the last firing, if there is one
 abbrev pub IsNotBefore : Option ℕ → ℕ → Type 0
 IsNotBefore None date = ⊤
 IsNotBefore (Some last) date = last ≤ date

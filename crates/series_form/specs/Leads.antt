@@ -25,7 +25,7 @@ lead_past f g i = gap (value_at f (later_start f g + i)) (value_at g (later_star
 abbrev pub cover_of : Form → Form → ℕ
 cover_of f g = (f.period + (g.period - 1)) / g.period
 
--- their shifts
+-- the shifts of the least number of periods of g that are no shorter than one of f
 abbrev pub width_of : Form → Form → ℕ
 width_of f g = cover_of f g * g.period
 

@@ -49,15 +49,15 @@ greatest_gain_gap = 800000000000000000000000000
 abbrev pub most_waits : ℕ
 most_waits = 1800000000000000000000000000
 
--- as many common periods, in shifts, and the heights on the way there
+-- the common periods in which a series makes up what it is behind, in shifts, and the heights on the way there
 abbrev pub greatest_height : ℕ
 greatest_height = 1000000000000000000000000000000000000
 
--- from where a star repeats
+-- the shift from where a star repeats
 abbrev pub greatest_star_need : ℕ
 greatest_star_need = 1000000000000000000000000000000000
 
--- from where a sum or a product repeats, and steps over a moderate number
+-- the shift from where a sum or a product repeats, and steps over a moderate number
 abbrev pub greatest_reach : ℕ
 greatest_reach = 10000000000000000000000000000000000000
 

@@ -17,7 +17,8 @@ pub record IsPart (l : List Date) (n : ℕ) (x : ℤ) (s : Shape) : Type 0 where
   pub form : shortened l n x ≡ form_with (take s.size l) s.period s.step
   pub step_fits : FitsSigned w128 s.step
 
--- the same of a list and the value after it, in words: the first part of the list, with the period and the step, is a canonical form, and its function is the one that the list begins
+-- the first part of the list, with the period and the step, is a canonical form, and its function is the one that the list and
+-- the value after it begin
 pub record IsCanonicalPart (l : List Date) (n : ℕ) (next : Date) (s : Shape) : Type 0 where
   pub fits : s.size ≤ length l
   pub canonical : IsCanonical (form_with (take s.size l) s.period s.step)

@@ -91,7 +91,7 @@ lead_of f g = greatest_int (λ i. gap (value_at f (later_start f g + i)) (value_
 abbrev pub periods_behind : Form → Form → ℕ
 periods_behind f g = ceiling (lead_of f g) (rise_of f g -ℤ fall_of f g)
 
--- from where f, of the greater slope, is the greater one
+-- the shift from where f, of the greater slope, is the greater one, by the tails of the forms
 abbrev pub crossing_by : Date → Date → Form → Form → ℕ
 crossing_by (At s) (At t) f g = later_start f g + periods_behind f g * period_with f g
 crossing_by Early b f g = later_start f g
@@ -99,7 +99,7 @@ crossing_by Never b f g = later_start f g
 crossing_by (At s) Early f g = later_start f g
 crossing_by (At s) Never f g = later_start f g
 
--- the same, by the tails of the forms
+-- the shift from where f, of the greater slope, is the greater one
 abbrev pub crossing : Form → Form → ℕ
 crossing f g = crossing_by (tail_of f) (tail_of g) f g
 

@@ -25,7 +25,7 @@ lifts_of f g = (size_of f + (period_with f g - 1)) / period_with f g
 abbrev pub waits_of : Form → Form → ℕ
 waits_of f g = ceiling (times (lifts_of f g) (fall_of f g)) (rise_of f g -ℤ fall_of f g)
 
--- the first slope greater
+-- the plan of a product whose first factor has the greater slope, by the tails of the factors
 abbrev pub product_first_by : Date → Date → Form → Form → NeedPlan
 product_first_by (At s) b f g = plan (size_of f + repeat_start g + (lifts_of f g * period_with f g + waits_of f g * period_with f g)) f.period
 product_first_by Never (At t) f g = plan (size_of f + repeat_start g + lifts_of f g * period_with f g) 1
@@ -33,7 +33,7 @@ product_first_by Never Early f g = plan 0 1
 product_first_by Never Never f g = plan 0 1
 product_first_by Early b f g = plan 0 1
 
--- the same, by the tails of the forms
+-- the plan of a product whose first factor has the greater slope
 abbrev pub product_first : Form → Form → NeedPlan
 product_first f g = product_first_by (tail_of f) (tail_of g) f g
 
@@ -170,7 +170,7 @@ own_plan_by Early f = plan 0 1
 own_plan_by (At t) f = anchored_plan (anchor_of f) f
 own_plan_by Never f = plan (size_of f) 1
 
--- of a form that is at least 0 from shift 1 on
+-- the plan of the star of a form that is at least 0 from shift 1 on
 abbrev pub own_plan : Form → NeedPlan
 own_plan f = own_plan_by (tail_of f) f
 

@@ -6,7 +6,8 @@
 //! Its one contract: each function that never falls and repeats has one canonical form, and the
 //! operations lead from forms to the forms of their functions within the stated needs. Each law is
 //! the contract of a function that does nothing when it runs. The crates above cite the
-//! definitions, and series with the bounds of the types are made there. Stands on `dioid` alone.
+//! definitions, and series with the bounds of the types are made there. The crate stands on `dioid`
+//! for dates, and on `number_laws` for laws of whole numbers.
 #![tactic(auto)]
 
 mod laws;

@@ -9,7 +9,7 @@ use Rattle.series_ops.specs.declared.gains.Gain.{Gain}
 abbrev pub gain_of : Form → Gain
 gain_of f = record { series = f }
 
--- its form is canonical
+-- the form of the gain is canonical
 abbrev pub IsCanonicalGain : Gain → Type 0
 IsCanonicalGain g = IsCanonical g.series
 
@@ -45,18 +45,18 @@ gain_meet a b = gain_of (form_least a.series b.series)
 abbrev pub GainSumFits : Gain → Gain → Type 0
 GainSumFits a b = Fits (need_of (sum_plan a.series b.series)) (form_sum a.series b.series)
 
--- the same of the product
+-- the need and the numbers of the product are within the bounds of a series
 abbrev pub ProductFits : Gain → Gain → Type 0
 ProductFits a b = Fits (need_of (product_plan a.series b.series)) (form_product a.series b.series)
 
--- the same of the star
+-- the need and the numbers of the star are within the bounds of a series
 abbrev pub StarFits : Gain → Type 0
 StarFits a = Fits (need_of (star_plan_by (value_at a.series 0) a.series)) (form_star a.series)
 
--- the same of the residual
+-- the need and the numbers of the residual are within the bounds of a series
 abbrev pub LeftFits : Gain → Gain → Type 0
 LeftFits a b = Fits (need_of (left_plan a.series b.series)) (form_left a.series b.series)
 
--- the same of the minimum
+-- the need and the numbers of the minimum are within the bounds of a series
 abbrev pub MeetFits : Gain → Gain → Type 0
 MeetFits a b = Fits (need_of (least_plan a.series b.series)) (form_least a.series b.series)

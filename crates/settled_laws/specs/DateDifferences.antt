@@ -1,4 +1,4 @@
--- Working definitions of what is read off two dates of a row.
+-- What is read off two dates of a row. The contract of `teg_settle::shown_form` rests on it.
 use Rattle.std.specs.Prelude.{ℤ, pos, ◌-ℤ◌}
 use Rattle.teg_model.specs.dioid.declared.dates.Date.{Date}
 use Rattle.teg_model.specs.dioid.declared.dates.Date.TheVariants.{Early, At, Never}

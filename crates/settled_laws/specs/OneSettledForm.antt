@@ -22,6 +22,6 @@ FormsTellDates = (count : ℕ) (f : SettledForm) (x : ℕ → ℕ → Date) → 
 abbrev pub SettledFormsAreOne : Type 0
 SettledFormsAreOne = (net : NetLists) (f g : SettledForm) → IsSettledFormOf net f → IsSettledFormOf net g → f ≡ g
 
--- and where each form is longer than a limit, so is this one
+-- where each settled form of a net is longer than a limit, so is its shortest one
 abbrev pub LimitsAreTold : Type 0
 LimitsAreTold = (net : NetLists) (limit : ℕ) (f : SettledForm) → IsSettledFormOf net f → NetSettlesPast net limit → limit < settled_length f

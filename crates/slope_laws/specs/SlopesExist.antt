@@ -10,13 +10,13 @@ use Rattle.settled_laws.specs.teg_model.Datings.{IsLeastDating}
 use Rattle.settled_laws.specs.SettledForms.{SettledForm, StandsFor, step_of_form}
 use Rattle.slope_laws.specs.Slopes.{IsEndedTowards, HasSlope}
 
--- a date is Never only where a list that ends reaches t, where one does some date is, and from then on all are
+-- a date is Never only where a list that ends reaches t; where one does, some date is Never, and from then on all dates are
 pub record NeverByEndedLists (net : NetLists) (dates : ℕ → Date) (t : ℕ) : Type 0 where
   pub ended : (k : ℕ) → 1 ≤ k → dates k ≡ Never → (l : InputList) × IsEndedTowards net t l
   pub never : (l : InputList) → IsEndedTowards net t l → (k : ℕ) × (1 ≤ k) × (dates k ≡ Never)
   pub on : (k j : ℕ) → 1 ≤ k → dates k ≡ Never → dates (k + j) ≡ Never
 
--- in a live net
+-- in a live net the least dates of a transition are Never only by lists that end
 abbrev pub NeversComeFromEndedLists : Type 0
 NeversComeFromEndedLists = (net : NetLists) → IsNet net → IsLive net → (x : ℕ → ℕ → Date) → IsLeastDating net x
     → (t : ℕ) → t < length net.transitions → NeverByEndedLists net (x t) t
@@ -27,7 +27,7 @@ FormsHaveSlopes = (net : NetLists) → IsNet net → IsLive net → (x : ℕ →
     → (t after period : ℕ) (step : ℤ) → t < length net.transitions → 1 ≤ period
     → ((k : ℕ) → after < k → x t (k + period) ≡ move step (x t k)) → HasSlope net (x t) t after period step
 
--- so do those of each transition in each settled form of the least dating
+-- the dates of each transition in each settled form of the least dating of a live net have its slope
 abbrev pub SettledFormsHaveSlopes : Type 0
 SettledFormsHaveSlopes = (net : NetLists) → IsNet net → IsLive net → (x : ℕ → ℕ → Date) → IsLeastDating net x
     → (f : SettledForm) → StandsFor (length net.transitions) f x

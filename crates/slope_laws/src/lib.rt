@@ -5,8 +5,8 @@
 //! greatest of 0, the ratios of the circuits from which a path leads to it, and gap over `every` of
 //! the inputs that reach it. The one contract: each law is the contract of a function that does
 //! nothing when it runs, and holds of every form, of whatever length. The crate stands on
-//! `settled_laws` for forms, on `teg_model` for datings and on `teg_loops` for paths split into
-//! circuits.
+//! `settled_laws` for settled forms, on `teg_loops` for paths split into circuits, on `teg_model`
+//! for datings, on `teg_net` for nets, and on `dioid` for dates.
 #![tactic(auto)]
 
 mod laws;

@@ -11,7 +11,7 @@ use Rattle.bound_laws.specs.teg_net.Circuits.{IsLive, time_of, tokens_of}
 use Rattle.bound_laws.specs.teg_net.GreatestRatios.{IsGreatestRatio, IsAnyPlace}
 use Rattle.bound_laws.specs.teg_net.Limits.{greatest_circuit_time, most_circuit_tokens}
 use Rattle.bound_laws.proofs.teg_net_proofs.LowestTerms.{IsRatioOf-divided}
-use Rattle.teg_cycle.proofs.teg_howard_proofs.Lowest_terms.{one_ratio}
+use Rattle.teg_cycle.proofs.teg_howard_proofs.LowestTerms.{one_ratio}
 use Rattle.teg_cycle.proofs.Short.{circuit_sums}
 use Rattle.teg_bound.specs.Readings.{AreReadingsWithin}
 

@@ -41,7 +41,7 @@ mutual
     min_of : Blanks → Blanks → ExprText → Blanks → ExprText → Blanks → FactorText
     left_of : Blanks → Blanks → ExprText → Blanks → ExprText → Blanks → FactorText
 
--- so many blanks
+-- a text of n blanks
 abbrev pub blanks : ℕ → List ℕ
 blanks n = replicate n 32
 

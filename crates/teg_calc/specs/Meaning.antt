@@ -53,15 +53,15 @@ Means (left a b) s = IsOfTwo (Means a) (Means b) IsLeftAt s
 abbrev pub sum_answers : Form → Form → Result Form SeriesRefused → Type 0
 sum_answers f g = AnswersOf (λ r. HasValues r (sum_at (value_at f) (value_at g))) (need_of (sum_plan f g)) (need_of (sum_plan f g))
 
--- the same of the minimum
+-- the answers that a call for the minimum of two series may give
 abbrev pub least_answers : Form → Form → Result Form SeriesRefused → Type 0
 least_answers f g = AnswersOf (λ r. HasValues r (least_at (value_at f) (value_at g))) (need_of (least_plan f g)) (need_of (least_plan f g))
 
--- the same of the product
+-- the answers that a call for the product of two series may give
 abbrev pub product_answers : Form → Form → Result Form SeriesRefused → Type 0
 product_answers f g = AnswersOf (λ r. HasValues r (product_at (value_at f) (value_at g))) (need_of (product_plan f g)) (need_of (product_plan f g))
 
--- the same of the residual of the second by the first
+-- the answers that a call for the residual of the second series by the first may give
 abbrev pub left_answers : Form → Form → Result Form SeriesRefused → Type 0
 left_answers f g = AnswersOf (λ r. (k : ℕ) → IsLeftAt (value_at f) (value_at g) k (value_at r k)) (need_of (left_plan f g)) (need_of (left_plan f g))
 

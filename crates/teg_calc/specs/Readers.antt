@@ -1,4 +1,4 @@
--- Working definitions of how the reader goes on, byte by byte. What `parse` promises stands in Reading.
+-- Working definitions of how the reader goes on, byte by byte. What `parse` promises stands in ParseAnswers.
 use Rattle.std.specs.Prelude.{◌≡◌, ℕ, ◌+◌, ◌*◌, ◌^◌, ◌<◌, ◌≤◌, ◌==◌, nat_lt, Bool, true, false, List, [], ◌∷◌, length, map, reverse, slice_get, codes, Option, Some, None, Result, Ok, Err, if◌then◌else◌, option_map, option_and_then}
 use Rattle.std.specs.Char.{digit_value}
 use Rattle.teg_calc.specs.declared.expressions.Expr.{Expr}
@@ -146,7 +146,7 @@ operand_by Blank part outer inner = Some (state outer inner operand)
 operand_by Open part outer inner = Some (nested outer inner Group)
 operand_by _ part outer inner = option_map (λ p. state outer inner (within p)) part
 
--- one byte where an operand begins
+-- how the reader goes on by one byte where an operand begins
 abbrev pub operand_step : List Level → Level → ℕ → Option State
 operand_step outer inner byte = operand_by (sign_of byte) (begun_by byte) outer inner
 
@@ -184,7 +184,7 @@ operator_by Dot outer inner term =
     Some (state outer (level inner.call inner.first inner.sum (Some term)) operand)
 operator_by Other outer inner term = None
 
--- one byte behind a term
+-- how the reader goes on by one byte behind a term
 abbrev pub operator_step : List Level → Level → Tree → ℕ → Option State
 operator_step outer inner term byte = operator_by (sign_of byte) outer inner term
 
@@ -236,29 +236,29 @@ word_on word read outer inner =
     then state outer inner (within (Letters word (read + 1)))
     else word_end word outer inner
 
--- one byte in a word, whose next letter is given
+-- how the reader goes on by one byte in a word, whose next letter is given
 abbrev pub letter_by : Option ℕ → Word → ℕ → List Level → Level → ℕ → Option State
 letter_by None word read outer inner byte = None
 letter_by (Some letter) word read outer inner byte = if letter == byte then Some (word_on word read outer inner) else None
 
--- one byte behind the name of a call, by the sign
+-- how the reader goes on by one byte behind the name of a call, by the sign
 abbrev pub name_by : Sign → Call → List Level → Level → Option State
 name_by Blank call outer inner = Some (state outer inner (within (Name call)))
 name_by Open call outer inner = Some (nested outer inner call)
 name_by _ call outer inner = None
 
--- one byte behind a factor, where there is one
+-- how the reader goes on by one byte behind a factor, where there is one
 abbrev pub behind_step : List Level → Level → Option Tree → ℕ → Option State
 behind_step outer inner None byte = None
 behind_step outer inner (Some factor) byte =
     operator_step outer (level inner.call inner.first inner.sum None) (multiplied inner.product factor) byte
 
--- one byte that makes a token longer, or stands behind the factor that the token is
+-- how the reader goes on by one byte that makes a token longer, or stands behind the factor that the token is
 abbrev pub token_by : Option Part → List Level → Level → Option Tree → ℕ → Option State
 token_by (Some part) outer inner factor byte = Some (state outer inner (within part))
 token_by None outer inner factor byte = behind_step outer inner factor byte
 
--- one byte in a token or behind it
+-- how the reader goes on by one byte in a token or behind it
 abbrev pub within_step : Part → List Level → Level → ℕ → Option State
 within_step (Letters word read) outer inner byte = letter_by (slice_get (letters_of word) read) word read outer inner byte
 within_step (Name call) outer inner byte = name_by (sign_of byte) call outer inner
@@ -268,13 +268,13 @@ within_step (Delta shift) outer inner byte = token_by (gone_on (Delta shift) byt
 within_step (Date shift minus count value) outer inner byte =
     token_by (gone_on (Date shift minus count value) byte) outer inner (factor_of (Date shift minus count value)) byte
 
--- one byte, by where it stands
+-- how the reader goes on by one byte, by where it stands
 abbrev pub step_by : Stand → List Level → Level → ℕ → Option State
 step_by operand outer inner byte = operand_step outer inner byte
 step_by (within part) outer inner byte = within_step part outer inner byte
 step_by (operator term) outer inner byte = operator_step outer inner term byte
 
--- one byte
+-- how the reader goes on by one byte
 abbrev pub step : State → ℕ → Option State
 step s byte = step_by s.stand s.outer s.inner byte
 
@@ -345,7 +345,7 @@ IsReached next (Err OutOfMemory) = Unit {0}
 abbrev pub IsAt : (List Level → Level → Option State) → List Bracket → Bracket → Reader → Type 0
 IsAt next outer inner r = (next (levels_of outer) (level_of inner) ≡ Some (state_of r)) × StandsWell (stand_of r.place)
 
--- the same, or none
+-- the reader that these brackets lead to, with the levels that the step gives, or none
 abbrev pub ReachesLevels : (List Level → Level → Option State) → List Bracket → Bracket → Result Reader Stop → Type 0
 ReachesLevels next outer inner result = IsReached (next (levels_of outer) (level_of inner)) result
 

@@ -66,7 +66,7 @@ ShowsRun net rows before now false = (firings : List Firing) × AreFiringsOf net
 abbrev pub ShowsNothing : (before now : List Firing → List (List ℕ)) → Type 0
 ShowsNothing before now = WereShown before now []
 
--- so it is with the rows of a log that was read; of a faulty one nothing is shown
+-- what the monitors were shown of the rows of a log that was read; of a faulty log they were shown nothing
 abbrev pub ShowsLog : Result (List LogRow) LogRefusal → NetLists → (before now : List Firing → List (List ℕ)) → (is_told : Bool) → Type 0
 ShowsLog (Ok rows) net before now is_told = ShowsRun net rows before now is_told
 ShowsLog (Err refusal) net before now is_told = ShowsNothing before now

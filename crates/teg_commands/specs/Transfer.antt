@@ -47,7 +47,7 @@ abbrev pub IsTimesFrom : NetLists → ℕ → TimesFrom → Type 0
 IsTimesFrom net limit times =
     (f : SettledForm) × IsTransferOf net times.from.index f × (settled_length f ≤ limit) × (times ≡ times_of net times.from f)
 
--- such times of each input, in order
+-- the times from each input to each output, in the order of the inputs
 pub record AreTimesFrom (net : NetLists) (limit : ℕ) (times : List TimesFrom) : Type 0 where
   pub inputs : map (λ from. from.from) times ≡ those_of_role net Input
   pub each : All (IsTimesFrom net limit) times

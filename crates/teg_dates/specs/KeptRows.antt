@@ -45,6 +45,6 @@ pub record AreFirst (net : NetLists) (x : ℕ → ℕ → Date) (count : ℕ) (d
   pub same : (t k : ℕ) → t < length net.transitions → 1 ≤ k → k ≤ count
       → date_in_list (length net.transitions) dates t k ≡ x t k
 
--- the same of each least dating of the system
+-- the dates of numbers 1 to count in each least dating of the system, and nothing else
 abbrev pub AreFirstLeast : NetLists → System → ℕ → List Date → Type 0
 AreFirstLeast net s count dates = (x : ℕ → ℕ → Date) → IsLeastIn s x → AreFirst net x count dates

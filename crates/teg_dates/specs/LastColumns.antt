@@ -26,7 +26,7 @@ column_at room cells t i = slice_index cells (t * room + i)
 abbrev pub window_back : WindowCells → ℕ → ℕ → Date
 window_back w t b = date_of_cell (column_at w.room w.cells t (w.at - b))
 
--- the same, in the words of all that keep rows
+-- the rows of the window as rows that are kept
 abbrev pub window_rows : WindowCells → KeptRows
 window_rows w = record { width = w.width; reach = w.reach; number = w.number; kept = w.at; back = window_back w }
 

@@ -41,7 +41,7 @@ pub record ReachesBack (net : NetLists) (k : ℕ) (rows : KeptRows) : Type 0 whe
 pub record AreRowsBack (net : NetLists) (x : ℕ → ℕ → Date) (k : ℕ) (rows : KeptRows) : Type 0 where
   pub same : (t b : ℕ) → t < length net.transitions → 1 ≤ b → b ≤ rows.kept → rows.back t b ≡ x t (k - b)
 
--- the same of each least dating of the system
+-- the rows before number k have the dates that each least dating of the system gives to their firings, so many rows back
 abbrev pub AreLeastRowsBack : NetLists → System → ℕ → KeptRows → Type 0
 AreLeastRowsBack net s k rows = (x : ℕ → ℕ → Date) → IsLeastIn s x → AreRowsBack net x k rows
 
@@ -60,6 +60,6 @@ pub record IsRowOf (net : NetLists) (x : ℕ → ℕ → Date) (k : ℕ) (row : 
   pub full : length row ≡ length net.transitions
   pub same : (t : ℕ) → t < length net.transitions → slice_index_or row t Early ≡ x t k
 
--- the same of each least dating of the system
+-- the dates that each least dating of the system gives to number k of each transition
 abbrev pub IsRowOfLeast : NetLists → System → ℕ → List Date → Type 0
 IsRowOfLeast net s k row = (x : ℕ → ℕ → Date) → IsLeastIn s x → IsRowOf net x k row

@@ -17,7 +17,7 @@ turn_at net ranks q =
     let p : Place = place_at net (record { index = q }) in
     record { turn = order_key ranks p; place = record { index = q }; from = p.from; to = p.to; tokens = p.tokens; hold = p.hold }
 
--- it has what a pass reads of one of the net's places
+-- the ordered place has what a pass reads of one of the net's places
 pub record IsOrderedPlaceOf (net : NetLists) (o : OrderedPlace) : Type 0 where
   pub in_range : o.place.index < length net.places
   pub from : o.from ≡ (place_at net o.place).from
@@ -25,7 +25,7 @@ pub record IsOrderedPlaceOf (net : NetLists) (o : OrderedPlace) : Type 0 where
   pub tokens : o.tokens ≡ (place_at net o.place).tokens
   pub hold : o.hold ≡ (place_at net o.place).hold
 
--- it is one of the net's places, with its turn
+-- the ordered place is one of the net's places, with its turn
 pub record IsRankedPlace (net : NetLists) (ranks : List ℕ) (o : OrderedPlace) : Type 0 where
   pub place : IsOrderedPlaceOf net o
   pub turn : o.turn ≡ order_key ranks (place_at net o.place)

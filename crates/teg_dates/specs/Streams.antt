@@ -25,7 +25,7 @@ rows_kept last = min last.number last.reach
 abbrev pub date_back : LastDates → ℕ → ℕ → Date
 date_back last t b = slice_index_or last.dates (length last.dates - b * last.width + t) Early
 
--- the same, in the words of all that keep rows
+-- the last dates as rows that are kept
 abbrev pub last_rows : LastDates → KeptRows
 last_rows last = record { width = last.width; reach = last.reach; number = last.number; kept = rows_kept last; back = date_back last }
 
@@ -60,7 +60,7 @@ rows_given stream = stream.last.number
 abbrev pub IsStreamOf : NetLists → StreamLists → Type 0
 IsStreamOf net stream = CanMakeNextRow net stream.order (last_rows stream.last)
 
--- the same with the last rows in a window
+-- the lists of first rows: an order of the places, and a window of the last rows
 pub record FirstLists : Type 0 where
   pub order : List OrderedPlace
   pub window : WindowCells
@@ -69,7 +69,7 @@ pub record FirstLists : Type 0 where
 abbrev pub first_rows_given : FirstLists → ℕ
 first_rows_given rows = rows.window.number
 
--- these rows stand for the net
+-- the first rows stand for the net
 abbrev pub AreFirstRowsOf : NetLists → FirstLists → Type 0
 AreFirstRowsOf net rows = CanMakeNextRow net rows.order (window_rows rows.window)
 

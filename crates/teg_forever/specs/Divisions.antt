@@ -40,7 +40,7 @@ pub record AreFirstsTo (rows : List EndlessRow) (count : ℕ) (firsts : List ℕ
 abbrev pub IsResidualAt : EndlessRow → Gain → Gain → Type 0
 IsResidualAt r walk residual = (due : Gain) → IsDueSeries r due.series → (residual ≡ gain_left walk due) × LeftFits walk due
 
--- the same of the row whose place is kept with them
+-- what is kept is the residual of the due series of the row whose place is kept with it
 abbrev pub IsDivided : List EndlessRow → Divided → Type 0
 IsDivided rows x = (r : EndlessRow) → slice_get rows x.due ≡ Some r → IsResidualAt r x.walk x.residual
 
@@ -88,7 +88,7 @@ pub record IsMeetTo (walks dues : ℕ → Gain) (count : ℕ) (meet : Gain) : Ty
   pub value : meet ≡ residual_over count walks dues
   pub fit : (i : ℕ) → i < count → RowFits gains gain_residuals walks dues i
 
--- the same of the columns of the input
+-- the meet over so many rows of the columns of the input
 abbrev pub IsMeetOver : NetLists → List EndlessRow → ℕ → ℕ → Gain → Type 0
 IsMeetOver net rows u count meet = (walks dues : ℕ → Gain) → AreSeriesColumns net u rows walks dues → IsMeetTo walks dues count meet
 

@@ -13,17 +13,17 @@ pub record IsTwinPlace (v : ℕ) (p q : Place) : Type 0 where
   pub hold : q.hold ≡ p.hold
   pub tokens : q.tokens ≡ p.tokens
 
--- some place of the net does
+-- some place of the net leaves transition v, and has the end, the holding time and the tokens of place p
 pub record HasTwinPlace (net : NetLists) (v : ℕ) (p : Place) : Type 0 where
   pub place : PlaceId
   pub within : place.index < length net.places
   pub twin : IsTwinPlace v p (place_at net place)
 
--- each place that leaves transition u has such a one that leaves v
+-- to each place that leaves transition u there is one that leaves v, of the same end, holding time and tokens
 abbrev pub LeadsAlike : NetLists → ℕ → ℕ → Type 0
 LeadsAlike net u v = All (λ p. p.from.index ≡ u → HasTwinPlace net v p) net.places
 
--- and the other way round
+-- transitions u and v lead on alike: to each place that leaves one there is one alike that leaves the other
 abbrev pub AreTwins : NetLists → ℕ → ℕ → Type 0
 AreTwins net u v = LeadsAlike net u v × LeadsAlike net v u
 

@@ -2,13 +2,15 @@
 //!
 //! [`read_endless`] answers the rows of a due file: each gives a transition dates that go on for
 //! ever. [`forever`] answers for each input the series of the latest dates of its firings, or that
-//! it is free; or the first row that comes late whatever the inputs are, with its least late number;
-//! or the first input whose series are too long. [`releases_text`], [`forever_refusal_text`] and
-//! [`endless_refusal_text`] are the texts of the answers, and different answers have different
-//! texts. The crate stands on `forever_laws` and `due_laws` for what endless due dates are and what
-//! holds of them, on `teg_settle` for settled forms of dates and of walk times, on `series_form`,
-//! `series_ops` and `dioid_matrix` for residuals of series, on `csv_records` and `teg_due` for rows,
-//! and on `teg_text` for texts.
+//! it is free; or the first row that comes late whatever the inputs are, with its least late
+//! number; or the first input whose series are too long. [`releases_text`],
+//! [`forever_refusal_text`] and [`endless_refusal_text`] are the texts of the answers, and
+//! different answers have different texts. The crate stands on `forever_laws` and `due_laws` for
+//! what endless due dates are and what holds of them, on `teg_settle` and `settled_laws` for
+//! settled forms of dates and of walk times, on `series_laws`, `series_form`, `series_ops`,
+//! `periodic_laws` and `dioid_matrix` for residuals of series, on `teg_due` and `csv_records` for
+//! rows, on `teg_text` for texts, on `teg_model` for datings, on `teg_net` and `teg_check` for
+//! nets, and on `dioid` for dates.
 //! Its examples stand in `worked_examples`.
 #![tactic(auto)]
 

@@ -3,7 +3,7 @@
 use Rattle.std.specs.Prelude.{◌-◌, ◌<◌, ◌≤◌, ◌≡◌, ◌⊎◌, List, [], ◌∷◌, ◌++◌, length, slice_index_or, slice_set}
 use Rattle.teg_form.specs.declared.form.Entry.{Entry}
 
--- the same ends and the same tokens
+-- the two entries have the same ends and the same tokens
 abbrev pub IsOfKind : Entry → Entry → Type 0
 IsOfKind e f = (e.to.index ≡ f.to.index) × (e.from.index ≡ f.from.index) × (e.tokens ≡ f.tokens)
 

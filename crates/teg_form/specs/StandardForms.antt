@@ -28,7 +28,7 @@ pub record IsTimeOfMarkedPath (net : NetLists) (a b tokens time : ℕ) : Type 0 
   pub no_tokens : tokens_of net others ≡ 0
   pub is : time ≡ time_of net (first ∷ others)
 
--- it is one of these times, and none is greater
+-- the time is one of these, and none is greater
 pub record IsGreatestTime (IsTime : ℕ → Type 0) (time : ℕ) : Type 0 where
   pub reached : IsTime time
   pub greatest : (other : ℕ) → IsTime other → other ≤ time

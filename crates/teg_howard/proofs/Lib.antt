@@ -23,7 +23,7 @@ pub mod Runs
 pub mod Rising
 pub mod Exits
 pub mod Unique
-pub mod Lowest_terms
+pub mod LowestTerms
 pub mod OneRun
 pub use Rattle.teg_check.proofs.number_laws_proofs as number_laws_proofs
 pub use Rattle.teg_check.proofs.teg_net_proofs as teg_net_proofs

@@ -50,7 +50,7 @@ pub record Valued (net : NetLists) (parts : List ℕ) (part a b s : ℕ) (policy
   pub sums : (t : ℕ) (z : ℤ) → value_held vs t ≡ Some z → t ≢ s → (y : ℤ) × (value_held vs (from_of net (policy t)) ≡ Some y) × (z ≡ (reduced_time net a b (policy t) +ℤ y))
   pub small : (t : ℕ) (z : ℤ) → value_held vs t ≡ Some z → IsMagnitudeWithin (filled vs * step_bound) z
 
--- and those that have one lead back to s
+-- each value is the sum of what the places count from s on, and the transitions that have one lead back to s
 pub record Followed (net : NetLists) (parts : List ℕ) (part a b s : ℕ) (policy : Policy) (vs : List (Option ℤ)) : Type 0 where
   pub valued : Valued net parts part a b s policy vs
   pub home : (t : ℕ) (z : ℤ) → value_held vs t ≡ Some z → LeadsBack net policy t s

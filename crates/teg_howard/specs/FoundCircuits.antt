@@ -87,7 +87,7 @@ pub record IsFollower (net : NetLists) (parts : List ℕ) (part : ℕ) (policy :
 abbrev pub LeadsOn : NetLists → List (Option ℤ) → PlaceId → Type 0
 LeadsOn net values p = (value_held values (from_of net p) ≢ None) × (value_held values (to_of net p) ≡ None)
 
--- such a place in the part
+-- a place in the part from a transition with a value to one without
 pub record IsJoin (net : NetLists) (parts : List ℕ) (part : ℕ) (values : List (Option ℤ)) (p : PlaceId) : Type 0 where
   pub inside : IsPlaceOfPart net parts part p
   pub starts : value_held values (from_of net p) ≢ None

@@ -76,7 +76,7 @@ pub record FollowsRound (net : NetLists) (parts : List ℕ) (part : ℕ) (r s : 
   pub improves : IsImprovement net parts part r.ratio.time r.ratio.tokens (chosen r) (potential r) better
   pub next : IsRoundOf net parts part better (IsChanged parts part (chosen r) better) s ⊎ KeepsCircuit net parts part r s better
 
--- it begins with the first round, and each round follows from the one before
+-- the rounds begin with the first round of the part, and each follows from the one before
 pub record IsRunTo (net : NetLists) (parts : List ℕ) (part : ℕ) (rounds : List Round) : Type 0 where
   pub some : 0 < length rounds
   pub first : (d : Round) → IsFirstRound net parts part (slice_index_or rounds 0 d)
@@ -86,7 +86,7 @@ pub record IsRunTo (net : NetLists) (parts : List ℕ) (part : ℕ) (rounds : Li
 abbrev pub last_policy_round : List Round → Round → Round
 last_policy_round rounds d = slice_index_or rounds (length rounds - 1) d
 
--- and no place improves the last
+-- the rounds begin with the first round of the part, each follows from the one before, and no place improves the last
 pub record IsPolicyRun (net : NetLists) (parts : List ℕ) (part : ℕ) (rounds : List Round) : Type 0 where
   pub run : IsRunTo net parts part rounds
   pub last : (d : Round) (t : ℕ) (p : PlaceId) → Improves net parts part (last_policy_round rounds d).ratio.time (last_policy_round rounds d).ratio.tokens (potential (last_policy_round rounds d)) t p → ⊥

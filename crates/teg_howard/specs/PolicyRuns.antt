@@ -45,7 +45,7 @@ pub record RisesByCase (net : NetLists) (parts : List ℕ) (part : ℕ) (r s : R
       → r.ratio.time * s.ratio.tokens < s.ratio.time * r.ratio.tokens
   pub kept : (better : Policy) → KeepsCircuit net parts part r s better → RisesInSum r s
 
--- and so in each step
+-- in each step the ratio rises, or the sum of the potentials does where the circuit is kept
 abbrev pub RiseByCase : NetLists → List ℕ → ℕ → List Round → Type 0
 RiseByCase net parts part rounds = (k : ℕ) (d : Round) → k + 1 < length rounds → RisesByCase net parts part (slice_index_or rounds k d) (slice_index_or rounds (k + 1) d)
 

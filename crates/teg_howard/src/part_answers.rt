@@ -17,8 +17,9 @@ use teg_parts::Parts;
 ///
 /// The rounds are the policy run of the part: each follows from the one before, no place improves
 /// the last, and in each step the pair of ratio and sum of potentials rises: the ratio where a better
-/// circuit is found, and else the sum. A part has one policy run only. The answer has the last round's ratio, circuit and potentials. Values stand for the
-/// net. It answers `OutOfMemory` only where no memory is found.
+/// circuit is found, and else the sum. A part has one policy run only. The answer has the last
+/// round's ratio, circuit and potentials. Values stand for the net. It answers `OutOfMemory` only
+/// where no memory is found.
 pub fn howard(
     alloc: Global,
     net: &Net,

@@ -34,7 +34,7 @@ pub record AreDatesOfRows (x : ℕ → ℕ → Date) (rows : List DueRow) (dates
   pub count : length dates ≡ length rows
   pub each : (i : ℕ) → i < length rows → IsDateOfRow x rows dates i
 
--- the same, each a number
+-- the dates that x gives to the firings of the rows, each of which is a number
 pub record AreNumbersOfRows (x : ℕ → ℕ → Date) (rows : List DueRow) (dates : List ℕ) : Type 0 where
   pub count : length dates ≡ length rows
   pub small : (i : ℕ) → i < length rows → slice_index_or dates i 0 < most_cell_date

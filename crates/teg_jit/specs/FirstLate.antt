@@ -36,11 +36,11 @@ pub record IsReadyFrom (net : NetLists) (plan : PlanDates) (q k : ℕ) : Type 0 
   pub takes : k ≤ (place_at net (record { index = q })).tokens
   pub date : IsDateAt plan (place_at net (record { index = q })).to.index k (ready_date (place_at net (record { index = q })) k)
 
--- the same of some place into transition t
+-- firing k takes an initial token of some place into transition t, and its latest date is the token's ready date
 abbrev pub IsWhenReady : NetLists → PlanDates → ℕ → ℕ → Type 0
 IsWhenReady net plan t k = (q : ℕ) × IsReadyFrom net plan q k × ((place_at net (record { index = q })).to.index ≡ t)
 
--- the same of some firing
+-- some firing takes an initial token of some place, and its latest date is the token's ready date
 abbrev pub HasDateWhenReady : NetLists → PlanDates → Type 0
 HasDateWhenReady net plan = (q k : ℕ) × IsReadyFrom net plan q k
 

@@ -13,7 +13,7 @@ first_step_of Due = None
 first_step_of (By p) = Some (by_place p)
 first_step_of Next = Some to_next
 
--- that of what is there
+-- the step is the first step of the latest date; none where it is free
 abbrev pub IsFirstStep : LatestDate → Option Step → Type 0
 IsFirstStep Free step = step ≡ None
 IsFirstStep (At d onward) step = step ≡ first_step_of onward

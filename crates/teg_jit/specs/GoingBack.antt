@@ -45,7 +45,7 @@ pub record ArePassed (net : NetLists) (due : ℕ → ℕ → Option ℕ) (order 
   pub steps : (t d : ℕ) (p : PlaceId) → t < length net.transitions → 1 ≤ k → latest_in (length net.transitions) dates t k ≡ At d (By p) → (c : ℕ) × (c < by) × (c < length order) × ((o : Depth) → (slice_index_or order c o).place ≡ p)
   pub untouched : (t s : ℕ) → t < length net.transitions → 1 ≤ s → s < k → IsFreeOrDue (latest_in (length net.transitions) dates t s)
 
--- the same, before a place of the order is passed
+-- what holds of the dates of numbers 1 to last while those of number k are settled and no place of the order is passed
 abbrev pub AreNext : NetLists → (ℕ → ℕ → Option ℕ) → ℕ → ℕ → ℕ → List LatestDate → Type 0
 AreNext net due last k next dates = (order : List Depth) → ArePassed net due order last k next 0 0 dates
 

@@ -11,7 +11,7 @@ use Rattle.teg_jit.specs.declared.answers.LatestDate.TheVariants.{Free, At}
 abbrev pub step_numbers : ℕ
 step_numbers = 4096
 
--- and dates are below this
+-- dates in cells are below this
 abbrev pub most_cell_date : ℕ
 most_cell_date = 4503599627370496
 

@@ -45,7 +45,7 @@ pub record IsTight (net : NetLists) (u x : ℕ → ℕ → Date) : Type 0 where
 abbrev pub LeastDatingsAreTight : Type 0
 LeastDatingsAreTight = (net : NetLists) → HasEndsInRange net → IsLive net → (u x : ℕ → ℕ → Date) → IsLeastUnder net u x → IsTight net u x
 
--- and a dating that is feasible and tight is the least
+-- a dating of a live net that is feasible and tight is its least
 abbrev pub TightDatingsAreLeast : Type 0
 TightDatingsAreLeast = (net : NetLists) → HasEndsInRange net → IsLive net → (u x : ℕ → ℕ → Date)
     → IsFeasibleUnder net u x → IsTight net u x → IsLeastUnder net u x
@@ -63,7 +63,7 @@ abbrev pub LeastDatesAreWithin : Type 0
 LeastDatesAreWithin = (net : NetLists) → IsNet net → IsLive net → (x : ℕ → ℕ → Date) → IsLeastDating net x
     → (t k : ℕ) → t < length net.transitions → 1 ≤ k → k ≤ greatest_firing_number → IsDateWithin greatest_least_date (x t k)
 
--- and none of them is Early: no firing comes before date 0
+-- no least date of a live net is Early: no firing comes before date 0
 abbrev pub LeastDatesAreFromZero : Type 0
 LeastDatesAreFromZero = (net : NetLists) → IsNet net → IsLive net → (x : ℕ → ℕ → Date) → IsLeastDating net x
     → (t k : ℕ) → t < length net.transitions → 1 ≤ k → IsAtMostDate (At (pos 0)) (x t k)

@@ -8,7 +8,7 @@ use Rattle.teg_net.specs.ReadyDates.{start_date}
 use Rattle.teg_model.specs.Systems.{System}
 use Rattle.teg_model.specs.Datings.{at_input}
 
--- not before the release of firing k of transition t, nor before the initial tokens that it takes
+-- z is not before the release of firing k of transition t, nor before the initial tokens that it takes
 pub record IsNotBeforeStart (s : System) (t k : ℕ) (z : Date) : Type 0 where
   pub released : IsAtMostDate (s.release t k) z
   pub tokens : All (λ p. p.to.index ≡ t → k ≤ p.tokens → IsAtMostDate (s.initial p k) z) s.places

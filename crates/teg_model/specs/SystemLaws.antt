@@ -22,7 +22,7 @@ LeastInAreOne = (s : System) (x y : ℕ → ℕ → Date) → IsLeastIn s x → 
 abbrev pub LeastInAreTight : Type 0
 LeastInAreTight = (s : System) → HaveRanks s.places → (x : ℕ → ℕ → Date) → IsLeastIn s x → IsTightIn s x
 
--- and a dating that is feasible and tight is the least: no other family of dates solves the equations
+-- a dating of a ranked system that is feasible and tight is the least: no other family of dates solves the equations
 abbrev pub TightInAreLeast : Type 0
 TightInAreLeast = (s : System) → HaveRanks s.places → (x : ℕ → ℕ → Date) → IsFeasibleIn s x → IsTightIn s x → IsLeastIn s x
 

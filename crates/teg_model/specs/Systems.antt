@@ -16,7 +16,7 @@ pub record System : Type 0 where
 abbrev pub available_in : (Place → ℕ → Date) → (ℕ → ℕ → Date) → Place → ℕ → Date
 available_in initial x p k = if nat_lt p.tokens k then delayed p.hold (x p.from.index (k - p.tokens)) else initial p k
 
--- the same in a system
+-- the date from which the token is available that the place has in the system for firing k of its downstream transition
 abbrev pub available : System → (ℕ → ℕ → Date) → Place → ℕ → Date
 available s x p k = available_in s.initial x p k
 

@@ -20,7 +20,7 @@ pub record IsDateOfWalkFrom (net : NetLists) (IsStart : ℕ → ℕ → Date →
   pub starts : IsStart from number start
   pub is : date ≡ delayed (walk_time net steps) start
 
--- one of the dates, and none is later
+-- the date is one of these, and none is later
 pub record IsGreatestDate (IsOne : Date → Type 0) (date : Date) : Type 0 where
   pub reached : IsOne date
   pub greatest : (other : Date) → IsOne other → IsAtMostDate other date

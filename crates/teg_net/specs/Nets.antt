@@ -68,6 +68,6 @@ pub record IsNet (net : NetLists) : Type 0 where
   pub one_list : AllPairs (λ l m. l.transition.index ≢ m.transition.index) net.inputs
   pub each_input : All (IsInputOf net) net.inputs
 
--- the same transitions and places in order, and no input list
+-- the net with the same transitions and places in order, and no input list
 abbrev pub without_inputs : NetLists → NetLists
 without_inputs net = lists_of net.transitions net.places []

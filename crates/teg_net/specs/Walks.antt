@@ -29,7 +29,7 @@ IsStepOf net Next = ⊤
 abbrev pub IsFiring : NetLists → ℕ → ℕ → Type 0
 IsFiring net t k = (t < length net.transitions) × (1 ≤ k) × (k ≤ greatest_firing_number)
 
--- it starts at a firing of the net, its steps follow each other, and each firing number keeps its limit
+-- the walk starts at a firing of the net, its steps follow each other, and each firing number keeps its limit
 pub record IsWalk (net : NetLists) (w : Walk) : Type 0 where
   pub start_in : w.start.index < length net.transitions
   pub number_in : 1 ≤ w.number

@@ -2,7 +2,8 @@
 //! are there, and what paths, circuits and walks of them are.
 //!
 //! A [`Net`] is seen by contracts as its three lists (`NetLists`), which keep the rules of `IsNet`.
-//! This crate stands on std alone; what speaks of dates of firings stands in crates above it.
+//! What speaks of dates of firings stands in crates above it. The crate stands on `number_laws` for
+//! divisors and fractions in lowest terms.
 //! Its examples stand in `library_examples`.
 #![tactic(auto)]
 

@@ -56,7 +56,7 @@ abbrev pub MayBy : NetLists → List ℕ → List (Option ℕ) → ℕ → ℕ �
 MayBy net components numbers j u =
     (w : ℕ) → w < length components → Reaches net w u → component_at components w ≢ component_at components u → (i : ℕ) × (part_number numbers w ≡ Some i) × (i < j)
 
--- it has number j, and each later one that may take j is higher
+-- transition t has number j, and each later one that may take j is higher
 pub record IsFirstOfPart (net : NetLists) (components : List ℕ) (numbers : List (Option ℕ)) (j t : ℕ) : Type 0 where
   pub here : part_number numbers t ≡ Some j
   pub lower : (u : ℕ) → u < length components → IsAfter numbers j u → MayBy net components numbers j u → t < u

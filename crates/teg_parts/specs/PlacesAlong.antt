@@ -14,12 +14,12 @@ abbrev pub near_in : Way → Place → ℕ
 near_in Onward place = place.from.index
 near_in Back place = place.to.index
 
--- and that to which one comes
+-- the transition to which one comes along a place
 abbrev pub far_in : Way → Place → ℕ
 far_in Onward place = place.to.index
 far_in Back place = place.from.index
 
--- the same of the place of this number
+-- the transition at which one goes off along the place of this number
 abbrev pub near_of : Way → NetLists → PlaceId → ℕ
 near_of way net p = near_in way (place_at net p)
 

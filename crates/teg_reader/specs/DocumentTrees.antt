@@ -21,15 +21,15 @@ abbrev pub or_else : {A : Type 0} → Option A → Option A → Option A
 or_else (Some x) other = Some x
 or_else None other = other
 
--- it is a text
+-- the value is a text
 abbrev pub is_text : Data → Bool
 is_text d = is_some (as_str d)
 
--- it is an integer
+-- the value is an integer
 abbrev pub is_integer : Data → Bool
 is_integer d = is_some (as_integer d)
 
--- it is a table
+-- the value is a table
 abbrev pub is_table : Data → Bool
 is_table d = is_some (as_table d)
 
@@ -37,7 +37,7 @@ is_table d = is_some (as_table d)
 abbrev pub elements_of : Data → Option (List Data)
 elements_of d = option_map listed_data (as_array d)
 
--- it is an integer from low to high
+-- the value is an integer from low to high
 abbrev pub is_between : ℕ → ℕ → Data → Bool
 is_between low high (integer (pos n)) = nat_le low n && nat_le n high
 is_between low high _ = false

@@ -37,7 +37,7 @@ name_of transitions id = option_map_or (λ t. t.name) (slice_get transitions id.
 unfoldable pub transition_entry : Transition → Data
 transition_entry t = table (member (key_text key.Name) (string t.name) (member (key_text key.Role) (string (role_text t.role)) no_members))
 
--- with the ready dates, where there are any
+-- the members of a table with the ready dates before them, where there are any
 abbrev pub with_ready : List ℕ → Members → Members
 with_ready [] ms = ms
 with_ready (d ∷ ds) ms = member (key_text key.Ready) (numbers_data (d ∷ ds)) ms
@@ -52,7 +52,7 @@ place_entry transitions p =
     (member (key_text key.To) (string (name_of transitions p.to))
     (member (key_text key.Tokens) (number_data p.tokens) no_members))))))
 
--- with `every` and `gap`, where the list goes on
+-- the members of a table with `every` and `gap` before them, where the list goes on
 abbrev pub with_again : Option Again → Members → Members
 with_again None ms = ms
 with_again (Some a) ms = member (key_text key.Every) (number_data a.every) (member (key_text key.Gap) (number_data a.gap) ms)
@@ -64,7 +64,7 @@ input_entry transitions l =
     (with_again l.again
     (member (key_text key.Transition) (string (name_of transitions l.transition)) no_members)))
 
--- with the entries of a section, where there are any
+-- the members of a file with the entries of a section before them, where there are any
 abbrev pub with_entries : Key → List Data → Members → Members
 with_entries key [] ms = ms
 with_entries key (d ∷ ds) ms = member (key_text key) (array (items_of (d ∷ ds))) ms

@@ -12,11 +12,11 @@ use Rattle.teg_reader.specs.Fields.{fields_of}
 use Rattle.teg_reader.specs.DocumentTrees.{data_at, elements_of, is_text, is_integer, is_table}
 use Rattle.teg_reader.specs.PassWalks.{Look}
 
--- it is an array whose elements all pass the test
+-- the value is an array whose elements all pass the test
 abbrev pub is_array_of : (Data → Bool) → Data → Bool
 is_array_of test d = option_map_or (list_all test) (elements_of d) false
 
--- it is of this kind
+-- the value is of this kind
 unfoldable pub is_kind : Kind → Data → Bool
 is_kind Text d = is_text d
 is_kind Integer d = is_integer d

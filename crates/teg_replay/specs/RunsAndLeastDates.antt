@@ -20,7 +20,8 @@ pub record StandsTo (net : NetLists) (x : ℕ → ℕ → Date) (run : List Fire
   pub not_early : IsAtMostDate (x firing.transition firing.number) (At (pos firing.date))
   pub earliest : IsDatedBy net x run → x firing.transition firing.number ≡ At (pos firing.earliest)
 
--- so it stands to the least dating of a live net
+-- the firing stands so to the least dating of a live net: no earlier than its date there, and where all before it came at theirs,
+-- with that as its earliest date
 abbrev pub StandsToLeastDates : NetLists → List Fired → Firing → Type 0
 StandsToLeastDates net run firing = IsLive net → (x : ℕ → ℕ → Date) → IsLeastDating net x → StandsTo net x run firing
 

@@ -79,7 +79,6 @@ pub fn replay(
 ) -> Result<Replayed, OutOfMemory>
     requires few { length log.now < 2 ^ 40 }
     requires rows { IsLogOf net.now log.now }
-
     ensures replayed { Replays net.now log.now (λ firings. map (λ m. line_text m firings)
         monitors.old) (λ firings. map (λ m. line_text m firings) monitors.new) result }
     ensures named { IfOk result (λ replayed. IfSome replayed.refused

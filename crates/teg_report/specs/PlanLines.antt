@@ -137,7 +137,7 @@ pub record IsLateIn (net : NetLists) (late : LateLists) : Type 0 where
   pub transition : late.transition.index < length net.transitions
   pub path : IsPathIn net late.from late.first late.steps
 
--- such a firing, where one is told
+-- a firing is told that is later than due, with a transition of the net and a walk in it
 abbrev pub IsLatePlanTold : NetLists → Option LateLists → Type 0
 IsLatePlanTold net None = ⊥
 IsLatePlanTold net (Some late) = IsLateIn net late
@@ -160,7 +160,7 @@ pub record AreLateNumbers (late : LateLists) : Type 0 where
   pub start : IsWord64 late.start
   pub first : IsWord64 late.first
 
--- such a firing is told; it is not want of memory
+-- the numbers of a firing are told that is later than due; it is not want of memory
 abbrev pub IsLateKept : Option LateLists → Type 0
 IsLateKept None = ⊥
 IsLateKept (Some late) = AreLateNumbers late

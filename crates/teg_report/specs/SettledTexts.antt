@@ -22,7 +22,7 @@ pub record TimesTo : Type 0 where
   pub dates : List Date
   pub step : ℤ
 
--- from one input to each output
+-- from one input to each output: the greatest times of walks from its first firing, with their number and their period
 pub record TimesFrom : Type 0 where
   pub from : TransitionId
   pub after : ℕ

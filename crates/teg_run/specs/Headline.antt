@@ -38,7 +38,7 @@ use Rattle.teg_commands.specs.CommandTexts.{usage, read_text, token_free_text, t
 abbrev pub EndsLost : Call → Type 0
 EndsLost call = Finished call.sink_before call.sink_after Lost call.status
 
--- with this status and the whole of this text, unless writing or memory failed first
+-- the call ends with this status and the whole of this text, unless writing or memory failed first
 abbrev pub Ends : Call → Status → List ℕ → Type 0
 Ends call wanted text = Finished call.sink_before call.sink_after (Whole wanted text) call.status ⊎ EndsLost call
 

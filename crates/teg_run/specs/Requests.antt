@@ -39,7 +39,7 @@ abbrev pub number_limit : Option (List ℕ) → Option ℕ
 number_limit None = Some usual_limit
 number_limit (Some word) = number_of_word 1 greatest_limit word
 
--- the same, or no limit where the word is `none`
+-- the limit of a settled form: a number, the usual one where no word is given, or no limit where the word is `none`
 abbrev pub limit_asked : Option (List ℕ) → Option (Option ℕ)
 limit_asked None = Some (Some usual_limit)
 limit_asked (Some word) = if bytes_eq word (codes "none") then Some None else option_map (λ limit. Some limit) (number_of_word 1 greatest_limit word)

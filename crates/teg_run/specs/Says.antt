@@ -48,7 +48,7 @@ SaysNet MigrateNet = SaysMigrate
 SaysNet (SizeNet word target) = SaysSize word target.0 target.1
 SaysNet BoundNet = SaysBound
 
--- this status and this text
+-- the call ends with this status and this text
 abbrev pub Said : Status → List ℕ → Status → List ℕ → Type 0
 Said status text status' text' = (status' ≡ status) × (text' ≡ text)
 

@@ -18,10 +18,10 @@ released_alone input t k = if input == t then At (pos 0) else Early
 abbrev pub alone : NetLists → ℕ → System
 alone net input = system_with net (initial_by Absent) (released_alone input)
 
--- the shortest form of its least dating
+-- the shortest form of the least dating of the net in which the input alone is released
 abbrev pub IsAloneForm : NetLists → ℕ → SettledForm → Type 0
 IsAloneForm net input f = (x : ℕ → ℕ → Date) × IsLeastIn (alone net input) x × IsShortestForm (length net.transitions) f x
 
--- its least dating goes on past no number and in no period of at most this sum
+-- the least dating of the net in which the input alone is released goes on past no number and in no period of at most this sum
 abbrev pub AloneSettlesPast : NetLists → ℕ → ℕ → Type 0
 AloneSettlesPast net input limit = (x : ℕ → ℕ → Date) × IsLeastIn (alone net input) x × RepeatsPast (length net.transitions) x limit

@@ -1,4 +1,5 @@
--- Working definitions of what rows of the least dating show of a period.
+-- Working definitions of what rows of the least dating show of a period. The contract of `shown_form` cites `most_window`
+-- and rests on `read_step`; no other of them stands below the contract of a public call.
 use Rattle.std.specs.Prelude.{ℕ, ℤ, ◌+◌, ◌-◌, ◌^◌, ◌<◌, ◌≤◌, ◌≤ℤ◌, ◌≡◌, ◌⊎◌, List, length, All}
 use Rattle.periodic_laws.specs.dioid.declared.dates.Date.{Date}
 use Rattle.periodic_laws.specs.dioid.declared.dates.Date.TheVariants.{Early, Never}
@@ -43,7 +44,7 @@ IsRisingPlace rows period p =
 abbrev pub IsMovedAt : TableDates → ℕ → ℕ → Type 0
 IsMovedAt rows period k = (t : ℕ) → t < rows.width → date_at rows t (k + period) ≡ move (read_step rows period t) (date_at rows t k)
 
--- so it is past `after`, as far as the rows go
+-- a period after each number past `after` each date has moved by its step, as far as the rows go
 abbrev pub IsMovedPast : TableDates → ℕ → ℕ → Type 0
 IsMovedPast rows period after = (k : ℕ) → after < k → k + period ≤ rows.count → IsMovedAt rows period k
 
@@ -51,7 +52,7 @@ IsMovedPast rows period after = (k : ℕ) → after < k → k + period ≤ rows.
 abbrev pub GoesOnBy : (ℕ → Date) → ℕ → ℕ → ℤ → Type 0
 GoesOnBy u after period step = (k : ℕ) → after < k → u (k + period) ≡ move step (u k)
 
--- so do the releases of each transition by its step
+-- past `after` the releases of each transition go on by its step in each period
 abbrev pub AreReleasedAlike : NetLists → Releases → TableDates → ℕ → ℕ → Type 0
 AreReleasedAlike net r rows period after =
     (t : ℕ) → t < length net.transitions → GoesOnBy (release_by r.waits.items net t) after period (read_step rows period t)
@@ -91,7 +92,8 @@ pub record IsSeenFrom (net : NetLists) (r : Releases) (rows : TableDates) (most 
   pub first : (x : ℕ → ℕ → Date) → IsLeastIn (system_for r net) x → 1 ≤ after
       → ((t : ℕ) → t < length net.transitions → x t (after + period) ≡ move (read_step rows period t) (x t after)) → ⊥
 
--- so with the least period, and from the least number on
+-- past the number of the repetition, and in its period, the least dates go on by the steps of the rows; no less period does, and
+-- no less number
 pub record IsSeen (net : NetLists) (r : Releases) (rows : TableDates) (f : Repetition) : Type 0 where
   pub fits : f.after + f.period + f.period ≤ rows.count
   pub repeats : (x : ℕ → ℕ → Date) → IsLeastIn (system_for r net) x → RepeatsAfter (length net.transitions) x f.after f.period (read_step rows f.period)
@@ -114,6 +116,6 @@ IsLeastForm net r f = (x : ℕ → ℕ → Date) × IsLeastIn (system_for r net)
 abbrev pub RepeatsPast : ℕ → (ℕ → ℕ → Date) → ℕ → Type 0
 RepeatsPast count x limit = (after period : ℕ) (step : ℕ → ℤ) → RepeatsAfter count x after period step → limit < after + period
 
--- so it is with the least dating
+-- each number past which the least dating goes on, and the period in which it does, exceed this together
 abbrev pub LeastSettlesPast : NetLists → Releases → ℕ → Type 0
 LeastSettlesPast net r limit = (x : ℕ → ℕ → Date) × IsLeastIn (system_for r net) x × RepeatsPast (length net.transitions) x limit

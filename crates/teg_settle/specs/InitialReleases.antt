@@ -1,5 +1,7 @@
 -- Working definitions of what firings wait for beside the tokens of earlier firings: the net's own initial tokens and
--- input lists, or one input alone.
+-- input lists, or one input alone. The ghost members of `Releases` are `initial_by` and `release_by`, and the contract
+-- of `own_releases` rests on `AreWaits` and `wait_of`; no other of them stands below the contract of a public call, but
+-- those that these name.
 use Rattle.std.specs.Prelude.{ℕ, ◌+◌, ◌<◌, ◌≤◌, ◌≡◌, ◌==◌, if◌then◌else◌, List, Option, Some, None, length, slice_get, slice_index_or}
 use Rattle.std.specs.List.{position_or_len}
 use Rattle.periodic_laws.specs.dioid.declared.dates.Date.{Date}
@@ -45,7 +47,7 @@ release_by waits net t k = release_as net (wait_in waits t) k
 abbrev pub system_for : Releases → NetLists → System
 system_for r net = system_with net (initial_by r.tokens) (release_by r.waits.items net)
 
--- there is one for each transition of the net
+-- the list has what f gives for each transition of the net
 pub record AreWaits (net : NetLists) (f : ℕ → Wait) (waits : List Wait) : Type 0 where
   pub count : length waits ≡ length net.transitions
   pub each : (t : ℕ) → t < length net.transitions → wait_in waits t ≡ f t
@@ -60,7 +62,7 @@ wait_by_role Internal list = Nothing
 wait_by_role Input list = Dates list
 wait_by_role Output list = Nothing
 
--- the same of a transition that may be missing, which waits for nothing
+-- what a transition waits for by its role; one that is missing waits for nothing
 abbrev pub wait_by : Option Transition → ℕ → Wait
 wait_by None list = Nothing
 wait_by (Some t) list = wait_by_role t.role list

@@ -4,8 +4,8 @@ use Rattle.periodic_laws.specs.teg_net.Limits.{most_transitions, greatest_firing
 use Rattle.periodic_laws.specs.teg_model.DateBounds.{IsDateWithin, greatest_least_date}
 use Rattle.periodic_laws.specs.settled_laws.SettledForms.{SettledForm, settled_length, settled_date, HasSizes}
 
--- as many dates and a step for each of a net's transitions; and no date that it tells, up to the greatest number, is below 0
--- or past what no least date of a net exceeds
+-- the form has as many dates and a step for each of a net's transitions; and no date that it tells, up to the greatest number, is
+-- below 0 or past what no least date of a net exceeds
 pub record IsFormKept (f : SettledForm) : Type 0 where
   pub sizes : HasSizes (length f.rows) f
   pub few : length f.rows ≤ most_transitions

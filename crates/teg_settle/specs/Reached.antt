@@ -18,7 +18,7 @@ begins_marked marks p = is_marked marks p.from.index
 abbrev pub ReachLeadsOn : NetLists → List Bool → Type 0
 ReachLeadsOn net marks = All (λ p. IsTrue (begins_marked marks p) → IsTrue (is_marked marks p.to.index)) net.places
 
--- so it is, and the input is marked
+-- the input is marked, and each place that begins at a marked transition leads to one
 pub record IsReachClosed (net : NetLists) (input : ℕ) (marks : List Bool) : Type 0 where
   pub begins : IsTrue (is_marked marks input)
   pub leads_on : ReachLeadsOn net marks

@@ -15,7 +15,7 @@ shown_dates rows count t = map (λ k. date_at rows t (k + 1)) (range_with_len 0 
 abbrev pub shown_form : TableDates → Repetition → List ℤ → SettledForm
 shown_form rows f steps = record { after = f.after; period = f.period; rows = map (shown_dates rows (f.after + f.period)) (range_with_len 0 rows.width); steps = steps }
 
--- it keeps the limits of a form in memory, and the rows go as far
+-- the form that the rows show keeps the limits of a form in memory, and the rows go as far
 pub record IsShown (rows : TableDates) (f : Repetition) (steps : List ℤ) : Type 0 where
   pub kept : IsFormKept (shown_form rows f steps)
   pub fits : f.after + f.period ≤ rows.count

@@ -13,7 +13,7 @@ use Rattle.teg_settle.specs.declared.releases.Repetition.{Repetition}
 use Rattle.teg_settle.specs.InitialReleases.{AreWaits, wait_of}
 use Rattle.teg_settle.specs.ComparedRows.{read_step}
 
--- they are the ready dates and the input lists of the net
+-- the releases are the ready dates and the input lists of the net
 pub record AreOwnReleases (net : NetLists) (r : Releases) : Type 0 where
   pub tokens : r.tokens ≡ Ready
   pub waits : AreWaits net (wait_of net) r.waits.items

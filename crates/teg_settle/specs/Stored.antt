@@ -13,7 +13,7 @@ stored_form after period rows steps own = record {
   steps = map (λ i. slice_index_or steps i (pos 0)) own;
 }
 
--- it keeps the limits of a form in memory, and there are such rows, and a step for each
+-- the form that is stored keeps the limits of a form in memory, and there are such rows, and a step for each
 pub record IsStored (after period : ℕ) (rows : List (List Date)) (steps : List ℤ) (own : List ℕ) : Type 0 where
   pub kept : IsFormKept (stored_form after period rows steps own)
   pub rows_in : All (λ i. i < length rows) own

@@ -18,10 +18,10 @@ pub record IsGreatestWalkTime (net : NetLists) (input t k : ℕ) (d : Date) : Ty
 abbrev pub AreWalkTimes : NetLists → ℕ → (ℕ → ℕ → Date) → Type 0
 AreWalkTimes net input x = (t k : ℕ) → t < length net.transitions → 1 ≤ k → IsGreatestWalkTime net input t k (x t k)
 
--- the shortest form that stands for them
+-- the shortest form that stands for the greatest times of walks from the first firing of the input
 abbrev pub IsTransferOf : NetLists → ℕ → SettledForm → Type 0
 IsTransferOf net input f = (x : ℕ → ℕ → Date) × AreWalkTimes net input x × IsShortestForm (length net.transitions) f x
 
--- they have no form of at most this length
+-- the greatest times of walks from the first firing of the input have no form of at most this length
 abbrev pub TransferSettlesPast : NetLists → ℕ → ℕ → Type 0
 TransferSettlesPast net input limit = (x : ℕ → ℕ → Date) × AreWalkTimes net input x × SettlesPast (length net.transitions) x limit

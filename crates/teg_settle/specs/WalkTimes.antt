@@ -9,10 +9,10 @@ use Rattle.teg_settle.specs.Transfers.{IsTransferOf, TransferSettlesPast}
 abbrev pub WalkTimesSettle : Type 0
 WalkTimesSettle = (net : NetLists) → IsNet net → IsLive net → (input : ℕ) → IsInput net input → (f : SettledForm) × IsTransferOf net input f
 
--- they have one shortest form
+-- the greatest times of walks from the first firing of an input have one shortest settled form
 abbrev pub TransfersAreOne : Type 0
 TransfersAreOne = (net : NetLists) (input : ℕ) (f g : SettledForm) → IsTransferOf net input f → IsTransferOf net input g → f ≡ g
 
--- and where each form is longer than a limit, so is this one
+-- where each form of the times of walks from an input is longer than a limit, so is the shortest one
 abbrev pub TransferLimitsAreTold : Type 0
 TransferLimitsAreTold = (net : NetLists) (input limit : ℕ) (f : SettledForm) → IsTransferOf net input f → TransferSettlesPast net input limit → limit < settled_length f

@@ -7,7 +7,7 @@ use Rattle.teg_settle.specs.declared.witness.Witness.{Witness}
 use Rattle.teg_settle.specs.declared.witness.Witness.TheVariants.{Fall, Firing, Release}
 use Rattle.teg_settle.specs.ComparedRows.{IsRisingPlace, IsMovedPast, AreReleasedAlike}
 
--- it shows that this period fails a test: that the step falls along no place, or that past `after` the dates, or the
+-- the witness shows that this period fails a test: that the step falls along no place, or that past `after` the dates, or the
 -- releases, of the rows move by their steps
 abbrev pub Refutes : NetLists → Releases → TableDates → ℕ → ℕ → Witness → Type 0
 Refutes net r rows period after (Fall place) = All (IsRisingPlace rows period) net.places → ⊥

@@ -3,19 +3,19 @@
 //!
 //! [`settle_within`] answers the shortest form of the least dating of a net, or that its length
 //! exceeds a limit; [`settle`] the same form whatever its length, which every live net has;
-//! [`transfer`] that of the greatest times of walks from an input, within a limit. A [`Settled`] has
-//! a number, a period, and for each transition the dates up to the end of the first period past that
-//! number and a step; contracts see it as a `SettledForm`. It tells the date of every number. [`settle_dates`]
-//! and [`settle_dates_within`] answer the same form as the rows that show it, for callers that ask for
-//! some of its dates: [`SettledDates`] takes a quarter of the memory. [`shown_form`] is the step of the
-//! search for rows of one's own: it takes no memory, and so many rows as the lists of the net tell
-//! always show a form.
+//! [`transfer`] that of the greatest times of walks from an input, within a limit. A [`Settled`]
+//! has a number, a period, and for each transition the dates up to the end of the first period past
+//! that number and a step; contracts see it as a `SettledForm`. It tells the date of every number.
+//! [`settle_dates`] and [`settle_dates_within`] answer the same form as the rows that show it, for
+//! callers that ask for some of its dates: [`SettledDates`] takes a quarter of the memory.
+//! [`shown_form`] is the step of the search for rows of one's own: it takes no memory, and so many
+//! rows as the lists of the net tell always show a form.
 //!
-//! Rows of dates are made until they show a form: in its last period no step falls along a place, the
-//! dates before move alike, and so do the releases of the inputs. The crate stands on `teg_dates` for
-//! rows, on `teg_check` for ranks, on `settled_laws` for what settled forms are and what rows tell, on
-//! `periodic_laws` for that there is one, on `slope_laws` for their slopes, on `teg_model` for
-//! datings, and on `dioid` for dates.
+//! Rows of dates are made until they show a form: in its last period no step falls along a place,
+//! the dates before move alike, and so do the releases of the inputs. The crate stands on
+//! `teg_dates` for rows, on `periodic_laws` for that there is a settled form, on `slope_laws` for
+//! its slopes, on `settled_laws` for what settled forms are and what rows tell, on `teg_check` for
+//! ranks, on `teg_model` for datings, on `teg_net` for nets, and on `dioid` for dates.
 //! Its examples stand in `worked_examples`.
 #![tactic(auto)]
 

@@ -64,6 +64,7 @@ pub data SaidSizing : Type 0 where
   SizingSaid : (p : PlaceId) (r : Fraction) (s : ToldSizing) → SaidSizing
   NoPlaceSaid : (name : List ℕ) → SaidSizing
 
+-- the lines of what is said of a net: of an answer about a place, or that no place has this name
 abbrev pub said_lines : NetLists → SaidSizing → List (List (List ℕ))
 said_lines net (SizingSaid p r s) = sizing_lines net p r s
 said_lines net (NoPlaceSaid name) = no_place_lines name

@@ -51,7 +51,7 @@ pub record IsToldMore (cells : List ValueCell) (t : ℕ) : Type 0 where
   pub place : PlaceId
   pub by : by_at cells t ≡ Some place
 
--- of no transition it does
+-- the round tells of no transition more than the one before
 abbrev pub NoneIsBetter : List ValueCell → Type 0
 NoneIsBetter cells = (t : ℕ) → t < length cells → by_at cells t ≡ None
 

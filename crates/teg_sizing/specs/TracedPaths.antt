@@ -12,7 +12,7 @@ pub record AreOfNet (net : NetLists) (rounds : List (List ValueCell)) : Type 0 w
   pub counts : (k : ℕ) → k < length rounds → length (round_at rounds k) ≡ length net.transitions
   pub places : (k t : ℕ) (p : PlaceId) → k < length rounds → by_at (round_at rounds k) t ≡ Some p → p.index < length net.places
 
--- the same where no place is told, and what the place makes of it where one is
+-- what there was where no place is told, and what the place makes of it where one is
 abbrev pub by_place : Option PlaceId → List PlaceId → (PlaceId → List PlaceId) → List PlaceId
 by_place None same made = same
 by_place (Some p) same made = made p
@@ -49,7 +49,7 @@ pub record IsLeftBefore (net : NetLists) (ps : List PlaceId) (before position : 
   pub before_it : before < position
   pub same : transition_left_at net ps before ≡ transition_left_at net ps position
 
--- no earlier place does
+-- no earlier place leaves the same transition
 abbrev pub NoneLeaves : NetLists → List PlaceId → ℕ → Type 0
 NoneLeaves net ps position = (k : ℕ) → k < position → transition_left_at net ps k ≢ transition_left_at net ps position
 

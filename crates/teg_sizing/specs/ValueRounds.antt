@@ -60,7 +60,7 @@ pub record IsOffered (r : Fraction) (except : PlaceId) (before : List ValueCell)
   pub told : value_told before place.from.index ≡ Some start
   pub is : offered ≡ start +ℤ reduced_time_of_place r place
 
--- the same values, by no place
+-- the values are the same as before, by no place
 pub record AreFresh (before cells : List ValueCell) : Type 0 where
   pub count : length cells ≡ length before
   pub same : (t : ℕ) → value_told cells t ≡ value_told before t

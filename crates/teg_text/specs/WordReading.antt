@@ -89,7 +89,7 @@ first_byte word =
 abbrev pub first_length : List ℕ → ℕ
 first_length word = if get_or word 0 0 == 0x5C then (if get_or word 1 0 == 0x5C then 2 else 4) else 1
 
--- so many bytes of a label, where it has them
+-- the first n bytes of a label, as far as the word has them
 abbrev pub bytes_in : ℕ → List ℕ → List ℕ
 bytes_in zero word = []
 bytes_in (suc n) [] = []

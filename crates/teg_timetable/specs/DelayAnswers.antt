@@ -72,7 +72,8 @@ IsSettlingRefusal net limit (Unworkable place) = ⊥
 IsSettlingRefusal net limit (TooLong l) = (limit ≡ Some l) × NetSettlesPast net l
 IsSettlingRefusal net limit OutOfMemory = ⊤
 
--- the same of delayed dates and releases
+-- the search for a settled form of delayed dates and releases gives up for a limit that is given and that each form exceeds, or
+-- for want of memory
 abbrev pub DelaysExceedLimit : NetLists → ℕ → Timetable → Option ℕ → DelayRefusal → Type 0
 DelaysExceedLimit net period t limit (TooLarge transitions places) = ⊥
 DelaysExceedLimit net period t limit (Unworkable place) = ⊥

@@ -33,7 +33,7 @@ departure_number (Late delay) = delay.number
 abbrev pub is_about : ℕ → ℕ → TableEntry → Bool
 is_about t n e = (transition_in_entry e == t) && (departure_number e == n)
 
--- one of these entries does
+-- one of the entries gives the first departure of this transition, at number 0, or delays its departure of this number
 abbrev pub has_entry : List TableEntry → ℕ → ℕ → Bool
 has_entry entries t n = list_any (is_about t n) entries
 

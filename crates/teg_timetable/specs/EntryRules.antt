@@ -15,7 +15,7 @@ IsEntryOf net (Late delay) = IsDelayOf net delay
 abbrev pub Differ : TableEntry → TableEntry → Type 0
 Differ d e = (transition_in_entry d ≢ transition_in_entry e) ⊎ (departure_number d ≢ departure_number e)
 
--- such entries, no two about the same
+-- entries of the net, no two of them about the same transition and number
 pub record AreEntriesOf (net : NetLists) (entries : List TableEntry) : Type 0 where
   pub each : All (IsEntryOf net) entries
   pub once : AllPairs Differ entries

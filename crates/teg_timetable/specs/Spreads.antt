@@ -49,7 +49,7 @@ planned_date s i k = slice_index s.firsts i + s.every * (k - 1)
 abbrev pub delay_left : LeftDelays → ℕ → ℕ → ℕ
 delay_left s i k = natural_of_date (settled_date s.form i k) - planned_date s i k
 
--- the same of how delays spread
+-- the delay that is left at departure k of transition i, by how delays spread
 abbrev pub delay_by_spread : Spread → ℕ → ℕ → ℕ
 delay_by_spread s i k = delay_left (left_in s) i k
 

@@ -46,7 +46,7 @@ abbrev pub table_with : Result (List ℕ) TableRefusal → List Delay → Result
 table_with (Ok firsts) delays = Ok (record { firsts = firsts; delays = delays })
 table_with (Err why) delays = Err why
 
--- the same of entries that may be refused
+-- the timetable of the entries in a net of `count` transitions, or why the file is refused
 abbrev pub timetable_or_refusal : Result (List TableEntry) TableRefusal → ℕ → Result TableLists TableRefusal
 timetable_or_refusal (Ok entries) count = table_with (firsts_of entries count) (delays_of entries)
 timetable_or_refusal (Err why) count = Err why

@@ -54,7 +54,7 @@ pub record IsDerivedTransition (n k : ℕ) (t : Transition) : Type 0 where
   pub own : k < n → t.role ≡ Internal
   pub input : n ≤ k → t.role ≡ Input
 
--- its place k: one of the net's, or that from an input to its transition
+-- place k of a net with releases as inputs: one of the net's, or that from an input to its transition
 pub record IsDerivedPlace (net : NetLists) (k : ℕ) (p : Place) : Type 0 where
   pub name : IsNumberName k p.name
   pub own : k < length net.places → p ≡ record (place_at net (record { index = k })) { name = p.name }
@@ -95,7 +95,7 @@ pub record FeedsAt (net : NetLists) (period : ℕ) (t : Timetable) (tops : List 
   pub from : slice_index tops (from_of net p) ≡ most
   pub to : slice_index tops (to_of net p) ≡ most
 
--- such a place that leads to transition i
+-- a place by which delays are passed on to transition i
 pub record IsFeeder (net : NetLists) (period : ℕ) (t : Timetable) (tops : List ℕ) (most i : ℕ) (p : PlaceId) : Type 0 where
   pub feeds : FeedsAt net period t tops most p
   pub ends : to_of net p ≡ i

@@ -1,14 +1,14 @@
 //! How delays spread through a timetable (chapters 2 and 3).
 //!
 //! [`read_timetable`] answers the timetable that a file says of a net, or its first faulty row with
-//! the first of its faults. [`spread`] follows its delays: a [`Delayed`] tells the delay that is left
-//! at each departure, past which number the delays go on in periods, and whether they die out or a
-//! circuit without spare time keeps them. [`spread_text`], [`table_refusal_text`] and
-//! [`delay_refusal_text`] are the texts of answers; different ones about one net have different texts.
-//! The dates are settled as those of a net in which each departure also waits for an input of its own.
-//! The crate stands on `delay_laws` for what delays are, on `teg_settle` for settled forms, on
-//! `teg_net` and `teg_check` for nets, on `csv_records` for the reader of rows, and on `teg_text`
-//! for texts.
+//! the first of its faults. [`spread`] follows its delays: a [`Delayed`] tells the delay that is
+//! left at each departure, past which number the delays go on in periods, and whether they die out
+//! or a circuit without spare time keeps them. [`spread_text`], [`table_refusal_text`] and
+//! [`delay_refusal_text`] are the texts of answers; different ones about one net have different
+//! texts. The dates are settled as those of a net in which each departure also waits for an input
+//! of its own. The crate stands on `delay_laws` for what delays are, on `teg_settle` and
+//! `settled_laws` for settled forms, on `teg_due` and `csv_records` for the reader of rows, on
+//! `teg_text` for texts, on `teg_net` and `teg_check` for nets, and on `dioid` for dates.
 //! Its examples stand in `worked_examples`.
 #![tactic(auto)]
 
