@@ -14,4 +14,3 @@ pub use laws::{
     common_multiples_exist, dates_go_on_past_the_bound, forms_keep_the_bound,
     still_nets_stay_at_zero,
 };
-pub use settled_laws::teg_net;

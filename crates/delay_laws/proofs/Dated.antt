@@ -10,8 +10,8 @@ use Rattle.periodic_laws.specs.dioid.Dates.{IsAtMostDate}
 use Rattle.periodic_laws.specs.dioid.DateOrder.{Le}
 use Rattle.periodic_laws.proofs.dioid_proofs.AtMost.{le_is, le_trans, le_never, le_antisym}
 use Rattle.periodic_laws.proofs.dioid_proofs.Moves.{at_inj}
-use Rattle.periodic_laws.specs.teg_net.declared.entries.Place.{Place}
-use Rattle.periodic_laws.specs.teg_net.Nets.{NetLists}
+use Rattle.teg_net.specs.declared.entries.Place.{Place}
+use Rattle.teg_net.specs.Nets.{NetLists}
 use Rattle.periodic_laws.specs.teg_model.Systems.{System, available_in, IsFeasibleIn, IsLeastIn}
 use Rattle.periodic_laws.specs.teg_model.LiveRanks.{HasEndsInRange, IsRanked}
 use Rattle.periodic_laws.specs.teg_model.Datings.{extended_places, initial_date, system_with}

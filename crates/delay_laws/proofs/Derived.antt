@@ -4,10 +4,10 @@ use Rattle.std.specs.Prelude.{All, ◌⊎◌}
 use Rattle.std.proofs.lemmas.Bool.{cases_lt}
 use Rattle.std.proofs.lemmas.List.Elements.{All-cons, All-tail}
 use Rattle.std.proofs.lemmas.List.Sums.{sum_by-cons}
-use Rattle.periodic_laws.specs.teg_net.declared.entries.PlaceId.{PlaceId}
-use Rattle.periodic_laws.specs.teg_net.Nets.{NetLists}
-use Rattle.periodic_laws.specs.teg_net.Circuits.{place_at, from_of, IsPathBetween, IsCircuit, tokens_of, IsLive}
-use Rattle.periodic_laws.specs.teg_net.Parts.{to_of}
+use Rattle.teg_net.specs.declared.entries.PlaceId.{PlaceId}
+use Rattle.teg_net.specs.Nets.{NetLists}
+use Rattle.teg_net.specs.Circuits.{place_at, from_of, IsPathBetween, IsCircuit, tokens_of, IsLive}
+use Rattle.teg_net.specs.Parts.{to_of}
 use Rattle.periodic_laws.specs.teg_model.LiveRanks.{HasEndsInRange}
 use Rattle.delay_laws.specs.declared.table.Timetable.{Timetable}
 use Rattle.delay_laws.specs.ReleaseNets.{IsSamePlace, release_place, IsReleaseNet}

@@ -9,10 +9,10 @@ use Rattle.periodic_laws.specs.dioid.declared.dates.Date.TheVariants.{At}
 use Rattle.periodic_laws.specs.dioid.Dates.{IsAtMostDate, delayed}
 use Rattle.periodic_laws.specs.dioid.DateOrder.{Le}
 use Rattle.periodic_laws.proofs.dioid_proofs.AtMost.{le_refl, le_is, le_trans, le_antisym}
-use Rattle.periodic_laws.specs.teg_net.declared.entries.Place.{Place}
-use Rattle.periodic_laws.specs.teg_net.declared.entries.PlaceId.{PlaceId}
-use Rattle.periodic_laws.specs.teg_net.Nets.{NetLists, IsNet}
-use Rattle.periodic_laws.specs.teg_net.Circuits.{no_place, place_at, IsLive}
+use Rattle.teg_net.specs.declared.entries.Place.{Place}
+use Rattle.teg_net.specs.declared.entries.PlaceId.{PlaceId}
+use Rattle.teg_net.specs.Nets.{NetLists, IsNet}
+use Rattle.teg_net.specs.Circuits.{no_place, place_at, IsLive}
 use Rattle.periodic_laws.specs.teg_model.Systems.{available_in, IsFeasibleIn}
 use Rattle.periodic_laws.specs.teg_model.LiveRanks.{HasEndsInRange, IsRanked}
 use Rattle.periodic_laws.specs.teg_model.Datings.{implicit_place, initial_date, available_at, listed_releases, IsFeasibleUnder, IsLeastDating, system_with}
@@ -29,7 +29,7 @@ use Rattle.delay_laws.proofs.Releases.{release_rises}
 use Rattle.delay_laws.proofs.ReleaseLists.{lists_release}
 use Rattle.delay_laws.proofs.Derived.{which, leads_below, stays_live}
 use Rattle.delay_laws.proofs.Steps.{together_first, together_second}
-use Rattle.periodic_laws.proofs.settled_laws_proofs.Alike.{AreAlike}
+use Rattle.settled_laws.proofs.Alike.{AreAlike}
 
 -- ---- places and datings
 

@@ -2,10 +2,10 @@
 use Rattle.std.proofs.Common.{ℕ, ◌+◌, length, subst}
 use Rattle.periodic_laws.specs.teg_model.Datings.{listed_releases}
 use Rattle.periodic_laws.proofs.teg_model_proofs.DateFunctions.{Dating}
-use Rattle.periodic_laws.specs.settled_laws.SettledForms.{IsShortestForm, SettlesPast}
+use Rattle.settled_laws.specs.SettledForms.{IsShortestForm, SettlesPast}
 use Rattle.delay_laws.specs.Delays.{together}
 use Rattle.delay_laws.specs.SettlingLaws.{ReleaseNetsTellDelays}
-use Rattle.periodic_laws.proofs.settled_laws_proofs.Alike.{shortest_alike, past_alike}
+use Rattle.settled_laws.proofs.Alike.{shortest_alike, past_alike}
 use Rattle.delay_laws.proofs.DerivedDates.{beside, is_delayed, are_alike}
 
 pub release_nets_tell_delays : ReleaseNetsTellDelays

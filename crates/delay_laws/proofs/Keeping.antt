@@ -5,12 +5,12 @@ use Rattle.std.proofs.lemmas.Bool.{cases_lt}
 use Rattle.std.proofs.Math.Nat.{mul-le-mul_left}
 use Rattle.std.proofs.lemmas.List.{take-append-drop, get_or_default}
 use Rattle.std.proofs.lemmas.List.Elements.{All-append}
-use Rattle.periodic_laws.specs.teg_net.declared.entries.PlaceId.{PlaceId}
-use Rattle.periodic_laws.specs.teg_net.Nets.{NetLists}
-use Rattle.periodic_laws.specs.teg_net.Circuits.{from_of, IsCircuit}
-use Rattle.periodic_laws.specs.teg_net.Paths.{IsLowestAt}
-use Rattle.periodic_laws.proofs.teg_net_proofs.PathLaws.{IsPathBetween-in_range, no_id}
-use Rattle.periodic_laws.proofs.teg_net_proofs.Turning.{turned, turned_circuit, turned_lowest}
+use Rattle.teg_net.specs.declared.entries.PlaceId.{PlaceId}
+use Rattle.teg_net.specs.Nets.{NetLists}
+use Rattle.teg_net.specs.Circuits.{from_of, IsCircuit}
+use Rattle.teg_net.specs.Paths.{IsLowestAt}
+use Rattle.teg_net.proofs.PathLaws.{IsPathBetween-in_range, no_id}
+use Rattle.teg_net.proofs.Turning.{turned, turned_circuit, turned_lowest}
 use Rattle.periodic_laws.specs.teg_model.LiveRanks.{HasEndsInRange}
 use Rattle.teg_loops.specs.Loops.{EndsBelow}
 use Rattle.delay_laws.specs.DelayOutcomes.{HasNoSpare, HasDelayPast, IsGreatestPast}

@@ -7,17 +7,17 @@ use Rattle.periodic_laws.specs.dioid.declared.dates.Date.TheVariants.{At}
 use Rattle.periodic_laws.specs.dioid.Dates.{IsAtMostDate}
 use Rattle.periodic_laws.specs.dioid.DateOrder.{Le}
 use Rattle.periodic_laws.proofs.dioid_proofs.AtMost.{le_is, le_trans}
-use Rattle.periodic_laws.specs.teg_net.declared.entries.Place.{Place}
-use Rattle.periodic_laws.specs.teg_net.Nets.{NetLists}
-use Rattle.periodic_laws.specs.teg_net.Circuits.{no_place}
+use Rattle.teg_net.specs.declared.entries.Place.{Place}
+use Rattle.teg_net.specs.Nets.{NetLists}
+use Rattle.teg_net.specs.Circuits.{no_place}
 use Rattle.periodic_laws.specs.teg_model.Systems.{available_in}
 use Rattle.periodic_laws.specs.teg_model.LiveRanks.{HasEndsInRange}
 use Rattle.periodic_laws.specs.teg_model.Datings.{implicit_place, initial_date}
 use Rattle.periodic_laws.proofs.teg_model_proofs.OfNet.{implicit_is}
 use Rattle.periodic_laws.proofs.teg_model_proofs.Tokens.{implicit_gives}
 use Rattle.periodic_laws.proofs.teg_model_proofs.DateFunctions.{Dating}
-use Rattle.periodic_laws.specs.settled_laws.SettledForms.{NeverFalls}
-use Rattle.periodic_laws.specs.settled_laws.OneSettledForm.{ShortestFormsAreOne}
+use Rattle.settled_laws.specs.SettledForms.{NeverFalls}
+use Rattle.settled_laws.specs.OneSettledForm.{ShortestFormsAreOne}
 use Rattle.delay_laws.specs.declared.table.Timetable.{Timetable}
 use Rattle.delay_laws.specs.PlannedTimetables.{planned}
 use Rattle.delay_laws.specs.Delays.{IsDelayedBy, together}
@@ -25,7 +25,7 @@ use Rattle.delay_laws.specs.OneDelayForm.{FormsAreOfEach, FormsOfDelaysAreOne, D
 use Rattle.delay_laws.proofs.Releases.{release_rises}
 use Rattle.delay_laws.proofs.Dated.{delayed_datings_are_one, one_above, left_above}
 use Rattle.delay_laws.proofs.Steps.{together_first, together_second}
-use Rattle.periodic_laws.proofs.settled_laws_proofs.Alike.{AreAlike, shortest_alike}
+use Rattle.settled_laws.proofs.Alike.{AreAlike, shortest_alike}
 
 -- two delayed datings of a timetable are alike, with their releases
 datings_alike : (net : NetLists) (period : ℕ) (t : Timetable) (x w y v : Dating) → HasEndsInRange net → IsDelayedBy net period t x w → IsDelayedBy net period t y v

@@ -5,8 +5,8 @@ use Rattle.std.proofs.lemmas.Int.{ints}
 use Rattle.std.proofs.Math.Nat.{mul-le-mul_left}
 use Rattle.periodic_laws.specs.dioid.declared.dates.Date.TheVariants.{At}
 use Rattle.periodic_laws.proofs.dioid_proofs.Moves.{at_inj}
-use Rattle.periodic_laws.specs.teg_net.declared.entries.Place.{Place}
-use Rattle.periodic_laws.specs.teg_net.Circuits.{no_place}
+use Rattle.teg_net.specs.declared.entries.Place.{Place}
+use Rattle.teg_net.specs.Circuits.{no_place}
 use Rattle.periodic_laws.specs.teg_model.Systems.{available_in}
 use Rattle.periodic_laws.specs.teg_model.Datings.{implicit_place, extended_places, initial_date, system_with}
 use Rattle.periodic_laws.proofs.teg_model_proofs.OfNet.{which_place}

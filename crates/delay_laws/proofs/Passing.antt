@@ -3,9 +3,9 @@ use Rattle.std.proofs.Common.{ℕ, zero, suc, ◌+◌, ◌-◌, ◌*◌, ◌<◌
 use Rattle.std.specs.Prelude.{All, ◌⊎◌}
 use Rattle.std.proofs.lemmas.Bool.{cases_lt}
 use Rattle.std.proofs.lemmas.List.Elements.{All-cons}
-use Rattle.periodic_laws.specs.teg_net.declared.entries.Place.{Place}
-use Rattle.periodic_laws.specs.teg_net.Nets.{NetLists}
-use Rattle.periodic_laws.specs.teg_net.Circuits.{no_place}
+use Rattle.teg_net.specs.declared.entries.Place.{Place}
+use Rattle.teg_net.specs.Nets.{NetLists}
+use Rattle.teg_net.specs.Circuits.{no_place}
 use Rattle.periodic_laws.specs.teg_model.Systems.{System, available, IsLeastIn}
 use Rattle.periodic_laws.specs.teg_model.LiveRanks.{IsRanked}
 use Rattle.periodic_laws.specs.teg_model.Datings.{initial_date, system_with}

@@ -2,11 +2,11 @@
 use Rattle.std.proofs.Common.{ℕ, zero, suc, ◌+◌, ◌-◌, ◌*◌, ◌<◌, ◌≤◌, ◌≡◌, [], length, get_or, Option, Some, None, sym, ap, subst, ◌∙◌, arith, ⊎_elim}
 use Rattle.std.proofs.lemmas.Bool.{cases_lt}
 use Rattle.std.proofs.Math.Nat.{mul-le-mul_left}
-use Rattle.periodic_laws.specs.teg_net.declared.entries.Again.{Again}
-use Rattle.periodic_laws.specs.teg_net.declared.entries.InputList.{InputList}
-use Rattle.periodic_laws.specs.teg_net.Nets.{NetLists, IsNet}
-use Rattle.periodic_laws.specs.teg_net.Inputs.{moved_by, GoOnBy, IsInputDates, input_date}
-use Rattle.periodic_laws.proofs.teg_net_proofs.InputDates.{AreInputDates-input_date}
+use Rattle.teg_net.specs.declared.entries.Again.{Again}
+use Rattle.teg_net.specs.declared.entries.InputList.{InputList}
+use Rattle.teg_net.specs.Nets.{NetLists, IsNet}
+use Rattle.teg_net.specs.Inputs.{moved_by, GoOnBy, IsInputDates, input_date}
+use Rattle.teg_net.proofs.InputDates.{AreInputDates-input_date}
 use Rattle.periodic_laws.specs.teg_model.Datings.{as_date, listed_releases}
 use Rattle.delay_laws.specs.declared.table.Timetable.{Timetable}
 use Rattle.delay_laws.specs.PlannedTimetables.{planned, IsPastDelays}

@@ -6,7 +6,7 @@ use Rattle.std.proofs.lemmas.List.Elements.{All-cons}
 use Rattle.std.proofs.Math.Nat.{mul-le-mul_left, mul-le-mul_right}
 use Rattle.periodic_laws.specs.dioid.declared.dates.Date.{Date}
 use Rattle.periodic_laws.specs.dioid.declared.dates.Date.TheVariants.{At}
-use Rattle.periodic_laws.specs.teg_net.Nets.{NetLists}
+use Rattle.teg_net.specs.Nets.{NetLists}
 use Rattle.delay_laws.specs.declared.table.Delay.{Delay}
 use Rattle.delay_laws.specs.declared.table.Timetable.{Timetable}
 use Rattle.delay_laws.specs.PlannedTimetables.{planned, delay_given, AreDelaysUpTo, IsPastDelays}

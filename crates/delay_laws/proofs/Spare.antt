@@ -6,11 +6,11 @@ use Rattle.std.proofs.Math.Nat.{mul-le-mul_left}
 use Rattle.std.proofs.lemmas.List.{length-append, get_or_append_left, get_or-append_right}
 use Rattle.std.proofs.lemmas.List.Elements.{All-cons, All-tail}
 use Rattle.std.proofs.lemmas.List.Sums.{sum_by-cons}
-use Rattle.periodic_laws.specs.teg_net.declared.entries.PlaceId.{PlaceId}
-use Rattle.periodic_laws.specs.teg_net.Nets.{NetLists}
-use Rattle.periodic_laws.specs.teg_net.Circuits.{place_at, from_of, IsPathBetween, IsCircuit, time_of, tokens_of}
-use Rattle.periodic_laws.specs.teg_net.Parts.{to_of}
-use Rattle.periodic_laws.proofs.teg_net_proofs.PathLaws.{no_id}
+use Rattle.teg_net.specs.declared.entries.PlaceId.{PlaceId}
+use Rattle.teg_net.specs.Nets.{NetLists}
+use Rattle.teg_net.specs.Circuits.{place_at, from_of, IsPathBetween, IsCircuit, time_of, tokens_of}
+use Rattle.teg_net.specs.Parts.{to_of}
+use Rattle.teg_net.proofs.PathLaws.{no_id}
 use Rattle.teg_loops.specs.Loops.{EndsBelow, HasLoop}
 use Rattle.teg_loops.proofs.Straight.{looped}
 use Rattle.delay_laws.specs.declared.table.Timetable.{Timetable}

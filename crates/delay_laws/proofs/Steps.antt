@@ -9,11 +9,11 @@ use Rattle.periodic_laws.specs.dioid.declared.dates.Date.{Date}
 use Rattle.periodic_laws.specs.dioid.declared.dates.Date.TheVariants.{At}
 use Rattle.periodic_laws.specs.dioid.Dates.{move}
 use Rattle.periodic_laws.proofs.dioid_proofs.Moves.{at_inj}
-use Rattle.periodic_laws.specs.teg_net.Nets.{NetLists}
+use Rattle.teg_net.specs.Nets.{NetLists}
 use Rattle.periodic_laws.specs.teg_model.LiveRanks.{HasEndsInRange}
 use Rattle.periodic_laws.proofs.teg_model_proofs.DateFunctions.{Dating}
-use Rattle.periodic_laws.specs.settled_laws.SettledForms.{SettledForm, settled_date, StandsFor}
-use Rattle.periodic_laws.proofs.settled_laws_proofs.Telling.{form_tells}
+use Rattle.settled_laws.specs.SettledForms.{SettledForm, settled_date, StandsFor}
+use Rattle.settled_laws.proofs.Telling.{form_tells}
 use Rattle.delay_laws.specs.declared.table.Delay.{Delay}
 use Rattle.delay_laws.specs.declared.table.Timetable.{Timetable}
 use Rattle.delay_laws.specs.PlannedTimetables.{planned, IsWorkable}

@@ -8,7 +8,7 @@ use Rattle.periodic_laws.specs.dioid.declared.dates.Date.TheVariants.{At}
 use Rattle.periodic_laws.specs.dioid.Dates.{move}
 use Rattle.periodic_laws.specs.dioid.DateOrder.{Le}
 use Rattle.periodic_laws.proofs.dioid_proofs.AtMost.{le_is, le_trans}
-use Rattle.periodic_laws.specs.teg_net.Nets.{NetLists}
+use Rattle.teg_net.specs.Nets.{NetLists}
 use Rattle.periodic_laws.specs.teg_model.Datings.{initial_date}
 use Rattle.periodic_laws.proofs.teg_model_proofs.DateFunctions.{Dating}
 use Rattle.periodic_laws.specs.PeriodicDates.{IsPeriodic, ArePeriodic}

@@ -1,8 +1,8 @@
 -- What becomes of delays: they die out, or a circuit without spare time keeps them (chapters 2 and 3).
 use Rattle.std.specs.Prelude.{ℕ, ◌+◌, ◌*◌, ◌≤◌, ◌<◌, ◌≡◌, ◌⊎◌, List, All, length}
-use Rattle.periodic_laws.specs.teg_net.declared.entries.PlaceId.{PlaceId}
-use Rattle.periodic_laws.specs.teg_net.Nets.{NetLists}
-use Rattle.periodic_laws.specs.teg_net.Circuits.{place_at, from_of, IsCircuit, BeginsLowest, time_of, tokens_of}
+use Rattle.teg_net.specs.declared.entries.PlaceId.{PlaceId}
+use Rattle.teg_net.specs.Nets.{NetLists}
+use Rattle.teg_net.specs.Circuits.{place_at, from_of, IsCircuit, BeginsLowest, time_of, tokens_of}
 use Rattle.delay_laws.specs.declared.table.Timetable.{Timetable}
 use Rattle.delay_laws.specs.PlannedTimetables.{first_planned}
 

@@ -2,10 +2,10 @@
 use Rattle.std.specs.Prelude.{ℕ, pos, ◌+◌, ◌-◌, ◌≤◌, ◌<◌, ◌≡◌, length, nat_lt, if◌then◌else◌}
 use Rattle.periodic_laws.specs.dioid.declared.dates.Date.{Date}
 use Rattle.periodic_laws.specs.dioid.declared.dates.Date.TheVariants.{At}
-use Rattle.periodic_laws.specs.teg_net.Nets.{NetLists}
+use Rattle.teg_net.specs.Nets.{NetLists}
 use Rattle.periodic_laws.specs.teg_model.Systems.{IsLeastIn}
 use Rattle.periodic_laws.specs.teg_model.Datings.{initial_date, system_with}
-use Rattle.periodic_laws.specs.settled_laws.SettledForms.{SettledForm, IsShortestForm, SettlesPast}
+use Rattle.settled_laws.specs.SettledForms.{SettledForm, IsShortestForm, SettlesPast}
 use Rattle.delay_laws.specs.declared.table.Timetable.{Timetable}
 use Rattle.delay_laws.specs.PlannedTimetables.{planned, delay_given}
 

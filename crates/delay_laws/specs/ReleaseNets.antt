@@ -1,9 +1,9 @@
 -- The net by which a delayed timetable is settled: each departure also waits for an input of its own (chapter 2).
 use Rattle.std.specs.Prelude.{ℕ, ◌+◌, ◌-◌, ◌≤◌, ◌<◌, ◌≡◌, [], Some, length, slice_index, slice_index_or}
-use Rattle.periodic_laws.specs.teg_net.declared.entries.InputList.{InputList}
-use Rattle.periodic_laws.specs.teg_net.declared.entries.Place.{Place}
-use Rattle.periodic_laws.specs.teg_net.Nets.{NetLists, IsInput}
-use Rattle.periodic_laws.specs.teg_net.Circuits.{place_at}
+use Rattle.teg_net.specs.declared.entries.InputList.{InputList}
+use Rattle.teg_net.specs.declared.entries.Place.{Place}
+use Rattle.teg_net.specs.Nets.{NetLists, IsInput}
+use Rattle.teg_net.specs.Circuits.{place_at}
 use Rattle.delay_laws.specs.declared.table.Timetable.{Timetable}
 use Rattle.delay_laws.specs.PlannedTimetables.{IsPastDelays}
 use Rattle.delay_laws.specs.Delays.{IsReleaseAt}

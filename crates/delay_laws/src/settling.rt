@@ -3,8 +3,8 @@
 ghost use Rattle.delay_laws.specs.OneDelayForm.{DelaysLeftAreOne, FormsAreOfEach, FormsOfDelaysAreOne};
 ghost use Rattle.delay_laws.specs.SettlingLaws.{DelaysSettle, FormsTellDelays, ReleaseNetsAreLive, ReleaseNetsTellDelays, StepsAreThePlan};
 
-use periodic_laws::settled_laws::shortest_forms_are_one;
 use periodic_laws::{periodic_datings_settle, systems_settle};
+use settled_laws::shortest_forms_are_one;
 
 /// The delayed dating and the releases of each timetable have a settled form together (chapter 3).
 pub fn delays_settle()

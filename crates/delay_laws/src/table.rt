@@ -1,5 +1,5 @@
 //! Timetables with delays, and what becomes of the delays.
-use periodic_laws::teg_net::{Circuit, TransitionId};
+use teg_net::{Circuit, TransitionId};
 
 /// A delay that is given for one departure.
 #[derive(Clone, Copy, Debug, PartialEq, Eq)]

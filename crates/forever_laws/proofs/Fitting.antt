@@ -12,10 +12,10 @@ use Rattle.teg_settle.specs.series_laws.SeriesForms.{Form, form_with, size_of, r
 use Rattle.teg_settle.proofs.series_laws_proofs.FormValues.{value_in, value_repeats}
 use Rattle.teg_settle.proofs.series_laws_proofs.Canonical.{canonical_is, canonical_values, canonical_short, one_canonical}
 use Rattle.teg_settle.specs.series_form.NumberBounds.{IsSmallDate, HasSmallNumbers, IsSeries}
-use Rattle.teg_settle.specs.teg_net.Nets.{NetLists, IsNet}
-use Rattle.teg_settle.specs.teg_net.Circuits.{IsLive}
-use Rattle.teg_settle.specs.teg_net.Limits.{greatest_input_date}
-use Rattle.teg_settle.specs.teg_net.Walks.{walk_time}
+use Rattle.teg_net.specs.Nets.{NetLists, IsNet}
+use Rattle.teg_net.specs.Circuits.{IsLive}
+use Rattle.teg_net.specs.Limits.{greatest_input_date}
+use Rattle.teg_net.specs.Walks.{walk_time}
 use Rattle.teg_settle.specs.teg_model.DateBounds.{IsDateWithin}
 use Rattle.teg_settle.specs.teg_model.Datings.{IsLeastUnder, system_of}
 use Rattle.teg_settle.proofs.teg_model_proofs.LeastOver.{least_over}

@@ -3,12 +3,12 @@ use Rattle.std.proofs.Common.{ℕ, zero, suc, ◌+◌, ◌-◌, ◌*◌, ◌/◌
 use Rattle.std.proofs.lemmas.Bool.{cases_Bool, cases_lt}
 use Rattle.std.proofs.lemmas.Bool.Decides.{nat_tests}
 use Rattle.teg_settle.specs.dioid.Dates.{IsAtMostDate}
-use Rattle.teg_settle.specs.teg_net.declared.entries.Role.TheVariants.{Input}
-use Rattle.teg_settle.specs.teg_net.declared.entries.InputList.{InputList}
-use Rattle.teg_settle.specs.teg_net.Limits.{greatest_input_date}
-use Rattle.teg_settle.specs.teg_net.Nets.{NetLists, IsInputOf, lists_of}
-use Rattle.teg_settle.specs.teg_net.Inputs.{laps_past, moved_by}
-use Rattle.teg_settle.proofs.teg_net_proofs.InputDates.{one_round, more_rounds, date_le}
+use Rattle.teg_net.specs.declared.entries.Role.TheVariants.{Input}
+use Rattle.teg_net.specs.declared.entries.InputList.{InputList}
+use Rattle.teg_net.specs.Limits.{greatest_input_date}
+use Rattle.teg_net.specs.Nets.{NetLists, IsInputOf, lists_of}
+use Rattle.teg_net.specs.Inputs.{laps_past, moved_by}
+use Rattle.teg_net.proofs.InputDates.{one_round, more_rounds, date_le}
 use Rattle.teg_settle.specs.teg_model.Datings.{as_date}
 use Rattle.teg_settle.proofs.Listing.{dates_climb}
 use Rattle.forever_laws.specs.declared.rows.EndlessRow.{EndlessRow}

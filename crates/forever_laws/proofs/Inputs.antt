@@ -8,10 +8,10 @@ use Rattle.teg_settle.specs.dioid.declared.dates.Date.{Date}
 use Rattle.teg_settle.specs.dioid.declared.dates.Date.TheVariants.{Early, At, Never}
 use Rattle.teg_settle.specs.dioid.Dates.{IsAtMostDate, delayed, later_of}
 use Rattle.teg_settle.proofs.dioid_proofs.DateOrder.{at_most_is, at_most_trans, delayed_rises, later_either, never_last}
-use Rattle.teg_settle.specs.teg_net.Nets.{NetLists, IsNet, IsInput}
-use Rattle.teg_settle.specs.teg_net.Circuits.{IsLive}
-use Rattle.teg_settle.specs.teg_net.Walks.{Walks, walk_time}
-use Rattle.teg_settle.specs.teg_net.ReadyDates.{start_date}
+use Rattle.teg_net.specs.Nets.{NetLists, IsNet, IsInput}
+use Rattle.teg_net.specs.Circuits.{IsLive}
+use Rattle.teg_net.specs.Walks.{Walks, walk_time}
+use Rattle.teg_net.specs.ReadyDates.{start_date}
 use Rattle.teg_settle.specs.teg_model.Datings.{IsLeastUnder, at_input, system_of}
 use Rattle.teg_settle.specs.teg_model.Starts.{start_of_firing}
 use Rattle.teg_settle.specs.teg_model.WalkDates.{IsDateOfWalk}

@@ -6,10 +6,10 @@ use Rattle.std.proofs.lemmas.List.Sums.{sum_by-append}
 use Rattle.std.proofs.lemmas.Nat.{mod_below, div-add-mod'}
 use Rattle.std.proofs.Math.Nat.{mul-le-mul_right, mul-le-mul_left}
 use Rattle.teg_settle.proofs.number_laws_proofs.Numbers.{some_times}
-use Rattle.teg_settle.specs.teg_net.declared.entries.PlaceId.{PlaceId}
-use Rattle.teg_settle.specs.teg_net.Nets.{NetLists}
-use Rattle.teg_settle.specs.teg_net.Circuits.{place_at, IsPathBetween, IsCircuit, time_of, tokens_of}
-use Rattle.teg_settle.proofs.teg_net_proofs.PathLaws.{IsPathBetween-append}
+use Rattle.teg_net.specs.declared.entries.PlaceId.{PlaceId}
+use Rattle.teg_net.specs.Nets.{NetLists}
+use Rattle.teg_net.specs.Circuits.{place_at, IsPathBetween, IsCircuit, time_of, tokens_of}
+use Rattle.teg_net.proofs.PathLaws.{IsPathBetween-append}
 use Rattle.teg_settle.specs.teg_loops.Loops.{EndsBelow}
 use Rattle.teg_settle.proofs.teg_loops_proofs.Taking.{Keeps, closed_keeps, shortened}
 use Rattle.teg_settle.specs.teg_loops.ClosedPieces.{HasRound}

@@ -11,7 +11,7 @@ use Rattle.teg_settle.proofs.series_laws_proofs.Canonical.{one_canonical, canoni
 use Rattle.teg_settle.proofs.series_laws_proofs.FormValues.{value_repeats}
 use Rattle.teg_settle.specs.series_ops.declared.gains.Gain.{Gain}
 use Rattle.teg_settle.specs.series_ops.Gains.{gain_of, gain_zero}
-use Rattle.teg_settle.specs.teg_net.Nets.{NetLists, IsNet}
+use Rattle.teg_net.specs.Nets.{NetLists, IsNet}
 use Rattle.teg_settle.proofs.teg_model_proofs.DateFunctions.{Dating}
 use Rattle.teg_settle.specs.settled_laws.SettledForms.{SettledForm, row_of, step_of_form, StandsFor}
 use Rattle.teg_settle.specs.WalkTimes.{WalkTimesSettle}

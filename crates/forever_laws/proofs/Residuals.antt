@@ -20,9 +20,9 @@ use Rattle.teg_settle.proofs.series_laws_proofs.Lefts.{left_is, form_left_is, fo
 use Rattle.teg_settle.proofs.series_laws_proofs.StarParts.{from_left}
 use Rattle.teg_settle.proofs.series_laws_proofs.Sums.{form_least_is, form_least_values}
 use Rattle.teg_settle.specs.series_ops.declared.gains.Gain.{Gain}
-use Rattle.teg_settle.specs.teg_net.declared.walks.Step.{Step}
-use Rattle.teg_settle.specs.teg_net.Nets.{NetLists, IsNet}
-use Rattle.teg_settle.specs.teg_net.Walks.{Walks, walk_time}
+use Rattle.teg_net.specs.declared.walks.Step.{Step}
+use Rattle.teg_net.specs.Nets.{NetLists, IsNet}
+use Rattle.teg_net.specs.Walks.{Walks, walk_time}
 use Rattle.teg_settle.specs.teg_model.Datings.{as_date}
 use Rattle.teg_settle.proofs.teg_model_proofs.OfNet.{net_ends}
 use Rattle.teg_settle.proofs.teg_model_proofs.Tokens.{not_before_zero}

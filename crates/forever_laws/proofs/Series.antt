@@ -10,10 +10,10 @@ use Rattle.teg_settle.specs.series_laws.Periodic.{Rising, Repeats}
 use Rattle.teg_settle.specs.series_laws.SeriesForms.{form_with, value_at, HasValues, table}
 use Rattle.teg_settle.proofs.series_laws_proofs.FormValues.{form_values, table_length, table_at, same_lists}
 use Rattle.teg_settle.proofs.series_laws_proofs.Repeating.{rising_by_one}
-use Rattle.teg_settle.specs.teg_net.declared.walks.Step.{Step}
-use Rattle.teg_settle.specs.teg_net.declared.walks.Step.TheVariants.{Next}
-use Rattle.teg_settle.specs.teg_net.Nets.{NetLists}
-use Rattle.teg_settle.specs.teg_net.Walks.{Walks, walk_time}
+use Rattle.teg_net.specs.declared.walks.Step.{Step}
+use Rattle.teg_net.specs.declared.walks.Step.TheVariants.{Next}
+use Rattle.teg_net.specs.Nets.{NetLists}
+use Rattle.teg_net.specs.Walks.{Walks, walk_time}
 use Rattle.teg_settle.specs.teg_model.Datings.{as_date}
 use Rattle.teg_settle.proofs.teg_model_proofs.WalkSteps.{walk_append, walk_time-append}
 use Rattle.teg_settle.specs.settled_laws.SettledForms.{settled_length, row_of, step_of_form, StandsFor}

@@ -7,10 +7,10 @@ use Rattle.std.proofs.Math.Nat.{mul-le-mul_right, mul-le-mul_left}
 use Rattle.teg_settle.proofs.number_laws_proofs.Numbers.{some_of}
 use Rattle.teg_settle.specs.dioid.declared.dates.Date.{Date}
 use Rattle.teg_settle.specs.dioid.declared.dates.Date.TheVariants.{At}
-use Rattle.teg_settle.specs.teg_net.declared.entries.PlaceId.{PlaceId}
-use Rattle.teg_settle.specs.teg_net.Limits.{most_place_tokens, greatest_hold, greatest_input_date}
-use Rattle.teg_settle.specs.teg_net.Nets.{NetLists, IsNet}
-use Rattle.teg_settle.specs.teg_net.Circuits.{no_place, place_at, IsPathBetween, IsCircuit, IsLive, time_of, tokens_of}
+use Rattle.teg_net.specs.declared.entries.PlaceId.{PlaceId}
+use Rattle.teg_net.specs.Limits.{most_place_tokens, greatest_hold, greatest_input_date}
+use Rattle.teg_net.specs.Nets.{NetLists, IsNet}
+use Rattle.teg_net.specs.Circuits.{no_place, place_at, IsPathBetween, IsCircuit, IsLive, time_of, tokens_of}
 use Rattle.teg_settle.specs.teg_model.Datings.{IsLeastUnder, extended_places}
 use Rattle.teg_settle.proofs.teg_model_proofs.OfNet.{net_ends, all_extended_in}
 use Rattle.teg_settle.proofs.teg_model_proofs.LiveRanks.{live_ranks}

@@ -7,8 +7,8 @@ use Rattle.teg_settle.specs.dioid.declared.dates.Date.{Date}
 use Rattle.teg_settle.specs.dioid.declared.dates.Date.TheVariants.{At}
 use Rattle.teg_settle.specs.dioid.Dates.{IsAtMostDate, move}
 use Rattle.teg_settle.proofs.dioid_proofs.Moves.{at_inj}
-use Rattle.teg_settle.specs.teg_net.Nets.{NetLists, IsNet}
-use Rattle.teg_settle.specs.teg_net.Circuits.{IsLive}
+use Rattle.teg_net.specs.Nets.{NetLists, IsNet}
+use Rattle.teg_net.specs.Circuits.{IsLive}
 use Rattle.teg_settle.specs.teg_model.Datings.{IsLeastUnder}
 use Rattle.teg_settle.proofs.teg_model_proofs.Tokens.{dates_climb}
 use Rattle.teg_settle.specs.settled_laws.SettledForms.{step_of_form}

@@ -8,15 +8,15 @@ use Rattle.teg_settle.specs.dioid.declared.dates.Date.{Date}
 use Rattle.teg_settle.specs.dioid.declared.dates.Date.TheVariants.{Early, At}
 use Rattle.teg_settle.specs.dioid.Dates.{IsAtMostDate, delayed, later_of}
 use Rattle.teg_settle.proofs.dioid_proofs.DateOrder.{later_is_left}
-use Rattle.teg_settle.specs.teg_net.declared.entries.PlaceId.{PlaceId}
-use Rattle.teg_settle.specs.teg_net.declared.entries.Place.{Place}
-use Rattle.teg_settle.specs.teg_net.Limits.{most_place_tokens}
-use Rattle.teg_settle.specs.teg_net.Nets.{NetLists, IsNet, IsInput}
-use Rattle.teg_settle.specs.teg_net.Circuits.{place_at, IsPathBetween, IsLive, time_of, tokens_of}
-use Rattle.teg_settle.specs.teg_net.Walks.{Walks, walk_time}
-use Rattle.teg_settle.specs.teg_net.ReadyDates.{ready_date, start_date}
-use Rattle.teg_settle.proofs.teg_net_proofs.StartDates.{IsStartDate-start_date}
-use Rattle.teg_settle.proofs.teg_net_proofs.PathLaws.{IsPathBetween-append}
+use Rattle.teg_net.specs.declared.entries.PlaceId.{PlaceId}
+use Rattle.teg_net.specs.declared.entries.Place.{Place}
+use Rattle.teg_net.specs.Limits.{most_place_tokens}
+use Rattle.teg_net.specs.Nets.{NetLists, IsNet, IsInput}
+use Rattle.teg_net.specs.Circuits.{place_at, IsPathBetween, IsLive, time_of, tokens_of}
+use Rattle.teg_net.specs.Walks.{Walks, walk_time}
+use Rattle.teg_net.specs.ReadyDates.{ready_date, start_date}
+use Rattle.teg_net.proofs.StartDates.{IsStartDate-start_date}
+use Rattle.teg_net.proofs.PathLaws.{IsPathBetween-append}
 use Rattle.teg_settle.specs.teg_model.Datings.{IsLeastUnder, at_input}
 use Rattle.teg_settle.specs.teg_model.Starts.{start_of_firing}
 use Rattle.teg_settle.specs.teg_model.WalkDates.{IsDateOfWalk, IsGreatestOfWalks}

@@ -5,8 +5,8 @@ use Rattle.teg_settle.specs.dioid.declared.dates.Date.TheVariants.{At, Never}
 use Rattle.teg_settle.specs.series_laws.SeriesForms.{Form, value_at}
 use Rattle.teg_settle.specs.series_form.NumberBounds.{IsSeries}
 use Rattle.teg_settle.specs.series_ops.declared.gains.Gain.{Gain}
-use Rattle.teg_settle.specs.teg_net.Nets.{NetLists, IsNet, IsInput, without_inputs}
-use Rattle.teg_settle.specs.teg_net.Circuits.{IsLive}
+use Rattle.teg_net.specs.Nets.{NetLists, IsNet, IsInput, without_inputs}
+use Rattle.teg_net.specs.Circuits.{IsLive}
 use Rattle.teg_settle.specs.teg_model.Datings.{IsLeastUnder, IsLeastDating}
 use Rattle.teg_settle.specs.settled_laws.SettledForms.{SettledForm, StandsFor, row_of, step_of_form, settled_length}
 use Rattle.teg_settle.specs.Transfers.{IsGreatestWalkTime, IsTransferOf}
@@ -14,7 +14,7 @@ use Rattle.due_laws.specs.MeetingDueDates.{InputsMeet, AreLatestInputs, inputs_a
 use Rattle.due_laws.specs.LatestDates.{IsLatestDate}
 use Rattle.due_laws.specs.LatestInputs.{LeadsToNoDue}
 use Rattle.forever_laws.specs.declared.rows.EndlessRow.{EndlessRow}
-use Rattle.teg_settle.specs.teg_net.Inputs.{moved_by}
+use Rattle.teg_net.specs.Inputs.{moved_by}
 use Rattle.forever_laws.specs.EndlessRows.{due_on, row_due, IsEndlessRow, IsEndlessOf}
 use Rattle.forever_laws.specs.Late.{IsLateAt, NoneLateTo, NoneLate, IsLeastLate, IsFirstLateRow}
 use Rattle.forever_laws.specs.LateSearches.{IsCommonPeriodOf, turns_to, IsSoonest}

@@ -1,10 +1,10 @@
 -- Rows of due dates without end: what they give each firing, and the rules that they keep in a net.
 use Rattle.std.specs.Prelude.{ℕ, ◌<◌, ◌≤◌, ◌≢◌, ◌==◌, List, Option, Some, None, length, find, All, AllPairs}
 use Rattle.std.specs.List.Sorted.{IsNonDecreasing}
-use Rattle.teg_settle.specs.teg_net.declared.entries.Again.{Again}
-use Rattle.teg_settle.specs.teg_net.Limits.{greatest_input_date}
-use Rattle.teg_settle.specs.teg_net.Nets.{NetLists, IsInput, ListGoesOn}
-use Rattle.teg_settle.specs.teg_net.Inputs.{list_date}
+use Rattle.teg_net.specs.declared.entries.Again.{Again}
+use Rattle.teg_net.specs.Limits.{greatest_input_date}
+use Rattle.teg_net.specs.Nets.{NetLists, IsInput, ListGoesOn}
+use Rattle.teg_net.specs.Inputs.{list_date}
 use Rattle.forever_laws.specs.declared.rows.EndlessRow.{EndlessRow}
 
 -- dates that a row lists, at most

@@ -9,7 +9,7 @@ pub use Rattle.teg_settle.specs.dioid_matrix as dioid_matrix
 pub use Rattle.teg_settle.specs.series_laws as series_laws
 pub use Rattle.teg_settle.specs.series_form as series_form
 pub use Rattle.teg_settle.specs.series_ops as series_ops
-pub use Rattle.teg_settle.specs.teg_net as teg_net
+pub use Rattle.teg_net.specs as teg_net
 pub use Rattle.teg_settle.specs.teg_check as teg_check
 pub use Rattle.teg_settle.specs.teg_model as teg_model
 pub use Rattle.teg_settle.specs.settled_laws as settled_laws

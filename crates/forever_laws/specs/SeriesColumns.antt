@@ -8,7 +8,7 @@ use Rattle.teg_settle.specs.series_laws.Periodic.{Rising}
 use Rattle.teg_settle.specs.series_laws.SeriesForms.{Form, form_with, value_at, IsCanonical, HasValues}
 use Rattle.teg_settle.specs.series_ops.declared.gains.Gain.{Gain}
 use Rattle.teg_settle.specs.series_ops.Gains.{gain_left, gain_meet, LeftFits, MeetFits}
-use Rattle.teg_settle.specs.teg_net.Nets.{NetLists}
+use Rattle.teg_net.specs.Nets.{NetLists}
 use Rattle.teg_settle.specs.teg_model.Datings.{as_date}
 use Rattle.teg_settle.specs.Transfers.{IsGreatestWalkTime}
 use Rattle.teg_settle.specs.periodic_laws.Equations.{gains}

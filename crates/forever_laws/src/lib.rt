@@ -21,5 +21,3 @@ pub use laws::{
     zero_meets_where_none_late,
 };
 pub use rows::EndlessRow;
-pub use teg_settle;
-pub use teg_settle::{dioid, series_form, series_ops, teg_check, teg_net};

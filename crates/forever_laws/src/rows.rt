@@ -1,5 +1,5 @@
 //! A row of due dates without end.
-use teg_settle::teg_net::{DateList, TransitionId};
+use teg_net::{DateList, TransitionId};
 
 /// The due dates of one transition: the k-th is that of firing k. Past the list each is that of
 /// `every` firings before, plus `gap`.

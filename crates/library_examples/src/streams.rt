@@ -1,8 +1,8 @@
 //! A small net whose dates are plain to see.
 ghost use Rattle.std.specs.Prelude.{◌≡◌, ◌+◌, ◌<◌, length};
-ghost use Rattle.teg_report.specs.teg_net.Limits.{greatest_firing_number};
-ghost use Rattle.teg_report.specs.teg_form.StandardForms.{IsStandardFormOf};
-ghost use Rattle.teg_report.specs.teg_dates.Streams.{IsStreamOf};
+ghost use Rattle.teg_net.specs.Limits.{greatest_firing_number};
+ghost use Rattle.teg_form.specs.StandardForms.{IsStandardFormOf};
+ghost use Rattle.teg_dates.specs.Streams.{IsStreamOf};
 
 use dioid::Date;
 use std::alloc::Global;

@@ -1,14 +1,14 @@
 -- What a planner is told of a net and of due dates, in the words of the library (chapters 2 and 5).
 use Rattle.std.specs.Prelude.{ℕ, ◌≡◌, ◌≢◌, ◌++◌, List, Option, Some, None, Ok, Err, codes, ⊤}
-use Rattle.teg_jit.specs.teg_net.Nets.{NetLists}
-use Rattle.teg_jit.specs.teg_net.Ratios.{Fraction}
-use Rattle.teg_jit.specs.teg_net.GreatestRatios.{IsGreatestRatio, HasNoCircuit, IsAnyPlace}
+use Rattle.teg_net.specs.Nets.{NetLists}
+use Rattle.teg_net.specs.Ratios.{Fraction}
+use Rattle.teg_net.specs.GreatestRatios.{IsGreatestRatio, HasNoCircuit, IsAnyPlace}
 use Rattle.teg_reader.specs.Documents.{document, AnswersAsMeant}
-use Rattle.teg_jit.specs.teg_check.CheckRefusals.{IsRightCheckRefusal}
+use Rattle.teg_check.specs.CheckRefusals.{IsRightCheckRefusal}
 use Rattle.teg_text.specs.ValueWords.{ratio_word}
-use Rattle.teg_jit.specs.teg_due.declared.rows.DueRow.{DueRow}
-use Rattle.teg_jit.specs.teg_due.declared.rows.DueRefusal.TheVariants.{OutOfMemory as no_memory}
-use Rattle.teg_jit.specs.teg_due.DueFileRows.{due_of}
+use Rattle.teg_due.specs.declared.rows.DueRow.{DueRow}
+use Rattle.teg_due.specs.declared.rows.DueRefusal.TheVariants.{OutOfMemory as no_memory}
+use Rattle.teg_due.specs.DueFileRows.{due_of}
 use Rattle.teg_jit.specs.due_laws.MeetingDueDates.{AreLatestInputs}
 use Rattle.teg_jit.specs.DueDates.{due_in}
 use Rattle.teg_jit.specs.Plans.{PlanDates, dates_of_plan, IsPlanFor}

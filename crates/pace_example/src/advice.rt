@@ -1,17 +1,17 @@
 //! The pace of a net, and the latest inputs that meet its due dates.
 ghost use Rattle.std.specs.Prelude.{IfErr, IfOk, string_bytes, ◌≡◌, ◌≤◌, length};
 ghost use Rattle.teg_jit.specs.csv_records.Records.{most_file_bytes};
-ghost use Rattle.teg_jit.specs.teg_check.Ranks.{IsRanking};
+ghost use Rattle.teg_check.specs.Ranks.{IsRanking};
 ghost use Rattle.pace_example.specs.Advice.{IsAdvice, IsPaceOf, IsWhyNot, pace_line};
 
 use crate::no_advice::NoAdvice;
 use std::alloc::{AllocError, Global};
+use teg_check::{Live, check};
 use teg_cycle::cycle;
-use teg_cycle::teg_parts::split;
-use teg_jit::teg_check::{Live, check};
-use teg_jit::teg_due::read_due;
-use teg_jit::teg_net::{Net, OutOfMemory, PartAnswer, Ratio};
+use teg_due::read_due;
 use teg_jit::{Plan, latest_inputs};
+use teg_net::{Net, OutOfMemory, PartAnswer, Ratio};
+use teg_parts::split;
 use teg_reader::read_net;
 
 /// What a planner is told of a net and of due dates.

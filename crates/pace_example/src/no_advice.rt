@@ -3,10 +3,10 @@ ghost use Rattle.std.specs.Prelude.{◌≡◌};
 ghost use Rattle.pace_example.specs.declared.no_advice.NoAdvice.TheVariants.{NoNet, NotLive, NoDue, Late, OutOfMemory};
 
 use std::alloc::AllocError;
+use teg_check::CheckRefusal;
+use teg_due::DueRefusal;
 use teg_jit::JitRefusal;
-use teg_jit::teg_check::CheckRefusal;
-use teg_jit::teg_due::DueRefusal;
-use teg_jit::teg_net::OutOfMemory;
+use teg_net::OutOfMemory;
 use teg_reader::ReadRefusal;
 
 /// Why [`crate::advise`] gives no advice: the refusal of the first call that gave one.

@@ -14,12 +14,7 @@
 
 mod laws;
 
-pub use dioid_matrix;
 pub use laws::{
     least_datings_repeat, least_datings_solve, live_nets_settle, periodic_datings_settle,
     systems_settle,
 };
-pub use series_ops;
-pub use series_ops::{dioid, series_form};
-pub use settled_laws;
-pub use settled_laws::teg_net;

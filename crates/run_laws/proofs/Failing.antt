@@ -1,6 +1,6 @@
 -- A firing that fails is not legal, and fails in one way.
 use Rattle.std.proofs.Common.{◌≤◌, arith}
-use Rattle.teg_model.specs.teg_net.Circuits.{no_place}
+use Rattle.teg_net.specs.Circuits.{no_place}
 use Rattle.run_laws.specs.LegalRuns.{FailuresAreNotLegal, FailuresAreOne}
 
 pub not_legal : FailuresAreNotLegal

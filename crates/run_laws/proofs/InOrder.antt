@@ -9,11 +9,11 @@ use Rattle.teg_model.specs.dioid.declared.dates.Date.{Date}
 use Rattle.teg_model.specs.dioid.declared.dates.Date.TheVariants.{Early, At, Never}
 use Rattle.teg_model.specs.dioid.Dates.{IsAtMostDate, delayed}
 use Rattle.teg_model.proofs.dioid_proofs.DateOrder.{at_most_trans, at_most_is, at_most_total, delayed_later}
-use Rattle.teg_model.specs.teg_net.declared.entries.Place.{Place}
-use Rattle.teg_model.specs.teg_net.Nets.{NetLists, IsNet, IsInput}
-use Rattle.teg_model.specs.teg_net.Inputs.{input_date}
-use Rattle.teg_model.specs.teg_net.ReadyDates.{ready_date}
-use Rattle.teg_model.specs.teg_net.Circuits.{no_place}
+use Rattle.teg_net.specs.declared.entries.Place.{Place}
+use Rattle.teg_net.specs.Nets.{NetLists, IsNet, IsInput}
+use Rattle.teg_net.specs.Inputs.{input_date}
+use Rattle.teg_net.specs.ReadyDates.{ready_date}
+use Rattle.teg_net.specs.Circuits.{no_place}
 use Rattle.teg_model.specs.Datings.{implicit_place, available_at, initial_date, as_date, listed_releases, IsFeasibleUnder}
 use Rattle.teg_model.proofs.OfNet.{extended_has, implicit_is}
 use Rattle.teg_model.proofs.Tokens.{implicit_after}

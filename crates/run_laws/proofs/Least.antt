@@ -10,11 +10,11 @@ use Rattle.teg_model.specs.dioid.declared.dates.Date.{Date}
 use Rattle.teg_model.specs.dioid.declared.dates.Date.TheVariants.{Early, At, Never}
 use Rattle.teg_model.specs.dioid.Dates.{IsAtMostDate, delayed}
 use Rattle.teg_model.proofs.dioid_proofs.DateOrder.{at_most_is, same_by_at_most}
-use Rattle.teg_model.specs.teg_net.declared.entries.Place.{Place}
-use Rattle.teg_model.specs.teg_net.Nets.{NetLists, IsNet}
-use Rattle.teg_model.specs.teg_net.Inputs.{input_date}
-use Rattle.teg_model.specs.teg_net.ReadyDates.{ready_date}
-use Rattle.teg_model.specs.teg_net.Circuits.{no_place, IsLive}
+use Rattle.teg_net.specs.declared.entries.Place.{Place}
+use Rattle.teg_net.specs.Nets.{NetLists, IsNet}
+use Rattle.teg_net.specs.Inputs.{input_date}
+use Rattle.teg_net.specs.ReadyDates.{ready_date}
+use Rattle.teg_net.specs.Circuits.{no_place, IsLive}
 use Rattle.teg_model.specs.Datings.{implicit_place, extended_places, available_at, as_date, listed_releases, IsFeasibleUnder, IsLeastDating}
 use Rattle.teg_model.proofs.Delays.{delayed_not}
 use Rattle.teg_model.proofs.OfNet.{all_extended, implicit_is, net_ends, tight_of_least}

@@ -1,9 +1,9 @@
 -- The three ways in which a firing fails to be legal, in their order.
 use Rattle.std.specs.Prelude.{ℕ, ◌<◌, ◌≡◌, List, length, Option, Some}
-use Rattle.teg_model.specs.teg_net.declared.entries.PlaceId.{PlaceId}
-use Rattle.teg_model.specs.teg_net.Nets.{NetLists, IsInput}
-use Rattle.teg_model.specs.teg_net.Circuits.{place_at}
-use Rattle.teg_model.specs.teg_net.Inputs.{input_date}
+use Rattle.teg_net.specs.declared.entries.PlaceId.{PlaceId}
+use Rattle.teg_net.specs.Nets.{NetLists, IsInput}
+use Rattle.teg_net.specs.Circuits.{place_at}
+use Rattle.teg_net.specs.Inputs.{input_date}
 use Rattle.run_laws.specs.declared.fired.Fired.{Fired}
 use Rattle.run_laws.specs.Runs.{next_number, token_date, IsThereBy, HasTokensBy, last_date, IsNotBefore}
 

@@ -3,9 +3,9 @@ use Rattle.std.specs.Prelude.{ℕ, pos, ◌<◌, ◌≤◌, ◌≡◌, List, Opt
 use Rattle.teg_model.specs.dioid.declared.dates.Date.{Date}
 use Rattle.teg_model.specs.dioid.declared.dates.Date.TheVariants.{At}
 use Rattle.teg_model.specs.dioid.Dates.{IsAtMostDate}
-use Rattle.teg_model.specs.teg_net.declared.entries.PlaceId.{PlaceId}
-use Rattle.teg_model.specs.teg_net.Nets.{NetLists, IsNet}
-use Rattle.teg_model.specs.teg_net.Circuits.{IsLive}
+use Rattle.teg_net.specs.declared.entries.PlaceId.{PlaceId}
+use Rattle.teg_net.specs.Nets.{NetLists, IsNet}
+use Rattle.teg_net.specs.Circuits.{IsLive}
 use Rattle.teg_model.specs.Datings.{IsLeastDating}
 use Rattle.run_laws.specs.declared.fired.Fired.{Fired}
 use Rattle.run_laws.specs.FiringFailures.{IsFirstLateToken, IsBackInTime, IsBeforeRelease}

@@ -1,9 +1,9 @@
 -- Runs of the token game: lists of firings, each a transition with a date, and which of them are legal.
 use Rattle.std.specs.Prelude.{ℕ, ◌+◌, ◌-◌, ◌<◌, ◌≤◌, ◌≡◌, ◌==◌, nat_lt, if◌then◌else◌, List, [], ◌∷◌, length, take, Option, Some, None, option_map, slice_get, slice_index_or, All, ⊤}
-use Rattle.teg_model.specs.teg_net.declared.entries.Place.{Place}
-use Rattle.teg_model.specs.teg_net.Nets.{NetLists, IsInput}
-use Rattle.teg_model.specs.teg_net.Inputs.{input_date}
-use Rattle.teg_model.specs.teg_net.ReadyDates.{ready_date}
+use Rattle.teg_net.specs.declared.entries.Place.{Place}
+use Rattle.teg_net.specs.Nets.{NetLists, IsInput}
+use Rattle.teg_net.specs.Inputs.{input_date}
+use Rattle.teg_net.specs.ReadyDates.{ready_date}
 use Rattle.run_laws.specs.declared.fired.Fired.{Fired}
 
 -- the dates of the firings of transition t, in order

@@ -1,5 +1,5 @@
 //! An element of a run.
-use teg_model::teg_net::TransitionId;
+use teg_net::TransitionId;
 
 /// A firing of a run.
 #[derive(Clone, Copy, Debug, PartialEq, Eq)]

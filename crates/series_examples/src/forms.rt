@@ -1,8 +1,8 @@
 //! A list of a function, and gains through the bounds.
+use dioid::{Date, Dioid, Kleene, Refused, Residuated};
+use series_form::{Series, SeriesRefused};
+use series_ops::{Gain, star};
 use std::alloc::Global;
-use teg_calc::dioid::{Date, Dioid, Kleene, Refused, Residuated};
-use teg_calc::series_form::{Series, SeriesRefused};
-use teg_calc::series_ops::{Gain, star};
 
 // Whether the answer is the series with these values, period and step.
 fn is_series(

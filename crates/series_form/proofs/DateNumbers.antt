@@ -7,8 +7,8 @@ use Rattle.std.proofs.lemmas.Int.{ints, to_z-of_z, to_z_pos, fits_signed_from_ab
 use Rattle.std.proofs.lemmas.Nat.{mul-le, div-add-mod'}
 use Rattle.std.proofs.Math.Nat.{le-mul_of_pos_right}
 use Rattle.series_form.specs.NumberBounds.{IsWithinReach, IsModerateDate}
-use Rattle.series_laws.specs.dioid.declared.dates.Date.{Date}
-use Rattle.series_laws.specs.dioid.declared.dates.Date.TheVariants.{Early, At, Never}
+use Rattle.dioid.specs.declared.dates.Date.{Date}
+use Rattle.dioid.specs.declared.dates.Date.TheVariants.{Early, At, Never}
 use Rattle.series_laws.specs.Periodic.{times}
 use Rattle.series_form.specs.SeriesLimits.{greatest_value, most_common_shifts, greatest_gain, greatest_moderate, greatest_reach}
 

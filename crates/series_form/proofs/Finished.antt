@@ -6,13 +6,13 @@ use Rattle.std.proofs.lemmas.Bool.{cases_lt}
 use Rattle.std.proofs.lemmas.Nat.{mul-le}
 use Rattle.std.proofs.Math.ListN.{get_or-eq_default}
 use Rattle.std.proofs.lemmas.Bool.Decides.{nat_tests}
-use Rattle.series_laws.specs.dioid.declared.dates.Date.{Date}
-use Rattle.series_laws.specs.dioid.declared.dates.Date.TheVariants.{Early, At, Never}
+use Rattle.dioid.specs.declared.dates.Date.{Date}
+use Rattle.dioid.specs.declared.dates.Date.TheVariants.{Early, At, Never}
 use Rattle.series_laws.specs.declared.plans.NeedPlan.{NeedPlan}
 use Rattle.series_form.specs.declared.forms.SeriesRefused.{SeriesRefused}
 use Rattle.series_form.specs.declared.forms.SeriesRefused.TheVariants.{TooLong, TooGreat, OutOfMemory}
-use Rattle.series_laws.specs.dioid.Dates.{move}
-use Rattle.series_laws.proofs.dioid_proofs.AtMost.{le_is, le_trans, early_le}
+use Rattle.dioid.specs.Dates.{move}
+use Rattle.dioid.proofs.AtMost.{le_is, le_trans, early_le}
 use Rattle.series_laws.specs.Periodic.{Rising, times}
 use Rattle.series_laws.specs.SeriesForms.{Form, form_with, size_of, repeat_start, value_at, gap, table, HasValues, IsCanonical, monomial_at}
 use Rattle.series_laws.proofs.FormValues.{table_at, table_length, value_in, form_values, step_is_gap}
@@ -23,7 +23,7 @@ use Rattle.series_laws.specs.Needs.{plan, need_of}
 use Rattle.series_laws.proofs.Sums.{Serves}
 use Rattle.series_form.proofs.DateNumbers.{abs_sum, abs_difference, times_product, div_below}
 use Rattle.series_laws.proofs.Shifts.{monomial_below, monomial_from}
-use Rattle.series_laws.proofs.dioid_proofs.Moves.{move_zero}
+use Rattle.dioid.proofs.Moves.{move_zero}
 use Rattle.series_form.specs.SeriesLimits.{greatest_value, greatest_moderate, greatest_listed}
 
 -- ---- bounds

@@ -3,8 +3,8 @@ use Rattle.std.proofs.Common.{◌≡◌, ap, sym, ◌∙◌, ℤ, ℕ, arith, �
 use Rattle.std.proofs.lemmas.Bool.{cases_lt}
 use Rattle.std.proofs.lemmas.List.{get_or-take, length-take-le}
 use Rattle.std.proofs.Math.ListN.{get_or-eq_default}
-use Rattle.series_laws.specs.dioid.declared.dates.Date.{Date}
-use Rattle.series_laws.specs.dioid.declared.dates.Date.TheVariants.{Early}
+use Rattle.dioid.specs.declared.dates.Date.{Date}
+use Rattle.dioid.specs.declared.dates.Date.TheVariants.{Early}
 use Rattle.series_form.specs.NumberBounds.{IsSmallDate, IsSeries, HasSmallNumbers}
 use Rattle.series_laws.specs.Periodic.{Rising, Repeats}
 use Rattle.series_laws.specs.SeriesForms.{Form, form_with, value_at, size_of, table, gap, shortest, HasValues, canonical_of, least_period_of, least_start_of}

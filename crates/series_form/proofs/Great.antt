@@ -1,7 +1,7 @@
 -- Forms with small numbers have no great one.
 use Rattle.std.proofs.Common.{◌<◌, ◌≤◌, ◌⊎◌, inl, inr, ℤ, arith, get_or}
 use Rattle.std.specs.Int.RustNames.{unsigned_abs}
-use Rattle.series_laws.specs.dioid.declared.dates.Date.TheVariants.{Early}
+use Rattle.dioid.specs.declared.dates.Date.TheVariants.{Early}
 use Rattle.series_laws.specs.SeriesForms.{Form}
 use Rattle.series_form.specs.NumberBounds.{IsSmallDate, HasSmallNumbers}
 use Rattle.series_form.specs.SeriesAnswers.{IsFirstGreatValue, IsGreatStep}

@@ -9,4 +9,4 @@ pub mod PointwiseTables
 pub mod Same
 pub mod Steps
 pub use Rattle.series_laws.proofs.number_laws_proofs as number_laws_proofs
-pub use Rattle.series_laws.proofs.dioid_proofs as dioid_proofs
+pub use Rattle.dioid.proofs as dioid_proofs

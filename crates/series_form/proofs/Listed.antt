@@ -2,13 +2,13 @@
 use Rattle.std.proofs.Common.{◌≡◌, refl, ap, sym, ◌∙◌, subst, arith, ℕ, ℤ, pos, negsuc, zero, suc, ◌+◌, ◌-◌, ◌≤◌, ◌<◌, ◌+ℤ◌, ◌-ℤ◌, ◌≤ℤ◌, ◌⊎◌, inl, inr, ⊎_elim, List, length, get_or, FitsSigned, Bool, true, false}
 use Rattle.std.specs.Int.{w128}
 use Rattle.std.proofs.lemmas.Int.{ints}
-use Rattle.series_laws.specs.dioid.declared.dates.Date.{Date}
-use Rattle.series_laws.specs.dioid.declared.dates.Date.TheVariants.{Early, At, Never}
-use Rattle.series_laws.specs.dioid.Dates.{move}
-use Rattle.series_laws.specs.dioid.DateOrder.{Le}
+use Rattle.dioid.specs.declared.dates.Date.{Date}
+use Rattle.dioid.specs.declared.dates.Date.TheVariants.{Early, At, Never}
+use Rattle.dioid.specs.Dates.{move}
+use Rattle.dioid.specs.DateOrder.{Le}
 use Rattle.std.proofs.lemmas.Bool.{cases_lt}
-use Rattle.series_laws.proofs.dioid_proofs.AtMost.{le_is, le_trans, move_le}
-use Rattle.series_laws.proofs.dioid_proofs.Moves.{move_move, move_between}
+use Rattle.dioid.proofs.AtMost.{le_is, le_trans, move_le}
+use Rattle.dioid.proofs.Moves.{move_move, move_between}
 use Rattle.series_laws.specs.SeriesForms.{form_with, gap, date_eqb}
 use Rattle.series_laws.specs.Periodic.{Rising}
 use Rattle.series_laws.proofs.FormValues.{value_in, value_repeats, eqb_sound, eqb_complete}

@@ -3,9 +3,9 @@ use Rattle.std.proofs.Common.{◌≡◌, ◌≤◌, ◌+◌, ◌*◌, ℕ, ℤ, 
 use Rattle.std.specs.Int.{int_max, int_min}
 use Rattle.std.specs.Int.RustNames.{unsigned_abs}
 use Rattle.std.proofs.lemmas.Int.{ints, clamps}
-use Rattle.series_laws.specs.dioid.Dates.{later_of, earlier_of}
-use Rattle.series_laws.specs.dioid.declared.dates.Date.{Date}
-use Rattle.series_laws.specs.dioid.declared.dates.Date.TheVariants.{Early, At, Never}
+use Rattle.dioid.specs.Dates.{later_of, earlier_of}
+use Rattle.dioid.specs.declared.dates.Date.{Date}
+use Rattle.dioid.specs.declared.dates.Date.TheVariants.{Early, At, Never}
 use Rattle.series_laws.specs.declared.plans.NeedPlan.{NeedPlan}
 use Rattle.series_laws.specs.SeriesForms.{Form, value_at, table}
 use Rattle.series_form.specs.NumberBounds.{IsMagnitudeUpTo, IsSeries}

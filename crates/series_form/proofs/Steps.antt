@@ -1,10 +1,10 @@
 -- Steps of the loops that look for the least period and the least start.
 use Rattle.std.proofs.Common.{◌≡◌, refl, ap, sym, ◌∙◌, subst, ℤ, ℕ, arith, ◌-◌, ◌+◌, ◌%◌, ◌<◌, ◌≤◌, ⊎_elim, Bool, true, false}
 use Rattle.std.proofs.lemmas.Bool.{cases_lt}
-use Rattle.series_laws.specs.dioid.declared.dates.Date.{Date}
+use Rattle.dioid.specs.declared.dates.Date.{Date}
 use Rattle.series_laws.specs.SeriesForms.{Form, HasValues, canonical_of, moves, repeats_test, least_period_of, least_start_of, first_holding, gap}
 use Rattle.series_laws.specs.Periodic.{Repeats, Rising}
-use Rattle.series_laws.specs.dioid.Dates.{move}
+use Rattle.dioid.specs.Dates.{move}
 use Rattle.series_laws.proofs.Canonical.{canonical_is, canonical_values}
 use Rattle.series_laws.proofs.LeastForms.{period_divides}
 use Rattle.series_laws.proofs.FormValues.{first_next, first_found, first_le, first_holds, test_sound, test_complete, eqb_sound, eqb_complete}

@@ -3,4 +3,4 @@ pub mod SeriesAnswers
 pub mod NumberBounds
 pub mod Leads
 pub mod Shapes
-pub use Rattle.series_laws.specs.dioid as dioid
+pub use Rattle.dioid.specs as dioid

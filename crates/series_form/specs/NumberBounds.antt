@@ -1,8 +1,8 @@
 -- The bounds of a series' numbers, and those of the numbers on the way to one.
 use Rattle.std.specs.Prelude.{◌≤◌, ◌+◌, ℕ, get_or}
 use Rattle.std.specs.Int.RustNames.{unsigned_abs}
-use Rattle.series_laws.specs.dioid.declared.dates.Date.{Date}
-use Rattle.series_laws.specs.dioid.declared.dates.Date.TheVariants.{Early, At, Never}
+use Rattle.dioid.specs.declared.dates.Date.{Date}
+use Rattle.dioid.specs.declared.dates.Date.TheVariants.{Early, At, Never}
 use Rattle.series_laws.specs.SeriesForms.{Form, size_of, IsCanonical}
 use Rattle.series_form.specs.SeriesLimits.{greatest_value, greatest_moderate, greatest_reach}
 

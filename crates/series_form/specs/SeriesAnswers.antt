@@ -1,8 +1,8 @@
 -- What a call on series answers.
 use Rattle.std.specs.Prelude.{◌≡◌, ◌≤◌, ◌<◌, ◌-◌, ◌⊎◌, ℕ, ℤ, pos, Result, Ok, Err, Option, Some, None, List, [], ◌∷◌, length, get_or}
 use Rattle.std.specs.Int.RustNames.{unsigned_abs}
-use Rattle.series_laws.specs.dioid.declared.dates.Date.{Date}
-use Rattle.series_laws.specs.dioid.declared.dates.Date.TheVariants.{Early, At}
+use Rattle.dioid.specs.declared.dates.Date.{Date}
+use Rattle.dioid.specs.declared.dates.Date.TheVariants.{Early, At}
 use Rattle.series_form.specs.declared.forms.SeriesRefused.{SeriesRefused}
 use Rattle.series_form.specs.declared.forms.SeriesRefused.TheVariants.{TooLong, TooGreat, OutOfMemory}
 use Rattle.series_laws.specs.SeriesForms.{Form, form_with, value_at, gap, HasValues, IsCanonical}

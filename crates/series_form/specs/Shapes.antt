@@ -1,7 +1,7 @@
 -- The canonical form as a part of the list that it was found by.
 use Rattle.std.specs.Prelude.{◌≡◌, ◌≤◌, ◌-◌, ◌⊎◌, ℕ, ℤ, List, length, take, FitsSigned}
 use Rattle.std.specs.Int.{w128}
-use Rattle.series_laws.specs.dioid.declared.dates.Date.{Date}
+use Rattle.dioid.specs.declared.dates.Date.{Date}
 use Rattle.series_form.specs.declared.shorten.Shape.{Shape}
 use Rattle.series_laws.specs.SeriesForms.{Form, form_with, value_at, HasValues, IsCanonical, canonical_of}
 use Rattle.series_form.specs.NumberBounds.{HasSmallNumbers}

@@ -5,7 +5,7 @@ ghost use Rattle.series_form.specs.SeriesLimits.{greatest_value};
 
 use crate::shorten::{finish, shortest};
 use crate::values::{same_parts, value_of};
-use series_laws::dioid::Date;
+use dioid::Date;
 use std::alloc::{AllocError, Global};
 use std::marker::Model;
 use thiserror::Error;

@@ -17,7 +17,7 @@ use crate::forms::Series;
 use crate::plans::turns_between;
 use crate::pointwise::common_start;
 use crate::values::gap_of;
-use series_laws::dioid::Date;
+use dioid::Date;
 
 // A place of the second series, in shifts past where both repeat, and the greatest of its numbers
 // there and whole periods of the first later, less what the first gains till then.

@@ -16,5 +16,5 @@ mod values;
 pub use forms::{Series, SeriesRefused};
 pub use plans::{common_period, compare_slopes, gain_over, gains_for, lead_gain, start, tail};
 pub use pointwise::{common_start, later_at, least, plan_of_sum, sum, sum_values};
-pub use series_laws::{NeedPlan, Slopes, dioid, forms_are_lawful};
+pub use series_laws::{NeedPlan, Slopes, forms_are_lawful};
 pub use shorten::{Shape, canonical_part, shortest};

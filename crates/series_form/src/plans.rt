@@ -8,8 +8,8 @@ ghost use Rattle.series_laws.specs.Needs.{turns_of, common, ceiling, period_with
 ghost use Rattle.series_form.specs.SeriesLimits.{most_common_shifts, greatest_gain, greatest_reach, greatest_gain_gap};
 
 use crate::forms::Series;
+use dioid::Date;
 use series_laws::Slopes;
-use series_laws::dioid::Date;
 
 // The least number of turns of the first, one or more, that the second divides.
 pub(crate) fn turns_between(first: usize, second: usize) -> usize

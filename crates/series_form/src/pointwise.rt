@@ -13,7 +13,7 @@ use crate::forms::{Series, SeriesRefused};
 use crate::leads::greatest_lead;
 use crate::plans::{common_period, compare_slopes, gains_for, lead_gain, start, tail};
 use crate::shorten::shortest;
-use series_laws::dioid::Date;
+use dioid::Date;
 use series_laws::{NeedPlan, Slopes};
 use std::alloc::{AllocError, Global};
 

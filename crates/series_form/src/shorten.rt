@@ -11,7 +11,7 @@ ghost use Rattle.series_form.specs.SeriesLimits.{greatest_value};
 
 use crate::forms::{Series, SeriesRefused};
 use crate::values::{gap_of, is_moved};
-use series_laws::dioid::Date;
+use dioid::Date;
 
 // Whether `turn` shifts move the value at a shift of the list by `jump`. A value past the list is
 // one of the list, moved by the step, so that two values of the list are compared.

@@ -2,14 +2,14 @@
 ghost use Rattle.std.specs.Prelude.{◌≡◌, ◌≤◌, ◌<◌, ◌↔◌, ◌*◌, IsTrue, length, FitsSigned};
 ghost use Rattle.std.specs.Int.{w128};
 ghost use Rattle.std.specs.Int.RustNames.{unsigned_abs};
-ghost use Rattle.series_laws.specs.dioid.declared.dates.Date.{Date};
+ghost use Rattle.dioid.specs.declared.dates.Date.{Date};
 ghost use Rattle.series_laws.specs.SeriesForms.{value_at, form_with, date_eqb, gap};
 ghost use Rattle.series_form.specs.NumberBounds.{IsModerate, IsModerateDate, IsWithinReach};
-ghost use Rattle.series_laws.specs.dioid.Dates.{move};
+ghost use Rattle.dioid.specs.Dates.{move};
 ghost use Rattle.series_laws.specs.Periodic.{times};
 ghost use Rattle.series_form.specs.SeriesLimits.{greatest_value, greatest_moderate, greatest_reach};
 
-use series_laws::dioid::Date;
+use dioid::Date;
 
 // Whether two forms are the same.
 pub(crate) fn same_parts(

@@ -13,6 +13,5 @@
 mod laws;
 mod plans;
 
-pub use dioid;
 pub use laws::{forms_are_lawful, series_are_closed};
 pub use plans::{Anchor, NeedPlan, Slopes};

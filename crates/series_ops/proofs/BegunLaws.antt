@@ -3,10 +3,10 @@ use Rattle.std.proofs.Common.{◌≡◌, refl, ap, arith, ℕ, ◌+◌, ◌-◌,
 use Rattle.std.proofs.lemmas.List.{length-take-le, get_or-take, take-append-le, length-append}
 use Rattle.std.proofs.Math.ListN.{get_or-eq_default}
 use Rattle.std.proofs.Math.Seq.{take-length}
-use Rattle.series_form.specs.dioid.Dates.{later_of, date_product}
-use Rattle.series_form.specs.dioid.Proved.DateLaws.{times_early}
-use Rattle.series_form.specs.dioid.declared.dates.Date.{Date}
-use Rattle.series_form.specs.dioid.declared.dates.Date.TheVariants.{Early}
+use Rattle.dioid.specs.Dates.{later_of, date_product}
+use Rattle.dioid.specs.Proved.DateLaws.{times_early}
+use Rattle.dioid.specs.declared.dates.Date.{Date}
+use Rattle.dioid.specs.declared.dates.Date.TheVariants.{Early}
 use Rattle.series_ops.specs.ListFunctions.{value_listed}
 use Rattle.series_ops.specs.Pieces.{window, ArePieceSums, IsPieceBegun}
 use Rattle.series_ops.specs.Splits.{greatest_from, split_of, places_to}

@@ -3,7 +3,7 @@ use Rattle.std.proofs.Common.{◌≡◌, ℕ, ℤ, pos, ◌+◌, ◌-◌, ◌≤
 use Rattle.std.specs.Int.{int_max, w128}
 use Rattle.std.specs.Int.RustNames.{unsigned_abs}
 use Rattle.std.proofs.lemmas.Int.{ints, fits_signed_from_abs}
-use Rattle.series_form.specs.dioid.declared.dates.Date.{Date}
+use Rattle.dioid.specs.declared.dates.Date.{Date}
 use Rattle.series_form.specs.NumberBounds.{IsMagnitudeUpTo}
 use Rattle.series_form.specs.SeriesLimits.{greatest_listed, greatest_reach}
 use Rattle.series_form.proofs.DateNumbers.{abs_difference}

@@ -3,12 +3,12 @@ use Rattle.std.proofs.Common.{◌≡◌, refl, ap, arith, ℕ, zero, suc, ◌+�
 use Rattle.std.proofs.lemmas.Bool.{cases_lt}
 use Rattle.std.proofs.lemmas.List.{get_or-take, length-take-le}
 use Rattle.std.proofs.Math.ListN.{get_or-eq_default}
-use Rattle.series_form.specs.dioid.Dates.{date_product}
-use Rattle.series_form.specs.dioid.declared.dates.Date.{Date}
-use Rattle.series_form.specs.dioid.declared.dates.Date.TheVariants.{Early, At, Never}
+use Rattle.dioid.specs.Dates.{date_product}
+use Rattle.dioid.specs.declared.dates.Date.{Date}
+use Rattle.dioid.specs.declared.dates.Date.TheVariants.{Early, At, Never}
 use Rattle.series_laws.specs.declared.plans.NeedPlan.{NeedPlan}
-use Rattle.series_form.specs.dioid.DateOrder.{Le}
-use Rattle.series_form.proofs.dioid_proofs.AtMost.{le_is, le_trans, le_antisym}
+use Rattle.dioid.specs.DateOrder.{Le}
+use Rattle.dioid.proofs.AtMost.{le_is, le_trans, le_antisym}
 use Rattle.series_laws.specs.Periodic.{Rising}
 use Rattle.series_laws.specs.SeriesForms.{Form, value_at, table}
 use Rattle.series_laws.proofs.FormValues.{table_at, table_length, same_lists}

@@ -8,11 +8,11 @@ use Rattle.std.proofs.lemmas.Bool.{cases_lt}
 use Rattle.std.proofs.lemmas.Bool.Decides.{nat_tests}
 use Rattle.std.proofs.lemmas.List.{get_or_push, get_or_append_left, length-append}
 use Rattle.std.proofs.Math.ListN.{get_or-eq_default}
-use Rattle.series_form.specs.dioid.Dates.{earlier_of, date_left, move}
-use Rattle.series_form.specs.dioid.declared.dates.Date.{Date}
-use Rattle.series_form.specs.dioid.declared.dates.Date.TheVariants.{Early, At, Never}
-use Rattle.series_form.specs.dioid.DateOrder.{Le}
-use Rattle.series_form.proofs.dioid_proofs.AtMost.{le_is, le_trans, le_antisym, le_earlier, earlier_le_left, earlier_le_right}
+use Rattle.dioid.specs.Dates.{earlier_of, date_left, move}
+use Rattle.dioid.specs.declared.dates.Date.{Date}
+use Rattle.dioid.specs.declared.dates.Date.TheVariants.{Early, At, Never}
+use Rattle.dioid.specs.DateOrder.{Le}
+use Rattle.dioid.proofs.AtMost.{le_is, le_trans, le_antisym, le_earlier, earlier_le_left, earlier_le_right}
 use Rattle.series_laws.specs.Periodic.{Repeats}
 use Rattle.series_laws.proofs.Repeating.{by_steps, repeats_from}
 use Rattle.series_laws.specs.SeriesForms.{Form, size_of, repeat_start, value_at, table, IsForm}

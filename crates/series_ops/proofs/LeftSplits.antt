@@ -5,9 +5,9 @@ use Rattle.std.proofs.lemmas.Int.{ints, clamps}
 use Rattle.std.proofs.lemmas.Bool.{cases_lt}
 use Rattle.std.proofs.lemmas.Bool.Decides.{nat_tests}
 use Rattle.std.proofs.lemmas.List.{get_or-map, get_or-reverse, length-map, length-reverse, map-append, reverse-append, take_more, drop_more}
-use Rattle.series_form.specs.dioid.Dates.{later_of, earlier_of, date_product, date_left}
-use Rattle.series_form.specs.dioid.declared.dates.Date.{Date}
-use Rattle.series_form.specs.dioid.declared.dates.Date.TheVariants.{Early, At, Never}
+use Rattle.dioid.specs.Dates.{later_of, earlier_of, date_product, date_left}
+use Rattle.dioid.specs.declared.dates.Date.{Date}
+use Rattle.dioid.specs.declared.dates.Date.TheVariants.{Early, At, Never}
 use Rattle.series_laws.specs.Product.{greatest_of_first}
 use Rattle.series_laws.specs.Residual.{least_of_first}
 use Rattle.series_form.specs.NumberBounds.{IsMagnitudeUpTo}

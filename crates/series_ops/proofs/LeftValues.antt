@@ -1,13 +1,13 @@
 -- The residual by its first values.
 use Rattle.std.proofs.Common.{◌≡◌, refl, ap, arith, ℕ, zero, suc, ◌+◌, ◌*◌, ◌-◌, ◌≤◌, sym, ◌∙◌, subst, ◌-ℤ◌, inl, List}
-use Rattle.series_form.specs.dioid.Dates.{date_left}
-use Rattle.series_form.specs.dioid.declared.dates.Date.{Date}
-use Rattle.series_form.specs.dioid.declared.dates.Date.TheVariants.{Early, At, Never}
+use Rattle.dioid.specs.Dates.{date_left}
+use Rattle.dioid.specs.declared.dates.Date.{Date}
+use Rattle.dioid.specs.declared.dates.Date.TheVariants.{Early, At, Never}
 use Rattle.series_laws.specs.declared.plans.NeedPlan.{NeedPlan}
 use Rattle.series_laws.specs.declared.plans.Slopes.{Slopes}
 use Rattle.series_laws.specs.declared.plans.Slopes.TheVariants.{Equal, First, Second}
-use Rattle.series_form.specs.dioid.DateOrder.{Le}
-use Rattle.series_form.proofs.dioid_proofs.AtMost.{le_is, le_trans, le_antisym}
+use Rattle.dioid.specs.DateOrder.{Le}
+use Rattle.dioid.proofs.AtMost.{le_is, le_trans, le_antisym}
 use Rattle.series_laws.specs.SeriesForms.{Form, size_of, value_at, table, IsForm, HasValues}
 use Rattle.series_form.specs.NumberBounds.{IsMagnitudeUpTo, IsSeries}
 use Rattle.series_laws.specs.Needs.{need_of, tail_of, slopes_of, slopes_by, common, period_with, rise_of, fall_of}

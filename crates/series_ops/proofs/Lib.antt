@@ -13,6 +13,6 @@ pub mod ShortLaws
 pub mod SplitLaws
 pub mod StarValues
 pub use Rattle.series_form.proofs.number_laws_proofs as number_laws_proofs
-pub use Rattle.series_form.proofs.dioid_proofs as dioid_proofs
+pub use Rattle.dioid.proofs as dioid_proofs
 pub use Rattle.series_laws.proofs as series_laws_proofs
 pub use Rattle.series_form.proofs as series_form_proofs

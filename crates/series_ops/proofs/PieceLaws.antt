@@ -3,11 +3,11 @@ use Rattle.std.proofs.Common.{◌≡◌, ap, arith, ℕ, ℤ, pos, zero, suc, �
 use Rattle.std.specs.Prelude.{min}
 use Rattle.std.proofs.lemmas.Bool.{cases_lt}
 use Rattle.std.proofs.lemmas.Bool.Decides.{nat_tests}
-use Rattle.series_form.specs.dioid.Dates.{later_of, date_product, move}
-use Rattle.series_form.specs.dioid.Proved.DateLaws.{later_assoc, later_idempotent, one_times}
-use Rattle.series_form.specs.dioid.declared.dates.Date.{Date}
-use Rattle.series_form.specs.dioid.declared.dates.Date.TheVariants.{Early, At}
-use Rattle.series_form.proofs.dioid_proofs.Moves.{move_zero, move_move, product_is_move, product_move_left}
+use Rattle.dioid.specs.Dates.{later_of, date_product, move}
+use Rattle.dioid.specs.Proved.DateLaws.{later_assoc, later_idempotent, one_times}
+use Rattle.dioid.specs.declared.dates.Date.{Date}
+use Rattle.dioid.specs.declared.dates.Date.TheVariants.{Early, At}
+use Rattle.dioid.proofs.Moves.{move_zero, move_move, product_is_move, product_move_left}
 use Rattle.series_laws.specs.Periodic.{times}
 use Rattle.series_laws.specs.SeriesForms.{table}
 use Rattle.series_laws.proofs.FormValues.{table_length, table_at, same_lists}

@@ -4,7 +4,7 @@ use Rattle.std.specs.Int.RustNames.{unsigned_abs}
 use Rattle.std.proofs.lemmas.Int.{unsigned_abs-mul}
 use Rattle.std.proofs.lemmas.Nat.{mul-le}
 use Rattle.std.proofs.Math.Nat.{le-mul_of_pos_right}
-use Rattle.series_form.specs.dioid.declared.dates.Date.{Date}
+use Rattle.dioid.specs.declared.dates.Date.{Date}
 use Rattle.series_laws.specs.declared.plans.NeedPlan.{NeedPlan}
 use Rattle.series_laws.specs.Periodic.{times}
 use Rattle.series_laws.specs.SeriesForms.{Form, value_at, table}

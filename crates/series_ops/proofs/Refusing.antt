@@ -1,9 +1,9 @@
 -- A refusal of a series as one of an element.
 use Rattle.std.proofs.Common.{rules, ◌≤◌, ◌<◌, ◌⊎◌, ℕ, ℤ, true, sym, subst, arith, inl, inr, Err}
 use Rattle.std.specs.Int.RustNames.{unsigned_abs}
-use Rattle.series_form.specs.dioid.declared.dates.Date.{Date}
-use Rattle.series_form.specs.dioid.declared.algebra.Refused.{Refused}
-use Rattle.series_form.specs.dioid.ElementAnswers.{Answers}
+use Rattle.dioid.specs.declared.dates.Date.{Date}
+use Rattle.dioid.specs.declared.algebra.Refused.{Refused}
+use Rattle.dioid.specs.ElementAnswers.{Answers}
 use Rattle.series_form.specs.declared.forms.SeriesRefused.{SeriesRefused}
 use Rattle.series_form.specs.declared.forms.SeriesRefused.TheVariants.{TooLong, TooGreat, OutOfMemory}
 use Rattle.series_laws.specs.SeriesForms.{Form}

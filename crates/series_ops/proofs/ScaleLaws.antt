@@ -9,10 +9,10 @@ use Rattle.std.proofs.lemmas.Bool.{cases_lt}
 use Rattle.std.proofs.lemmas.Bool.Decides.{nat_tests}
 use Rattle.std.proofs.lemmas.List.{get_or-map, length-map, get_or_push, get_or_append_left, length-append, map-append}
 use Rattle.std.proofs.Math.ListN.{get_or-eq_default}
-use Rattle.series_form.specs.dioid.Dates.{IsAtMostDate, later_of, date_product}
-use Rattle.series_form.specs.dioid.declared.dates.Date.{Date}
-use Rattle.series_form.specs.dioid.declared.dates.Date.TheVariants.{Early, At, Never}
-use Rattle.series_form.proofs.dioid_proofs.DateOrder.{never_last, later_is_right, later_is_left}
+use Rattle.dioid.specs.Dates.{IsAtMostDate, later_of, date_product}
+use Rattle.dioid.specs.declared.dates.Date.{Date}
+use Rattle.dioid.specs.declared.dates.Date.TheVariants.{Early, At, Never}
+use Rattle.dioid.proofs.DateOrder.{never_last, later_is_right, later_is_left}
 use Rattle.series_form.specs.NumberBounds.{IsMagnitudeUpTo}
 use Rattle.series_form.proofs.DateNumbers.{abs_le, abs_sum}
 use Rattle.series_ops.specs.Cells.{cell_by, date_by_far, IsCellBy, AreCellsBy}

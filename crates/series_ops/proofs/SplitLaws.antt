@@ -4,11 +4,11 @@ use Rattle.std.specs.Prelude.{min}
 use Rattle.std.specs.Int.{w128}
 use Rattle.std.specs.Int.RustNames.{unsigned_abs}
 use Rattle.std.proofs.lemmas.Int.{to_z-of_z}
-use Rattle.series_form.specs.dioid.Dates.{later_of, date_product, move}
-use Rattle.series_form.specs.dioid.Proved.DateLaws.{later_assoc}
-use Rattle.series_form.specs.dioid.declared.dates.Date.{Date}
-use Rattle.series_form.specs.dioid.declared.dates.Date.TheVariants.{Early, At, Never}
-use Rattle.series_form.proofs.dioid_proofs.Moves.{later_move, product_move_left}
+use Rattle.dioid.specs.Dates.{later_of, date_product, move}
+use Rattle.dioid.specs.Proved.DateLaws.{later_assoc}
+use Rattle.dioid.specs.declared.dates.Date.{Date}
+use Rattle.dioid.specs.declared.dates.Date.TheVariants.{Early, At, Never}
+use Rattle.dioid.proofs.Moves.{later_move, product_move_left}
 use Rattle.series_laws.specs.Periodic.{Repeats}
 use Rattle.series_laws.specs.SeriesForms.{Form, form_with, size_of, repeat_start, value_at, table}
 use Rattle.series_laws.proofs.FormValues.{value_in, value_repeats}
@@ -16,7 +16,7 @@ use Rattle.series_form.specs.NumberBounds.{IsMagnitudeUpTo, IsSeries}
 use Rattle.series_form.proofs.DateNumbers.{moderate_fits}
 use Rattle.series_form.proofs.Finished.{up_to_more}
 use Rattle.series_form.proofs.PointwiseTables.{later_up_to, listed_up_to}
-use Rattle.series_form.proofs.dioid_proofs.Moves.{product_is_move}
+use Rattle.dioid.proofs.Moves.{product_is_move}
 use Rattle.series_ops.specs.ListFunctions.{value_listed, AreUpTo}
 use Rattle.series_laws.specs.Product.{product_at, greatest_of_first}
 use Rattle.series_laws.proofs.Products.{product_commutes}

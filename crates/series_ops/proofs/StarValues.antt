@@ -7,14 +7,14 @@ use Rattle.std.proofs.lemmas.Bool.{cases_lt}
 use Rattle.std.proofs.lemmas.Bool.Decides.{nat_tests}
 use Rattle.std.proofs.lemmas.List.{get_or-take, length-take-le}
 use Rattle.std.proofs.Math.ListN.{get_or-eq_default}
-use Rattle.series_form.specs.dioid.Dates.{later_of, date_product, move}
-use Rattle.series_form.specs.dioid.declared.dates.Date.{Date}
-use Rattle.series_form.specs.dioid.declared.dates.Date.TheVariants.{Early, At, Never}
+use Rattle.dioid.specs.Dates.{later_of, date_product, move}
+use Rattle.dioid.specs.declared.dates.Date.{Date}
+use Rattle.dioid.specs.declared.dates.Date.TheVariants.{Early, At, Never}
 use Rattle.series_laws.specs.declared.plans.NeedPlan.{NeedPlan}
 use Rattle.series_form.specs.declared.forms.SeriesRefused.{SeriesRefused}
 use Rattle.series_form.specs.declared.forms.SeriesRefused.TheVariants.{TooLong, TooGreat, OutOfMemory}
-use Rattle.series_form.specs.dioid.DateOrder.{Le}
-use Rattle.series_form.proofs.dioid_proofs.AtMost.{le_is, early_le}
+use Rattle.dioid.specs.DateOrder.{Le}
+use Rattle.dioid.proofs.AtMost.{le_is, early_le}
 use Rattle.series_laws.specs.Periodic.{Rising, Repeats}
 use Rattle.series_laws.specs.Pointwise.{sum_at}
 use Rattle.series_laws.specs.SeriesForms.{Form, form_with, size_of, repeat_start, value_at, gap, table, IsForm, HasValues, IsCanonical, monomial_at}

@@ -1,7 +1,7 @@
 -- Dates as numbers: two far numbers stand for Early and Never.
 use Rattle.std.specs.Prelude.{◌≡◌, ◌≤◌, ◌<◌, ◌-ℤ◌, ◌⊎◌, ℕ, ℤ, pos, negsuc, suc, cond, ltb, List, [], ◌∷◌, ◌++◌, length, get_or, map, reverse}
-use Rattle.series_form.specs.dioid.declared.dates.Date.{Date}
-use Rattle.series_form.specs.dioid.declared.dates.Date.TheVariants.{Early, At, Never}
+use Rattle.dioid.specs.declared.dates.Date.{Date}
+use Rattle.dioid.specs.declared.dates.Date.TheVariants.{Early, At, Never}
 use Rattle.series_form.specs.NumberBounds.{IsMagnitudeUpTo}
 use Rattle.series_form.specs.SeriesLimits.{greatest_listed, greatest_reach}
 

@@ -1,7 +1,7 @@
 -- Working definitions of refusals of series as refusals of elements.
 use Rattle.std.specs.Prelude.{◌≡◌}
-use Rattle.series_form.specs.dioid.declared.algebra.Refused.{Refused}
-use Rattle.series_form.specs.dioid.declared.algebra.Refused.TheVariants.{Range}
+use Rattle.dioid.specs.declared.algebra.Refused.{Refused}
+use Rattle.dioid.specs.declared.algebra.Refused.TheVariants.{Range}
 use Rattle.series_form.specs.declared.forms.SeriesRefused.{SeriesRefused}
 use Rattle.series_form.specs.declared.forms.SeriesRefused.TheVariants.{TooLong, TooGreat, OutOfMemory}
 

@@ -5,6 +5,6 @@ pub mod Pieces
 pub mod Proved
 pub mod ElementRefusals
 pub mod Splits
-pub use Rattle.series_form.specs.dioid as dioid
+pub use Rattle.dioid.specs as dioid
 pub use Rattle.series_laws.specs as series_laws
 pub use Rattle.series_form.specs as series_form

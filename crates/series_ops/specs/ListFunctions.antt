@@ -1,9 +1,9 @@
 -- Working definitions of lists as functions, and of a list without its last value.
 use Rattle.std.specs.Prelude.{◌≡◌, ◌≤◌, ◌<◌, ◌+◌, ◌-◌, ℕ, ℤ, suc, cond, ltb, List, length, get_or, take}
 use Rattle.std.specs.Int.RustNames.{unsigned_abs}
-use Rattle.series_form.specs.dioid.declared.dates.Date.{Date}
-use Rattle.series_form.specs.dioid.declared.dates.Date.TheVariants.{Early, At, Never}
-use Rattle.series_form.specs.dioid.Dates.{earlier_of, date_left}
+use Rattle.dioid.specs.declared.dates.Date.{Date}
+use Rattle.dioid.specs.declared.dates.Date.TheVariants.{Early, At, Never}
+use Rattle.dioid.specs.Dates.{earlier_of, date_left}
 use Rattle.series_laws.specs.declared.plans.Anchor.{Anchor}
 use Rattle.series_laws.specs.Residual.{least_of_first}
 use Rattle.series_form.specs.NumberBounds.{IsMagnitudeUpTo}

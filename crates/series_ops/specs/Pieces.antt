@@ -1,9 +1,9 @@
 -- Working definitions of sums over places one after another, and of places that go on by equal steps.
 use Rattle.std.specs.Prelude.{◌≡◌, ◌≤◌, ◌<◌, ◌+◌, ◌-◌, ◌*◌, ℕ, ℤ, cond, ltb, List, length, take}
 use Rattle.std.specs.Int.RustNames.{unsigned_abs}
-use Rattle.series_form.specs.dioid.declared.dates.Date.{Date}
-use Rattle.series_form.specs.dioid.declared.dates.Date.TheVariants.{Early}
-use Rattle.series_form.specs.dioid.Dates.{later_of, date_product, move}
+use Rattle.dioid.specs.declared.dates.Date.{Date}
+use Rattle.dioid.specs.declared.dates.Date.TheVariants.{Early}
+use Rattle.dioid.specs.Dates.{later_of, date_product, move}
 use Rattle.series_ops.specs.declared.pieces.Piece.{Piece}
 use Rattle.series_laws.specs.SeriesForms.{table}
 use Rattle.series_ops.specs.ListFunctions.{value_listed}

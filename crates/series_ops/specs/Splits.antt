@@ -1,8 +1,8 @@
 -- Working definitions of the splits of a shift, some places at a time.
 use Rattle.std.specs.Prelude.{◌+◌, ◌-◌, ℕ, zero, suc, min}
-use Rattle.series_form.specs.dioid.Dates.{later_of, date_product}
-use Rattle.series_form.specs.dioid.declared.dates.Date.{Date}
-use Rattle.series_form.specs.dioid.declared.dates.Date.TheVariants.{Early}
+use Rattle.dioid.specs.Dates.{later_of, date_product}
+use Rattle.dioid.specs.declared.dates.Date.{Date}
+use Rattle.dioid.specs.declared.dates.Date.TheVariants.{Early}
 use Rattle.series_laws.specs.SeriesForms.{Form, repeat_start, value_at}
 
 -- the greatest of the m values of f from p on, Early for none

@@ -1,7 +1,7 @@
 //! The anchor of a star: the part of the greatest ratio, and from where a star repeats by it.
 ghost use Rattle.std.specs.Prelude.{◌≡◌, ◌≤◌, ◌<◌, ◌+◌, ◌-◌, int_lt, length};
 ghost use Rattle.std.specs.Int.RustNames.{unsigned_abs};
-ghost use Rattle.series_form.specs.dioid.declared.dates.Date.TheVariants.{At, Never};
+ghost use Rattle.dioid.specs.declared.dates.Date.TheVariants.{At, Never};
 ghost use Rattle.series_laws.specs.Periodic.{times};
 ghost use Rattle.series_laws.specs.SeriesForms.{form_with, repeat_start};
 ghost use Rattle.series_form.specs.NumberBounds.{IsMagnitudeUpTo};
@@ -11,8 +11,8 @@ ghost use Rattle.series_form.specs.SeriesLimits.{greatest_part_value, greatest_p
 ghost use Rattle.series_ops.specs.ListFunctions.{AreUpTo, IsModest};
 
 use crate::cells::greater;
+use dioid::Date;
 use series_form::NeedPlan;
-use series_form::dioid::Date;
 use series_laws::Anchor;
 
 // A number many times over.

@@ -8,7 +8,7 @@ ghost use Rattle.series_ops.specs.Pieces.{window, IsPieceBegun};
 use crate::cells::{Cells, greatest_split};
 use crate::pieces::sums_in_few_pieces;
 use crate::splits::places;
-use series_form::dioid::Date;
+use dioid::Date;
 use std::alloc::{AllocError, Global};
 
 // By how many values the second list goes on between two such findings.

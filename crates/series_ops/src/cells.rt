@@ -9,7 +9,7 @@ ghost use Rattle.series_ops.specs.Cells.{far, cell_of_date, conjugate_of, date_o
 ghost use Rattle.series_ops.specs.ListFunctions.{value_listed, AreUpTo};
 ghost use Rattle.series_ops.specs.Splits.{greatest_from, split_of};
 
-use series_form::dioid::Date;
+use dioid::Date;
 use std::alloc::{AllocError, Global};
 use std::marker::Model;
 
@@ -122,7 +122,7 @@ pub(crate) struct Cells {
 
 impl Model for Cells {
     ghost use Rattle.std.specs.Prelude.{List, map};
-    ghost use Rattle.series_form.specs.dioid.declared.dates.Date.{Date};
+    ghost use Rattle.dioid.specs.declared.dates.Date.{Date};
     ghost use Rattle.series_ops.specs.Cells.{date_of_far_cell, AreCells, AreShortOf};
 
     ghost Value = { List Date };

@@ -2,7 +2,7 @@
 use crate::products::product;
 use crate::residuals::left;
 use crate::stars::star;
-use series_form::dioid::{Date, Dioid, Kleene, Refused, Residuated};
+use dioid::{Date, Dioid, Kleene, Refused, Residuated};
 use series_form::{Series, SeriesRefused, least, sum};
 use std::alloc::Global;
 

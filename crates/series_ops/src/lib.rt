@@ -19,7 +19,5 @@ mod tables;
 pub use gains::Gain;
 pub use products::product;
 pub use residuals::left;
-pub use series_form;
-pub use series_form::dioid;
 pub use series_laws::series_are_closed;
 pub use stars::star;

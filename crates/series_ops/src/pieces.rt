@@ -3,8 +3,8 @@
 //! not with the number of places.
 ghost use Rattle.std.specs.Prelude.{◌≡◌, ◌≤◌, ◌<◌, ◌+◌, ◌-◌, ◌*◌, IfOk, IfSome, length, min, true};
 ghost use Rattle.std.specs.Int.RustNames.{unsigned_abs};
-ghost use Rattle.series_form.specs.dioid.declared.dates.Date.TheVariants.{Early, At};
-ghost use Rattle.series_form.specs.dioid.Dates.{move};
+ghost use Rattle.dioid.specs.declared.dates.Date.TheVariants.{Early, At};
+ghost use Rattle.dioid.specs.Dates.{move};
 ghost use Rattle.series_laws.specs.Periodic.{times};
 ghost use Rattle.series_laws.specs.SeriesForms.{table};
 ghost use Rattle.series_form.specs.NumberBounds.{IsMagnitudeUpTo};
@@ -16,7 +16,7 @@ use crate::anchors::many;
 use crate::cells::{Cells, dates_of};
 use crate::splits::added;
 use crate::tables::repeated;
-use series_form::dioid::Date;
+use dioid::Date;
 use std::alloc::{AllocError, Global};
 
 // Places of a list one after another: `turns` times `size` of them, each turn a step above the one

@@ -1,7 +1,7 @@
 //! The product of two series.
 ghost use Rattle.std.specs.Prelude.{◌≡◌, ◌≤◌, ◌<◌, ◌+◌, ◌-◌, ◌*◌, IfOk, length, pos, ◌<ℤ◌, ◌-ℤ◌};
 ghost use Rattle.std.specs.Int.RustNames.{unsigned_abs};
-ghost use Rattle.series_form.specs.dioid.declared.dates.Date.TheVariants.{Early, Never};
+ghost use Rattle.dioid.specs.declared.dates.Date.TheVariants.{Early, Never};
 ghost use Rattle.series_laws.specs.declared.plans.Slopes.TheVariants.{First};
 ghost use Rattle.series_laws.specs.Periodic.{times};
 ghost use Rattle.series_laws.specs.SeriesForms.{value_at, table, HasValues};
@@ -18,7 +18,7 @@ use crate::cells::{Cells, collected};
 use crate::pieces::sums_in_few_pieces;
 use crate::splits::{tail_value, value_with_tail};
 use crate::tables::{ended, first_values};
-use series_form::dioid::Date;
+use dioid::Date;
 use series_form::{
     NeedPlan, Series, SeriesRefused, Slopes, common_period, compare_slopes, gain_over, gains_for,
     lead_gain, start, tail,

@@ -1,8 +1,8 @@
 //! The residual of one series by another.
 ghost use Rattle.std.specs.Prelude.{◌≡◌, ◌≤◌, ◌<◌, ◌+◌, ◌-◌, ℕ, IfOk, length, map};
 ghost use Rattle.std.specs.Int.RustNames.{unsigned_abs};
-ghost use Rattle.series_form.specs.dioid.declared.dates.Date.TheVariants.{Early};
-ghost use Rattle.series_form.specs.dioid.Dates.{date_left};
+ghost use Rattle.dioid.specs.declared.dates.Date.TheVariants.{Early};
+ghost use Rattle.dioid.specs.Dates.{date_left};
 ghost use Rattle.series_laws.specs.declared.plans.Slopes.TheVariants.{First};
 ghost use Rattle.series_laws.specs.SeriesForms.{size_of, repeat_start, value_at, table};
 ghost use Rattle.series_form.specs.NumberBounds.{IsMagnitudeUpTo, IsSeries};
@@ -19,7 +19,7 @@ use crate::cells::{Cells, collected, conjugate, conjugates, conjugates_back};
 use crate::pieces::sums_in_few_pieces;
 use crate::splits::greatest_at;
 use crate::tables::{ended, first_values, repeated};
-use series_form::dioid::Date;
+use dioid::Date;
 use series_form::{
     NeedPlan, Series, SeriesRefused, Slopes, common_period, common_start, compare_slopes, start,
     tail,

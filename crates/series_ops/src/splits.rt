@@ -1,7 +1,7 @@
 //! Sums of a value of one list and a value of another, over the splits of a shift.
 ghost use Rattle.std.specs.Prelude.{◌≡◌, ◌≤◌, ◌<◌, ◌+◌, ◌-◌, length};
 ghost use Rattle.std.specs.Int.RustNames.{unsigned_abs};
-ghost use Rattle.series_form.specs.dioid.Dates.{date_product};
+ghost use Rattle.dioid.specs.Dates.{date_product};
 ghost use Rattle.series_laws.specs.SeriesForms.{form_with, table};
 ghost use Rattle.series_form.specs.NumberBounds.{IsMagnitudeUpTo};
 ghost use Rattle.series_form.specs.SeriesLimits.{greatest_value_ahead, greatest_moderate, greatest_part_product};
@@ -11,7 +11,7 @@ ghost use Rattle.series_ops.specs.Splits.{places_to, tail_product, with_tail};
 ghost use Rattle.series_ops.specs.ListFunctions.{value_listed, AreUpTo};
 
 use crate::cells::{Cells, greatest_split};
-use series_form::dioid::Date;
+use dioid::Date;
 
 // The two dates added.
 pub(crate) fn added(first: Date, second: Date) -> Date

@@ -1,13 +1,13 @@
 //! The star of a series: its need, and its values by their first parts.
 ghost use Rattle.std.specs.Prelude.{◌≡◌, ◌≤◌, ◌<◌, ◌+◌, ◌-◌, ℕ, IfOk, pos};
-ghost use Rattle.series_form.specs.dioid.declared.dates.Date.TheVariants.{At, Never};
+ghost use Rattle.dioid.specs.declared.dates.Date.TheVariants.{At, Never};
 ghost use Rattle.series_laws.specs.Periodic.{times};
 ghost use Rattle.series_laws.specs.SeriesForms.{size_of, value_at, table, Form, HasValues, IsCanonical, monomial_at};
 ghost use Rattle.series_form.specs.NumberBounds.{IsMagnitudeUpTo, IsSeries};
 ghost use Rattle.series_laws.specs.Pointwise.{sum_at};
 ghost use Rattle.series_laws.specs.Needs.{need_of, sum_plan};
 ghost use Rattle.series_form.specs.declared.forms.SeriesRefused.{SeriesRefused};
-ghost use Rattle.series_form.specs.dioid.DateOrder.{Le};
+ghost use Rattle.dioid.specs.DateOrder.{Le};
 ghost use Rattle.series_form.specs.SeriesAnswers.{AnswersOf, AnswersForm, IsBeginning, form_before};
 ghost use Rattle.series_laws.specs.ProductNeeds.{own_plan, at_least, star_plan, carried_of, star_need, star_carried, form_star};
 ghost use Rattle.series_ops.specs.ListFunctions.{AreUpTo, later_part};
@@ -19,7 +19,7 @@ use crate::beginnings::{greatest_begun, nothing_begun, renewed};
 use crate::cells::Cells;
 use crate::splits::tail_value;
 use crate::tables::ended;
-use series_form::dioid::Date;
+use dioid::Date;
 use series_form::{
     NeedPlan, Series, SeriesRefused, canonical_part, later_at, plan_of_sum, start, sum_values,
 };

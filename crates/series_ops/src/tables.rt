@@ -5,7 +5,7 @@ ghost use Rattle.series_form.specs.NumberBounds.{IsSeries};
 ghost use Rattle.series_form.specs.SeriesAnswers.{IsBeginning, IsShortestSeries, form_before};
 ghost use Rattle.series_ops.specs.ListFunctions.{all_but_last, last_value};
 
-use series_form::dioid::Date;
+use dioid::Date;
 use series_form::{Series, SeriesRefused, shortest};
 use std::alloc::{AllocError, Global};
 

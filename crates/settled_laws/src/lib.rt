@@ -13,4 +13,3 @@ mod laws;
 pub use laws::{
     forms_tell_dates, settled_forms_are_one, shortest_forms_are_one, shortest_forms_exist,
 };
-pub use teg_model::teg_net;

@@ -5,7 +5,7 @@
 use std::alloc::{AllocError, Global};
 use std::process::ExitCode;
 use std::{env, io};
-use teg_run::teg_outside::{FileShelf, WriterSink};
+use teg_outside::{FileShelf, WriterSink};
 use teg_run::{Status, run_watched};
 
 // The words after the program's name; none where one of them is no text.

@@ -3,9 +3,9 @@ use Rattle.std.proofs.Common.{ℕ, ◌<◌, ◌≤◌, ◌≡◌, ◌≢◌, tru
 use Rattle.std.specs.Prelude.{Any}
 use Rattle.std.proofs.lemmas.Bool.{cases_eq, eqb-true, eq-eqb}
 use Rattle.std.proofs.lemmas.List.{nil_from_length, get_or_default}
-use Rattle.bound_laws.specs.teg_net.declared.entries.Role.TheVariants.{Input}
-use Rattle.bound_laws.specs.teg_net.declared.entries.Place.{Place}
-use Rattle.bound_laws.specs.teg_net.Nets.{NetLists}
+use Rattle.teg_net.specs.declared.entries.Role.TheVariants.{Input}
+use Rattle.teg_net.specs.declared.entries.Place.{Place}
+use Rattle.teg_net.specs.Nets.{NetLists}
 use Rattle.bound_laws.specs.Critical.{AllReadyAtZero}
 use Rattle.teg_bound.specs.PeriodicBounds.{HasPlacesAlone, HasReadyDate}
 use Rattle.teg_bound.proofs.Inputs.{input_is_some}

@@ -2,9 +2,9 @@
 use Rattle.std.proofs.Common.{ℕ, ◌<◌, ◌≡◌, Some, None, length, get_or, ⊎_elim}
 use Rattle.std.specs.Prelude.{Any, IsSomeAnd, slice_get}
 use Rattle.std.proofs.lemmas.Option.{slice_get_cases}
-use Rattle.bound_laws.specs.teg_net.declared.entries.Role.TheVariants.{Input}
-use Rattle.bound_laws.specs.teg_net.declared.entries.Transition.{Transition}
-use Rattle.bound_laws.specs.teg_net.Nets.{NetLists, IsInput}
+use Rattle.teg_net.specs.declared.entries.Role.TheVariants.{Input}
+use Rattle.teg_net.specs.declared.entries.Transition.{Transition}
+use Rattle.teg_net.specs.Nets.{NetLists, IsInput}
 
 pub input_is_some : (net : NetLists) (t : ℕ) → IsInput net t → Any (λ x. x.role ≡ Input) net.transitions
 input_is_some net t h =

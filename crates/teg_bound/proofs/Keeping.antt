@@ -7,11 +7,11 @@ use Rattle.std.proofs.Math.Nat.{div-mul_cancel, one-dvd, mul-le-mul_right}
 use Rattle.bound_laws.specs.dioid.declared.dates.Date.{Date}
 use Rattle.bound_laws.specs.dioid.declared.dates.Date.TheVariants.{At}
 use Rattle.bound_laws.specs.dioid.Dates.{move}
-use Rattle.bound_laws.specs.teg_net.declared.entries.PlaceId.{PlaceId}
-use Rattle.bound_laws.specs.teg_net.Nets.{NetLists, IsNet}
-use Rattle.bound_laws.specs.teg_net.Ratios.{Fraction}
-use Rattle.bound_laws.specs.teg_net.Circuits.{IsCircuit, IsLive, time_of, tokens_of}
-use Rattle.bound_laws.specs.teg_net.GreatestRatios.{IsGreatestRatio, IsAnyPlace}
+use Rattle.teg_net.specs.declared.entries.PlaceId.{PlaceId}
+use Rattle.teg_net.specs.Nets.{NetLists, IsNet}
+use Rattle.teg_net.specs.Ratios.{Fraction}
+use Rattle.teg_net.specs.Circuits.{IsCircuit, IsLive, time_of, tokens_of}
+use Rattle.teg_net.specs.GreatestRatios.{IsGreatestRatio, IsAnyPlace}
 use Rattle.bound_laws.specs.teg_model.Datings.{IsLeastDating}
 use Rattle.bound_laws.specs.settled_laws.SettledForms.{RepeatsAfter}
 use Rattle.bound_laws.specs.Critical.{IsStrong, IsCommon, AllReadyAtZero, bound_of}

@@ -4,13 +4,13 @@ use Rattle.std.specs.Int.{IsGcd}
 use Rattle.std.proofs.lemmas.Bool.{cases_eq}
 use Rattle.std.proofs.lemmas.Nat.Gcd.{IsGcd-from_zero, IsGcd-from_mod}
 use Rattle.std.proofs.Math.Nat.{mul-le-mul, div-le_self}
-use Rattle.bound_laws.specs.teg_net.declared.entries.PlaceId.{PlaceId}
-use Rattle.bound_laws.specs.teg_net.Nets.{NetLists, IsNet}
-use Rattle.bound_laws.specs.teg_net.Ratios.{Fraction, IsLowestTerms, IsRatioOf}
-use Rattle.bound_laws.specs.teg_net.Circuits.{IsLive, time_of, tokens_of}
-use Rattle.bound_laws.specs.teg_net.GreatestRatios.{IsGreatestRatio, IsAnyPlace}
-use Rattle.bound_laws.specs.teg_net.Limits.{greatest_circuit_time, most_circuit_tokens}
-use Rattle.bound_laws.proofs.teg_net_proofs.LowestTerms.{IsRatioOf-divided}
+use Rattle.teg_net.specs.declared.entries.PlaceId.{PlaceId}
+use Rattle.teg_net.specs.Nets.{NetLists, IsNet}
+use Rattle.teg_net.specs.Ratios.{Fraction, IsLowestTerms, IsRatioOf}
+use Rattle.teg_net.specs.Circuits.{IsLive, time_of, tokens_of}
+use Rattle.teg_net.specs.GreatestRatios.{IsGreatestRatio, IsAnyPlace}
+use Rattle.teg_net.specs.Limits.{greatest_circuit_time, most_circuit_tokens}
+use Rattle.teg_net.proofs.LowestTerms.{IsRatioOf-divided}
 use Rattle.teg_cycle.proofs.teg_howard_proofs.LowestTerms.{one_ratio}
 use Rattle.teg_cycle.proofs.Short.{circuit_sums}
 use Rattle.teg_bound.specs.Readings.{AreReadingsWithin}

@@ -1,17 +1,17 @@
 -- What the parts of a net and its certificate tell of a net without dates from outside.
 use Rattle.std.proofs.Common.{ℕ, ◌<◌, ◌≤◌, ◌≡◌, ◌≢◌, List, Option, Some, None, length, get_or, refl, sym, subst, ◌∙◌, arith}
-use Rattle.bound_laws.specs.teg_net.declared.entries.PlaceId.{PlaceId}
-use Rattle.bound_laws.specs.teg_net.declared.answers.PartAnswer.{PartAnswer}
-use Rattle.bound_laws.specs.teg_net.declared.answers.PartAnswer.TheVariants.{NoCircuit, Best}
-use Rattle.bound_laws.specs.teg_net.declared.answers.CycleAnswer.{CycleAnswer}
-use Rattle.bound_laws.specs.teg_net.Nets.{NetLists, IsNet}
-use Rattle.bound_laws.specs.teg_net.Ratios.{Fraction, IsLowestTerms}
-use Rattle.bound_laws.specs.teg_net.Circuits.{no_place, from_of, IsCircuit, IsLive}
-use Rattle.bound_laws.specs.teg_net.Parts.{to_of}
-use Rattle.bound_laws.specs.teg_net.GreatestRatios.{IsGreatestRatio, IsAnyPlace, IsCycleTime, ratio_in, ratio_at}
-use Rattle.bound_laws.specs.teg_net.Certificates.{IsCertificate, IsPartCertificate}
-use Rattle.bound_laws.specs.teg_net.Limits.{greatest_circuit_time, most_circuit_tokens}
-use Rattle.teg_cycle.specs.teg_parts.Partitions.{PartLists, AreParts}
+use Rattle.teg_net.specs.declared.entries.PlaceId.{PlaceId}
+use Rattle.teg_net.specs.declared.answers.PartAnswer.{PartAnswer}
+use Rattle.teg_net.specs.declared.answers.PartAnswer.TheVariants.{NoCircuit, Best}
+use Rattle.teg_net.specs.declared.answers.CycleAnswer.{CycleAnswer}
+use Rattle.teg_net.specs.Nets.{NetLists, IsNet}
+use Rattle.teg_net.specs.Ratios.{Fraction, IsLowestTerms}
+use Rattle.teg_net.specs.Circuits.{no_place, from_of, IsCircuit, IsLive}
+use Rattle.teg_net.specs.Parts.{to_of}
+use Rattle.teg_net.specs.GreatestRatios.{IsGreatestRatio, IsAnyPlace, IsCycleTime, ratio_in, ratio_at}
+use Rattle.teg_net.specs.Certificates.{IsCertificate, IsPartCertificate}
+use Rattle.teg_net.specs.Limits.{greatest_circuit_time, most_circuit_tokens}
+use Rattle.teg_parts.specs.Partitions.{PartLists, AreParts}
 use Rattle.teg_cycle.specs.BestRatios.{named_ratio, best_ratio_of}
 use Rattle.teg_cycle.proofs.Certified.{tell_of_nets}
 use Rattle.teg_cycle.proofs.FirstBest.{told_in}

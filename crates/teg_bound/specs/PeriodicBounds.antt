@@ -2,12 +2,12 @@
 use Rattle.std.specs.Prelude.{ℕ, ◌^◌, ◌<◌, ◌≤◌, ◌≡◌, ◌⊎◌, ◌==◌, if◌then◌else◌, List, [], length, All, Any}
 use Rattle.std.specs.Int.{◌∣◌}
 use Rattle.bound_laws.specs.dioid.declared.dates.Date.{Date}
-use Rattle.bound_laws.specs.teg_net.declared.entries.PlaceId.{PlaceId}
-use Rattle.bound_laws.specs.teg_net.Nets.{NetLists, IsInput}
-use Rattle.bound_laws.specs.teg_net.Ratios.{Fraction, IsLowestTerms}
-use Rattle.bound_laws.specs.teg_net.Circuits.{tokens_of}
-use Rattle.bound_laws.specs.teg_net.Parts.{Reaches}
-use Rattle.bound_laws.specs.teg_net.GreatestRatios.{IsGreatestRatio, IsAnyPlace}
+use Rattle.teg_net.specs.declared.entries.PlaceId.{PlaceId}
+use Rattle.teg_net.specs.Nets.{NetLists, IsInput}
+use Rattle.teg_net.specs.Ratios.{Fraction, IsLowestTerms}
+use Rattle.teg_net.specs.Circuits.{tokens_of}
+use Rattle.teg_net.specs.Parts.{Reaches}
+use Rattle.teg_net.specs.GreatestRatios.{IsGreatestRatio, IsAnyPlace}
 use Rattle.bound_laws.specs.teg_model.Datings.{IsLeastDating}
 use Rattle.bound_laws.specs.settled_laws.SettledForms.{SettledForm, IsShortestForm}
 use Rattle.bound_laws.specs.Critical.{IsCriticalAt, AllReadyAtZero, bound_of}

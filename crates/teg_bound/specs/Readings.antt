@@ -1,6 +1,6 @@
 -- Working definitions of what is read off a net.
 use Rattle.std.specs.Prelude.{ℕ, ◌≤◌}
-use Rattle.bound_laws.specs.teg_net.Limits.{greatest_circuit_time, greatest_hold, most_circuit_tokens}
+use Rattle.teg_net.specs.Limits.{greatest_circuit_time, greatest_hold, most_circuit_tokens}
 
 -- a count, a hold, tokens, and a ratio within their limits
 pub record AreReadingsWithin (count hold tokens time per : ℕ) : Type 0 where

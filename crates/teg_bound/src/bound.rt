@@ -1,15 +1,15 @@
 //! The number past which the dates of a net go on by steps.
-ghost use Rattle.bound_laws.specs.teg_net.Certificates.{IsCertificate};
-ghost use Rattle.teg_cycle.specs.teg_check.Ranks.{IsRanking};
-ghost use Rattle.teg_cycle.specs.teg_parts.Partitions.{AreParts};
+ghost use Rattle.teg_net.specs.Certificates.{IsCertificate};
+ghost use Rattle.teg_check.specs.Ranks.{IsRanking};
+ghost use Rattle.teg_parts.specs.Partitions.{AreParts};
 ghost use Rattle.teg_bound.specs.PeriodicBounds.{IsRightBound};
 
 use crate::numbers::bound_number;
 use crate::readings::{has_input, has_late_token};
-use bound_laws::teg_net::{CycleAnswer, Net};
+use teg_check::Live;
 use teg_cycle::best_ratio;
-use teg_cycle::teg_check::Live;
-use teg_cycle::teg_parts::Parts;
+use teg_net::{CycleAnswer, Net};
+use teg_parts::Parts;
 
 /// How soon the least dates of a net go on by steps, or why no bound is told.
 #[derive(Clone, Copy, Debug, PartialEq, Eq)]

@@ -1,12 +1,12 @@
 //! The bound as a number of 128 bits.
 ghost use Rattle.std.specs.Prelude.{◌≡◌, ◌≤◌, ◌<◌, ◌^◌, length};
-ghost use Rattle.bound_laws.specs.teg_net.Limits.{greatest_circuit_time, most_circuit_tokens};
+ghost use Rattle.teg_net.specs.Limits.{greatest_circuit_time, most_circuit_tokens};
 ghost use Rattle.bound_laws.specs.Critical.{bound_of};
 ghost use Rattle.teg_bound.specs.PeriodicBounds.{IsNumberOf};
 ghost use Rattle.teg_bound.specs.Readings.{AreReadingsWithin};
 
 use crate::readings::{greatest_hold, most_tokens};
-use bound_laws::teg_net::{Net, Ratio};
+use teg_net::{Net, Ratio};
 
 // The number of n transitions, hold H, tokens M and ratio a/b: with T = (n - 1) M, C = n M and
 // P = (n - 1) H it is T + C (b P + a (T + C)) + 1.

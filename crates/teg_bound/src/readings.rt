@@ -1,9 +1,9 @@
 //! What is read off a net.
 ghost use Rattle.std.specs.Prelude.{◌≡◌, ◌↔◌, ◌≤◌, ◌<◌, Any, IsTrue, length};
-ghost use Rattle.bound_laws.specs.teg_net.declared.entries.Role.TheVariants.{Input};
+ghost use Rattle.teg_net.specs.declared.entries.Role.TheVariants.{Input};
 ghost use Rattle.teg_bound.specs.PeriodicBounds.{HasReadyDate, IsGreatestHold, IsMostTokens};
 
-use bound_laws::teg_net::{Net, Place, Role};
+use teg_net::{Net, Place, Role};
 
 // Whether some transition is an input.
 pub(crate) fn has_input(net: &Net) -> bool

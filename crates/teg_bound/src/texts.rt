@@ -5,8 +5,8 @@ ghost use Rattle.teg_text.specs.Lines.{line_then, written};
 ghost use Rattle.teg_bound.specs.BoundTexts.{BoundTold, told_bound, bound_line, bound_lines, AreNumbersIn, IsCause, TextsOfBoundsDiffer};
 
 use crate::bound::BoundAnswer;
-use bound_laws::teg_net::OutOfMemory;
 use std::alloc::{AllocError, Global};
+use teg_net::OutOfMemory;
 use teg_text::push_settled;
 
 // Appends the line of a bound.

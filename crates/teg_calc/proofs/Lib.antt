@@ -17,5 +17,5 @@ pub mod Faults
 pub mod Printed
 pub mod SignedNumbers
 pub mod OneAnswer
-pub use Rattle.series_ops.proofs.series_form_proofs as series_form_proofs
+pub use Rattle.series_form.proofs as series_form_proofs
 pub use Rattle.teg_text.proofs as teg_text_proofs

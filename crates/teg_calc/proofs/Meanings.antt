@@ -1,10 +1,10 @@
 -- The series that a tree's evaluation answers is what the tree means.
 use Rattle.std.proofs.Common.{◌≡◌, refl, ap, ◌∙◌, ℕ, pos, Result, Ok, Err, IfOk}
-use Rattle.series_ops.specs.dioid.Dates.{move}
-use Rattle.series_ops.specs.dioid.declared.dates.Date.{Date}
-use Rattle.series_ops.specs.dioid.declared.dates.Date.TheVariants.{Early, At, Never}
-use Rattle.series_ops.specs.series_form.declared.forms.SeriesRefused.{SeriesRefused}
-use Rattle.series_ops.specs.series_form.SeriesAnswers.{IsConstant}
+use Rattle.dioid.specs.Dates.{move}
+use Rattle.dioid.specs.declared.dates.Date.{Date}
+use Rattle.dioid.specs.declared.dates.Date.TheVariants.{Early, At, Never}
+use Rattle.series_form.specs.declared.forms.SeriesRefused.{SeriesRefused}
+use Rattle.series_form.specs.SeriesAnswers.{IsConstant}
 use Rattle.series_ops.specs.series_laws.SeriesForms.{Form, value_at}
 use Rattle.series_ops.proofs.series_laws_proofs.Canonical.{constant_is}
 use Rattle.teg_calc.specs.ExpressionTrees.{Tree, mono, epsilon, unit, never, plus, times, star, least, left}

@@ -2,17 +2,17 @@
 use Rattle.std.proofs.Common.{◌≡◌, refl, ap, sym, ◌∙◌, subst, arith, ℕ, ℤ, pos, ◌+◌, ◌<◌, ◌≤◌, get_or, Result, Ok, Err, ◌⊎◌, inl, inr, ⊎_elim}
 use Rattle.std.specs.Int.RustNames.{unsigned_abs}
 use Rattle.std.proofs.lemmas.Bool.{cases_lt}
-use Rattle.series_ops.specs.dioid.Dates.{date_left}
-use Rattle.series_ops.specs.dioid.declared.dates.Date.{Date}
-use Rattle.series_ops.specs.dioid.declared.dates.Date.TheVariants.{Early, At, Never}
-use Rattle.series_ops.specs.series_form.declared.forms.SeriesRefused.{SeriesRefused}
-use Rattle.series_ops.specs.series_form.declared.forms.SeriesRefused.TheVariants.{TooLong, TooGreat, OutOfMemory}
+use Rattle.dioid.specs.Dates.{date_left}
+use Rattle.dioid.specs.declared.dates.Date.{Date}
+use Rattle.dioid.specs.declared.dates.Date.TheVariants.{Early, At, Never}
+use Rattle.series_form.specs.declared.forms.SeriesRefused.{SeriesRefused}
+use Rattle.series_form.specs.declared.forms.SeriesRefused.TheVariants.{TooLong, TooGreat, OutOfMemory}
 use Rattle.series_ops.specs.series_laws.SeriesForms.{Form, value_at, HasValues, IsCanonical, monomial_at}
 use Rattle.series_ops.specs.series_laws.Pointwise.{sum_at, least_at}
-use Rattle.series_ops.specs.series_form.NumberBounds.{IsSmallDate}
-use Rattle.series_ops.proofs.series_form_proofs.Great.{no_great}
+use Rattle.series_form.specs.NumberBounds.{IsSmallDate}
+use Rattle.series_form.proofs.Great.{no_great}
 use Rattle.series_ops.proofs.series_laws_proofs.Canonical.{one_canonical}
-use Rattle.series_ops.specs.series_form.SeriesAnswers.{AnswersOf, IsConstant, IsFirstGreatValue, IsGreatStep}
+use Rattle.series_form.specs.SeriesAnswers.{AnswersOf, IsConstant, IsFirstGreatValue, IsGreatStep}
 use Rattle.series_ops.specs.series_laws.Product.{product_at}
 use Rattle.series_ops.proofs.series_laws_proofs.StarParts.{star_only}
 use Rattle.series_ops.proofs.series_laws_proofs.ResidualsRepeat.{one_greatest}

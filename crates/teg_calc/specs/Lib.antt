@@ -4,5 +4,5 @@ pub mod ParseAnswers
 pub mod Meaning
 pub mod Readers
 pub mod Printing
-pub use Rattle.series_ops.specs.dioid as dioid
+pub use Rattle.dioid.specs as dioid
 pub use Rattle.teg_text.specs as teg_text

@@ -1,13 +1,13 @@
 -- What a tree means, and what `evaluate` answers.
 use Rattle.std.specs.Prelude.{◌≡◌, ℕ, ℤ, pos, neg_ℤ, ◌+◌, ◌⊎◌, Bool, true, false, Result, Ok, Err}
-use Rattle.series_ops.specs.dioid.declared.dates.Date.{Date}
-use Rattle.series_ops.specs.dioid.declared.dates.Date.TheVariants.{Early, At, Never}
-use Rattle.series_ops.specs.series_form.declared.forms.SeriesRefused.{SeriesRefused}
-use Rattle.series_ops.specs.series_form.declared.forms.SeriesRefused.TheVariants.{OutOfMemory}
+use Rattle.dioid.specs.declared.dates.Date.{Date}
+use Rattle.dioid.specs.declared.dates.Date.TheVariants.{Early, At, Never}
+use Rattle.series_form.specs.declared.forms.SeriesRefused.{SeriesRefused}
+use Rattle.series_form.specs.declared.forms.SeriesRefused.TheVariants.{OutOfMemory}
 use Rattle.series_ops.specs.series_laws.SeriesForms.{Form, value_at, HasValues, monomial_at}
 use Rattle.series_ops.specs.series_laws.Pointwise.{sum_at, least_at}
 use Rattle.series_ops.specs.series_laws.Needs.{need_of, sum_plan, least_plan}
-use Rattle.series_ops.specs.series_form.SeriesAnswers.{AnswersOf, IsConstant}
+use Rattle.series_form.specs.SeriesAnswers.{AnswersOf, IsConstant}
 use Rattle.series_ops.specs.series_laws.Product.{product_at}
 use Rattle.series_ops.specs.series_laws.StarOf.{IsStarOf}
 use Rattle.series_ops.specs.series_laws.Residual.{IsLeftAt}

@@ -2,13 +2,13 @@
 ghost use Rattle.std.specs.Prelude.{◌≡◌, ◌≤◌, ◌<◌, ◌^◌, IfOk};
 ghost use Rattle.std.specs.Int.RustNames.{unsigned_abs};
 ghost use Rattle.series_ops.specs.series_laws.SeriesForms.{value_at};
-ghost use Rattle.series_ops.specs.series_form.NumberBounds.{IsSeries};
+ghost use Rattle.series_form.specs.NumberBounds.{IsSeries};
 ghost use Rattle.teg_calc.specs.ExpressionTrees.{HasShortNumbers, mono, node_count, tree_of_expression};
 ghost use Rattle.teg_calc.specs.Meaning.{Evaluates, Means, signed_date};
 
 use crate::expressions::Expr;
-use series_ops::dioid::Date;
-use series_ops::series_form::{Series, SeriesRefused, least, sum};
+use dioid::Date;
+use series_form::{Series, SeriesRefused, least, sum};
 use series_ops::{left, product, star};
 use std::alloc::Global;
 

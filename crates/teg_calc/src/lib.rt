@@ -26,6 +26,3 @@ pub use laws::trees_have_one_answer;
 pub use parsing::parse;
 pub use printing::print;
 pub use refusals::ParseRefused;
-pub use series_ops;
-pub use series_ops::{dioid, series_form};
-pub use teg_text;

@@ -3,10 +3,10 @@ ghost use Rattle.std.specs.Prelude.{◌≡◌, ◌∷◌, [], IfOk};
 ghost use Rattle.teg_text.specs.Lines.{written};
 ghost use Rattle.teg_calc.specs.Printing.{series_line};
 
-use series_ops::series_form::Series;
+use series_form::Series;
 use std::alloc::Global;
+use teg_net::OutOfMemory;
 use teg_text::push_dates;
-use teg_text::teg_net::OutOfMemory;
 
 /// The line of a series: the word `series`, the values of its list, and its period and step. It
 /// ends with a line feed. `OutOfMemory` comes only where no memory is found.

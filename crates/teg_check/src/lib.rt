@@ -15,4 +15,3 @@ mod refusal;
 pub use elimination::check;
 pub use live::{Live, ranked_nets_are_live};
 pub use refusal::CheckRefusal;
-pub use teg_net;

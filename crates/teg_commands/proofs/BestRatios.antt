@@ -1,14 +1,14 @@
 -- The greatest ratio that cycle times tell.
 use Rattle.std.proofs.Common.{◌≡◌, ℕ, List, Option, Some, None, get_or, refl, subst}
 use Rattle.std.specs.Prelude.{IfNone, IfSome}
-use Rattle.teg_report.specs.teg_net.declared.answers.PartAnswer.{PartAnswer}
-use Rattle.teg_report.specs.teg_net.declared.answers.PartAnswer.TheVariants.{NoCircuit, Best}
-use Rattle.teg_report.specs.teg_net.GreatestRatios.{IsCycleTime, IsGreatestRatio, IsAnyPlace, HasNoCircuit, ratio_in}
-use Rattle.teg_report.specs.teg_net.Nets.{NetLists}
-use Rattle.teg_report.specs.teg_net.PartAnswers.{ArePartAnswers, IsPartAnswer}
-use Rattle.teg_report.specs.teg_net.Ratios.{Fraction, IsLowestTerms}
-use Rattle.teg_report.specs.teg_cycle.BestRatios.{named_ratio}
-use Rattle.teg_report.proofs.teg_cycle_proofs.FirstBest.{told_in}
+use Rattle.teg_net.specs.declared.answers.PartAnswer.{PartAnswer}
+use Rattle.teg_net.specs.declared.answers.PartAnswer.TheVariants.{NoCircuit, Best}
+use Rattle.teg_net.specs.GreatestRatios.{IsCycleTime, IsGreatestRatio, IsAnyPlace, HasNoCircuit, ratio_in}
+use Rattle.teg_net.specs.Nets.{NetLists}
+use Rattle.teg_net.specs.PartAnswers.{ArePartAnswers, IsPartAnswer}
+use Rattle.teg_net.specs.Ratios.{Fraction, IsLowestTerms}
+use Rattle.teg_cycle.specs.BestRatios.{named_ratio}
+use Rattle.teg_cycle.proofs.FirstBest.{told_in}
 use Rattle.teg_commands.specs.Slack.{IsBestRatio}
 
 -- where no ratio is told the net has no circuit

@@ -4,29 +4,29 @@ use Rattle.std.proofs.lemmas.List.{get_or-map, length-map, length-take-le}
 use Rattle.std.proofs.lemmas.List.Elements.{All-cons, All-map}
 use Rattle.std.proofs.lemmas.Simd.{map-map}
 use Rattle.std.specs.Global.{Vec}
-use Rattle.teg_report.specs.teg_net.declared.answers.CycleAnswer.{CycleAnswer}
-use Rattle.teg_report.specs.teg_net.declared.answers.PartAnswer.{PartAnswer}
-use Rattle.teg_report.specs.teg_net.declared.answers.PartAnswer.TheVariants.{NoCircuit, Best}
-use Rattle.teg_report.specs.teg_net.declared.answers.Potential.{Potential}
-use Rattle.teg_report.specs.teg_net.declared.entries.PlaceId.{PlaceId}
-use Rattle.teg_report.specs.teg_net.declared.rounds.Choice.{Choice}
-use Rattle.teg_report.specs.teg_net.declared.rounds.Round.{Round}
-use Rattle.teg_report.specs.teg_net.declared.circuits.Circuit.{Circuit}
-use Rattle.teg_report.specs.teg_net.GreatestRatios.{IsAnyPlace, IsCycleTime, IsFirstGreatest, HasNoCircuit}
-use Rattle.teg_report.specs.teg_net.Nets.{NetLists, IsNet}
-use Rattle.teg_report.specs.teg_net.Parts.{IsMember}
-use Rattle.teg_report.specs.teg_net.PartAnswers.{ArePartAnswers, IsPartAnswer}
-use Rattle.teg_report.specs.teg_parts.Partitions.{AreParts, PartLists}
-use Rattle.teg_report.specs.teg_cycle.LastRounds.{AreRunsFrom, rounds_of_runs}
-use Rattle.teg_report.specs.teg_net.Ratios.{Fraction}
-use Rattle.teg_report.specs.teg_howard.PolicyRounds.{IsRound, IsPolicyRun, choice_of_member, chosen_place}
+use Rattle.teg_net.specs.declared.answers.CycleAnswer.{CycleAnswer}
+use Rattle.teg_net.specs.declared.answers.PartAnswer.{PartAnswer}
+use Rattle.teg_net.specs.declared.answers.PartAnswer.TheVariants.{NoCircuit, Best}
+use Rattle.teg_net.specs.declared.answers.Potential.{Potential}
+use Rattle.teg_net.specs.declared.entries.PlaceId.{PlaceId}
+use Rattle.teg_net.specs.declared.rounds.Choice.{Choice}
+use Rattle.teg_net.specs.declared.rounds.Round.{Round}
+use Rattle.teg_net.specs.declared.circuits.Circuit.{Circuit}
+use Rattle.teg_net.specs.GreatestRatios.{IsAnyPlace, IsCycleTime, IsFirstGreatest, HasNoCircuit}
+use Rattle.teg_net.specs.Nets.{NetLists, IsNet}
+use Rattle.teg_net.specs.Parts.{IsMember}
+use Rattle.teg_net.specs.PartAnswers.{ArePartAnswers, IsPartAnswer}
+use Rattle.teg_parts.specs.Partitions.{AreParts, PartLists}
+use Rattle.teg_cycle.specs.LastRounds.{AreRunsFrom, rounds_of_runs}
+use Rattle.teg_net.specs.Ratios.{Fraction}
+use Rattle.teg_howard.specs.PolicyRounds.{IsRound, IsPolicyRun, choice_of_member, chosen_place}
 use Rattle.teg_report.specs.AnswerMeanings.{cycle_lists, part_lists, round_lists, runs_lists}
 use Rattle.teg_report.specs.RoundLines.{RoundLists, IsRoundIn, IsRunIn, AreRunsTold}
 use Rattle.teg_report.specs.teg_text.Lines.{written}
 use Rattle.teg_commands.specs.Cycle.{IsCycleAnswer}
 use Rattle.teg_commands.specs.CommandTexts.{cycle_text, no_circuit_text, times_lines}
 use Rattle.teg_commands.proofs.Paths.{path_in_range}
-use Rattle.teg_report.proofs.teg_howard_proofs.Rising.{each_round}
+use Rattle.teg_howard.proofs.Rising.{each_round}
 use Rattle.teg_commands.proofs.Rounds.{choice_at}
 
 -- a net without a circuit

@@ -1,11 +1,11 @@
 -- The entries of a standard form lead between transitions of its net.
 use Rattle.std.proofs.Common.{◌≢◌, ℕ, ◌<◌, List, [], ◌∷◌, length, sym, arith}
-use Rattle.teg_report.specs.teg_form.declared.form.StarEntry.{StarEntry}
-use Rattle.teg_report.specs.teg_form.declared.form.Entry.{Entry}
-use Rattle.teg_report.specs.teg_form.StandardForms.{FormLists, IsStandardFormOf, IsStarEntry, IsEntry}
-use Rattle.teg_report.specs.teg_net.declared.entries.PlaceId.{PlaceId}
-use Rattle.teg_report.specs.teg_net.Nets.{NetLists, IsNet}
-use Rattle.teg_report.specs.teg_net.Circuits.{IsPathBetween, place_at, no_place}
+use Rattle.teg_form.specs.declared.form.StarEntry.{StarEntry}
+use Rattle.teg_form.specs.declared.form.Entry.{Entry}
+use Rattle.teg_form.specs.StandardForms.{FormLists, IsStandardFormOf, IsStarEntry, IsEntry}
+use Rattle.teg_net.specs.declared.entries.PlaceId.{PlaceId}
+use Rattle.teg_net.specs.Nets.{NetLists, IsNet}
+use Rattle.teg_net.specs.Circuits.{IsPathBetween, place_at, no_place}
 use Rattle.teg_report.specs.FormLines.{HasEndsIn}
 
 -- a path that begins at a transition of the net ends at one

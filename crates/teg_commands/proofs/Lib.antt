@@ -10,6 +10,6 @@ pub mod RoundsAfter
 pub mod Telling
 pub mod Transferred
 pub mod TrialLaws
-pub use Rattle.teg_report.proofs.teg_outside_proofs as teg_outside_proofs
+pub use Rattle.teg_outside.proofs as teg_outside_proofs
 pub use Rattle.teg_report.proofs.teg_text_proofs as teg_text_proofs
 pub use Rattle.teg_report.proofs as teg_report_proofs

@@ -1,9 +1,9 @@
 -- Paths of a net.
 use Rattle.std.proofs.Common.{ℕ, ◌<◌, List, [], ◌∷◌, length, arith}
 use Rattle.std.proofs.lemmas.List.Elements.{All-cons}
-use Rattle.teg_report.specs.teg_net.declared.entries.PlaceId.{PlaceId}
-use Rattle.teg_report.specs.teg_net.Nets.{NetLists}
-use Rattle.teg_report.specs.teg_net.Circuits.{IsPathBetween, AreInRange, place_at}
+use Rattle.teg_net.specs.declared.entries.PlaceId.{PlaceId}
+use Rattle.teg_net.specs.Nets.{NetLists}
+use Rattle.teg_net.specs.Circuits.{IsPathBetween, AreInRange, place_at}
 
 -- places of a path are places of the net
 pub path_in_range : (net : NetLists) (a b : ℕ) (ps : List PlaceId) → IsPathBetween net a ps b → AreInRange net ps

@@ -1,17 +1,17 @@
 -- What a plan and a late row come to.
 use Rattle.std.proofs.Common.{◌≢◌, List, refl}
-use Rattle.teg_report.specs.due_laws.MeetingDueDates.{AreLatestInputs, InputsMeet, inputs_at_zero}
-use Rattle.teg_report.specs.due_laws.LatestInputs.{ZeroInputsMeet}
-use Rattle.teg_report.specs.teg_due.declared.rows.DueRow.{DueRow}
-use Rattle.teg_report.specs.teg_due.RowRules.{IsDueOf}
-use Rattle.teg_report.specs.teg_jit.declared.answers.JitRefusal.{JitRefusal}
-use Rattle.teg_report.specs.teg_jit.declared.answers.JitRefusal.TheVariants.{Late, OutOfMemory}
-use Rattle.teg_report.specs.teg_jit.DueDates.{due_in, IsGreatestNumber}
-use Rattle.teg_report.specs.teg_jit.PlansAndLateness.{LateExcludesMeet, PlansLead}
-use Rattle.teg_report.specs.teg_jit.Plans.{IsPlanFor, KeepsSizes, PlanDates, dates_of_plan}
-use Rattle.teg_report.specs.teg_jit.LateRefusals.{LateIsRight}
-use Rattle.teg_report.specs.teg_net.Circuits.{IsLive}
-use Rattle.teg_report.specs.teg_net.Nets.{NetLists, IsNet}
+use Rattle.due_laws.specs.MeetingDueDates.{AreLatestInputs, InputsMeet, inputs_at_zero}
+use Rattle.due_laws.specs.LatestInputs.{ZeroInputsMeet}
+use Rattle.teg_due.specs.declared.rows.DueRow.{DueRow}
+use Rattle.teg_due.specs.RowRules.{IsDueOf}
+use Rattle.teg_jit.specs.declared.answers.JitRefusal.{JitRefusal}
+use Rattle.teg_jit.specs.declared.answers.JitRefusal.TheVariants.{Late, OutOfMemory}
+use Rattle.teg_jit.specs.DueDates.{due_in, IsGreatestNumber}
+use Rattle.teg_jit.specs.PlansAndLateness.{LateExcludesMeet, PlansLead}
+use Rattle.teg_jit.specs.Plans.{IsPlanFor, KeepsSizes, PlanDates, dates_of_plan}
+use Rattle.teg_jit.specs.LateRefusals.{LateIsRight}
+use Rattle.teg_net.specs.Circuits.{IsLive}
+use Rattle.teg_net.specs.Nets.{NetLists, IsNet}
 use Rattle.teg_commands.specs.Jit.{IsPlanOf, NoInputsMeet}
 
 pub plan_of : (net : NetLists) (rows : List DueRow) (plan : PlanDates) → IsNet net → PlansLead → KeepsSizes plan → IsGreatestNumber rows plan.numbers → IsPlanFor net (due_in rows) plan →

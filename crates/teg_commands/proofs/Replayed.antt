@@ -3,12 +3,12 @@ use Rattle.std.proofs.Common.{◌≡◌, ◌≢◌, ◌++◌, ℕ, Bool, true, f
 use Rattle.std.proofs.Math.Seq.{take-append_seam}
 use Rattle.std.specs.Prelude.{IfSome, is_ok}
 use Rattle.teg_replay.specs.run_laws.declared.fired.Fired.{Fired}
-use Rattle.teg_report.specs.teg_due.declared.rows.LogRefusal.{LogRefusal}
-use Rattle.teg_report.specs.teg_due.declared.rows.LogRefusal.TheVariants.{OutOfMemory as NoRoom}
-use Rattle.teg_report.specs.teg_due.declared.rows.LogRow.{LogRow}
-use Rattle.teg_report.specs.teg_due.Logs.{log_of}
-use Rattle.teg_report.specs.teg_net.Nets.{NetLists}
-use Rattle.teg_report.specs.teg_outside.declared.monitor.Firing.{Firing}
+use Rattle.teg_due.specs.declared.rows.LogRefusal.{LogRefusal}
+use Rattle.teg_due.specs.declared.rows.LogRefusal.TheVariants.{OutOfMemory as NoRoom}
+use Rattle.teg_due.specs.declared.rows.LogRow.{LogRow}
+use Rattle.teg_due.specs.Logs.{log_of}
+use Rattle.teg_net.specs.Nets.{NetLists}
+use Rattle.teg_outside.specs.declared.monitor.Firing.{Firing}
 use Rattle.teg_replay.specs.declared.refusal.FireRefusal.{FireRefusal}
 use Rattle.teg_replay.specs.declared.refusal.FireRefusal.TheVariants.{Illegal, BackInTime, BeforeRelease, OutOfMemory}
 use Rattle.teg_replay.specs.declared.replayed.Refused.{Refused}
@@ -17,7 +17,7 @@ use Rattle.teg_replay.specs.RefusedFirings.{Fails}
 use Rattle.teg_replay.specs.Replays.{AreFiringsOf, EndsBy, IsReplayOf, WereShown}
 use Rattle.teg_replay.proofs.run_laws_proofs.Prefixes.{legal_begins}
 use Rattle.teg_commands.specs.declared.outcome.Verdict.{Verdict}
-use Rattle.teg_report.specs.teg_net.declared.memory.OutOfMemory.{OutOfMemory as NoMemory}
+use Rattle.teg_net.specs.declared.memory.OutOfMemory.{OutOfMemory as NoMemory}
 use Rattle.teg_commands.specs.declared.outcome.Outcome.{Outcome}
 use Rattle.teg_commands.specs.CommandOutcomes.{Tells, outcome_of}
 use Rattle.teg_commands.specs.Replay.{CanTellRefusal, SaysEnd, SaysReplay, SaysRun, ShowsLog, ShowsNothing, ShowsReplay, ShowsRun, TellsBadLog}

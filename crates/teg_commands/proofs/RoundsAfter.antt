@@ -1,24 +1,24 @@
 -- The text of the cycle times is the first part of that with the rounds: a live net has one list of strong parts, and each part one policy run.
 use Rattle.std.proofs.Common.{◌≡◌, ℕ, zero, suc, ◌+◌, ◌-◌, ◌<◌, ◌≤◌, ⊎_elim, List, [], ◌∷◌, ◌++◌, Option, Some, None, map, length, slice_index_or, append-nil, refl, sym, subst, ap, ap₂, ◌∙◌, arith}
 use Rattle.std.proofs.lemmas.Bool.{cases_lt}
-use Rattle.teg_report.specs.teg_net.declared.answers.CycleAnswer.{CycleAnswer}
-use Rattle.teg_report.specs.teg_net.declared.answers.PartAnswer.{PartAnswer}
-use Rattle.teg_report.specs.teg_net.declared.answers.PartAnswer.TheVariants.{NoCircuit, Best}
-use Rattle.teg_report.specs.teg_net.declared.answers.Potential.{Potential}
-use Rattle.teg_report.specs.teg_net.declared.circuits.Circuit.{Circuit}
-use Rattle.teg_report.specs.teg_net.declared.rounds.Round.{Round}
+use Rattle.teg_net.specs.declared.answers.CycleAnswer.{CycleAnswer}
+use Rattle.teg_net.specs.declared.answers.PartAnswer.{PartAnswer}
+use Rattle.teg_net.specs.declared.answers.PartAnswer.TheVariants.{NoCircuit, Best}
+use Rattle.teg_net.specs.declared.answers.Potential.{Potential}
+use Rattle.teg_net.specs.declared.circuits.Circuit.{Circuit}
+use Rattle.teg_net.specs.declared.rounds.Round.{Round}
 use Rattle.std.specs.Global.{Vec}
-use Rattle.teg_report.specs.teg_net.Circuits.{IsLive}
-use Rattle.teg_report.specs.teg_net.GreatestRatios.{IsFirstGreatest, ratio_at}
-use Rattle.teg_report.specs.teg_net.Nets.{NetLists, IsNet}
-use Rattle.teg_report.specs.teg_net.PartAnswers.{ArePartAnswers, IsPartAnswer}
-use Rattle.teg_report.specs.teg_net.Ratios.{Fraction}
-use Rattle.teg_report.specs.teg_parts.CircuitsAndParts.{PartsAreOne}
-use Rattle.teg_report.specs.teg_parts.Partitions.{PartLists as Partition}
-use Rattle.teg_report.specs.teg_howard.OnePolicyRun.{PolicyRunsAreOne, AreSameRounds, AreSameRuns}
-use Rattle.teg_report.specs.teg_howard.PolicyRuns.{IsAnswerOf, IsAnswerOfLast, potential_of}
-use Rattle.teg_report.specs.teg_howard.PolicyRounds.{last_policy_round}
-use Rattle.teg_report.specs.teg_cycle.LastRounds.{AreLastOfRuns, AreRunsFrom, IsLastOfRun}
+use Rattle.teg_net.specs.Circuits.{IsLive}
+use Rattle.teg_net.specs.GreatestRatios.{IsFirstGreatest, ratio_at}
+use Rattle.teg_net.specs.Nets.{NetLists, IsNet}
+use Rattle.teg_net.specs.PartAnswers.{ArePartAnswers, IsPartAnswer}
+use Rattle.teg_net.specs.Ratios.{Fraction}
+use Rattle.teg_parts.specs.CircuitsAndParts.{PartsAreOne}
+use Rattle.teg_parts.specs.Partitions.{PartLists as Partition}
+use Rattle.teg_howard.specs.OnePolicyRun.{PolicyRunsAreOne, AreSameRounds, AreSameRuns}
+use Rattle.teg_howard.specs.PolicyRuns.{IsAnswerOf, IsAnswerOfLast, potential_of}
+use Rattle.teg_howard.specs.PolicyRounds.{last_policy_round}
+use Rattle.teg_cycle.specs.LastRounds.{AreLastOfRuns, AreRunsFrom, IsLastOfRun}
 use Rattle.teg_report.specs.Cycles.{CycleLists, ToldPart, NoCircuitIn, BestOf, cycle_lines}
 use Rattle.teg_report.specs.AnswerMeanings.{cycle_lists, part_lists, round_lists}
 use Rattle.teg_report.specs.ShortAnswers.{no_circuit_line}

@@ -3,17 +3,17 @@ use Rattle.std.proofs.Common.{◌≡◌, ℕ, zero, suc, ◌+◌, ◌-◌, ◌<�
 use Rattle.std.specs.List.{range_with_len}
 use Rattle.std.proofs.lemmas.List.FromFn.{length-range_with_len, get_or-range_with_len}
 use Rattle.teg_report.specs.dioid.declared.dates.Date.{Date}
-use Rattle.teg_report.specs.teg_check.Ranks.{IsRanking}
-use Rattle.teg_report.proofs.teg_check_proofs.Liveness.{ranking_is_live}
-use Rattle.teg_report.specs.teg_critical.declared.slacks.Slack.{Slack}
-use Rattle.teg_report.specs.teg_critical.Slacks.{AreSlacks}
-use Rattle.teg_report.specs.teg_dates.DateTables.{TableDates, HasLeastDates, date_at}
-use Rattle.teg_report.specs.teg_net.declared.entries.Place.{Place}
-use Rattle.teg_report.specs.teg_net.declared.entries.PlaceId.{PlaceId}
-use Rattle.teg_report.specs.teg_net.Circuits.{IsCircuit, IsLive}
-use Rattle.teg_report.specs.teg_net.GreatestRatios.{HasNoCircuit, IsAnyPlace}
-use Rattle.teg_report.specs.teg_net.Nets.{NetLists}
-use Rattle.teg_report.specs.teg_net.Ratios.{Fraction}
+use Rattle.teg_check.specs.Ranks.{IsRanking}
+use Rattle.teg_check.proofs.Liveness.{ranking_is_live}
+use Rattle.teg_critical.specs.declared.slacks.Slack.{Slack}
+use Rattle.teg_critical.specs.Slacks.{AreSlacks}
+use Rattle.teg_dates.specs.DateTables.{TableDates, HasLeastDates, date_at}
+use Rattle.teg_net.specs.declared.entries.Place.{Place}
+use Rattle.teg_net.specs.declared.entries.PlaceId.{PlaceId}
+use Rattle.teg_net.specs.Circuits.{IsCircuit, IsLive}
+use Rattle.teg_net.specs.GreatestRatios.{HasNoCircuit, IsAnyPlace}
+use Rattle.teg_net.specs.Nets.{NetLists}
+use Rattle.teg_net.specs.Ratios.{Fraction}
 use Rattle.teg_report.specs.AnswerValues.{Trial}
 use Rattle.teg_report.specs.Reports.{text_of}
 use Rattle.trial_net.specs.Trials.{trial}

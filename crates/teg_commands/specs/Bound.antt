@@ -1,10 +1,10 @@
 -- What is said of how soon the dates of a live net become periodic.
 use Rattle.std.specs.Prelude.{ℕ, ◌≤◌, ◌≡◌, ◌⊎◌, List}
-use Rattle.teg_report.specs.settled_laws.SettledForms.{SettledForm, IsSettledFormOf}
+use Rattle.settled_laws.specs.SettledForms.{SettledForm, IsSettledFormOf}
 use Rattle.teg_bound.specs.declared.bound.BoundAnswer.{BoundAnswer}
 use Rattle.teg_bound.specs.PeriodicBounds.{IsBoundOf, IsRightBound}
 use Rattle.teg_bound.specs.BoundTexts.{BoundTold, bound_lines, told_bound, IsCause}
-use Rattle.teg_report.specs.teg_net.Nets.{NetLists}
+use Rattle.teg_net.specs.Nets.{NetLists}
 use Rattle.teg_report.specs.teg_text.Lines.{written}
 use Rattle.teg_commands.specs.declared.outcome.Verdict.{Verdict}
 use Rattle.teg_commands.specs.declared.outcome.Verdict.TheVariants.{Done as VerdictDone}

@@ -1,14 +1,14 @@
 -- What is said of an expression: its series, or its refusal.
 use Rattle.std.specs.Prelude.{ℕ, ◌≡◌, ◌≢◌, ◌⊎◌, List, Ok, Err}
-use Rattle.teg_report.specs.series_form.declared.forms.SeriesRefused.{SeriesRefused}
-use Rattle.teg_report.specs.series_form.declared.forms.SeriesRefused.TheVariants.{OutOfMemory as NoRoom}
-use Rattle.teg_report.specs.series_form.NumberBounds.{IsSeries}
+use Rattle.series_form.specs.declared.forms.SeriesRefused.{SeriesRefused}
+use Rattle.series_form.specs.declared.forms.SeriesRefused.TheVariants.{OutOfMemory as NoRoom}
+use Rattle.series_form.specs.NumberBounds.{IsSeries}
 use Rattle.teg_report.specs.series_laws.SeriesForms.{Form, value_at}
-use Rattle.teg_report.specs.teg_calc.declared.refusals.ParseRefused.{ParseRefused}
-use Rattle.teg_report.specs.teg_calc.declared.refusals.ParseRefused.TheVariants.{OutOfMemory as NoMemory}
-use Rattle.teg_report.specs.teg_calc.Meaning.{Evaluates, Means}
-use Rattle.teg_report.specs.teg_calc.ParseAnswers.{IsParsed, IsParseOf}
-use Rattle.teg_report.specs.teg_calc.ExpressionTrees.{Tree}
+use Rattle.teg_calc.specs.declared.refusals.ParseRefused.{ParseRefused}
+use Rattle.teg_calc.specs.declared.refusals.ParseRefused.TheVariants.{OutOfMemory as NoMemory}
+use Rattle.teg_calc.specs.Meaning.{Evaluates, Means}
+use Rattle.teg_calc.specs.ParseAnswers.{IsParsed, IsParseOf}
+use Rattle.teg_calc.specs.ExpressionTrees.{Tree}
 use Rattle.teg_commands.specs.declared.outcome.Verdict.{Verdict}
 use Rattle.teg_commands.specs.declared.outcome.Verdict.TheVariants.{Done as VerdictDone, Calc as VerdictCalc}
 use Rattle.teg_commands.specs.CommandTexts.{series_text, parse_text, series_refused_text}

@@ -1,6 +1,6 @@
 -- What is said of the size of a live net.
 use Rattle.std.specs.Prelude.{ℕ, ◌≡◌, List}
-use Rattle.teg_report.specs.teg_net.Nets.{NetLists}
+use Rattle.teg_net.specs.Nets.{NetLists}
 use Rattle.teg_commands.specs.declared.outcome.Verdict.{Verdict}
 use Rattle.teg_commands.specs.declared.outcome.Verdict.TheVariants.{Done as VerdictDone}
 use Rattle.teg_commands.specs.CommandTexts.{live_text}

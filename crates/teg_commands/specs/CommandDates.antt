@@ -1,12 +1,12 @@
 -- What is said of the dates of a live net for ever, and of one of them.
 use Rattle.std.specs.Prelude.{ℕ, ◌≤◌, ◌≡◌, ◌≢◌, ◌⊎◌, List, All, Option, Some, None, slice_get, IsSomeAnd, ⊤}
 use Rattle.teg_report.specs.dioid.declared.dates.Date.{Date}
-use Rattle.teg_report.specs.settled_laws.SettledForms.{SettledForm, settled_length, IsSettledFormOf, NetSettlesPast}
+use Rattle.settled_laws.specs.SettledForms.{SettledForm, settled_length, IsSettledFormOf, NetSettlesPast}
 use Rattle.teg_report.specs.teg_model.Datings.{IsLeastDating}
-use Rattle.teg_report.specs.teg_net.declared.entries.TransitionId.{TransitionId}
-use Rattle.teg_report.specs.teg_net.Nets.{NetLists}
-use Rattle.teg_report.specs.teg_settle.declared.refusals.SettleRefusal.{SettleRefusal}
-use Rattle.teg_report.specs.teg_settle.declared.refusals.SettleRefusal.TheVariants.{TooLong, OutOfMemory}
+use Rattle.teg_net.specs.declared.entries.TransitionId.{TransitionId}
+use Rattle.teg_net.specs.Nets.{NetLists}
+use Rattle.teg_settle.specs.declared.refusals.SettleRefusal.{SettleRefusal}
+use Rattle.teg_settle.specs.declared.refusals.SettleRefusal.TheVariants.{TooLong, OutOfMemory}
 use Rattle.teg_commands.specs.declared.outcome.Verdict.{Verdict}
 use Rattle.teg_commands.specs.declared.outcome.Verdict.TheVariants.{Done as VerdictDone, TooLong as VerdictTooLong, Name as VerdictName}
 use Rattle.teg_commands.specs.CommandTexts.{settled_text, date_text, too_long_text, no_transition_text}

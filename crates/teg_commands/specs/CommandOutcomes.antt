@@ -1,6 +1,6 @@
 -- What a command comes to, if it found memory.
 use Rattle.std.specs.Prelude.{ℕ, List, Option, Some, None, Result, Ok, Err}
-use Rattle.teg_report.specs.teg_net.declared.memory.OutOfMemory.{OutOfMemory}
+use Rattle.teg_net.specs.declared.memory.OutOfMemory.{OutOfMemory}
 use Rattle.teg_commands.specs.declared.outcome.Outcome.{Outcome}
 use Rattle.teg_commands.specs.declared.outcome.Verdict.{Verdict}
 

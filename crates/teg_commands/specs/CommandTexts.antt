@@ -1,23 +1,23 @@
 -- The texts that the workbench writes, each that of an answer.
 use Rattle.std.specs.Prelude.{ℕ, List, [], ◌∷◌, ◌++◌, Option, Some, None, length, map}
 use Rattle.teg_report.specs.dioid.declared.dates.Date.{Date}
-use Rattle.teg_report.specs.teg_form.StandardForms.{FormLists}
-use Rattle.teg_report.specs.teg_net.declared.answers.CycleAnswer.{CycleAnswer}
-use Rattle.teg_report.specs.settled_laws.SettledForms.{SettledForm}
-use Rattle.teg_report.specs.teg_net.declared.entries.PlaceId.{PlaceId}
-use Rattle.teg_report.specs.teg_net.declared.entries.TransitionId.{TransitionId}
-use Rattle.teg_report.specs.teg_net.declared.rounds.Round.{Round}
-use Rattle.teg_report.specs.teg_net.Nets.{NetLists}
-use Rattle.teg_report.specs.series_form.declared.forms.SeriesRefused.{SeriesRefused}
+use Rattle.teg_form.specs.StandardForms.{FormLists}
+use Rattle.teg_net.specs.declared.answers.CycleAnswer.{CycleAnswer}
+use Rattle.settled_laws.specs.SettledForms.{SettledForm}
+use Rattle.teg_net.specs.declared.entries.PlaceId.{PlaceId}
+use Rattle.teg_net.specs.declared.entries.TransitionId.{TransitionId}
+use Rattle.teg_net.specs.declared.rounds.Round.{Round}
+use Rattle.teg_net.specs.Nets.{NetLists}
+use Rattle.series_form.specs.declared.forms.SeriesRefused.{SeriesRefused}
 use Rattle.teg_report.specs.series_laws.SeriesForms.{Form as SeriesForm}
-use Rattle.teg_report.specs.teg_calc.declared.refusals.ParseRefused.{ParseRefused}
-use Rattle.teg_report.specs.teg_reader.declared.refusals.ReadRefusal.{ReadRefusal}
-use Rattle.teg_report.specs.teg_due.declared.rows.DueRefusal.{DueRefusal}
-use Rattle.teg_report.specs.teg_due.declared.rows.LogRefusal.{LogRefusal}
-use Rattle.teg_report.specs.teg_jit.declared.answers.JitRefusal.{JitRefusal}
-use Rattle.teg_report.specs.teg_jit.Plans.{PlanDates}
-use Rattle.teg_report.specs.teg_critical.declared.slacks.Slack.{Slack as PlaceSlack}
-use Rattle.teg_report.specs.teg_net.Ratios.{Fraction}
+use Rattle.teg_calc.specs.declared.refusals.ParseRefused.{ParseRefused}
+use Rattle.teg_reader.specs.declared.refusals.ReadRefusal.{ReadRefusal}
+use Rattle.teg_due.specs.declared.rows.DueRefusal.{DueRefusal}
+use Rattle.teg_due.specs.declared.rows.LogRefusal.{LogRefusal}
+use Rattle.teg_jit.specs.declared.answers.JitRefusal.{JitRefusal}
+use Rattle.teg_jit.specs.Plans.{PlanDates}
+use Rattle.teg_critical.specs.declared.slacks.Slack.{Slack as PlaceSlack}
+use Rattle.teg_net.specs.Ratios.{Fraction}
 use Rattle.teg_report.specs.declared.answer.Failure.{Failure}
 use Rattle.teg_report.specs.declared.answer.Which.{Which}
 use Rattle.teg_report.specs.Cycles.{CycleLists, cycle_lines}
@@ -28,7 +28,7 @@ use Rattle.teg_report.specs.PlanLines.{late_lines, plan_lines}
 use Rattle.teg_report.specs.FileRefusalLines.{read_line}
 use Rattle.teg_report.specs.Series.{parse_line, series_refused_line}
 use Rattle.teg_report.specs.SlackLines.{slack_lines, trial_lines}
-use Rattle.teg_report.specs.teg_calc.Printing.{series_line}
+use Rattle.teg_calc.specs.Printing.{series_line}
 use Rattle.teg_report.specs.DateLists.{list_lines}
 use Rattle.teg_report.specs.AnswerMeanings.{cycle_lists, late_lists, round_lists}
 use Rattle.teg_report.specs.RoundLines.{RoundLists, runs_lines, told_runs}

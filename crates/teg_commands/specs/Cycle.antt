@@ -1,12 +1,12 @@
 -- What is said of the circuits of a net: its parts, the greatest ratio of each and of the net, and the rounds that led to them.
 use Rattle.std.specs.Prelude.{ℕ, ◌≡◌, Bool, List, None, length}
-use Rattle.teg_report.specs.teg_cycle.LastRounds.{AreLastOfRuns, AreRunsFrom}
-use Rattle.teg_report.specs.teg_net.declared.answers.CycleAnswer.{CycleAnswer}
-use Rattle.teg_report.specs.teg_net.declared.rounds.Round.{Round}
-use Rattle.teg_report.specs.teg_net.GreatestRatios.{IsCycleTime, IsFirstGreatest}
-use Rattle.teg_report.specs.teg_net.Nets.{NetLists}
-use Rattle.teg_report.specs.teg_net.PartAnswers.{ArePartAnswers}
-use Rattle.teg_report.specs.teg_parts.Partitions.{AreParts}
+use Rattle.teg_cycle.specs.LastRounds.{AreLastOfRuns, AreRunsFrom}
+use Rattle.teg_net.specs.declared.answers.CycleAnswer.{CycleAnswer}
+use Rattle.teg_net.specs.declared.rounds.Round.{Round}
+use Rattle.teg_net.specs.GreatestRatios.{IsCycleTime, IsFirstGreatest}
+use Rattle.teg_net.specs.Nets.{NetLists}
+use Rattle.teg_net.specs.PartAnswers.{ArePartAnswers}
+use Rattle.teg_parts.specs.Partitions.{AreParts}
 use Rattle.teg_commands.specs.declared.outcome.Verdict.{Verdict}
 use Rattle.teg_commands.specs.declared.outcome.Verdict.TheVariants.{Done as VerdictDone}
 use Rattle.teg_commands.specs.CommandTexts.{cycle_text, runs_text}

@@ -10,7 +10,7 @@ use Rattle.teg_forever.specs.declared.rows.EndlessRefusal.TheVariants.{OutOfMemo
 use Rattle.teg_forever.specs.LatestReleases.{AreEndlessReleases, ForeverRefused}
 use Rattle.teg_forever.specs.EndlessFiles.{endless_of}
 use Rattle.teg_forever.specs.EndlessTexts.{Answered, Faulty, answer_lines}
-use Rattle.teg_report.specs.teg_net.Nets.{NetLists}
+use Rattle.teg_net.specs.Nets.{NetLists}
 use Rattle.teg_report.specs.teg_text.Lines.{written}
 use Rattle.teg_commands.specs.declared.outcome.Verdict.{Verdict}
 use Rattle.teg_commands.specs.declared.outcome.Verdict.TheVariants.{Done as VerdictDone, Late as VerdictLate, Schedule as VerdictSchedule, TooLong as VerdictTooLong}

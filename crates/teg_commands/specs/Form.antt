@@ -1,7 +1,7 @@
 -- What is said of the standard form of a live net.
 use Rattle.std.specs.Prelude.{ℕ, ◌≡◌, List}
-use Rattle.teg_report.specs.teg_form.StandardForms.{FormLists, IsStandardFormOf}
-use Rattle.teg_report.specs.teg_net.Nets.{NetLists}
+use Rattle.teg_form.specs.StandardForms.{FormLists, IsStandardFormOf}
+use Rattle.teg_net.specs.Nets.{NetLists}
 use Rattle.teg_commands.specs.declared.outcome.Verdict.{Verdict}
 use Rattle.teg_commands.specs.declared.outcome.Verdict.TheVariants.{Done as VerdictDone}
 use Rattle.teg_commands.specs.CommandTexts.{form_text}

@@ -3,21 +3,21 @@ use Rattle.std.specs.Prelude.{ℕ, pos, ◌<◌, ◌≤◌, ◌≡◌, ◌≢◌
 use Rattle.teg_report.specs.dioid.declared.dates.Date.{Date}
 use Rattle.teg_report.specs.dioid.declared.dates.Date.TheVariants.{At as on_date}
 use Rattle.teg_report.specs.dioid.Dates.{delayed}
-use Rattle.teg_report.specs.due_laws.MeetingDueDates.{InputsMeet, AreLatestInputs, inputs_at_zero}
-use Rattle.teg_report.specs.teg_due.declared.rows.DueRefusal.{DueRefusal}
-use Rattle.teg_report.specs.teg_due.declared.rows.DueRefusal.TheVariants.{OutOfMemory as NoRoom}
-use Rattle.teg_report.specs.teg_due.declared.rows.DueRow.{DueRow}
-use Rattle.teg_report.specs.teg_due.DueFileRows.{due_of}
-use Rattle.teg_report.specs.teg_due.RowRules.{IsDueOf}
-use Rattle.teg_report.specs.teg_jit.declared.answers.JitRefusal.{JitRefusal}
-use Rattle.teg_report.specs.teg_jit.declared.answers.JitRefusal.TheVariants.{OutOfMemory}
-use Rattle.teg_report.specs.teg_jit.declared.answers.LatestDate.TheVariants.{Free}
-use Rattle.teg_report.specs.teg_jit.DueDates.{due_in, IsGreatestNumber}
-use Rattle.teg_report.specs.teg_jit.Plans.{PlanDates, IsPlanFor, FollowsPlan, latest_at, dates_of_plan}
-use Rattle.teg_report.specs.teg_jit.LateRefusals.{LateIsRight}
-use Rattle.teg_report.specs.teg_net.declared.walks.Step.{Step}
-use Rattle.teg_report.specs.teg_net.Nets.{NetLists}
-use Rattle.teg_report.specs.teg_net.Walks.{Walks, walk_time}
+use Rattle.due_laws.specs.MeetingDueDates.{InputsMeet, AreLatestInputs, inputs_at_zero}
+use Rattle.teg_due.specs.declared.rows.DueRefusal.{DueRefusal}
+use Rattle.teg_due.specs.declared.rows.DueRefusal.TheVariants.{OutOfMemory as NoRoom}
+use Rattle.teg_due.specs.declared.rows.DueRow.{DueRow}
+use Rattle.teg_due.specs.DueFileRows.{due_of}
+use Rattle.teg_due.specs.RowRules.{IsDueOf}
+use Rattle.teg_jit.specs.declared.answers.JitRefusal.{JitRefusal}
+use Rattle.teg_jit.specs.declared.answers.JitRefusal.TheVariants.{OutOfMemory}
+use Rattle.teg_jit.specs.declared.answers.LatestDate.TheVariants.{Free}
+use Rattle.teg_jit.specs.DueDates.{due_in, IsGreatestNumber}
+use Rattle.teg_jit.specs.Plans.{PlanDates, IsPlanFor, FollowsPlan, latest_at, dates_of_plan}
+use Rattle.teg_jit.specs.LateRefusals.{LateIsRight}
+use Rattle.teg_net.specs.declared.walks.Step.{Step}
+use Rattle.teg_net.specs.Nets.{NetLists}
+use Rattle.teg_net.specs.Walks.{Walks, walk_time}
 use Rattle.teg_commands.specs.declared.outcome.Verdict.{Verdict}
 use Rattle.teg_commands.specs.declared.outcome.Verdict.TheVariants.{Done as VerdictDone, Schedule as VerdictSchedule, Late as VerdictLate}
 use Rattle.teg_commands.specs.CommandTexts.{due_text, jit_text, late_text}

@@ -19,13 +19,13 @@ pub mod Timetable
 pub mod Transfer
 pub mod Trial
 pub use Rattle.teg_report.specs.dioid as dioid
-pub use Rattle.teg_report.specs.teg_outside as teg_outside
+pub use Rattle.teg_outside.specs as teg_outside
 pub use Rattle.teg_report.specs.csv_records as csv_records
-pub use Rattle.teg_report.specs.teg_net as teg_net
+pub use Rattle.teg_net.specs as teg_net
 pub use Rattle.teg_report.specs.teg_text as teg_text
-pub use Rattle.teg_report.specs.teg_reader as teg_reader
+pub use Rattle.teg_reader.specs as teg_reader
 pub use Rattle.teg_report.specs.teg_model as teg_model
-pub use Rattle.teg_report.specs.teg_dates as teg_dates
-pub use Rattle.teg_report.specs.teg_settle as teg_settle
+pub use Rattle.teg_dates.specs as teg_dates
+pub use Rattle.teg_settle.specs as teg_settle
 pub use Rattle.teg_timetable.specs as teg_timetable
 pub use Rattle.teg_report.specs as teg_report

@@ -1,9 +1,9 @@
 -- What is said of a live net as a file of the second version.
 use Rattle.std.specs.Prelude.{ℕ, ◌≡◌, List, Some, Ok}
-use Rattle.teg_report.specs.teg_net.Nets.{NetLists}
-use Rattle.teg_report.specs.teg_reader.Documents.{tree_of_bytes, document}
-use Rattle.teg_report.specs.teg_reader.Layouts.{IsLaidOut}
-use Rattle.teg_report.specs.teg_reader.Migrated.{migrated}
+use Rattle.teg_net.specs.Nets.{NetLists}
+use Rattle.teg_reader.specs.Documents.{tree_of_bytes, document}
+use Rattle.teg_reader.specs.Layouts.{IsLaidOut}
+use Rattle.teg_reader.specs.Migrated.{migrated}
 use Rattle.teg_commands.specs.declared.outcome.Verdict.{Verdict}
 use Rattle.teg_commands.specs.declared.outcome.Verdict.TheVariants.{Done as VerdictDone}
 

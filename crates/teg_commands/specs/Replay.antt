@@ -1,11 +1,11 @@
 -- What is said of a recorded run of a live net.
 use Rattle.std.specs.Prelude.{ℕ, Bool, true, false, ◌<◌, ◌≡◌, ◌≢◌, ◌⊎◌, List, [], length, ⊤, Option, Some, None, Result, Ok, Err}
-use Rattle.teg_report.specs.teg_due.declared.rows.LogRefusal.{LogRefusal}
-use Rattle.teg_report.specs.teg_due.declared.rows.LogRefusal.TheVariants.{OutOfMemory as NoRoom}
-use Rattle.teg_report.specs.teg_due.declared.rows.LogRow.{LogRow}
-use Rattle.teg_report.specs.teg_due.Logs.{log_of}
-use Rattle.teg_report.specs.teg_net.Nets.{NetLists}
-use Rattle.teg_report.specs.teg_outside.declared.monitor.Firing.{Firing}
+use Rattle.teg_due.specs.declared.rows.LogRefusal.{LogRefusal}
+use Rattle.teg_due.specs.declared.rows.LogRefusal.TheVariants.{OutOfMemory as NoRoom}
+use Rattle.teg_due.specs.declared.rows.LogRow.{LogRow}
+use Rattle.teg_due.specs.Logs.{log_of}
+use Rattle.teg_net.specs.Nets.{NetLists}
+use Rattle.teg_outside.specs.declared.monitor.Firing.{Firing}
 use Rattle.teg_replay.specs.declared.refusal.FireRefusal.{FireRefusal}
 use Rattle.teg_replay.specs.declared.refusal.FireRefusal.TheVariants.{Illegal, BackInTime, BeforeRelease, OutOfMemory}
 use Rattle.teg_replay.specs.declared.replayed.Replayed.{Replayed}

@@ -1,8 +1,8 @@
 -- What is said of the fewest further tokens of a place for a target ratio.
 use Rattle.std.specs.Prelude.{ℕ, ◌≡◌, ◌≢◌, ◌⊎◌, List, All, IsSomeAnd, slice_get}
-use Rattle.teg_report.specs.teg_net.declared.entries.PlaceId.{PlaceId}
-use Rattle.teg_report.specs.teg_net.Nets.{NetLists}
-use Rattle.teg_report.specs.teg_net.Ratios.{Fraction, IsRatioOf}
+use Rattle.teg_net.specs.declared.entries.PlaceId.{PlaceId}
+use Rattle.teg_net.specs.Nets.{NetLists}
+use Rattle.teg_net.specs.Ratios.{Fraction, IsRatioOf}
 use Rattle.teg_sizing.specs.declared.sizing.Sizing.{Sizing}
 use Rattle.teg_sizing.specs.Sizings.{IsSizing}
 use Rattle.teg_sizing.specs.SizingTexts.{no_place_lines, sizing_lines, told_sizing}

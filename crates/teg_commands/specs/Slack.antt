@@ -1,10 +1,10 @@
 -- What is said of the slack of the places of a live net.
 use Rattle.std.specs.Prelude.{ℕ, ◌≡◌, ◌⊎◌, List}
-use Rattle.teg_report.specs.teg_critical.declared.slacks.Slack.{Slack}
-use Rattle.teg_report.specs.teg_critical.Slacks.{AreSlacks}
-use Rattle.teg_report.specs.teg_net.GreatestRatios.{IsGreatestRatio, IsAnyPlace, HasNoCircuit}
-use Rattle.teg_report.specs.teg_net.Nets.{NetLists}
-use Rattle.teg_report.specs.teg_net.Ratios.{Fraction, IsLowestTerms}
+use Rattle.teg_critical.specs.declared.slacks.Slack.{Slack}
+use Rattle.teg_critical.specs.Slacks.{AreSlacks}
+use Rattle.teg_net.specs.GreatestRatios.{IsGreatestRatio, IsAnyPlace, HasNoCircuit}
+use Rattle.teg_net.specs.Nets.{NetLists}
+use Rattle.teg_net.specs.Ratios.{Fraction, IsLowestTerms}
 use Rattle.teg_commands.specs.declared.outcome.Verdict.{Verdict}
 use Rattle.teg_commands.specs.declared.outcome.Verdict.TheVariants.{Done as VerdictDone}
 use Rattle.teg_commands.specs.CommandTexts.{no_circuit_text, slack_text}

@@ -1,10 +1,10 @@
 -- What is told of a net without a circuit, what the rounds of policy iteration add to the cycle times, and what is told of a second file that gives no bytes.
 use Rattle.std.specs.Prelude.{ℕ, ◌≡◌, ◌++◌, List, Option}
 use Rattle.teg_forever.specs.EndlessTexts.{LongFile, UnreadFile, answer_lines}
-use Rattle.teg_report.specs.teg_net.Circuits.{IsLive}
-use Rattle.teg_report.specs.teg_net.declared.answers.CycleAnswer.{CycleAnswer}
-use Rattle.teg_report.specs.teg_net.GreatestRatios.{HasNoCircuit, IsAnyPlace}
-use Rattle.teg_report.specs.teg_net.Nets.{NetLists, IsNet}
+use Rattle.teg_net.specs.Circuits.{IsLive}
+use Rattle.teg_net.specs.declared.answers.CycleAnswer.{CycleAnswer}
+use Rattle.teg_net.specs.GreatestRatios.{HasNoCircuit, IsAnyPlace}
+use Rattle.teg_net.specs.Nets.{NetLists, IsNet}
 use Rattle.teg_report.specs.declared.answer.Which.TheVariants.{Due as DueFile, Timetable as TimetableFile}
 use Rattle.teg_report.specs.RoundLines.{RoundLists}
 use Rattle.teg_report.specs.teg_text.Lines.{written}

@@ -2,13 +2,13 @@
 use Rattle.std.specs.Prelude.{ℕ, Bool, true, false, ◌≤◌, ◌≡◌, ◌⊎◌, List, All, Some, length, map, slice_get}
 use Rattle.std.specs.List.{filter, range_with_len}
 use Rattle.std.specs.Option.{option_map_or}
-use Rattle.teg_report.specs.settled_laws.SettledForms.{SettledForm, settled_length, row_of, step_of_form}
-use Rattle.teg_report.specs.teg_net.declared.entries.Role.{Role}
-use Rattle.teg_report.specs.teg_net.declared.entries.Role.TheVariants.{Internal, Input, Output}
-use Rattle.teg_report.specs.teg_net.declared.entries.TransitionId.{TransitionId}
-use Rattle.teg_report.specs.teg_net.Nets.{NetLists, IsInput}
+use Rattle.settled_laws.specs.SettledForms.{SettledForm, settled_length, row_of, step_of_form}
+use Rattle.teg_net.specs.declared.entries.Role.{Role}
+use Rattle.teg_net.specs.declared.entries.Role.TheVariants.{Internal, Input, Output}
+use Rattle.teg_net.specs.declared.entries.TransitionId.{TransitionId}
+use Rattle.teg_net.specs.Nets.{NetLists, IsInput}
 use Rattle.teg_report.specs.SettledTexts.{TimesFrom, TimesTo}
-use Rattle.teg_report.specs.teg_settle.Transfers.{IsTransferOf, TransferSettlesPast}
+use Rattle.teg_settle.specs.Transfers.{IsTransferOf, TransferSettlesPast}
 use Rattle.teg_commands.specs.declared.outcome.Verdict.{Verdict}
 use Rattle.teg_commands.specs.declared.outcome.Verdict.TheVariants.{Done as VerdictDone}
 use Rattle.teg_commands.specs.CommandDates.{SaysTooLong}

@@ -1,11 +1,11 @@
 -- What is said of the line of machines.
 use Rattle.std.specs.Prelude.{ℕ, ◌-◌, ◌≡◌, List, sum_by}
 use Rattle.teg_report.specs.dioid.declared.dates.Date.{Date}
-use Rattle.teg_report.specs.teg_critical.declared.slacks.Slack.{Slack}
-use Rattle.teg_report.specs.teg_critical.declared.slacks.Slack.TheVariants.{NoCircuit, Critical, Rise}
-use Rattle.teg_report.specs.teg_critical.Slacks.{AreSlacks}
+use Rattle.teg_critical.specs.declared.slacks.Slack.{Slack}
+use Rattle.teg_critical.specs.declared.slacks.Slack.TheVariants.{NoCircuit, Critical, Rise}
+use Rattle.teg_critical.specs.Slacks.{AreSlacks}
 use Rattle.teg_report.specs.teg_model.Datings.{IsLeastDating}
-use Rattle.teg_report.specs.teg_net.Ratios.{Fraction}
+use Rattle.teg_net.specs.Ratios.{Fraction}
 use Rattle.trial_net.specs.Trials.{trial}
 use Rattle.teg_commands.specs.declared.outcome.Verdict.{Verdict}
 use Rattle.teg_commands.specs.declared.outcome.Verdict.TheVariants.{Done as VerdictDone}

@@ -1,6 +1,6 @@
 //! The values of expressions.
 ghost use Rattle.std.specs.Prelude.{◌≡◌, ◌≤◌, IfOk, length};
-ghost use Rattle.teg_report.specs.teg_calc.ExpressionTrees.{HasShortNumbers, node_count, tree_of_expression};
+ghost use Rattle.teg_calc.specs.ExpressionTrees.{HasShortNumbers, node_count, tree_of_expression};
 ghost use Rattle.teg_commands.specs.CommandLimits.{most_expression};
 ghost use Rattle.teg_commands.specs.CommandOutcomes.{Tells, outcome_of};
 ghost use Rattle.teg_commands.specs.Calc.{RefusesParse, RefusesSeries, SaysSeries, SaysCalc};

@@ -1,7 +1,7 @@
 //! The cycle times of a live net, and the rounds of policy iteration that led to them.
 ghost use Rattle.std.specs.Prelude.{◌≡◌, IfOk};
 ghost use Rattle.std.specs.Option.{option_copied, option_map};
-ghost use Rattle.teg_report.specs.teg_net.Certificates.{IsCertificate};
+ghost use Rattle.teg_net.specs.Certificates.{IsCertificate};
 ghost use Rattle.teg_report.specs.AnswerMeanings.{cycle_lists, runs_lists};
 ghost use Rattle.teg_report.specs.RoundLines.{AreRoundsTold};
 ghost use Rattle.teg_commands.specs.Cycle.{SaysCycle, SaysRounds};

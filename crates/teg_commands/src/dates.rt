@@ -1,10 +1,10 @@
 //! The dates of a live net for ever, and one of them.
 ghost use Rattle.std.specs.Prelude.{◌≤◌, ◌<◌, IfSome, Some, length};
-ghost use Rattle.teg_report.specs.settled_laws.SettledForms.{NetSettlesPast};
+ghost use Rattle.settled_laws.specs.SettledForms.{NetSettlesPast};
 ghost use Rattle.teg_commands.specs.CommandOutcomes.{Tells, outcome_of};
 ghost use Rattle.teg_commands.specs.CommandDates.{FormExceedsLimit, SaysDate, SaysDateOf, SaysDates, SaysTooLong, TellsNoTransition};
-ghost use Rattle.teg_report.specs.teg_net.Limits.{greatest_firing_number};
-ghost use Rattle.teg_report.specs.teg_settle.LimitRefusals.{greatest_limit};
+ghost use Rattle.teg_net.specs.Limits.{greatest_firing_number};
+ghost use Rattle.teg_settle.specs.LimitRefusals.{greatest_limit};
 
 use crate::live_net::LiveNet;
 use crate::numbers::{FiringNumber, Limit, most_of};

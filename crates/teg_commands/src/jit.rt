@@ -3,9 +3,9 @@ ghost use Rattle.std.specs.Prelude.{◌≤◌, length};
 ghost use Rattle.teg_report.specs.csv_records.Records.{most_file_bytes};
 ghost use Rattle.teg_commands.specs.Jit.{SaysJit, SaysLate, SaysLatest, TellsBadDue};
 ghost use Rattle.teg_commands.specs.CommandOutcomes.{Tells, outcome_of};
-ghost use Rattle.teg_report.specs.teg_due.RowRules.{IsDueOf};
-ghost use Rattle.teg_report.specs.teg_jit.LateRefusals.{LateIsRight};
-ghost use Rattle.teg_report.specs.teg_net.Circuits.{IsLive};
+ghost use Rattle.teg_due.specs.RowRules.{IsDueOf};
+ghost use Rattle.teg_jit.specs.LateRefusals.{LateIsRight};
+ghost use Rattle.teg_net.specs.Circuits.{IsLive};
 
 use crate::live_net::LiveNet;
 use crate::outcome::{Outcome, Verdict};

@@ -1,29 +1,29 @@
 //! Nets that were found live.
 ghost use Rattle.std.specs.Prelude.{◌≡◌, ◌≤◌, ◌<◌, length, All, IfErr, IfOk, IfSome};
-ghost use Rattle.teg_report.specs.teg_due.RowRules.{IsDueOf};
-ghost use Rattle.teg_report.specs.teg_check.Ranks.{IsRanking};
-ghost use Rattle.teg_report.specs.teg_dates.Streams.{AreFirstRowsOf, HasLeast, first_rows_given};
-ghost use Rattle.teg_report.specs.teg_dates.DateTables.{most_numbers, HasLeastDates};
+ghost use Rattle.teg_due.specs.RowRules.{IsDueOf};
+ghost use Rattle.teg_check.specs.Ranks.{IsRanking};
+ghost use Rattle.teg_dates.specs.Streams.{AreFirstRowsOf, HasLeast, first_rows_given};
+ghost use Rattle.teg_dates.specs.DateTables.{most_numbers, HasLeastDates};
 ghost use Rattle.teg_forever.specs.forever_laws.EndlessRows.{IsEndlessOf};
 ghost use Rattle.teg_forever.specs.LatestReleases.{AreEndlessReleases, ForeverRefused};
-ghost use Rattle.teg_report.specs.teg_form.StandardForms.{IsStandardFormOf};
-ghost use Rattle.teg_report.specs.teg_cycle.LastRounds.{AreLastOfRuns, rounds_of_runs};
-ghost use Rattle.teg_report.specs.teg_critical.declared.slacks.Slack.TheVariants.{NoCircuit};
-ghost use Rattle.teg_report.specs.teg_critical.Slacks.{AreSlacks};
-ghost use Rattle.teg_report.specs.teg_net.Certificates.{IsCertificate};
-ghost use Rattle.teg_report.specs.teg_net.GreatestRatios.{HasNoCircuit, IsAnyPlace, IsGreatestRatio};
-ghost use Rattle.teg_report.specs.teg_net.Nets.{IsInput};
-ghost use Rattle.teg_report.specs.teg_net.Ratios.{Fraction};
-ghost use Rattle.teg_report.specs.teg_parts.Partitions.{AreParts};
+ghost use Rattle.teg_form.specs.StandardForms.{IsStandardFormOf};
+ghost use Rattle.teg_cycle.specs.LastRounds.{AreLastOfRuns, rounds_of_runs};
+ghost use Rattle.teg_critical.specs.declared.slacks.Slack.TheVariants.{NoCircuit};
+ghost use Rattle.teg_critical.specs.Slacks.{AreSlacks};
+ghost use Rattle.teg_net.specs.Certificates.{IsCertificate};
+ghost use Rattle.teg_net.specs.GreatestRatios.{HasNoCircuit, IsAnyPlace, IsGreatestRatio};
+ghost use Rattle.teg_net.specs.Nets.{IsInput};
+ghost use Rattle.teg_net.specs.Ratios.{Fraction};
+ghost use Rattle.teg_parts.specs.Partitions.{AreParts};
 ghost use Rattle.teg_report.specs.FormLines.{HasEndsIn};
-ghost use Rattle.teg_report.specs.settled_laws.SettledForms.{IsSettledFormOf, settled_length};
-ghost use Rattle.teg_report.specs.teg_settle.LimitRefusals.{IsRightSettleRefusal, greatest_limit};
-ghost use Rattle.teg_report.specs.teg_settle.Transfers.{IsTransferOf, TransferSettlesPast};
-ghost use Rattle.teg_report.specs.due_laws.MeetingDueDates.{AreLatestInputs, InputsMeet, inputs_at_zero};
-ghost use Rattle.teg_report.specs.teg_jit.DueDates.{IsGreatestNumber, due_in};
-ghost use Rattle.teg_report.specs.teg_jit.Plans.{IsPlanFor, dates_of_plan};
-ghost use Rattle.teg_report.specs.teg_jit.LateRefusals.{LateIsRight};
-ghost use Rattle.teg_report.specs.teg_net.Circuits.{IsLive};
+ghost use Rattle.settled_laws.specs.SettledForms.{IsSettledFormOf, settled_length};
+ghost use Rattle.teg_settle.specs.LimitRefusals.{IsRightSettleRefusal, greatest_limit};
+ghost use Rattle.teg_settle.specs.Transfers.{IsTransferOf, TransferSettlesPast};
+ghost use Rattle.due_laws.specs.MeetingDueDates.{AreLatestInputs, InputsMeet, inputs_at_zero};
+ghost use Rattle.teg_jit.specs.DueDates.{IsGreatestNumber, due_in};
+ghost use Rattle.teg_jit.specs.Plans.{IsPlanFor, dates_of_plan};
+ghost use Rattle.teg_jit.specs.LateRefusals.{LateIsRight};
+ghost use Rattle.teg_net.specs.Circuits.{IsLive};
 ghost use Rattle.teg_bound.specs.PeriodicBounds.{IsRightBound};
 ghost use Rattle.teg_timetable.specs.delay_laws.PlannedTimetables.{IsTableOf};
 ghost use Rattle.teg_timetable.specs.DelayAnswers.{IsDelayRefusal, IsOutcomeIn, IsSpread};
@@ -61,8 +61,8 @@ pub struct LiveNet {
 }
 
 impl Model for LiveNet {
-    ghost use Rattle.teg_report.specs.teg_net.Nets.{NetLists};
-    ghost use Rattle.teg_report.specs.teg_check.Ranks.{IsRanking};
+    ghost use Rattle.teg_net.specs.Nets.{NetLists};
+    ghost use Rattle.teg_check.specs.Ranks.{IsRanking};
 
     ghost Value = { NetLists };
 

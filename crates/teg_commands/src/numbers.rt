@@ -1,7 +1,7 @@
 //! The numbers that commands take, each a type with its bounds.
 ghost use Rattle.std.specs.Prelude.{◌≡◌, ◌≤◌, IfSome};
-ghost use Rattle.teg_report.specs.teg_net.Limits.{greatest_target_time, most_target_tokens};
-ghost use Rattle.teg_report.specs.teg_settle.LimitRefusals.{greatest_limit};
+ghost use Rattle.teg_net.specs.Limits.{greatest_target_time, most_target_tokens};
+ghost use Rattle.teg_settle.specs.LimitRefusals.{greatest_limit};
 
 use std::marker::Model;
 
@@ -91,7 +91,7 @@ pub struct Target {
 
 impl Model for Target {
     ghost use Rattle.std.specs.Prelude.{ℕ, ◌≤◌};
-    ghost use Rattle.teg_report.specs.teg_net.Limits.{greatest_target_time, most_target_tokens};
+    ghost use Rattle.teg_net.specs.Limits.{greatest_target_time, most_target_tokens};
 
     ghost Value = { ℕ × ℕ };
 

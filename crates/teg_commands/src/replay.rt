@@ -1,10 +1,10 @@
 //! Recorded runs: a log that is replayed, and the lines of the monitors.
 ghost use Rattle.std.specs.Prelude.{◌≡◌, ◌≤◌, ◌++◌, Some, ◌∷◌, [], All, IfOk, IfSome, is_ok, length, map, string_bytes};
-ghost use Rattle.teg_report.specs.teg_outside.Monitors.{IsOneLine};
+ghost use Rattle.teg_outside.specs.Monitors.{IsOneLine};
 ghost use Rattle.teg_commands.specs.CommandOutcomes.{Tells, outcome_of};
 ghost use Rattle.teg_report.specs.csv_records.Records.{most_file_bytes};
 ghost use Rattle.teg_commands.specs.Replay.{CanTellRefusal, IsToldAs, SaysEnd, SaysReplay, SaysRun, ShowsReplay, ShowsRun, TellsBadLog};
-ghost use Rattle.teg_report.specs.teg_due.RowRules.{IsLogOf};
+ghost use Rattle.teg_due.specs.RowRules.{IsLogOf};
 ghost use Rattle.teg_report.specs.FileRows.{IsFailureIn};
 
 use crate::live_net::LiveNet;

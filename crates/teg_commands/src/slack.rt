@@ -3,8 +3,8 @@ ghost use Rattle.std.specs.Prelude.{IfNone, IfSome};
 ghost use Rattle.teg_commands.specs.Cycle.{IsCycleAnswer};
 ghost use Rattle.teg_commands.specs.CommandOutcomes.{Tells, outcome_of};
 ghost use Rattle.teg_commands.specs.Slack.{IsBestRatio, SaysSlack};
-ghost use Rattle.teg_report.specs.teg_net.Certificates.{IsCertificate};
-ghost use Rattle.teg_report.specs.teg_net.GreatestRatios.{HasNoCircuit, IsAnyPlace};
+ghost use Rattle.teg_net.specs.Certificates.{IsCertificate};
+ghost use Rattle.teg_net.specs.GreatestRatios.{HasNoCircuit, IsAnyPlace};
 
 use crate::live_net::LiveNet;
 use crate::outcome::{Outcome, Verdict};

@@ -4,7 +4,7 @@ ghost use Rattle.teg_report.specs.csv_records.Records.{most_file_bytes};
 ghost use Rattle.teg_timetable.specs.delay_laws.PlannedTimetables.{IsTableOf};
 ghost use Rattle.teg_commands.specs.CommandOutcomes.{Tells, outcome_of};
 ghost use Rattle.teg_commands.specs.Timetable.{EndsUnspread, SaysDelays, SaysTimetable, SaysUnspread, TellsBadTable};
-ghost use Rattle.teg_report.specs.teg_settle.LimitRefusals.{greatest_limit};
+ghost use Rattle.teg_settle.specs.LimitRefusals.{greatest_limit};
 ghost use Rattle.teg_timetable.specs.DelayAnswers.{IsDelayRefusal};
 ghost use Rattle.teg_timetable.specs.Spreads.{greatest_period};
 ghost use Rattle.teg_timetable.specs.TimetableFiles.{IsTableRefusalIn};

@@ -3,10 +3,10 @@ ghost use Rattle.std.specs.Prelude.{◌≡◌, ◌≤◌, ◌<◌, ◌++◌, ◌
 ghost use Rattle.teg_commands.specs.CommandOutcomes.{Tells, outcome_of};
 ghost use Rattle.teg_commands.specs.CommandDates.{SaysTooLong};
 ghost use Rattle.teg_commands.specs.Transfer.{AreTimesFrom, IsTimesFrom, SaysTransfer, TimesSettlePast, has_transition_role, those_of_role, times_in};
-ghost use Rattle.teg_report.specs.teg_net.declared.entries.Role.TheVariants.{Output};
-ghost use Rattle.teg_report.specs.teg_net.Nets.{IsInput};
+ghost use Rattle.teg_net.specs.declared.entries.Role.TheVariants.{Output};
+ghost use Rattle.teg_net.specs.Nets.{IsInput};
 ghost use Rattle.teg_report.specs.AnswerMeanings.{times_from, times_to};
-ghost use Rattle.teg_report.specs.teg_settle.LimitRefusals.{IsRightSettleRefusal, greatest_limit};
+ghost use Rattle.teg_settle.specs.LimitRefusals.{IsRightSettleRefusal, greatest_limit};
 
 use crate::live_net::LiveNet;
 use crate::numbers::Limit;

@@ -4,11 +4,11 @@ ghost use Rattle.teg_commands.specs.CommandOutcomes.{Tells, outcome_of};
 ghost use Rattle.teg_commands.specs.Cycle.{IsCycleAnswer};
 ghost use Rattle.teg_commands.specs.Slack.{IsBestRatio};
 ghost use Rattle.teg_commands.specs.Trial.{SaysTrial, critical_count};
-ghost use Rattle.teg_report.specs.teg_critical.Slacks.{AreSlacks};
-ghost use Rattle.teg_report.specs.teg_net.Certificates.{IsCertificate};
+ghost use Rattle.teg_critical.specs.Slacks.{AreSlacks};
+ghost use Rattle.teg_net.specs.Certificates.{IsCertificate};
 ghost use Rattle.trial_net.specs.Trials.{trial};
-ghost use Rattle.teg_report.specs.teg_net.Circuits.{IsLive};
-ghost use Rattle.teg_report.specs.teg_net.Limits.{most_places};
+ghost use Rattle.teg_net.specs.Circuits.{IsLive};
+ghost use Rattle.teg_net.specs.Limits.{most_places};
 
 use crate::live_net::LiveNet;
 use crate::numbers::Machines;

@@ -4,15 +4,15 @@ use Rattle.std.specs.Prelude.{All, Contains, IsSome}
 use Rattle.std.proofs.lemmas.Bool.{cases_eq}
 use Rattle.std.proofs.lemmas.List.{take-append-drop, length-set, get_or-set_same, get_or-set_other, get_or-replicate, length-replicate}
 use Rattle.std.proofs.lemmas.List.Elements.{All-more, All-weaker, All-drop, All-contains, Contains-append_cases}
-use Rattle.teg_cycle.specs.teg_net.declared.entries.PlaceId.{PlaceId}
-use Rattle.teg_cycle.specs.teg_net.declared.answers.CycleAnswer.{CycleAnswer}
-use Rattle.teg_cycle.specs.teg_net.declared.answers.PartAnswer.{PartAnswer}
-use Rattle.teg_cycle.specs.teg_net.Nets.{NetLists, IsNet}
-use Rattle.teg_cycle.specs.teg_net.Ratios.{Fraction}
-use Rattle.teg_cycle.specs.teg_net.Circuits.{from_of, IsLive}
-use Rattle.teg_cycle.specs.teg_net.Parts.{to_of}
-use Rattle.teg_cycle.specs.teg_net.GreatestRatios.{IsGreatestRatio, IsAnyPlace, HasNoCircuit, IsFirstGreatest, ratio_at}
-use Rattle.teg_cycle.specs.teg_net.Certificates.{IsCertificate}
+use Rattle.teg_net.specs.declared.entries.PlaceId.{PlaceId}
+use Rattle.teg_net.specs.declared.answers.CycleAnswer.{CycleAnswer}
+use Rattle.teg_net.specs.declared.answers.PartAnswer.{PartAnswer}
+use Rattle.teg_net.specs.Nets.{NetLists, IsNet}
+use Rattle.teg_net.specs.Ratios.{Fraction}
+use Rattle.teg_net.specs.Circuits.{from_of, IsLive}
+use Rattle.teg_net.specs.Parts.{to_of}
+use Rattle.teg_net.specs.GreatestRatios.{IsGreatestRatio, IsAnyPlace, HasNoCircuit, IsFirstGreatest, ratio_at}
+use Rattle.teg_net.specs.Certificates.{IsCertificate}
 use Rattle.teg_cycle.specs.BestRatios.{named_ratio, best_ratio_of}
 use Rattle.teg_critical.specs.declared.endings.Ending.{Ending}
 use Rattle.teg_critical.specs.declared.losses.Loss.{Loss}
@@ -27,7 +27,7 @@ use Rattle.teg_critical.proofs.Certified.{no_circuit}
 use Rattle.teg_critical.proofs.LossFacts.{IsToldBy, best_told}
 use Rattle.teg_critical.proofs.Rounds.{greatest}
 use Rattle.teg_critical.proofs.SameRatio.{of_the_net}
-use Rattle.teg_cycle.proofs.teg_net_proofs.Reading.{same_id}
+use Rattle.teg_net.proofs.Reading.{same_id}
 use Rattle.teg_critical.proofs.Telling.{none_of, none_back}
 
 -- ---- places told one after another

@@ -5,15 +5,15 @@ use Rattle.std.proofs.lemmas.Bool.{cases_lt}
 use Rattle.std.proofs.lemmas.List.{length_push, get_or_default}
 use Rattle.std.proofs.lemmas.List.Elements.{All-push, All-take, Contains-push, Contains-append_left}
 use Rattle.std.proofs.lemmas.List.Sorted.{All-permutation, Contains-permutation, length_permutation}
-use Rattle.teg_cycle.specs.teg_net.declared.entries.PlaceId.{PlaceId}
-use Rattle.teg_cycle.specs.teg_net.declared.entries.Place.{Place}
-use Rattle.teg_cycle.specs.teg_net.Nets.{NetLists, IsNet, IsPlaceOf}
-use Rattle.teg_cycle.specs.teg_net.Circuits.{no_place, place_at}
+use Rattle.teg_net.specs.declared.entries.PlaceId.{PlaceId}
+use Rattle.teg_net.specs.declared.entries.Place.{Place}
+use Rattle.teg_net.specs.Nets.{NetLists, IsNet, IsPlaceOf}
+use Rattle.teg_net.specs.Circuits.{no_place, place_at}
 use Rattle.teg_critical.specs.declared.endings.Ending.{Ending}
 use Rattle.teg_critical.specs.declared.losses.Loss.{Loss}
 use Rattle.teg_critical.specs.Losses.{loss_at}
 use Rattle.teg_critical.specs.LossEndings.{ending_at, IsEnding, IsEndingAt, AreEndings}
-use Rattle.teg_cycle.proofs.teg_net_proofs.Reading.{same_id}
+use Rattle.teg_net.proofs.Reading.{same_id}
 
 -- the places below k that are told a loss are listed
 pub record EndingsUpTo (net : NetLists) (losses : List (Option Loss)) (order : List Ending) (k : ℕ) : Type 0 where

@@ -4,12 +4,12 @@ use Rattle.std.specs.Prelude.{All, Contains, sum_by}
 use Rattle.std.proofs.lemmas.Bool.{cases_lt}
 use Rattle.std.proofs.lemmas.List.Sums.{sum_by-cons}
 use Rattle.std.proofs.lemmas.Nat.{mod_below, div-add-mod'}
-use Rattle.teg_cycle.specs.teg_net.declared.entries.PlaceId.{PlaceId}
-use Rattle.teg_cycle.specs.teg_net.Nets.{NetLists}
-use Rattle.teg_cycle.specs.teg_net.Ratios.{Fraction}
-use Rattle.teg_cycle.specs.teg_net.Circuits.{place_at, from_of, IsCircuit, time_of, tokens_of}
-use Rattle.teg_cycle.specs.teg_net.Parts.{to_of}
-use Rattle.teg_cycle.specs.teg_net.GreatestRatios.{IsGreatestRatio, IsAnyPlace}
+use Rattle.teg_net.specs.declared.entries.PlaceId.{PlaceId}
+use Rattle.teg_net.specs.Nets.{NetLists}
+use Rattle.teg_net.specs.Ratios.{Fraction}
+use Rattle.teg_net.specs.Circuits.{place_at, from_of, IsCircuit, time_of, tokens_of}
+use Rattle.teg_net.specs.Parts.{to_of}
+use Rattle.teg_net.specs.GreatestRatios.{IsGreatestRatio, IsAnyPlace}
 use Rattle.teg_loops.specs.Loops.{IsStraight}
 use Rattle.teg_loops.specs.Shortening.{NoCircuitGains}
 use Rattle.teg_loops.proofs.Splitting.{shorten}

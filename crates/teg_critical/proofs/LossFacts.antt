@@ -7,21 +7,21 @@ use Rattle.std.proofs.Math.Nat.{mul-le-mul_left}
 use Rattle.std.proofs.lemmas.Bool.{cases_lt}
 use Rattle.std.proofs.lemmas.Int.{ints}
 use Rattle.std.proofs.lemmas.List.{get_or_past, get_or_read}
-use Rattle.teg_cycle.specs.teg_net.declared.entries.PlaceId.{PlaceId}
-use Rattle.teg_cycle.specs.teg_net.declared.entries.Place.{Place}
-use Rattle.teg_cycle.specs.teg_net.declared.answers.Potential.{Potential}
-use Rattle.teg_cycle.specs.teg_net.declared.answers.PartAnswer.{PartAnswer}
-use Rattle.teg_cycle.specs.teg_net.declared.answers.PartAnswer.TheVariants.{NoCircuit, Best}
-use Rattle.teg_cycle.specs.teg_net.declared.answers.CycleAnswer.{CycleAnswer}
-use Rattle.teg_cycle.specs.teg_net.declared.circuits.Circuit.{Circuit}
-use Rattle.teg_cycle.specs.teg_net.Limits.{greatest_checked_potential}
-use Rattle.teg_cycle.specs.teg_net.Nets.{NetLists, IsNet, IsPlaceOf}
-use Rattle.teg_cycle.specs.teg_net.Ratios.{Fraction, IsRatioWithin}
-use Rattle.teg_cycle.specs.teg_net.Circuits.{no_place, place_at, from_of, IsCircuit, time_of, tokens_of}
-use Rattle.teg_cycle.specs.teg_net.Parts.{to_of, IsPlaceOfPart}
-use Rattle.teg_cycle.specs.teg_net.ReducedTimes.{IsMagnitudeWithin, reduced_time_of_place}
-use Rattle.teg_cycle.specs.teg_net.GreatestRatios.{ratio_in, ratio_at, IsFirstGreatest}
-use Rattle.teg_cycle.specs.teg_net.Certificates.{potential_at, IsBestCertificate, IsPartCertificate, IsCertificate}
+use Rattle.teg_net.specs.declared.entries.PlaceId.{PlaceId}
+use Rattle.teg_net.specs.declared.entries.Place.{Place}
+use Rattle.teg_net.specs.declared.answers.Potential.{Potential}
+use Rattle.teg_net.specs.declared.answers.PartAnswer.{PartAnswer}
+use Rattle.teg_net.specs.declared.answers.PartAnswer.TheVariants.{NoCircuit, Best}
+use Rattle.teg_net.specs.declared.answers.CycleAnswer.{CycleAnswer}
+use Rattle.teg_net.specs.declared.circuits.Circuit.{Circuit}
+use Rattle.teg_net.specs.Limits.{greatest_checked_potential}
+use Rattle.teg_net.specs.Nets.{NetLists, IsNet, IsPlaceOf}
+use Rattle.teg_net.specs.Ratios.{Fraction, IsRatioWithin}
+use Rattle.teg_net.specs.Circuits.{no_place, place_at, from_of, IsCircuit, time_of, tokens_of}
+use Rattle.teg_net.specs.Parts.{to_of, IsPlaceOfPart}
+use Rattle.teg_net.specs.ReducedTimes.{IsMagnitudeWithin, reduced_time_of_place}
+use Rattle.teg_net.specs.GreatestRatios.{ratio_in, ratio_at, IsFirstGreatest}
+use Rattle.teg_net.specs.Certificates.{potential_at, IsBestCertificate, IsPartCertificate, IsCertificate}
 use Rattle.teg_cycle.specs.BestRatios.{named_ratio, best_ratio_of}
 use Rattle.teg_critical.specs.declared.losses.Loss.{Loss}
 use Rattle.teg_critical.specs.Losses.{most_lost, IsLost, CanLose, ratio_of, potentials_of, IsLossOf, IsLossIn, answer_of_part, part_of_transition, IsPlaceLoss}

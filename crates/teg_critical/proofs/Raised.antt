@@ -4,11 +4,11 @@ use Rattle.std.specs.Prelude.{All, Contains, sum_by}
 use Rattle.std.proofs.lemmas.Bool.{cases_eq}
 use Rattle.std.proofs.lemmas.List.{length-set, get_or-set_same, get_or-set_other}
 use Rattle.std.proofs.lemmas.List.Sums.{sum_by-cons}
-use Rattle.teg_cycle.specs.teg_net.declared.entries.PlaceId.{PlaceId}
-use Rattle.teg_cycle.specs.teg_net.declared.entries.Place.{Place}
-use Rattle.teg_cycle.specs.teg_net.Nets.{NetLists}
-use Rattle.teg_cycle.specs.teg_net.Circuits.{no_place, place_at, from_of, IsPathBetween, IsCircuit, time_of, tokens_of}
-use Rattle.teg_cycle.specs.teg_net.Parts.{to_of}
+use Rattle.teg_net.specs.declared.entries.PlaceId.{PlaceId}
+use Rattle.teg_net.specs.declared.entries.Place.{Place}
+use Rattle.teg_net.specs.Nets.{NetLists}
+use Rattle.teg_net.specs.Circuits.{no_place, place_at, from_of, IsPathBetween, IsCircuit, time_of, tokens_of}
+use Rattle.teg_net.specs.Parts.{to_of}
 use Rattle.teg_loops.proofs.Through.{IsThrough, through}
 use Rattle.teg_critical.specs.Slacks.{raised_place, raised}
 

@@ -5,15 +5,15 @@ use Rattle.std.specs.Option.{is_some}
 use Rattle.std.proofs.lemmas.Int.{ints}
 use Rattle.std.proofs.lemmas.List.Sums.{sum_by-cons}
 use Rattle.std.proofs.Math.Nat.{le_of_mul-le-mul_left}
-use Rattle.teg_cycle.specs.teg_net.declared.entries.PlaceId.{PlaceId}
-use Rattle.teg_cycle.specs.teg_net.declared.answers.CycleAnswer.{CycleAnswer}
-use Rattle.teg_cycle.specs.teg_net.Nets.{NetLists, IsNet}
-use Rattle.teg_cycle.specs.teg_net.Ratios.{Fraction}
-use Rattle.teg_cycle.specs.teg_net.Circuits.{place_at, from_of, IsPathBetween, IsCircuit, time_of, tokens_of}
-use Rattle.teg_cycle.specs.teg_net.Parts.{to_of, IsPlaceOfPart}
-use Rattle.teg_cycle.specs.teg_net.ReducedTimes.{reduced_time_of}
-use Rattle.teg_cycle.specs.teg_net.GreatestRatios.{IsGreatestRatio, IsAnyPlace}
-use Rattle.teg_cycle.specs.teg_net.Certificates.{potential_at, IsCertificate}
+use Rattle.teg_net.specs.declared.entries.PlaceId.{PlaceId}
+use Rattle.teg_net.specs.declared.answers.CycleAnswer.{CycleAnswer}
+use Rattle.teg_net.specs.Nets.{NetLists, IsNet}
+use Rattle.teg_net.specs.Ratios.{Fraction}
+use Rattle.teg_net.specs.Circuits.{place_at, from_of, IsPathBetween, IsCircuit, time_of, tokens_of}
+use Rattle.teg_net.specs.Parts.{to_of, IsPlaceOfPart}
+use Rattle.teg_net.specs.ReducedTimes.{reduced_time_of}
+use Rattle.teg_net.specs.GreatestRatios.{IsGreatestRatio, IsAnyPlace}
+use Rattle.teg_net.specs.Certificates.{potential_at, IsCertificate}
 use Rattle.teg_critical.proofs.Certified.{reduced_is, closed_inside}
 use Rattle.teg_critical.specs.declared.losses.Loss.{Loss}
 use Rattle.teg_critical.specs.Losses.{ratio_of, potentials_of, IsLossOf, IsLossIn, answer_of_part, loss_at, AreLosses}

@@ -2,11 +2,11 @@
 use Rattle.std.proofs.Common.{ℕ, ◌*◌, ◌≤◌, ◌≡◌, refl, sym, ap, arith}
 use Rattle.std.proofs.Math.Nat.{mul-le-mul_left, le_of_mul-le-mul_left}
 use Rattle.teg_cycle.proofs.number_laws_proofs.Numbers.{some_of}
-use Rattle.teg_cycle.specs.teg_net.declared.entries.PlaceId.{PlaceId}
-use Rattle.teg_cycle.specs.teg_net.Nets.{NetLists}
-use Rattle.teg_cycle.specs.teg_net.Ratios.{Fraction}
-use Rattle.teg_cycle.specs.teg_net.Circuits.{IsLive, time_of, tokens_of}
-use Rattle.teg_cycle.specs.teg_net.GreatestRatios.{IsGreatestRatio, IsAnyPlace}
+use Rattle.teg_net.specs.declared.entries.PlaceId.{PlaceId}
+use Rattle.teg_net.specs.Nets.{NetLists}
+use Rattle.teg_net.specs.Ratios.{Fraction}
+use Rattle.teg_net.specs.Circuits.{IsLive, time_of, tokens_of}
+use Rattle.teg_net.specs.GreatestRatios.{IsGreatestRatio, IsAnyPlace}
 use Rattle.teg_critical.specs.declared.slacks.Slack.{Slack}
 use Rattle.teg_critical.specs.declared.slacks.Slack.TheVariants.{NoCircuit, Critical, Rise}
 use Rattle.teg_critical.specs.Slacks.{IsCritical, IsSlackOf, raised}

@@ -4,11 +4,11 @@ use Rattle.std.specs.Prelude.{IsSome, All}
 use Rattle.std.proofs.lemmas.Bool.{cases_Bool}
 use Rattle.std.proofs.lemmas.List.Sums.{sum_by-cons}
 use Rattle.std.proofs.Math.Nat.{mul-le-mul_right}
-use Rattle.teg_cycle.specs.teg_net.declared.entries.PlaceId.{PlaceId}
-use Rattle.teg_cycle.specs.teg_net.Limits.{most_transitions}
-use Rattle.teg_cycle.specs.teg_net.Nets.{NetLists, IsNet, IsPlaceOf}
-use Rattle.teg_cycle.specs.teg_net.Circuits.{no_place, place_at, from_of}
-use Rattle.teg_cycle.specs.teg_net.Parts.{to_of}
+use Rattle.teg_net.specs.declared.entries.PlaceId.{PlaceId}
+use Rattle.teg_net.specs.Limits.{most_transitions}
+use Rattle.teg_net.specs.Nets.{NetLists, IsNet, IsPlaceOf}
+use Rattle.teg_net.specs.Circuits.{no_place, place_at, from_of}
+use Rattle.teg_net.specs.Parts.{to_of}
 use Rattle.teg_critical.specs.declared.endings.Ending.{Ending}
 use Rattle.teg_critical.specs.declared.losses.Loss.{Loss}
 use Rattle.teg_critical.specs.LossEndings.{IsEndingAt}

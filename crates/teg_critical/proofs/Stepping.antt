@@ -4,11 +4,11 @@ use Rattle.std.specs.Prelude.{All, Any, IsSome}
 use Rattle.std.specs.Option.{is_some}
 use Rattle.std.proofs.lemmas.Bool.{cases_eq, cases_lt}
 use Rattle.std.proofs.lemmas.List.{length-append, length-set, length-replicate, get_or_append_left, get_or-append-add, get_or_read, get_or-set_same, get_or-set_other, get_or-replicate}
-use Rattle.teg_cycle.specs.teg_net.declared.entries.PlaceId.{PlaceId}
-use Rattle.teg_cycle.specs.teg_net.declared.entries.Place.{Place}
-use Rattle.teg_cycle.specs.teg_net.Nets.{NetLists, IsNet, IsPlaceOf}
-use Rattle.teg_cycle.specs.teg_net.Circuits.{no_place, place_at, from_of}
-use Rattle.teg_cycle.specs.teg_net.Parts.{to_of}
+use Rattle.teg_net.specs.declared.entries.PlaceId.{PlaceId}
+use Rattle.teg_net.specs.declared.entries.Place.{Place}
+use Rattle.teg_net.specs.Nets.{NetLists, IsNet, IsPlaceOf}
+use Rattle.teg_net.specs.Circuits.{no_place, place_at, from_of}
+use Rattle.teg_net.specs.Parts.{to_of}
 use Rattle.teg_critical.specs.declared.losses.Loss.{Loss}
 use Rattle.teg_critical.specs.declared.searches.LossStep.{LossStep}
 use Rattle.teg_critical.specs.Losses.{most_loss, loss_at, AreKeptSmall}

@@ -3,12 +3,12 @@ use Rattle.std.proofs.Common.{ℕ, suc, ◌+◌, ◌-◌, ◌*◌, ◌/◌, ◌<
 use Rattle.std.specs.Prelude.{All}
 use Rattle.std.proofs.lemmas.List.Sums.{sum_by-cons}
 use Rattle.std.proofs.Math.Nat.{mul-le-mul_left, mul-le-mul_right, le_of_mul-le-mul_left, mul-div_cancel_left}
-use Rattle.teg_cycle.specs.teg_net.declared.entries.PlaceId.{PlaceId}
-use Rattle.teg_cycle.specs.teg_net.Limits.{most_place_tokens, most_transitions}
-use Rattle.teg_cycle.specs.teg_net.Nets.{NetLists, IsNet, IsPlaceOf}
-use Rattle.teg_cycle.specs.teg_net.Ratios.{Fraction}
-use Rattle.teg_cycle.specs.teg_net.Circuits.{no_place, place_at, from_of, IsPathBetween, time_of, tokens_of}
-use Rattle.teg_cycle.specs.teg_net.Parts.{to_of, IsPlaceOfPart}
+use Rattle.teg_net.specs.declared.entries.PlaceId.{PlaceId}
+use Rattle.teg_net.specs.Limits.{most_place_tokens, most_transitions}
+use Rattle.teg_net.specs.Nets.{NetLists, IsNet, IsPlaceOf}
+use Rattle.teg_net.specs.Ratios.{Fraction}
+use Rattle.teg_net.specs.Circuits.{no_place, place_at, from_of, IsPathBetween, time_of, tokens_of}
+use Rattle.teg_net.specs.Parts.{to_of, IsPlaceOfPart}
 use Rattle.teg_loops.specs.Loops.{EndsBelow, IsStraight}
 use Rattle.teg_loops.proofs.Straight.{straight_short}
 use Rattle.teg_loops.proofs.Taking.{sum_most}

@@ -1,9 +1,9 @@
 -- Working definitions of the places that are told a loss, with the transitions at which they start and end.
 use Rattle.std.specs.Prelude.{ℕ, ◌<◌, ◌≤◌, ◌≡◌, List, length, All, Contains, IsSome, Option}
-use Rattle.teg_cycle.specs.teg_net.declared.entries.PlaceId.{PlaceId}
-use Rattle.teg_cycle.specs.teg_net.Nets.{NetLists}
-use Rattle.teg_cycle.specs.teg_net.Circuits.{from_of}
-use Rattle.teg_cycle.specs.teg_net.Parts.{to_of}
+use Rattle.teg_net.specs.declared.entries.PlaceId.{PlaceId}
+use Rattle.teg_net.specs.Nets.{NetLists}
+use Rattle.teg_net.specs.Circuits.{from_of}
+use Rattle.teg_net.specs.Parts.{to_of}
 use Rattle.teg_critical.specs.declared.endings.Ending.{Ending}
 use Rattle.teg_critical.specs.declared.losses.Loss.{Loss}
 use Rattle.teg_critical.specs.Losses.{loss_at}

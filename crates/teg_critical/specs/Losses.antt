@@ -1,18 +1,18 @@
 -- Working definitions of what places lose against the greatest ratio, by the potentials of their parts (chapter 3).
 use Rattle.std.specs.Prelude.{ℕ, ℤ, pos, ◌+ℤ◌, ◌+◌, ◌-◌, ◌*◌, ◌<◌, ◌≤◌, ◌≡◌, ◌≢◌, List, [], length, Option, Some, None, slice_index, slice_index_or}
-use Rattle.teg_cycle.specs.teg_net.declared.entries.PlaceId.{PlaceId}
-use Rattle.teg_cycle.specs.teg_net.declared.entries.Place.{Place}
-use Rattle.teg_cycle.specs.teg_net.declared.answers.Potential.{Potential}
-use Rattle.teg_cycle.specs.teg_net.declared.answers.PartAnswer.{PartAnswer}
-use Rattle.teg_cycle.specs.teg_net.declared.answers.PartAnswer.TheVariants.{NoCircuit, Best}
-use Rattle.teg_cycle.specs.teg_net.declared.answers.CycleAnswer.{CycleAnswer}
-use Rattle.teg_cycle.specs.teg_net.Limits.{greatest_checked_potential}
-use Rattle.teg_cycle.specs.teg_net.Nets.{NetLists}
-use Rattle.teg_cycle.specs.teg_net.Ratios.{Fraction}
-use Rattle.teg_cycle.specs.teg_net.Circuits.{place_at, from_of}
-use Rattle.teg_cycle.specs.teg_net.Parts.{to_of}
-use Rattle.teg_cycle.specs.teg_net.ReducedTimes.{IsMagnitudeWithin, reduced_time_of_place}
-use Rattle.teg_cycle.specs.teg_net.Certificates.{potential_at}
+use Rattle.teg_net.specs.declared.entries.PlaceId.{PlaceId}
+use Rattle.teg_net.specs.declared.entries.Place.{Place}
+use Rattle.teg_net.specs.declared.answers.Potential.{Potential}
+use Rattle.teg_net.specs.declared.answers.PartAnswer.{PartAnswer}
+use Rattle.teg_net.specs.declared.answers.PartAnswer.TheVariants.{NoCircuit, Best}
+use Rattle.teg_net.specs.declared.answers.CycleAnswer.{CycleAnswer}
+use Rattle.teg_net.specs.Limits.{greatest_checked_potential}
+use Rattle.teg_net.specs.Nets.{NetLists}
+use Rattle.teg_net.specs.Ratios.{Fraction}
+use Rattle.teg_net.specs.Circuits.{place_at, from_of}
+use Rattle.teg_net.specs.Parts.{to_of}
+use Rattle.teg_net.specs.ReducedTimes.{IsMagnitudeWithin, reduced_time_of_place}
+use Rattle.teg_net.specs.Certificates.{potential_at}
 use Rattle.teg_critical.specs.declared.losses.Loss.{Loss}
 
 -- the most that a place loses at its part's ratio

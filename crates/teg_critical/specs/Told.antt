@@ -1,16 +1,16 @@
 -- Working definitions of how each place is told its slack.
 use Rattle.std.specs.Prelude.{ℕ, ◌*◌, ◌/◌, ◌<◌, ◌≤◌, ◌≡◌, List, length, Option, slice_index_or, replicate, All}
-use Rattle.teg_cycle.specs.teg_net.declared.entries.PlaceId.{PlaceId}
-use Rattle.teg_cycle.specs.teg_net.declared.entries.Place.{Place}
-use Rattle.teg_cycle.specs.teg_net.declared.answers.Potential.{Potential}
-use Rattle.teg_cycle.specs.teg_net.declared.answers.CycleAnswer.{CycleAnswer}
-use Rattle.teg_cycle.specs.teg_net.Limits.{greatest_hold, most_place_tokens}
-use Rattle.teg_cycle.specs.teg_net.Nets.{NetLists, IsNet}
-use Rattle.teg_cycle.specs.teg_net.Ratios.{Fraction, IsRatioWithin}
-use Rattle.teg_cycle.specs.teg_net.Circuits.{IsLive}
-use Rattle.teg_cycle.specs.teg_net.GreatestRatios.{IsGreatestRatio, IsAnyPlace}
-use Rattle.teg_cycle.specs.teg_net.Certificates.{potential_at, IsCertificate}
-use Rattle.teg_cycle.specs.teg_net.ReducedTimes.{reduced_time_of_place}
+use Rattle.teg_net.specs.declared.entries.PlaceId.{PlaceId}
+use Rattle.teg_net.specs.declared.entries.Place.{Place}
+use Rattle.teg_net.specs.declared.answers.Potential.{Potential}
+use Rattle.teg_net.specs.declared.answers.CycleAnswer.{CycleAnswer}
+use Rattle.teg_net.specs.Limits.{greatest_hold, most_place_tokens}
+use Rattle.teg_net.specs.Nets.{NetLists, IsNet}
+use Rattle.teg_net.specs.Ratios.{Fraction, IsRatioWithin}
+use Rattle.teg_net.specs.Circuits.{IsLive}
+use Rattle.teg_net.specs.GreatestRatios.{IsGreatestRatio, IsAnyPlace}
+use Rattle.teg_net.specs.Certificates.{potential_at, IsCertificate}
+use Rattle.teg_net.specs.ReducedTimes.{reduced_time_of_place}
 use Rattle.teg_critical.specs.declared.endings.Ending.{Ending}
 use Rattle.teg_critical.specs.declared.losses.Loss.{Loss}
 use Rattle.teg_critical.specs.declared.slacks.Slack.{Slack}

@@ -1,10 +1,10 @@
 //! The slack of each place, by what the best path back from its end to its start lacks.
 ghost use Rattle.std.specs.Prelude.{◌≡◌, ◌<◌, length, All, IfOk, Some};
-ghost use Rattle.teg_cycle.specs.teg_net.Ratios.{Fraction};
-ghost use Rattle.teg_cycle.specs.teg_net.Nets.{IsNet};
-ghost use Rattle.teg_cycle.specs.teg_net.Circuits.{IsLive};
-ghost use Rattle.teg_cycle.specs.teg_net.GreatestRatios.{IsGreatestRatio, IsAnyPlace, HasNoCircuit};
-ghost use Rattle.teg_cycle.specs.teg_net.Certificates.{IsCertificate};
+ghost use Rattle.teg_net.specs.Ratios.{Fraction};
+ghost use Rattle.teg_net.specs.Nets.{IsNet};
+ghost use Rattle.teg_net.specs.Circuits.{IsLive};
+ghost use Rattle.teg_net.specs.GreatestRatios.{IsGreatestRatio, IsAnyPlace, HasNoCircuit};
+ghost use Rattle.teg_net.specs.Certificates.{IsCertificate};
 ghost use Rattle.teg_cycle.specs.BestRatios.{best_ratio_of};
 ghost use Rattle.teg_critical.specs.declared.slacks.Slack.TheVariants.{NoCircuit};
 ghost use Rattle.teg_critical.specs.Slacks.{IsSlackOf, AreSlacks};
@@ -19,7 +19,7 @@ use crate::searches::{Steps, all_steps, least_losses};
 use crate::slacks::{Slack, Slacks};
 use std::alloc::{AllocError, Global};
 use teg_cycle::best_ratio;
-use teg_cycle::teg_net::{CycleAnswer, Net, OutOfMemory, Ratio};
+use teg_net::{CycleAnswer, Net, OutOfMemory, Ratio};
 
 // The slack that a loss of the whole round tells.
 fn slack_by(total: u128, scale: u64, best: Ratio) -> Slack

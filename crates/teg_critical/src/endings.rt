@@ -4,7 +4,7 @@ ghost use Rattle.teg_critical.specs.LossEndings.{AreEndings};
 
 use crate::losses::Loss;
 use std::alloc::{AllocError, Global};
-use teg_cycle::teg_net::{Net, PlaceId};
+use teg_net::{Net, PlaceId};
 
 // A place, with the transitions at which it starts and ends.
 #[derive(Clone, Copy, Debug, Drop)]

@@ -20,5 +20,3 @@ mod slacks;
 pub use each_place::critical;
 pub use laws::{gaps_tell_slacks, slacks_are_of_the_net, slacks_are_one};
 pub use slacks::{Slack, Slacks};
-pub use teg_cycle;
-pub use teg_cycle::{teg_howard, teg_parts};

@@ -1,18 +1,16 @@
 //! What places lose against the net's greatest ratio: by the potentials of the answer no place
 //! gains, so that the best path back is one that loses least (chapter 3).
 ghost use Rattle.std.specs.Prelude.{◌≡◌, ◌≤◌, ◌<◌, ◌*◌, length, IfOk, Some};
-ghost use Rattle.teg_cycle.specs.teg_net.Limits.{greatest_hold, most_place_tokens};
-ghost use Rattle.teg_cycle.specs.teg_net.Certificates.{potential_at, IsCertificate};
-ghost use Rattle.teg_cycle.specs.teg_net.ReducedTimes.{reduced_time_of_place};
-ghost use Rattle.teg_cycle.specs.teg_net.Ratios.{IsRatioWithin};
+ghost use Rattle.teg_net.specs.Limits.{greatest_hold, most_place_tokens};
+ghost use Rattle.teg_net.specs.Certificates.{potential_at, IsCertificate};
+ghost use Rattle.teg_net.specs.ReducedTimes.{reduced_time_of_place};
+ghost use Rattle.teg_net.specs.Ratios.{IsRatioWithin};
 ghost use Rattle.teg_cycle.specs.BestRatios.{best_ratio_of};
 ghost use Rattle.teg_critical.specs.Losses.{most_lost, most_loss, IsLost, CanLose, loss_at_best, IsLossOf, IsPlaceLoss, AreLosses};
 ghost use Rattle.teg_critical.specs.Told.{CanLoseBy};
 
 use std::alloc::{AllocError, Global};
-use teg_cycle::teg_net::{
-    CycleAnswer, Net, PartAnswer, Place, PlaceId, Potential, Ratio, TransitionId,
-};
+use teg_net::{CycleAnswer, Net, PartAnswer, Place, PlaceId, Potential, Ratio, TransitionId};
 
 // What a place loses against the greatest ratio, times `scale`, the tokens of its part's ratio.
 #[derive(Clone, Copy, Debug, PartialEq, Eq)]

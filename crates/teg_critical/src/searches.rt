@@ -3,7 +3,7 @@
 //! steps are taken, until all these starts are settled.
 ghost use Rattle.std.specs.Prelude.{◌≡◌, ◌≤◌, ◌<◌, ◌+◌, ◌*◌, ◌++◌, ◌∷◌, [], ℕ, length, replicate, take, All, IfOk, IfNone, IfSome, IsTrue, None, Some, false, is_ok, if◌then◌else◌};
 ghost use Rattle.std.specs.BinaryHeap.{heap_items, heap_len};
-ghost use Rattle.teg_cycle.specs.teg_net.Limits.{most_transitions};
+ghost use Rattle.teg_net.specs.Limits.{most_transitions};
 ghost use Rattle.teg_critical.specs.Losses.{most_loss, AreKeptSmall};
 ghost use Rattle.teg_critical.specs.LossEndings.{IsEndingAt};
 ghost use Rattle.teg_critical.specs.LeastLosses.{IsLossStepOf, AreSteps, IsToldWithin, IsRelaxed, AreQueued, AreSettled, AreToldBack};
@@ -14,7 +14,7 @@ use std::alloc::{AllocError, Global};
 use std::cmp::Reverse;
 use std::collections::BinaryHeap;
 use std::marker::Model;
-use teg_cycle::teg_net::{Net, Place};
+use teg_net::{Net, Place};
 
 // A place as the search takes it: the transition at which it ends, and what it loses.
 #[derive(Clone, Copy, Debug, PartialEq, Eq)]

@@ -3,7 +3,7 @@ ghost use Rattle.std.specs.Prelude.{◌≡◌, ◌<◌, length, slice_index_or};
 ghost use Rattle.teg_critical.specs.declared.slacks.Slack.TheVariants.{NoCircuit};
 
 use std::marker::Model;
-use teg_cycle::teg_net::PlaceId;
+use teg_net::PlaceId;
 
 /// What a place is told.
 #[derive(Clone, Copy, Debug, PartialEq, Eq)]

@@ -1,8 +1,8 @@
 -- The best of the answers below a number.
 use Rattle.std.specs.Prelude.{ℕ, ◌*◌, ◌<◌, ◌≤◌, ◌≡◌, List, Some, Option, None}
-use Rattle.teg_howard.specs.teg_net.declared.answers.PartAnswer.{PartAnswer}
-use Rattle.teg_howard.specs.teg_net.Ratios.{Fraction}
-use Rattle.teg_howard.specs.teg_net.GreatestRatios.{ratio_at}
+use Rattle.teg_net.specs.declared.answers.PartAnswer.{PartAnswer}
+use Rattle.teg_net.specs.Ratios.{Fraction}
+use Rattle.teg_net.specs.GreatestRatios.{ratio_at}
 use Rattle.teg_cycle.specs.declared.best_parts.BestPart.{BestPart}
 
 -- the first of the answers below i of greatest ratio

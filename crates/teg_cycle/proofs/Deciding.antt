@@ -6,13 +6,13 @@ use Rattle.std.proofs.lemmas.List.{get_or_default}
 use Rattle.std.proofs.lemmas.Int.{ints, to_z-of_z}
 use mir.Val.{SFits, to_z, of_z}
 use mir.Syntax.{w128}
-use Rattle.teg_howard.specs.teg_net.declared.entries.Place.{Place}
-use Rattle.teg_howard.specs.teg_net.declared.answers.Potential.{Potential}
-use Rattle.teg_howard.specs.teg_net.Nets.{NetLists}
-use Rattle.teg_howard.specs.teg_net.Circuits.{no_place, place_at}
-use Rattle.teg_howard.specs.teg_net.Limits.{greatest_checked_potential}
-use Rattle.teg_howard.specs.teg_net.ReducedTimes.{IsMagnitudeWithin}
-use Rattle.teg_howard.specs.teg_net.Certificates.{potential_at}
+use Rattle.teg_net.specs.declared.entries.Place.{Place}
+use Rattle.teg_net.specs.declared.answers.Potential.{Potential}
+use Rattle.teg_net.specs.Nets.{NetLists}
+use Rattle.teg_net.specs.Circuits.{no_place, place_at}
+use Rattle.teg_net.specs.Limits.{greatest_checked_potential}
+use Rattle.teg_net.specs.ReducedTimes.{IsMagnitudeWithin}
+use Rattle.teg_net.specs.Certificates.{potential_at}
 
 -- what stands past the end of a list of potentials
 abbrev pub none_told : Potential

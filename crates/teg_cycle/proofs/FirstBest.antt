@@ -3,10 +3,10 @@ use Rattle.std.proofs.Common.{ℕ, ◌+◌, ◌*◌, ◌<◌, ◌≤◌, ◌≡�
 use Rattle.std.specs.Prelude.{◌⊎◌}
 use Rattle.std.proofs.lemmas.Bool.{cases_lt}
 use Rattle.std.proofs.lemmas.List.{get_or_past}
-use Rattle.teg_howard.specs.teg_net.Ratios.{Fraction}
-use Rattle.teg_howard.specs.teg_net.declared.answers.PartAnswer.{PartAnswer}
-use Rattle.teg_howard.specs.teg_net.declared.answers.PartAnswer.TheVariants.{NoCircuit}
-use Rattle.teg_howard.specs.teg_net.GreatestRatios.{ratio_in, ratio_at, IsFirstGreatest}
+use Rattle.teg_net.specs.Ratios.{Fraction}
+use Rattle.teg_net.specs.declared.answers.PartAnswer.{PartAnswer}
+use Rattle.teg_net.specs.declared.answers.PartAnswer.TheVariants.{NoCircuit}
+use Rattle.teg_net.specs.GreatestRatios.{ratio_in, ratio_at, IsFirstGreatest}
 use Rattle.teg_cycle.specs.declared.best_parts.BestPart.{BestPart}
 use Rattle.teg_cycle.specs.BestParts.{IsRatioAbove, HaveTokens}
 use Rattle.teg_howard.proofs.Ratios.{ratio_trans_less}

@@ -2,17 +2,17 @@
 use Rattle.std.proofs.Common.{ℕ, ◌<◌, ◌≤◌, ◌≡◌, List, Some, length, get_or, sym, ap, subst, ◌∙◌, arith}
 use Rattle.std.specs.Prelude.{Contains}
 use Rattle.std.proofs.lemmas.List.{get_or-map, length-map, get_or_default}
-use Rattle.teg_howard.specs.teg_net.declared.entries.PlaceId.{PlaceId}
-use Rattle.teg_howard.specs.teg_net.declared.answers.Potential.{Potential}
-use Rattle.teg_howard.specs.teg_net.declared.answers.PartAnswer.{PartAnswer}
-use Rattle.teg_howard.specs.teg_net.declared.answers.PartAnswer.TheVariants.{NoCircuit, Best}
-use Rattle.teg_howard.specs.teg_net.declared.answers.CycleAnswer.{CycleAnswer}
-use Rattle.teg_howard.specs.teg_net.Nets.{NetLists}
-use Rattle.teg_howard.specs.teg_net.Ratios.{Fraction, IsLowestTerms}
-use Rattle.teg_howard.specs.teg_net.Parts.{IsMember, ListsMembers}
-use Rattle.teg_howard.specs.teg_net.GreatestRatios.{ratio_in}
-use Rattle.teg_howard.specs.teg_net.PartAnswers.{transitions_of}
-use Rattle.teg_howard.specs.teg_net.Certificates.{IsBestCertificate, IsPartCertificate, IsCertificate}
+use Rattle.teg_net.specs.declared.entries.PlaceId.{PlaceId}
+use Rattle.teg_net.specs.declared.answers.Potential.{Potential}
+use Rattle.teg_net.specs.declared.answers.PartAnswer.{PartAnswer}
+use Rattle.teg_net.specs.declared.answers.PartAnswer.TheVariants.{NoCircuit, Best}
+use Rattle.teg_net.specs.declared.answers.CycleAnswer.{CycleAnswer}
+use Rattle.teg_net.specs.Nets.{NetLists}
+use Rattle.teg_net.specs.Ratios.{Fraction, IsLowestTerms}
+use Rattle.teg_net.specs.Parts.{IsMember, ListsMembers}
+use Rattle.teg_net.specs.GreatestRatios.{ratio_in}
+use Rattle.teg_net.specs.PartAnswers.{transitions_of}
+use Rattle.teg_net.specs.Certificates.{IsBestCertificate, IsPartCertificate, IsCertificate}
 use Rattle.teg_cycle.specs.BestParts.{HaveTokens}
 use Rattle.teg_cycle.specs.Checks.{HasPotentialTold, TellsMembers, FitsBest, ArePartCertificates, FitsLists}
 use Rattle.teg_cycle.proofs.Deciding.{none_told}

@@ -1,14 +1,14 @@
 -- The answers of parts put together, and the rounds of each part with a circuit.
 use Rattle.std.proofs.Common.{◌≡◌, ℕ, suc, ◌+◌, ◌<◌, List, [], ◌∷◌, ◌++◌, Option, Some, None, length, refl, sym, subst, ap, ◌∙◌, arith}
 use Rattle.std.specs.Prelude.{All}
-use Rattle.teg_howard.specs.teg_net.declared.answers.CycleAnswer.{CycleAnswer}
-use Rattle.teg_howard.specs.teg_net.declared.answers.PartAnswer.{PartAnswer}
-use Rattle.teg_howard.specs.teg_net.declared.answers.PartAnswer.TheVariants.{NoCircuit, Best}
-use Rattle.teg_howard.specs.teg_net.declared.rounds.Round.{Round}
-use Rattle.teg_howard.specs.teg_net.GreatestRatios.{IsFirstGreatest}
-use Rattle.teg_howard.specs.teg_net.Nets.{NetLists}
-use Rattle.teg_howard.specs.teg_net.Certificates.{IsCertificate}
-use Rattle.teg_howard.specs.teg_parts.Partitions.{PartLists, AreParts}
+use Rattle.teg_net.specs.declared.answers.CycleAnswer.{CycleAnswer}
+use Rattle.teg_net.specs.declared.answers.PartAnswer.{PartAnswer}
+use Rattle.teg_net.specs.declared.answers.PartAnswer.TheVariants.{NoCircuit, Best}
+use Rattle.teg_net.specs.declared.rounds.Round.{Round}
+use Rattle.teg_net.specs.GreatestRatios.{IsFirstGreatest}
+use Rattle.teg_net.specs.Nets.{NetLists}
+use Rattle.teg_net.specs.Certificates.{IsCertificate}
+use Rattle.teg_parts.specs.Partitions.{PartLists, AreParts}
 use Rattle.teg_howard.specs.PolicyRounds.{IsPolicyRun}
 use Rattle.teg_howard.specs.PolicyRuns.{IsAnswerOfLast}
 use Rattle.teg_cycle.specs.Checks.{ArePartCertificates}

@@ -7,6 +7,6 @@ pub mod Short
 pub mod Fitting
 pub mod Gathering
 pub use Rattle.teg_howard.proofs.number_laws_proofs as number_laws_proofs
-pub use Rattle.teg_howard.proofs.teg_net_proofs as teg_net_proofs
-pub use Rattle.teg_howard.proofs.teg_check_proofs as teg_check_proofs
+pub use Rattle.teg_net.proofs as teg_net_proofs
+pub use Rattle.teg_check.proofs as teg_check_proofs
 pub use Rattle.teg_howard.proofs as teg_howard_proofs

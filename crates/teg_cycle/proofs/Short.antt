@@ -3,11 +3,11 @@ use Rattle.std.proofs.Common.{ℕ, ◌*◌, ◌<◌, ◌≤◌, List, [], ◌∷
 use Rattle.std.proofs.lemmas.Bool.{cases_lt}
 use Rattle.std.proofs.lemmas.List.Sums.{sum_by-cons}
 use Rattle.std.proofs.lemmas.List.Elements.{All-tail}
-use Rattle.teg_howard.specs.teg_net.declared.entries.PlaceId.{PlaceId}
-use Rattle.teg_howard.specs.teg_net.Nets.{NetLists, IsNet}
-use Rattle.teg_howard.specs.teg_net.Circuits.{no_place, place_at, from_of, IsCircuit, AreInRange, time_of, tokens_of}
-use Rattle.teg_howard.specs.teg_net.Limits.{greatest_circuit_time, greatest_hold, most_circuit_tokens}
-use Rattle.teg_howard.proofs.teg_net_proofs.PathLaws.{IsPathBetween-in_range}
+use Rattle.teg_net.specs.declared.entries.PlaceId.{PlaceId}
+use Rattle.teg_net.specs.Nets.{NetLists, IsNet}
+use Rattle.teg_net.specs.Circuits.{no_place, place_at, from_of, IsCircuit, AreInRange, time_of, tokens_of}
+use Rattle.teg_net.specs.Limits.{greatest_circuit_time, greatest_hold, most_circuit_tokens}
+use Rattle.teg_net.proofs.PathLaws.{IsPathBetween-in_range}
 use Rattle.teg_howard.proofs.Search.{pigeons}
 
 abbrev none : PlaceId

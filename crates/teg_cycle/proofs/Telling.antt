@@ -4,24 +4,24 @@ use Rattle.std.specs.Prelude.{ℤ, All, Contains}
 use Rattle.std.proofs.lemmas.Int.{ints}
 use Rattle.std.proofs.lemmas.Bool.{cases_Bool, eqb-true, eq-eqb}
 use Rattle.std.proofs.lemmas.List.Elements.{All-tail, All-append}
-use Rattle.teg_howard.specs.teg_net.declared.entries.PlaceId.{PlaceId}
-use Rattle.teg_howard.specs.teg_net.declared.answers.Potential.{Potential}
-use Rattle.teg_howard.specs.teg_net.declared.answers.PartAnswer.{PartAnswer}
-use Rattle.teg_howard.specs.teg_net.declared.answers.PartAnswer.TheVariants.{NoCircuit, Best}
-use Rattle.teg_howard.specs.teg_net.Nets.{NetLists}
-use Rattle.teg_howard.specs.teg_net.Ratios.{Fraction}
-use Rattle.teg_howard.specs.teg_net.Circuits.{from_of, IsPathBetween}
-use Rattle.teg_howard.specs.teg_net.Parts.{to_of, IsPlaceOfPart}
-use Rattle.teg_howard.specs.teg_net.ReducedTimes.{IsGreatestPathTime}
-use Rattle.teg_howard.specs.teg_net.GreatestRatios.{HasNoCircuit}
-use Rattle.teg_howard.specs.teg_net.PartAnswers.{first_transition_of, transitions_of, IsBestOfPart, IsPartAnswer}
-use Rattle.teg_howard.specs.teg_net.Certificates.{potential_at, ArePotentials, IsPartCertificate}
-use Rattle.teg_howard.proofs.teg_net_proofs.PathLaws.{IsPathBetween-append}
+use Rattle.teg_net.specs.declared.entries.PlaceId.{PlaceId}
+use Rattle.teg_net.specs.declared.answers.Potential.{Potential}
+use Rattle.teg_net.specs.declared.answers.PartAnswer.{PartAnswer}
+use Rattle.teg_net.specs.declared.answers.PartAnswer.TheVariants.{NoCircuit, Best}
+use Rattle.teg_net.specs.Nets.{NetLists}
+use Rattle.teg_net.specs.Ratios.{Fraction}
+use Rattle.teg_net.specs.Circuits.{from_of, IsPathBetween}
+use Rattle.teg_net.specs.Parts.{to_of, IsPlaceOfPart}
+use Rattle.teg_net.specs.ReducedTimes.{IsGreatestPathTime}
+use Rattle.teg_net.specs.GreatestRatios.{HasNoCircuit}
+use Rattle.teg_net.specs.PartAnswers.{first_transition_of, transitions_of, IsBestOfPart, IsPartAnswer}
+use Rattle.teg_net.specs.Certificates.{potential_at, ArePotentials, IsPartCertificate}
+use Rattle.teg_net.proofs.PathLaws.{IsPathBetween-append}
 use Rattle.std.proofs.lemmas.Bool.{cases_lt}
 use Rattle.std.proofs.lemmas.List.{length_push, get_or_push, get_or_append_left}
-use Rattle.teg_howard.specs.teg_net.declared.rounds.Round.{Round}
-use Rattle.teg_howard.specs.teg_net.GreatestRatios.{ratio_in}
-use Rattle.teg_howard.specs.teg_net.PartAnswers.{ArePartAnswers}
+use Rattle.teg_net.specs.declared.rounds.Round.{Round}
+use Rattle.teg_net.specs.GreatestRatios.{ratio_in}
+use Rattle.teg_net.specs.PartAnswers.{ArePartAnswers}
 use Rattle.teg_howard.specs.PolicyRounds.{IsPolicyRun}
 use Rattle.teg_cycle.specs.BestParts.{HaveTokens}
 use Rattle.teg_cycle.proofs.FirstBest.{told_in}

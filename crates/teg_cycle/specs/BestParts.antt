@@ -1,8 +1,8 @@
 -- Working definitions of the search for the first part of greatest ratio.
 use Rattle.std.specs.Prelude.{ℕ, ◌*◌, ◌<◌, ◌≤◌, ◌≡◌, ⊤, List, Option, Some, None}
-use Rattle.teg_howard.specs.teg_net.declared.answers.PartAnswer.{PartAnswer}
-use Rattle.teg_howard.specs.teg_net.Ratios.{Fraction}
-use Rattle.teg_howard.specs.teg_net.GreatestRatios.{ratio_at}
+use Rattle.teg_net.specs.declared.answers.PartAnswer.{PartAnswer}
+use Rattle.teg_net.specs.Ratios.{Fraction}
+use Rattle.teg_net.specs.GreatestRatios.{ratio_at}
 use Rattle.teg_cycle.specs.declared.best_parts.BestPart.{BestPart}
 
 -- the ratio is greater than that of the best part so far

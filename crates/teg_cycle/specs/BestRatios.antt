@@ -1,9 +1,9 @@
 -- The ratio that an answer on cycle times tells of the net.
 use Rattle.std.specs.Prelude.{ℕ, List, Option, Some, None}
-use Rattle.teg_howard.specs.teg_net.declared.answers.CycleAnswer.{CycleAnswer}
-use Rattle.teg_howard.specs.teg_net.declared.answers.PartAnswer.{PartAnswer}
-use Rattle.teg_howard.specs.teg_net.Ratios.{Fraction}
-use Rattle.teg_howard.specs.teg_net.GreatestRatios.{ratio_at}
+use Rattle.teg_net.specs.declared.answers.CycleAnswer.{CycleAnswer}
+use Rattle.teg_net.specs.declared.answers.PartAnswer.{PartAnswer}
+use Rattle.teg_net.specs.Ratios.{Fraction}
+use Rattle.teg_net.specs.GreatestRatios.{ratio_at}
 
 -- the ratio of the part of this number, if one is named and it tells a ratio
 abbrev pub named_ratio : List PartAnswer → Option ℕ → Option Fraction

@@ -1,18 +1,18 @@
 -- Working definitions of the check of a certificate.
 use Rattle.std.specs.Prelude.{ℕ, pos, ◌*◌, ◌<◌, ◌≤◌, ◌≡◌, ◌+ℤ◌, ◌-ℤ◌, ◌≤ℤ◌, List, Option, length, All, AllPairs, Any, slice_index, slice_index_or}
-use Rattle.teg_howard.specs.teg_net.declared.entries.PlaceId.{PlaceId}
-use Rattle.teg_howard.specs.teg_net.declared.entries.Place.{Place}
-use Rattle.teg_howard.specs.teg_net.declared.answers.Potential.{Potential}
-use Rattle.teg_howard.specs.teg_net.declared.answers.PartAnswer.{PartAnswer}
-use Rattle.teg_howard.specs.teg_net.declared.answers.PartAnswer.TheVariants.{NoCircuit}
-use Rattle.teg_howard.specs.teg_net.Limits.{greatest_checked_potential}
-use Rattle.teg_howard.specs.teg_net.Nets.{NetLists}
-use Rattle.teg_howard.specs.teg_net.Ratios.{Fraction, IsRatioWithin}
-use Rattle.teg_howard.specs.teg_net.Circuits.{IsCircuit, time_of, tokens_of}
-use Rattle.teg_howard.specs.teg_net.Parts.{IsMember, IsPlaceOfPart}
-use Rattle.teg_howard.specs.teg_net.ReducedTimes.{IsMagnitudeWithin}
-use Rattle.teg_howard.specs.teg_net.GreatestRatios.{IsFirstGreatest}
-use Rattle.teg_howard.specs.teg_net.Certificates.{potential_at, ArePotentials, IsPartCertificate}
+use Rattle.teg_net.specs.declared.entries.PlaceId.{PlaceId}
+use Rattle.teg_net.specs.declared.entries.Place.{Place}
+use Rattle.teg_net.specs.declared.answers.Potential.{Potential}
+use Rattle.teg_net.specs.declared.answers.PartAnswer.{PartAnswer}
+use Rattle.teg_net.specs.declared.answers.PartAnswer.TheVariants.{NoCircuit}
+use Rattle.teg_net.specs.Limits.{greatest_checked_potential}
+use Rattle.teg_net.specs.Nets.{NetLists}
+use Rattle.teg_net.specs.Ratios.{Fraction, IsRatioWithin}
+use Rattle.teg_net.specs.Circuits.{IsCircuit, time_of, tokens_of}
+use Rattle.teg_net.specs.Parts.{IsMember, IsPlaceOfPart}
+use Rattle.teg_net.specs.ReducedTimes.{IsMagnitudeWithin}
+use Rattle.teg_net.specs.GreatestRatios.{IsFirstGreatest}
+use Rattle.teg_net.specs.Certificates.{potential_at, ArePotentials, IsPartCertificate}
 
 -- the numbers of transitions are those of parts, and never fall along a place
 pub record AreNumbersOf (net : NetLists) (part_of : List ℕ) (count : ℕ) : Type 0 where

@@ -1,10 +1,10 @@
 -- Answers of parts as last rounds of policy runs, and the runs that end in them.
 use Rattle.std.specs.Prelude.{ℕ, ◌+◌, ◌<◌, ◌≡◌, ⊤, List, [], ◌∷◌, Option, Some, None, length, map, slice_index_or}
 use Rattle.std.specs.Global.{Vec}
-use Rattle.teg_howard.specs.teg_net.declared.rounds.Round.{Round}
-use Rattle.teg_howard.specs.teg_net.declared.answers.PartAnswer.{PartAnswer}
-use Rattle.teg_howard.specs.teg_net.declared.answers.PartAnswer.TheVariants.{NoCircuit, Best}
-use Rattle.teg_howard.specs.teg_net.Nets.{NetLists}
+use Rattle.teg_net.specs.declared.rounds.Round.{Round}
+use Rattle.teg_net.specs.declared.answers.PartAnswer.{PartAnswer}
+use Rattle.teg_net.specs.declared.answers.PartAnswer.TheVariants.{NoCircuit, Best}
+use Rattle.teg_net.specs.Nets.{NetLists}
 use Rattle.teg_howard.specs.PolicyRounds.{IsPolicyRun}
 use Rattle.teg_howard.specs.PolicyRuns.{IsAnswerOfLast}
 

@@ -1,11 +1,11 @@
 //! The first part of greatest ratio among the answers of parts.
 ghost use Rattle.std.specs.Prelude.{◌↔◌, ◌≤◌, length, IsTrue};
-ghost use Rattle.teg_howard.specs.teg_net.Limits.{most_transitions};
-ghost use Rattle.teg_howard.specs.teg_net.GreatestRatios.{IsFirstGreatest};
+ghost use Rattle.teg_net.specs.Limits.{most_transitions};
+ghost use Rattle.teg_net.specs.GreatestRatios.{IsFirstGreatest};
 ghost use Rattle.teg_cycle.specs.BestParts.{IsRatioAbove, HaveTokens};
 
 use std::cmp::Ordering;
-use teg_howard::teg_net::{PartAnswer, Ratio};
+use teg_net::{PartAnswer, Ratio};
 
 // The best part so far.
 #[derive(Clone, Copy, Debug, PartialEq, Eq)]

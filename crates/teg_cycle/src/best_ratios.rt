@@ -1,9 +1,9 @@
 //! The greatest ratio of a net, read off an answer on its cycle times.
 ghost use Rattle.std.specs.Prelude.{◌≡◌};
-ghost use Rattle.teg_howard.specs.teg_net.GreatestRatios.{ratio_in};
+ghost use Rattle.teg_net.specs.GreatestRatios.{ratio_in};
 ghost use Rattle.teg_cycle.specs.BestRatios.{best_ratio_of};
 
-use teg_howard::teg_net::{CycleAnswer, PartAnswer, Ratio};
+use teg_net::{CycleAnswer, PartAnswer, Ratio};
 
 // The ratio that the answer of a part tells; none where it has no circuit.
 fn ratio_of(answer: &PartAnswer) -> Option<Ratio>

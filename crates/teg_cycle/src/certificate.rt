@@ -1,17 +1,17 @@
 //! Whether an answer is a certificate: a short check of the answer and the net alone.
 ghost use Rattle.std.specs.Prelude.{◌≡◌, ◌↔◌, ◌<◌, ◌≤◌, ◌*◌, All, IsTrue, length, slice_index};
-ghost use Rattle.teg_howard.specs.teg_net.Ratios.{IsLowestTerms, IsRatioWithin};
-ghost use Rattle.teg_howard.specs.teg_net.Circuits.{IsCircuit, time_of, tokens_of};
-ghost use Rattle.teg_howard.specs.teg_net.GreatestRatios.{IsFirstGreatest};
-ghost use Rattle.teg_howard.specs.teg_net.Certificates.{IsPartCertificate, IsCertificate};
-ghost use Rattle.teg_howard.specs.teg_net.Limits.{greatest_circuit_time, most_circuit_tokens};
+ghost use Rattle.teg_net.specs.Ratios.{IsLowestTerms, IsRatioWithin};
+ghost use Rattle.teg_net.specs.Circuits.{IsCircuit, time_of, tokens_of};
+ghost use Rattle.teg_net.specs.GreatestRatios.{IsFirstGreatest};
+ghost use Rattle.teg_net.specs.Certificates.{IsPartCertificate, IsCertificate};
+ghost use Rattle.teg_net.specs.Limits.{greatest_circuit_time, most_circuit_tokens};
 ghost use Rattle.teg_cycle.specs.BestParts.{HaveTokens};
 ghost use Rattle.teg_cycle.specs.Checks.{AreNumbersOf, HasRatio, FitsBest, ArePartCertificates, FitsLists};
 
 use crate::best_parts::best_part;
 use crate::inner_places::{all_inner, has_no_place};
 use crate::potentials::potentials_fit;
-use teg_howard::teg_net::{
+use teg_net::{
     CycleAnswer, Net, PartAnswer, Place, PlaceId, Potential, Ratio, is_circuit, time_of, tokens_of,
 };
 

@@ -1,22 +1,22 @@
 //! The cycle time of a net and of its parts: the answer alone, or with the rounds that led to it.
 ghost use Rattle.std.specs.Prelude.{◌≡◌, ◌<◌, ◌≤◌, ◌++◌, ◌∷◌, [], length, IfOk, OnOk};
-ghost use Rattle.teg_howard.specs.teg_net.Limits.{most_transitions};
-ghost use Rattle.teg_howard.specs.teg_net.Nets.{IsNet};
-ghost use Rattle.teg_howard.specs.teg_net.PartAnswers.{IsPartAnswer, ArePartAnswers};
-ghost use Rattle.teg_howard.specs.teg_net.GreatestRatios.{IsFirstGreatest, IsCycleTime};
-ghost use Rattle.teg_howard.specs.teg_net.Certificates.{IsCertificate, IsPartCertificate};
-ghost use Rattle.teg_howard.specs.teg_check.Ranks.{IsRanking};
-ghost use Rattle.teg_howard.specs.teg_parts.Partitions.{AreParts};
+ghost use Rattle.teg_net.specs.Limits.{most_transitions};
+ghost use Rattle.teg_net.specs.Nets.{IsNet};
+ghost use Rattle.teg_net.specs.PartAnswers.{IsPartAnswer, ArePartAnswers};
+ghost use Rattle.teg_net.specs.GreatestRatios.{IsFirstGreatest, IsCycleTime};
+ghost use Rattle.teg_net.specs.Certificates.{IsCertificate, IsPartCertificate};
+ghost use Rattle.teg_check.specs.Ranks.{IsRanking};
+ghost use Rattle.teg_parts.specs.Partitions.{AreParts};
 ghost use Rattle.std.specs.Option.{option_map};
 ghost use Rattle.teg_cycle.specs.Checks.{ArePartCertificates};
 ghost use Rattle.teg_cycle.specs.LastRounds.{IsLastOfRun, AreLastOfRuns, IsRunOf, AreRunsFrom, rounds_of_runs, some_run};
 
 use crate::best_parts::best_number;
 use std::alloc::{AllocError, Global};
-use teg_howard::teg_check::Live;
-use teg_howard::teg_net::{CycleAnswer, Net, OutOfMemory, PartAnswer, Round};
-use teg_howard::teg_parts::Parts;
+use teg_check::Live;
 use teg_howard::{howard, last_round};
+use teg_net::{CycleAnswer, Net, OutOfMemory, PartAnswer, Round};
+use teg_parts::Parts;
 
 // The answer of one part.
 fn part_answer(

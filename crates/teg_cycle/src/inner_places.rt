@@ -1,9 +1,9 @@
 //! Which places have both ends in a part, by the numbers of an answer.
 ghost use Rattle.std.specs.Prelude.{◌≡◌, ◌↔◌, ◌<◌, All, IsTrue, length};
-ghost use Rattle.teg_howard.specs.teg_net.declared.entries.PlaceId.{PlaceId};
-ghost use Rattle.teg_howard.specs.teg_net.Parts.{IsMember, IsPlaceOfPart};
+ghost use Rattle.teg_net.specs.declared.entries.PlaceId.{PlaceId};
+ghost use Rattle.teg_net.specs.Parts.{IsMember, IsPlaceOfPart};
 
-use teg_howard::teg_net::{Net, Place, PlaceId};
+use teg_net::{Net, Place, PlaceId};
 
 // Whether both ends of the place lie in the part.
 pub(crate) fn is_inner(part_of: &[u32], part: usize, place: &Place) -> bool

@@ -21,5 +21,3 @@ pub use best_ratios::best_ratio;
 pub use certificate::check_cycle;
 pub use cycle_time::{cycle, cycle_with_runs};
 pub use laws::{certificates_tell, potentials_bound_ratios};
-pub use teg_howard;
-pub use teg_howard::{teg_check, teg_net, teg_parts};

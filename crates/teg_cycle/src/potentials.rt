@@ -1,14 +1,14 @@
 //! Whether the potentials of a part are those of a certificate.
 ghost use Rattle.std.specs.Prelude.{◌≡◌, ◌↔◌, ◌<◌, ◌≤◌, ◌*◌, ◌+ℤ◌, ◌-ℤ◌, ◌≤ℤ◌, ℕ, ℤ, pos, All, AllPairs, IsTrue, length};
-ghost use Rattle.teg_howard.specs.teg_net.Limits.{greatest_hold, most_place_tokens, greatest_checked_potential};
-ghost use Rattle.teg_howard.specs.teg_net.Parts.{IsMember};
-ghost use Rattle.teg_howard.specs.teg_net.ReducedTimes.{IsMagnitudeWithin};
-ghost use Rattle.teg_howard.specs.teg_net.Certificates.{potential_at, ArePotentials};
-ghost use Rattle.teg_howard.specs.teg_net.Ratios.{IsRatioWithin};
+ghost use Rattle.teg_net.specs.Limits.{greatest_hold, most_place_tokens, greatest_checked_potential};
+ghost use Rattle.teg_net.specs.Parts.{IsMember};
+ghost use Rattle.teg_net.specs.ReducedTimes.{IsMagnitudeWithin};
+ghost use Rattle.teg_net.specs.Certificates.{potential_at, ArePotentials};
+ghost use Rattle.teg_net.specs.Ratios.{IsRatioWithin};
 ghost use Rattle.teg_cycle.specs.Checks.{HasPotentialTold, TellsMembers, KeepsPotential, FitsPotentials};
 
 use crate::inner_places::is_inner;
-use teg_howard::teg_net::{Net, Place, Potential, Ratio};
+use teg_net::{Net, Place, Potential, Ratio};
 
 // Whether the transition has the part's number.
 fn is_member(part_of: &[u32], part: usize, transition: usize) -> bool

@@ -1,13 +1,13 @@
 -- What a system's bound says of each initial date and each release.
 use Rattle.std.proofs.Common.{ℕ, ◌≤◌, ◌<◌, length, arith}
-use Rattle.teg_form.specs.teg_net.Nets.{NetLists}
-use Rattle.teg_form.specs.teg_net.Circuits.{no_place, place_at}
-use Rattle.teg_form.specs.teg_net.declared.entries.PlaceId.{PlaceId}
-use Rattle.teg_form.specs.teg_model.Datings.{implicit_place, system_with}
-use Rattle.teg_form.specs.teg_model.DateBounds.{IsDateWithin}
-use Rattle.teg_form.proofs.teg_model_proofs.OfNet.{extended_has, implicit_is}
-use Rattle.teg_form.proofs.teg_model_proofs.Within.{within_more}
-use Rattle.teg_form.proofs.teg_model_proofs.DateFunctions.{Dating, InitialDates}
+use Rattle.teg_net.specs.Nets.{NetLists}
+use Rattle.teg_net.specs.Circuits.{no_place, place_at}
+use Rattle.teg_net.specs.declared.entries.PlaceId.{PlaceId}
+use Rattle.teg_model.specs.Datings.{implicit_place, system_with}
+use Rattle.teg_model.specs.DateBounds.{IsDateWithin}
+use Rattle.teg_model.proofs.OfNet.{extended_has, implicit_is}
+use Rattle.teg_model.proofs.Within.{within_more}
+use Rattle.teg_model.proofs.DateFunctions.{Dating, InitialDates}
 use Rattle.teg_dates.specs.KeptRows.{StaysWithin}
 
 pub implicit_within : (net : NetLists) (init : InitialDates) (rel : Dating) (most n t : ℕ) → StaysWithin most n (system_with net init rel)

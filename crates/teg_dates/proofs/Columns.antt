@@ -3,7 +3,7 @@ use Rattle.std.proofs.Common.{ℕ, ◌+◌, ◌-◌, ◌*◌, ◌<◌, ◌≤◌
 use Rattle.std.specs.List.{CopiedTo, SameBelow, SameFrom}
 use Rattle.std.proofs.lemmas.Bool.{cases_eq, cases_lt}
 use Rattle.std.proofs.lemmas.List.{length-set, get_or-set_same, get_or-set_other, get_or-map}
-use Rattle.teg_form.specs.dioid.declared.dates.Date.TheVariants.{Early}
+use Rattle.dioid.specs.declared.dates.Date.TheVariants.{Early}
 use Rattle.teg_dates.specs.DateCells.{date_of_cell}
 use Rattle.teg_dates.specs.Passes.{HaveNext}
 use Rattle.teg_dates.specs.LastColumns.{WindowCells, AreLastColumns, HaveRowAdded, column_at, window_rows}

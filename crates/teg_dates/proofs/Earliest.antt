@@ -1,19 +1,19 @@
 -- The least dating of a system of a net, made from the net's ranks: how late it can be, and what rows and tables have of it.
 use Rattle.std.proofs.Common.{ℕ, ◌+◌, ◌*◌, ◌^◌, ◌≤◌, List, sym, subst, arith}
-use Rattle.teg_form.specs.teg_net.Nets.{NetLists, IsNet}
-use Rattle.teg_form.specs.teg_net.Limits.{greatest_hold, greatest_firing_number}
-use Rattle.teg_form.specs.teg_model.Systems.{System, IsLeastIn}
-use Rattle.teg_form.specs.teg_model.Datings.{extended_places, listed_releases, system_with, system_of, IsLeastDating}
-use Rattle.teg_form.specs.teg_model.DateBounds.{IsDateWithin}
-use Rattle.teg_form.specs.teg_model.WalkDates.{IsGreatestOfWalks}
-use Rattle.teg_form.specs.teg_model.LiveRanks.{AreRanks}
-use Rattle.teg_form.proofs.teg_model_proofs.LeastOver.{least_over, least_over_is_least}
-use Rattle.teg_form.proofs.teg_model_proofs.OfNet.{net_ends, ranks_extended, least_of_system}
-use Rattle.teg_form.proofs.teg_model_proofs.GreatestWalks.{least_is_walk}
-use Rattle.teg_form.proofs.teg_model_proofs.Within.{within_more, least_in_within, net_is_bounded}
-use Rattle.teg_form.proofs.teg_model_proofs.ListDates.{first_bound, listed_within}
-use Rattle.teg_form.specs.teg_check.Ranks.{IsRanking}
-use Rattle.teg_form.proofs.teg_model_proofs.DateFunctions.{Dating, InitialDates}
+use Rattle.teg_net.specs.Nets.{NetLists, IsNet}
+use Rattle.teg_net.specs.Limits.{greatest_hold, greatest_firing_number}
+use Rattle.teg_model.specs.Systems.{System, IsLeastIn}
+use Rattle.teg_model.specs.Datings.{extended_places, listed_releases, system_with, system_of, IsLeastDating}
+use Rattle.teg_model.specs.DateBounds.{IsDateWithin}
+use Rattle.teg_model.specs.WalkDates.{IsGreatestOfWalks}
+use Rattle.teg_model.specs.LiveRanks.{AreRanks}
+use Rattle.teg_model.proofs.LeastOver.{least_over, least_over_is_least}
+use Rattle.teg_model.proofs.OfNet.{net_ends, ranks_extended, least_of_system}
+use Rattle.teg_model.proofs.GreatestWalks.{least_is_walk}
+use Rattle.teg_model.proofs.Within.{within_more, least_in_within, net_is_bounded}
+use Rattle.teg_model.proofs.ListDates.{first_bound, listed_within}
+use Rattle.teg_check.specs.Ranks.{IsRanking}
+use Rattle.teg_model.proofs.DateFunctions.{Dating, InitialDates}
 use Rattle.teg_dates.specs.DateTables.{most_numbers, TableDates, HasDatesOf, HasDatesOfWalks}
 use Rattle.teg_dates.specs.declared.order.OrderedPlace.{OrderedPlace}
 use Rattle.teg_dates.specs.PlaceOrder.{OrdersPlaces}

@@ -4,20 +4,20 @@ use Rattle.std.specs.Prelude.{Contains, nat_eq}
 use Rattle.std.proofs.lemmas.Bool.Decides.{nat_tests}
 use Rattle.std.proofs.lemmas.Bool.{cases_eq, cases_lt}
 use Rattle.std.proofs.lemmas.List.{length-set, get_or-set_same, get_or-set_other, get_or_default}
-use Rattle.teg_form.specs.dioid.declared.dates.Date.{Date}
-use Rattle.teg_form.specs.dioid.declared.dates.Date.TheVariants.{Early}
-use Rattle.teg_form.specs.dioid.Dates.{IsAtMostDate, later_of}
-use Rattle.teg_form.proofs.dioid_proofs.DateOrder.{at_most_refl, at_most_trans, same_by_at_most, later_left, later_right, later_least}
-use Rattle.teg_form.specs.teg_net.declared.entries.Place.{Place}
-use Rattle.teg_form.specs.teg_net.Nets.{NetLists, IsNet}
-use Rattle.teg_form.specs.teg_net.Circuits.{no_place, place_at}
-use Rattle.teg_form.specs.teg_model.Systems.{available_in, IsLeastIn}
-use Rattle.teg_form.specs.teg_model.Datings.{implicit_place, system_with}
-use Rattle.teg_form.proofs.teg_model_proofs.LeastOver.{tight_in}
-use Rattle.teg_form.proofs.teg_model_proofs.OfNet.{all_extended, extended_has, implicit_is, ranks_extended}
-use Rattle.teg_form.proofs.teg_model_proofs.Tokens.{available_same}
-use Rattle.teg_form.specs.teg_check.Ranks.{IsRanking}
-use Rattle.teg_form.proofs.teg_model_proofs.DateFunctions.{Dating, InitialDates}
+use Rattle.dioid.specs.declared.dates.Date.{Date}
+use Rattle.dioid.specs.declared.dates.Date.TheVariants.{Early}
+use Rattle.dioid.specs.Dates.{IsAtMostDate, later_of}
+use Rattle.dioid.proofs.DateOrder.{at_most_refl, at_most_trans, same_by_at_most, later_left, later_right, later_least}
+use Rattle.teg_net.specs.declared.entries.Place.{Place}
+use Rattle.teg_net.specs.Nets.{NetLists, IsNet}
+use Rattle.teg_net.specs.Circuits.{no_place, place_at}
+use Rattle.teg_model.specs.Systems.{available_in, IsLeastIn}
+use Rattle.teg_model.specs.Datings.{implicit_place, system_with}
+use Rattle.teg_model.proofs.LeastOver.{tight_in}
+use Rattle.teg_model.proofs.OfNet.{all_extended, extended_has, implicit_is, ranks_extended}
+use Rattle.teg_model.proofs.Tokens.{available_same}
+use Rattle.teg_check.specs.Ranks.{IsRanking}
+use Rattle.teg_model.proofs.DateFunctions.{Dating, InitialDates}
 use Rattle.teg_dates.specs.declared.order.OrderedPlace.{OrderedPlace}
 use Rattle.teg_dates.specs.PlaceOrder.{IsRankedPlace, IsPlaceOrder, order_key, turn_at}
 use Rattle.teg_dates.specs.Passes.{seen_at, KeptRows, AreRowsBack, ReachesBack, HasBegun, IsRowOf}

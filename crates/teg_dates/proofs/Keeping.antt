@@ -2,13 +2,13 @@
 use Rattle.std.proofs.Common.{ℕ, ◌+◌, ◌-◌, ◌*◌, ◌<◌, ◌≤◌, ◌≡◌, ◌++◌, List, length, get_or, drop, refl, sym, subst, ap, ◌∙◌, arith, ⊎_elim, get_or-drop, length-append, length-drop}
 use Rattle.std.proofs.lemmas.Bool.{cases_lt}
 use Rattle.std.proofs.lemmas.List.{get_or_append_left, get_or-append_right}
-use Rattle.teg_form.specs.dioid.declared.dates.Date.{Date}
-use Rattle.teg_form.specs.dioid.declared.dates.Date.TheVariants.{Early}
-use Rattle.teg_form.specs.teg_net.Nets.{NetLists}
+use Rattle.dioid.specs.declared.dates.Date.{Date}
+use Rattle.dioid.specs.declared.dates.Date.TheVariants.{Early}
+use Rattle.teg_net.specs.Nets.{NetLists}
 use Rattle.teg_dates.specs.Passes.{KeptRows, HaveNext, AreRowsBack, IsRowOf}
-use Rattle.teg_form.specs.teg_model.Datings.{listed_releases}
-use Rattle.teg_form.proofs.teg_model_proofs.OfNet.{least_of_system}
-use Rattle.teg_form.proofs.teg_model_proofs.DateFunctions.{Dating}
+use Rattle.teg_model.specs.Datings.{listed_releases}
+use Rattle.teg_model.proofs.OfNet.{least_of_system}
+use Rattle.teg_model.proofs.DateFunctions.{Dating}
 use Rattle.teg_dates.specs.declared.order.OrderedPlace.{OrderedPlace}
 use Rattle.teg_dates.specs.Streams.{CanMakeNextRow, IsLeastRow, LastDates, AreLastDates, rows_kept, date_back, last_rows}
 use Rattle.teg_dates.proofs.Cells.{rows_below, rows_more, rows_of_more}

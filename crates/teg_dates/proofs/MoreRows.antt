@@ -1,7 +1,7 @@
 -- The last rows, with one more.
 use Rattle.std.specs.Prelude.{◌+◌, ◌*◌, ◌++◌, List}
 use Rattle.circular_buffer.specs.Buffer.{keep_last}
-use Rattle.teg_form.specs.dioid.declared.dates.Date.{Date}
+use Rattle.dioid.specs.declared.dates.Date.{Date}
 use Rattle.teg_dates.specs.Streams.{LastDates}
 
 -- with one row more: where the room is full, the first row goes

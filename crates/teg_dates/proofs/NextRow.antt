@@ -2,11 +2,11 @@
 use Rattle.std.proofs.Common.{ℕ, ◌-◌, ◌<◌, ◌≤◌, ◌≡◌, ◌++◌, List, length, get_or, refl, ap, ◌∙◌, arith, ⊎_elim, length-append}
 use Rattle.std.proofs.lemmas.Bool.{cases_lt}
 use Rattle.std.proofs.lemmas.List.{get_or_append_left, get_or-append_right}
-use Rattle.teg_form.specs.dioid.declared.dates.Date.{Date}
-use Rattle.teg_form.specs.dioid.declared.dates.Date.TheVariants.{Early}
-use Rattle.teg_form.specs.teg_net.Nets.{NetLists}
-use Rattle.teg_form.specs.teg_model.Systems.{System}
-use Rattle.teg_form.proofs.teg_model_proofs.DateFunctions.{Dating}
+use Rattle.dioid.specs.declared.dates.Date.{Date}
+use Rattle.dioid.specs.declared.dates.Date.TheVariants.{Early}
+use Rattle.teg_net.specs.Nets.{NetLists}
+use Rattle.teg_model.specs.Systems.{System}
+use Rattle.teg_model.proofs.DateFunctions.{Dating}
 use Rattle.teg_dates.specs.DateTables.{TableDates, firing_position, date_in_list}
 use Rattle.teg_dates.specs.KeptRows.{AreLeastRows, AreFirst, AreFirstLeast}
 use Rattle.teg_dates.specs.Passes.{IsRowOf}

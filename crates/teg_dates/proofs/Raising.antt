@@ -1,16 +1,16 @@
 -- What a pass reads of one place: where its turn lies in the net, and the date of the token that it takes.
 use Rattle.std.proofs.Common.{ℕ, ◌-◌, ◌<◌, ◌≤◌, ◌≡◌, List, length, map, get_or, sym, ap, ◌∙◌, arith}
 use Rattle.std.proofs.lemmas.List.{get_or-map}
-use Rattle.teg_form.specs.dioid.declared.dates.Date.{Date}
-use Rattle.teg_form.specs.dioid.declared.dates.Date.TheVariants.{Early}
-use Rattle.teg_form.specs.dioid.Dates.{delayed}
-use Rattle.teg_form.specs.teg_net.Nets.{NetLists, IsNet, IsPlaceOf}
-use Rattle.teg_form.specs.teg_net.Limits.{greatest_hold, most_place_tokens}
-use Rattle.teg_form.specs.teg_net.Circuits.{no_place, place_at}
-use Rattle.teg_form.specs.teg_model.Systems.{available_in}
-use Rattle.teg_form.specs.teg_model.DateBounds.{IsDateWithin}
-use Rattle.teg_form.proofs.teg_model_proofs.Tokens.{available_after, available_first}
-use Rattle.teg_form.proofs.teg_model_proofs.DateFunctions.{Dating, InitialDates}
+use Rattle.dioid.specs.declared.dates.Date.{Date}
+use Rattle.dioid.specs.declared.dates.Date.TheVariants.{Early}
+use Rattle.dioid.specs.Dates.{delayed}
+use Rattle.teg_net.specs.Nets.{NetLists, IsNet, IsPlaceOf}
+use Rattle.teg_net.specs.Limits.{greatest_hold, most_place_tokens}
+use Rattle.teg_net.specs.Circuits.{no_place, place_at}
+use Rattle.teg_model.specs.Systems.{available_in}
+use Rattle.teg_model.specs.DateBounds.{IsDateWithin}
+use Rattle.teg_model.proofs.Tokens.{available_after, available_first}
+use Rattle.teg_model.proofs.DateFunctions.{Dating, InitialDates}
 use Rattle.teg_dates.specs.declared.order.OrderedPlace.{OrderedPlace}
 use Rattle.teg_dates.specs.PlaceOrder.{IsOrderedPlaceOf}
 use Rattle.teg_dates.specs.Passes.{seen_at, IsSourceWithin}

@@ -2,9 +2,9 @@
 use Rattle.std.proofs.Common.{ℕ, ◌<◌, ◌≤◌, List, length, get_or, arith, ⊎_elim}
 use Rattle.std.proofs.lemmas.Bool.{cases_lt}
 use Rattle.std.proofs.lemmas.List.{get_or_past}
-use Rattle.teg_form.specs.teg_net.Nets.{NetLists, IsNet}
-use Rattle.teg_form.specs.teg_model.LiveRanks.{AreRanks}
-use Rattle.teg_form.specs.teg_check.Ranks.{IsRanking}
+use Rattle.teg_net.specs.Nets.{NetLists, IsNet}
+use Rattle.teg_model.specs.LiveRanks.{AreRanks}
+use Rattle.teg_check.specs.Ranks.{IsRanking}
 
 abbrev pub rank_of : List ℕ → ℕ → ℕ
 rank_of ranks t = get_or ranks t 0

@@ -1,8 +1,8 @@
 -- Dates one after another: the first in eight bytes each, the rest as they are.
 use Rattle.std.proofs.Common.{ℕ, ◌+◌, ◌-◌, ◌<◌, ◌≤◌, ◌≡◌, List, [], ◌∷◌, ◌++◌, map, length, get_or, take, sym, ap, ◌∙◌, arith}
 use Rattle.std.proofs.lemmas.List.{append-nil, append_assoc, get_or-map, map-append, length-map, get_or_append_left, get_or-append_right, take_more}
-use Rattle.teg_form.specs.dioid.declared.dates.Date.{Date}
-use Rattle.teg_form.specs.dioid.declared.dates.Date.TheVariants.{Early}
+use Rattle.dioid.specs.declared.dates.Date.{Date}
+use Rattle.dioid.specs.declared.dates.Date.TheVariants.{Early}
 use Rattle.teg_dates.specs.DateCells.{date_of_early_cell}
 
 -- one short date more, where there are no others

@@ -1,7 +1,7 @@
 -- Dates in eight bytes each.
 use Rattle.std.specs.Prelude.{ℕ, pos, nat_eq, if◌then◌else◌}
-use Rattle.teg_form.specs.dioid.declared.dates.Date.{Date}
-use Rattle.teg_form.specs.dioid.declared.dates.Date.TheVariants.{Early, At, Never}
+use Rattle.dioid.specs.declared.dates.Date.{Date}
+use Rattle.dioid.specs.declared.dates.Date.TheVariants.{Early, At, Never}
 
 -- the greatest number of eight bytes
 abbrev pub no_number : ℕ

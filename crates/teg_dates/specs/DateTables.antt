@@ -1,11 +1,11 @@
 -- Tables of dates: those of number 1 of each transition, then those of number 2, and so on.
 use Rattle.std.specs.Prelude.{ℕ, ◌+◌, ◌-◌, ◌*◌, ◌<◌, ◌≤◌, ◌≡◌, List, length, slice_index_or}
-use Rattle.teg_form.specs.dioid.declared.dates.Date.{Date}
-use Rattle.teg_form.specs.dioid.declared.dates.Date.TheVariants.{Early}
-use Rattle.teg_form.specs.teg_net.Nets.{NetLists}
-use Rattle.teg_form.specs.teg_net.Limits.{most_transitions}
-use Rattle.teg_form.specs.teg_model.Datings.{IsLeastDating, listed_releases}
-use Rattle.teg_form.specs.teg_model.WalkDates.{IsGreatestOfWalks}
+use Rattle.dioid.specs.declared.dates.Date.{Date}
+use Rattle.dioid.specs.declared.dates.Date.TheVariants.{Early}
+use Rattle.teg_net.specs.Nets.{NetLists}
+use Rattle.teg_net.specs.Limits.{most_transitions}
+use Rattle.teg_model.specs.Datings.{IsLeastDating, listed_releases}
+use Rattle.teg_model.specs.WalkDates.{IsGreatestOfWalks}
 
 -- numbers of a table
 abbrev pub most_numbers : ℕ

@@ -1,11 +1,11 @@
 -- Rows of dates, all of them kept, and when they are those of the least dating of a system.
 use Rattle.std.specs.Prelude.{ℕ, ◌+◌, ◌*◌, ◌<◌, ◌≤◌, ◌≡◌, ◌^◌, List, length}
-use Rattle.teg_form.specs.dioid.declared.dates.Date.{Date}
-use Rattle.teg_form.specs.teg_net.Limits.{most_transitions, greatest_hold, greatest_firing_number, most_rows}
-use Rattle.teg_form.specs.teg_net.Nets.{NetLists, IsNet}
-use Rattle.teg_form.specs.teg_model.Systems.{System, IsLeastIn}
-use Rattle.teg_form.specs.teg_model.Datings.{listed_releases, system_of}
-use Rattle.teg_form.specs.teg_model.DateBounds.{IsBoundedBy}
+use Rattle.dioid.specs.declared.dates.Date.{Date}
+use Rattle.teg_net.specs.Limits.{most_transitions, greatest_hold, greatest_firing_number, most_rows}
+use Rattle.teg_net.specs.Nets.{NetLists, IsNet}
+use Rattle.teg_model.specs.Systems.{System, IsLeastIn}
+use Rattle.teg_model.specs.Datings.{listed_releases, system_of}
+use Rattle.teg_model.specs.DateBounds.{IsBoundedBy}
 use Rattle.teg_dates.specs.DateTables.{TableDates, HasDatesOf, date_in_list}
 
 -- a bound of initial dates and of releases that leaves room for all holds up to the greatest number

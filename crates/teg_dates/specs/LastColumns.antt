@@ -1,7 +1,7 @@
 -- The last dates of each transition, one transition after another.
 use Rattle.std.specs.Prelude.{ℕ, ◌+◌, ◌-◌, ◌*◌, ◌<◌, ◌≤◌, ◌≡◌, ◌≢◌, List, length, min, replicate, slice_index}
-use Rattle.teg_form.specs.dioid.declared.dates.Date.{Date}
-use Rattle.teg_form.specs.teg_net.Limits.{most_transitions, greatest_firing_number}
+use Rattle.dioid.specs.declared.dates.Date.{Date}
+use Rattle.teg_net.specs.Limits.{most_transitions, greatest_firing_number}
 use Rattle.teg_dates.specs.Passes.{KeptRows}
 use Rattle.teg_dates.specs.DateCells.{date_of_cell}
 

@@ -6,8 +6,8 @@ pub mod KeptRows
 pub mod Sources
 pub mod Passes
 pub mod Streams
-pub use Rattle.teg_form.specs.dioid as dioid
-pub use Rattle.teg_form.specs.teg_net as teg_net
-pub use Rattle.teg_form.specs.teg_check as teg_check
-pub use Rattle.teg_form.specs.teg_model as teg_model
+pub use Rattle.dioid.specs as dioid
+pub use Rattle.teg_net.specs as teg_net
+pub use Rattle.teg_check.specs as teg_check
+pub use Rattle.teg_model.specs as teg_model
 pub use Rattle.teg_form.specs as teg_form

@@ -1,13 +1,13 @@
 -- One row more of a system's least dating: the rows before it as far as they are kept, how a row begins, and what it is in the end.
 use Rattle.std.specs.Prelude.{ℕ, ◌+◌, ◌-◌, ◌<◌, ◌≤◌, ◌≡◌, List, [], length, min, All, nat_lt, slice_index_or, if◌then◌else◌}
-use Rattle.teg_form.specs.dioid.declared.dates.Date.{Date}
-use Rattle.teg_form.specs.dioid.declared.dates.Date.TheVariants.{Early}
-use Rattle.teg_form.specs.dioid.Dates.{later_of}
-use Rattle.teg_form.specs.teg_net.declared.entries.Place.{Place}
-use Rattle.teg_form.specs.teg_net.Nets.{NetLists}
-use Rattle.teg_form.specs.teg_model.Systems.{System, available_in, IsLeastIn}
-use Rattle.teg_form.specs.teg_model.DateBounds.{IsDateWithin}
-use Rattle.teg_form.specs.teg_model.Datings.{implicit_place}
+use Rattle.dioid.specs.declared.dates.Date.{Date}
+use Rattle.dioid.specs.declared.dates.Date.TheVariants.{Early}
+use Rattle.dioid.specs.Dates.{later_of}
+use Rattle.teg_net.specs.declared.entries.Place.{Place}
+use Rattle.teg_net.specs.Nets.{NetLists}
+use Rattle.teg_model.specs.Systems.{System, available_in, IsLeastIn}
+use Rattle.teg_model.specs.DateBounds.{IsDateWithin}
+use Rattle.teg_model.specs.Datings.{implicit_place}
 
 -- the dates that a pass sees at number k: those of earlier numbers by how many rows back they stand, and those of number k in its row
 abbrev pub seen_at : (ℕ → ℕ → Date) → List Date → ℕ → ℕ → ℕ → Date

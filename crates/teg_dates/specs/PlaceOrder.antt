@@ -1,10 +1,10 @@
 -- The places in the order of their turns: first those with tokens, then the others by the ranks of their downstream transitions.
 use Rattle.std.specs.Prelude.{ℕ, ◌<◌, ◌≡◌, List, length, All, Contains, slice_index, nat_eq, if◌then◌else◌}
 use Rattle.std.specs.List.Sorted.{IsNonDecreasingBy}
-use Rattle.teg_form.specs.teg_net.declared.entries.Place.{Place}
-use Rattle.teg_form.specs.teg_net.Nets.{NetLists}
-use Rattle.teg_form.specs.teg_net.Circuits.{place_at}
-use Rattle.teg_form.specs.teg_check.Ranks.{IsRanking}
+use Rattle.teg_net.specs.declared.entries.Place.{Place}
+use Rattle.teg_net.specs.Nets.{NetLists}
+use Rattle.teg_net.specs.Circuits.{place_at}
+use Rattle.teg_check.specs.Ranks.{IsRanking}
 use Rattle.teg_dates.specs.declared.order.OrderedPlace.{OrderedPlace}
 
 -- the turn of a place: a rank above 0 where it has no tokens, and else 0

@@ -1,7 +1,7 @@
 -- The system that a source makes of a net.
-use Rattle.teg_form.specs.teg_net.Nets.{NetLists}
-use Rattle.teg_form.specs.teg_model.Systems.{System}
-use Rattle.teg_form.specs.teg_model.Datings.{system_with}
+use Rattle.teg_net.specs.Nets.{NetLists}
+use Rattle.teg_model.specs.Systems.{System}
+use Rattle.teg_model.specs.Datings.{system_with}
 use Rattle.teg_dates.specs.declared.sources.Source.{Ghosts as SourceOf}
 
 -- the net's places and the implicit ones, with the source's dates of initial tokens and its releases

@@ -1,10 +1,10 @@
 -- Rows of the least dating of a net, one after another, of which only the last are kept.
 use Rattle.std.specs.Prelude.{ℕ, ◌+◌, ◌-◌, ◌*◌, ◌≤◌, ◌≡◌, List, length, min, All, slice_index_or}
-use Rattle.teg_form.specs.dioid.declared.dates.Date.{Date}
-use Rattle.teg_form.specs.dioid.declared.dates.Date.TheVariants.{Early}
-use Rattle.teg_form.specs.teg_net.Nets.{NetLists, IsNet}
-use Rattle.teg_form.specs.teg_net.Limits.{most_transitions, most_place_tokens, greatest_firing_number}
-use Rattle.teg_form.specs.teg_model.Datings.{IsLeastDating, listed_releases, system_of}
+use Rattle.dioid.specs.declared.dates.Date.{Date}
+use Rattle.dioid.specs.declared.dates.Date.TheVariants.{Early}
+use Rattle.teg_net.specs.Nets.{NetLists, IsNet}
+use Rattle.teg_net.specs.Limits.{most_transitions, most_place_tokens, greatest_firing_number}
+use Rattle.teg_model.specs.Datings.{IsLeastDating, listed_releases, system_of}
 use Rattle.teg_dates.specs.declared.order.OrderedPlace.{OrderedPlace}
 use Rattle.teg_dates.specs.PlaceOrder.{OrdersPlaces}
 use Rattle.teg_dates.specs.Passes.{KeptRows, AreLeastRowsBack, IsRowOf}

@@ -1,17 +1,17 @@
 //! What a row has for each of its dates.
 ghost use Rattle.std.specs.Prelude.{◌≡◌, ◌≤◌};
-ghost use Rattle.teg_form.specs.dioid.declared.dates.Date.TheVariants.{Early};
-ghost use Rattle.teg_form.specs.dioid.Dates.{delayed, later_of};
-ghost use Rattle.teg_form.specs.teg_model.DateBounds.{IsDateWithin};
-ghost use Rattle.teg_form.specs.teg_net.Limits.{greatest_hold};
+ghost use Rattle.dioid.specs.declared.dates.Date.TheVariants.{Early};
+ghost use Rattle.dioid.specs.Dates.{delayed, later_of};
+ghost use Rattle.teg_model.specs.DateBounds.{IsDateWithin};
+ghost use Rattle.teg_net.specs.Limits.{greatest_hold};
 
-use teg_form::dioid::Date;
+use dioid::Date;
 
 /// A cell of a row, which holds a date. How many bytes it takes decides which dates it can hold. No
 /// call takes memory.
 pub trait DateCell: Copy {
     ghost use Rattle.std.specs.Prelude.{ℕ};
-    ghost use Rattle.teg_form.specs.dioid.declared.dates.Date.{Date};
+    ghost use Rattle.dioid.specs.declared.dates.Date.{Date};
 
     // the date that a cell holds
     ghost held: { Self → Date };

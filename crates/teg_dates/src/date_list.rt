@@ -1,11 +1,11 @@
 //! Dates one after another, in eight bytes each as long as they fit.
 ghost use Rattle.std.specs.Prelude.{◌≡◌, ◌<◌, ◌++◌, ◌∷◌, [], length, slice_index_or, IfOk, IfSome};
-ghost use Rattle.teg_form.specs.dioid.declared.dates.Date.TheVariants.{Early};
+ghost use Rattle.dioid.specs.declared.dates.Date.TheVariants.{Early};
 ghost use Rattle.teg_dates.specs.DateCells.{date_of_early_cell};
 
+use dioid::Date;
 use std::alloc::{AllocError, Global};
 use std::marker::Model;
-use teg_form::dioid::Date;
 
 // The number of eight bytes that stands for `Never`.
 const NEVER: u64 = u64::MAX;
@@ -52,7 +52,7 @@ pub(crate) struct PackedDates {
 
 impl Model for PackedDates {
     ghost use Rattle.std.specs.Prelude.{List, map, ◌++◌};
-    ghost use Rattle.teg_form.specs.dioid.declared.dates.Date.{Date};
+    ghost use Rattle.dioid.specs.declared.dates.Date.{Date};
     ghost use Rattle.teg_dates.specs.DateCells.{date_of_early_cell};
 
     ghost Value = { List Date };

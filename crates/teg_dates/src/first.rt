@@ -1,6 +1,6 @@
 //! The dates of the first firings.
 ghost use Rattle.std.specs.Prelude.{◌≡◌, ◌≤◌, length, IfOk};
-ghost use Rattle.teg_form.specs.teg_check.Ranks.{IsRanking};
+ghost use Rattle.teg_check.specs.Ranks.{IsRanking};
 ghost use Rattle.teg_dates.specs.DateTables.{most_numbers, HasLeastDates, HasDatesOfWalks};
 
 use crate::order::PlaceOrder;
@@ -8,8 +8,8 @@ use crate::rows::Rows;
 use crate::sources::NetInputs;
 use crate::table::Table;
 use std::alloc::Global;
-use teg_form::teg_check::Live;
-use teg_form::teg_net::{Net, OutOfMemory};
+use teg_check::Live;
+use teg_net::{Net, OutOfMemory};
 
 /// The least dates of numbers 1 to `count` of each transition of a live net, with its ready dates and
 /// its input lists (chapter 2): no firing can come earlier, and each comes when its last token is

@@ -1,7 +1,7 @@
 //! The rows of the first numbers, one after another, in memory that does not grow.
 ghost use Rattle.std.specs.Prelude.{◌≡◌, ◌+◌, ◌<◌, ◌≤◌, length, map, IfOk};
-ghost use Rattle.teg_form.specs.teg_net.Limits.{greatest_firing_number};
-ghost use Rattle.teg_form.specs.teg_check.Ranks.{IsRanking};
+ghost use Rattle.teg_net.specs.Limits.{greatest_firing_number};
+ghost use Rattle.teg_check.specs.Ranks.{IsRanking};
 ghost use Rattle.teg_dates.specs.DateCells.{date_of_cell};
 ghost use Rattle.teg_dates.specs.DateTables.{most_numbers};
 ghost use Rattle.teg_dates.specs.Streams.{AreFirstRowsOf, HasLeast, IsLeastRow, first_rows_given};
@@ -11,8 +11,8 @@ use crate::order::PlaceOrder;
 use crate::window::Window;
 use std::alloc::Global;
 use std::marker::Model;
-use teg_form::teg_check::Live;
-use teg_form::teg_net::{Net, OutOfMemory};
+use teg_check::Live;
+use teg_net::{Net, OutOfMemory};
 
 /// The rows of the least dating of a live net up to number 10,000, with its ready dates and its input
 /// lists (chapter 2), one number after another. Up to there each date is a number of eight bytes, or

@@ -1,13 +1,13 @@
 //! The last rows of dates, in a ring.
 ghost use Rattle.std.specs.Prelude.{◌≡◌, ◌<◌, ◌≤◌, [], length, IfOk};
-ghost use Rattle.teg_form.specs.teg_net.Limits.{most_transitions, most_place_tokens, greatest_firing_number};
+ghost use Rattle.teg_net.specs.Limits.{most_transitions, most_place_tokens, greatest_firing_number};
 
 use crate::past::Past;
 use circular_buffer::HeapCircularBuffer;
+use dioid::Date;
 use std::alloc::{AllocError, Global};
 use std::marker::Model;
-use teg_form::dioid::Date;
-use teg_form::teg_net::TransitionId;
+use teg_net::TransitionId;
 
 // The last rows of dates, as many as `reach`. All room for them is made at the start.
 #[derive(Drop)]

@@ -37,5 +37,3 @@ pub use rows::Rows;
 pub use sources::{NetInputs, Source};
 pub use stream::Stream;
 pub use table::Table;
-pub use teg_form;
-pub use teg_form::{teg_check, teg_net};

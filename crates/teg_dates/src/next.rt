@@ -1,7 +1,7 @@
 //! The next row of the least dating of a net, by the rows that are kept.
 ghost use Rattle.std.specs.Prelude.{ℕ, ◌≡◌, ◌+◌, ◌≤◌, length, map, All};
-ghost use Rattle.teg_form.specs.teg_net.Limits.{most_place_tokens, greatest_firing_number};
-ghost use Rattle.teg_form.specs.teg_model.Datings.{listed_releases, system_of};
+ghost use Rattle.teg_net.specs.Limits.{most_place_tokens, greatest_firing_number};
+ghost use Rattle.teg_model.specs.Datings.{listed_releases, system_of};
 ghost use Rattle.teg_dates.specs.KeptRows.{StaysWithin};
 ghost use Rattle.teg_dates.specs.Streams.{CanMakeNextRow, IsLeastRow};
 
@@ -10,8 +10,8 @@ use crate::order::OrderedPlace;
 use crate::passes::fill_row;
 use crate::past::Past;
 use crate::sources::NetInputs;
-use teg_form::teg_model::least_datings_are_one;
-use teg_form::teg_net::Net;
+use teg_model::least_datings_are_one;
+use teg_net::Net;
 
 // The greatest number of tokens of a place, and at least 1.
 pub(crate) fn most_tokens_of(net: &Net) -> u32

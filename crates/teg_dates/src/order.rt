@@ -1,12 +1,12 @@
 //! The places in the order in which one pass over them settles a number.
 ghost use Rattle.std.specs.Prelude.{◌≡◌, ◌<◌, length, IfOk};
-ghost use Rattle.teg_form.specs.teg_check.Ranks.{IsRanking};
+ghost use Rattle.teg_check.specs.Ranks.{IsRanking};
 ghost use Rattle.teg_dates.specs.PlaceOrder.{IsPlaceOrder, OrdersPlaces, order_key};
 
 use std::alloc::{AllocError, Global};
 use std::marker::Model;
-use teg_form::teg_check::Live;
-use teg_form::teg_net::{Net, OutOfMemory, Place, PlaceId, TransitionId};
+use teg_check::Live;
+use teg_net::{Net, OutOfMemory, Place, PlaceId, TransitionId};
 
 // What a pass reads of a place, and when the place has its turn. A pass goes over thousands of these
 // for each number, so they are small.

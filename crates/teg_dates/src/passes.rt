@@ -2,13 +2,13 @@
 //! over the places in the order of their turns makes them the least. It stands on what is kept of the
 //! rows before, however that is kept, and on cells that hold the dates.
 ghost use Rattle.std.specs.Prelude.{ℕ, ◌≡◌, ◌<◌, ◌≤◌, [], length, map, slice_index_or};
-ghost use Rattle.teg_form.specs.dioid.declared.dates.Date.TheVariants.{Early};
-ghost use Rattle.teg_form.specs.dioid.Dates.{later_of};
-ghost use Rattle.teg_form.specs.teg_net.Circuits.{place_at};
-ghost use Rattle.teg_form.specs.teg_net.Nets.{IsNet};
-ghost use Rattle.teg_form.specs.teg_net.Limits.{greatest_firing_number};
-ghost use Rattle.teg_form.specs.teg_model.Systems.{available_in};
-ghost use Rattle.teg_form.specs.teg_model.Datings.{implicit_place};
+ghost use Rattle.dioid.specs.declared.dates.Date.TheVariants.{Early};
+ghost use Rattle.dioid.specs.Dates.{later_of};
+ghost use Rattle.teg_net.specs.Circuits.{place_at};
+ghost use Rattle.teg_net.specs.Nets.{IsNet};
+ghost use Rattle.teg_net.specs.Limits.{greatest_firing_number};
+ghost use Rattle.teg_model.specs.Systems.{available_in};
+ghost use Rattle.teg_model.specs.Datings.{implicit_place};
 ghost use Rattle.teg_dates.specs.PlaceOrder.{IsOrderedPlaceOf, OrdersPlaces};
 ghost use Rattle.teg_dates.specs.Sources.{system_by};
 ghost use Rattle.teg_dates.specs.KeptRows.{StaysWithin, HasLeastDating};
@@ -18,7 +18,7 @@ use crate::date_cell::{DateCell, later_date};
 use crate::order::OrderedPlace;
 use crate::past::Past;
 use crate::sources::Source;
-use teg_form::teg_net::{Net, TransitionId};
+use teg_net::{Net, TransitionId};
 
 // The date of the place's downstream transition, but not before the place has its token for the
 // firing of this number.

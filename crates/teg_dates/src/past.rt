@@ -1,12 +1,12 @@
 //! What is kept of the rows before one.
 ghost use Rattle.std.specs.Prelude.{◌≡◌, ◌+◌, ◌*◌, ◌<◌, ◌≤◌, length};
-ghost use Rattle.teg_form.specs.teg_net.Limits.{most_transitions, most_rows};
+ghost use Rattle.teg_net.specs.Limits.{most_transitions, most_rows};
 ghost use Rattle.teg_dates.specs.DateTables.{firing_position};
 
 use crate::date_cell::DateCell;
 use crate::date_list::PackedDates;
-use teg_form::dioid::Date;
-use teg_form::teg_net::TransitionId;
+use dioid::Date;
+use teg_net::TransitionId;
 
 // The rows before one, as far as they are kept. A pass asks them for dates, so many rows back.
 pub(crate) trait Past<C: DateCell> {

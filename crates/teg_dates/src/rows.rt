@@ -1,7 +1,7 @@
 //! The rows of the least dating of a system, as many as a caller asks for.
 ghost use Rattle.std.specs.Prelude.{◌≡◌, ◌+◌, ◌-◌, ◌*◌, ◌<◌, ◌≤◌, ◌++◌, length, [], IfOk};
-ghost use Rattle.teg_form.specs.teg_net.Nets.{IsNet};
-ghost use Rattle.teg_form.specs.teg_net.Limits.{most_rows};
+ghost use Rattle.teg_net.specs.Nets.{IsNet};
+ghost use Rattle.teg_net.specs.Limits.{most_rows};
 ghost use Rattle.teg_dates.specs.DateTables.{date_at};
 ghost use Rattle.teg_dates.specs.PlaceOrder.{OrdersPlaces};
 ghost use Rattle.teg_dates.specs.Sources.{system_by};
@@ -12,10 +12,10 @@ use crate::order::{OrderedPlace, PlaceOrder};
 use crate::passes::fill_row;
 use crate::past::{AllRows, cell_of};
 use crate::sources::Source;
+use dioid::Date;
 use std::alloc::Global;
 use std::marker::Model;
-use teg_form::dioid::Date;
-use teg_form::teg_net::{Net, OutOfMemory, TransitionId};
+use teg_net::{Net, OutOfMemory, TransitionId};
 
 // Writes the row of the number behind the dates of the numbers before it.
 fn fill_next<S: Source>(

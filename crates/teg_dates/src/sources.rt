@@ -1,20 +1,20 @@
 //! What a system of a net has beside its places: the dates of its initial tokens, and the dates
 //! before which its firings are not released.
 ghost use Rattle.std.specs.Prelude.{◌≡◌, ◌<◌, ◌≤◌, length};
-ghost use Rattle.teg_form.specs.teg_net.Circuits.{place_at};
-ghost use Rattle.teg_form.specs.teg_model.Datings.{implicit_place};
-ghost use Rattle.teg_form.specs.teg_net.Limits.{greatest_firing_number};
+ghost use Rattle.teg_net.specs.Circuits.{place_at};
+ghost use Rattle.teg_model.specs.Datings.{implicit_place};
+ghost use Rattle.teg_net.specs.Limits.{greatest_firing_number};
 
-use teg_form::dioid::Date;
-use teg_form::teg_net::{Net, PlaceId, Role, TransitionId};
+use dioid::Date;
+use teg_net::{Net, PlaceId, Role, TransitionId};
 
 /// A source of the dates that no earlier firing gives (chapter 2): with the places of a net it makes
 /// a system. No call takes memory.
 pub trait Source {
     ghost use Rattle.std.specs.Prelude.{ℕ};
-    ghost use Rattle.teg_form.specs.dioid.declared.dates.Date.{Date};
-    ghost use Rattle.teg_form.specs.teg_net.declared.entries.Place.{Place};
-    ghost use Rattle.teg_form.specs.teg_net.Nets.{NetLists};
+    ghost use Rattle.dioid.specs.declared.dates.Date.{Date};
+    ghost use Rattle.teg_net.specs.declared.entries.Place.{Place};
+    ghost use Rattle.teg_net.specs.Nets.{NetLists};
 
     // for each place the date from which its k-th initial token is available
     ghost initial: { Self → Place → ℕ → Date };
@@ -47,8 +47,8 @@ pub trait Source {
 pub struct NetInputs;
 
 impl Source for NetInputs {
-    ghost use Rattle.teg_form.specs.dioid.declared.dates.Date.TheVariants.{Early};
-    ghost use Rattle.teg_form.specs.teg_model.Datings.{initial_date, at_input, listed_releases};
+    ghost use Rattle.dioid.specs.declared.dates.Date.TheVariants.{Early};
+    ghost use Rattle.teg_model.specs.Datings.{initial_date, at_input, listed_releases};
 
     ghost initial = { λ s. initial_date };
 

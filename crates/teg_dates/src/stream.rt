@@ -1,20 +1,20 @@
 //! Rows of dates, one after another, in memory that does not grow.
 ghost use Rattle.std.specs.Prelude.{◌≡◌, ◌+◌, ◌<◌, ◌≤◌, length, IfOk};
-ghost use Rattle.teg_form.specs.teg_net.Limits.{greatest_firing_number};
-ghost use Rattle.teg_form.specs.teg_net.Circuits.{IsLive};
-ghost use Rattle.teg_form.specs.teg_check.Ranks.{IsRanking};
+ghost use Rattle.teg_net.specs.Limits.{greatest_firing_number};
+ghost use Rattle.teg_net.specs.Circuits.{IsLive};
+ghost use Rattle.teg_check.specs.Ranks.{IsRanking};
 ghost use Rattle.teg_form.specs.StandardForms.{IsStandardFormOf};
 ghost use Rattle.teg_dates.specs.Streams.{HasLeast, IsLeastRow, IsStreamOf, rows_given};
 
 use crate::last_rows::LastRows;
 use crate::next::{most_tokens_of, next_row};
 use crate::order::PlaceOrder;
+use dioid::Date;
 use std::alloc::Global;
 use std::marker::Model;
+use teg_check::{CheckRefusal, Live, check};
 use teg_form::Form;
-use teg_form::dioid::Date;
-use teg_form::teg_check::{CheckRefusal, Live, check};
-use teg_form::teg_net::{Net, OutOfMemory};
+use teg_net::{Net, OutOfMemory};
 
 /// The rows of the least dating of a live net, with its ready dates and its input lists (chapter 2),
 /// one number after another. It keeps the last rows, as many as the greatest number of tokens of a

@@ -3,9 +3,9 @@ ghost use Rattle.std.specs.Prelude.{◌≡◌, ◌<◌, ◌≤◌};
 ghost use Rattle.teg_dates.specs.DateTables.{date_at};
 
 use crate::rows::Rows;
+use dioid::Date;
 use std::marker::Model;
-use teg_form::dioid::Date;
-use teg_form::teg_net::TransitionId;
+use teg_net::TransitionId;
 
 /// The dates of the first firings of each transition, for at most 10,000 numbers. Contracts see how
 /// many transitions and numbers there are, and the dates, number by number.

@@ -1,12 +1,12 @@
 //! The last dates of each transition in eight bytes each, one transition after another.
 ghost use Rattle.std.specs.Prelude.{◌≡◌, ◌+◌, ◌-◌, ◌*◌, ◌<◌, ◌≤◌, length, map, IfOk};
-ghost use Rattle.teg_form.specs.teg_net.Limits.{most_transitions, most_place_tokens, greatest_firing_number};
+ghost use Rattle.teg_net.specs.Limits.{most_transitions, most_place_tokens, greatest_firing_number};
 ghost use Rattle.teg_dates.specs.LastColumns.{AreMoved, HasColumnSet, HaveRowAdded, AreLastColumns, most_room};
 
 use crate::past::Past;
 use std::alloc::{AllocError, Global};
 use std::marker::Model;
-use teg_form::teg_net::TransitionId;
+use teg_net::TransitionId;
 
 // How many rows more than are kept there is room for. Moving the columns every so many rows costs less
 // than it saves: what was moved is near when it is read.

@@ -13,9 +13,7 @@ mod logs;
 mod names;
 mod rows;
 
-pub use csv_records;
 pub use dues::read_due;
 pub use logs::read_log;
 pub use names::{is_input, transition_named};
 pub use rows::{Due, DueRefusal, DueRow, LogRefusal, LogRow};
-pub use teg_net;

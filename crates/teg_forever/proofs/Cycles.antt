@@ -3,9 +3,9 @@ use Rattle.std.proofs.Common.{ℕ, ℤ, zero, suc, pos, ◌≡◌, ◌<◌, ◌�
 use Rattle.std.specs.Prelude.{◌+ℤ◌}
 use Rattle.std.proofs.lemmas.Int.{ints}
 use Rattle.std.proofs.Math.Nat.{eq-or-lt_of_le}
-use Rattle.forever_laws.specs.dioid.declared.dates.Date.TheVariants.{At}
-use Rattle.forever_laws.specs.dioid.Dates.{move}
-use Rattle.forever_laws.proofs.dioid_proofs.Moves.{move_zero, move_move, move_swap}
+use Rattle.dioid.specs.declared.dates.Date.TheVariants.{At}
+use Rattle.dioid.specs.Dates.{move}
+use Rattle.dioid.proofs.Moves.{move_zero, move_move, move_swap}
 use Rattle.forever_laws.proofs.series_laws_proofs.Repeating.{by_steps}
 use Rattle.forever_laws.specs.settled_laws.SettledForms.{SettledForm, settled_date, step_of_form}
 use Rattle.teg_forever.specs.LateFirings.{GoesOnBySteps, IsClimbing, RisesIn}

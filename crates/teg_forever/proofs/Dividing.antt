@@ -6,20 +6,20 @@ use Rattle.std.proofs.Math.Seq.{get_or-append_seam}
 use Rattle.std.proofs.lemmas.Bool.{cases_lt}
 use Rattle.std.proofs.lemmas.List.{length-append}
 use Rattle.std.proofs.lemmas.List.Elements.{All-append, All-cons, All-nil, All-take}
-use Rattle.forever_laws.specs.dioid.ElementAnswers.{Answers}
-use Rattle.forever_laws.specs.dioid.declared.algebra.Refused.{Refused}
-use Rattle.forever_laws.specs.dioid.declared.algebra.Refused.TheVariants.{Range, OutOfMemory as NoRoom}
+use Rattle.dioid.specs.ElementAnswers.{Answers}
+use Rattle.dioid.specs.declared.algebra.Refused.{Refused}
+use Rattle.dioid.specs.declared.algebra.Refused.TheVariants.{Range, OutOfMemory as NoRoom}
 use Rattle.forever_laws.specs.dioid_matrix.Residuals.{RowFits}
 use Rattle.forever_laws.proofs.dioid_matrix_proofs.Meets.{meet_more, row_fits}
 use Rattle.forever_laws.specs.series_laws.SeriesForms.{Form}
-use Rattle.forever_laws.specs.series_ops.declared.gains.Gain.{Gain}
-use Rattle.forever_laws.specs.series_ops.Gains.{gain_left, gain_meet, LeftFits, MeetFits}
+use Rattle.series_ops.specs.declared.gains.Gain.{Gain}
+use Rattle.series_ops.specs.Gains.{gain_left, gain_meet, LeftFits, MeetFits}
 use Rattle.forever_laws.specs.periodic_laws.Equations.{gains}
-use Rattle.forever_laws.specs.teg_net.declared.entries.Again.{Again}
-use Rattle.forever_laws.specs.teg_net.declared.entries.TransitionId.{TransitionId}
-use Rattle.forever_laws.specs.teg_net.Inputs.{list_date}
-use Rattle.forever_laws.specs.teg_net.Nets.{NetLists, IsNet, IsInput}
-use Rattle.forever_laws.specs.teg_net.Circuits.{IsLive}
+use Rattle.teg_net.specs.declared.entries.Again.{Again}
+use Rattle.teg_net.specs.declared.entries.TransitionId.{TransitionId}
+use Rattle.teg_net.specs.Inputs.{list_date}
+use Rattle.teg_net.specs.Nets.{NetLists, IsNet, IsInput}
+use Rattle.teg_net.specs.Circuits.{IsLive}
 use Rattle.forever_laws.specs.teg_model.Datings.{as_date}
 use Rattle.forever_laws.specs.declared.rows.EndlessRow.{EndlessRow}
 use Rattle.forever_laws.specs.EndlessRows.{IsEndlessOf, again_of_row}

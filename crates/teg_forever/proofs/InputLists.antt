@@ -6,9 +6,9 @@ use Rattle.std.proofs.lemmas.Bool.{cases_Bool, cases_lt}
 use Rattle.std.proofs.lemmas.Bool.Decides.{nat_tests}
 use Rattle.std.proofs.lemmas.List.Elements.{All-append}
 use Rattle.forever_laws.proofs.number_laws_proofs.Numbers.{same_number}
-use Rattle.forever_laws.specs.teg_net.declared.entries.Transition.{Transition}
-use Rattle.forever_laws.specs.teg_net.declared.entries.Role.TheVariants.{Input}
-use Rattle.forever_laws.specs.teg_net.Nets.{NetLists, IsInput}
+use Rattle.teg_net.specs.declared.entries.Transition.{Transition}
+use Rattle.teg_net.specs.declared.entries.Role.TheVariants.{Input}
+use Rattle.teg_net.specs.Nets.{NetLists, IsInput}
 use Rattle.teg_due.specs.RowNames.{is_input, is_input_role}
 use Rattle.teg_forever.specs.declared.releases.Release.{Release}
 use Rattle.teg_forever.specs.LatestReleases.{AreBeside, inputs_below, release_in}

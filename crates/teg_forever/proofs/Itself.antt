@@ -3,9 +3,9 @@ use Rattle.std.proofs.Common.{ℕ, ℤ, pos, true, ◌+◌, ◌-◌, ◌*◌, �
 use Rattle.std.specs.Prelude.{eqb, max, ◌-ℤ◌}
 use Rattle.std.proofs.Math.Nat.{mod_self}
 use Rattle.std.proofs.lemmas.Int.{ints}
-use Rattle.forever_laws.specs.dioid.declared.dates.Date.{Date}
-use Rattle.forever_laws.specs.dioid.declared.dates.Date.TheVariants.{Early, At, Never}
-use Rattle.forever_laws.proofs.dioid_proofs.DateOrder.{earlier_either}
+use Rattle.dioid.specs.declared.dates.Date.{Date}
+use Rattle.dioid.specs.declared.dates.Date.TheVariants.{Early, At, Never}
+use Rattle.dioid.proofs.DateOrder.{earlier_either}
 use Rattle.forever_laws.specs.series_laws.declared.plans.Slopes.{Slopes}
 use Rattle.forever_laws.specs.series_laws.declared.plans.Slopes.TheVariants.{Equal}
 use Rattle.forever_laws.specs.series_laws.SeriesForms.{Form, size_of, repeat_start, value_at}
@@ -13,9 +13,9 @@ use Rattle.forever_laws.specs.series_laws.Needs.{by_sign, common, fall_of, form_
 use Rattle.forever_laws.proofs.series_laws_proofs.Canonical.{one_canonical}
 use Rattle.forever_laws.proofs.series_laws_proofs.FormValues.{first_found}
 use Rattle.forever_laws.proofs.series_laws_proofs.Sums.{form_least_is, form_least_values}
-use Rattle.forever_laws.specs.series_form.NumberBounds.{HasSmallNumbers, IsSeries}
-use Rattle.forever_laws.specs.series_ops.declared.gains.Gain.{Gain}
-use Rattle.forever_laws.specs.series_ops.Gains.{gain_meet, gain_of, MeetFits}
+use Rattle.series_form.specs.NumberBounds.{HasSmallNumbers, IsSeries}
+use Rattle.series_ops.specs.declared.gains.Gain.{Gain}
+use Rattle.series_ops.specs.Gains.{gain_meet, gain_of, MeetFits}
 
 common_itself : (p : ℕ) → common p p ≡ p
 common_itself p =

@@ -1,8 +1,8 @@
 -- Steps of the search for a late number.
 use Rattle.std.proofs.Common.{ℕ, ◌≡◌, ◌<◌, ◌≤◌, ◌+◌, ◌-◌, inl, inr, Some, sym, subst, ap, ◌∙◌, arith, ⊎_elim, pos}
 use Rattle.std.proofs.lemmas.Bool.{cases_lt}
-use Rattle.forever_laws.specs.dioid.declared.dates.Date.{Date}
-use Rattle.forever_laws.specs.dioid.declared.dates.Date.TheVariants.{At}
+use Rattle.dioid.specs.declared.dates.Date.{Date}
+use Rattle.dioid.specs.declared.dates.Date.TheVariants.{At}
 use Rattle.forever_laws.specs.declared.rows.EndlessRow.{EndlessRow}
 use Rattle.forever_laws.specs.EndlessRows.{row_due}
 use Rattle.forever_laws.specs.Late.{IsLateAt, NoneLateTo, NoneLate, IsLeastLate}

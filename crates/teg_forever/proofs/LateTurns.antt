@@ -3,15 +3,15 @@ use Rattle.std.proofs.Common.{ℕ, ℤ, ◌≡◌, ◌<◌, ◌≤◌, ◌+◌, 
 use Rattle.std.specs.Prelude.{slice_get}
 use Rattle.std.proofs.lemmas.Int.{ints}
 use Rattle.std.proofs.lemmas.List.{get_or-take, length-take-le}
-use Rattle.forever_laws.specs.dioid.declared.dates.Date.TheVariants.{At}
-use Rattle.forever_laws.specs.dioid.Dates.{move}
-use Rattle.forever_laws.proofs.dioid_proofs.Moves.{at_inj}
-use Rattle.forever_laws.specs.teg_net.Nets.{NetLists, IsNet, without_inputs}
-use Rattle.forever_laws.specs.teg_net.Circuits.{IsLive}
+use Rattle.dioid.specs.declared.dates.Date.TheVariants.{At}
+use Rattle.dioid.specs.Dates.{move}
+use Rattle.dioid.proofs.Moves.{at_inj}
+use Rattle.teg_net.specs.Nets.{NetLists, IsNet, without_inputs}
+use Rattle.teg_net.specs.Circuits.{IsLive}
 use Rattle.forever_laws.specs.teg_model.DateBounds.{IsDateWithin, greatest_least_date}
 use Rattle.forever_laws.specs.settled_laws.SettledForms.{SettledForm, IsSettledFormOf, settled_date, step_of_form}
 use Rattle.forever_laws.proofs.settled_laws_proofs.Telling.{form_tells}
-use Rattle.forever_laws.specs.teg_settle.KeptForms.{IsFormKept}
+use Rattle.teg_settle.specs.KeptForms.{IsFormKept}
 use Rattle.forever_laws.specs.declared.rows.EndlessRow.{EndlessRow}
 use Rattle.forever_laws.specs.due_laws.MeetingDueDates.{InputsMeet, inputs_at_zero}
 use Rattle.forever_laws.specs.EndlessRows.{IsEndlessRow, IsEndlessOf, due_on}

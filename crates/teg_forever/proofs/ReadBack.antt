@@ -6,11 +6,11 @@ use Rattle.std.specs.Fmt.{decimal, signed_decimal}
 use Rattle.std.proofs.lemmas.Bool.{and_from}
 use Rattle.std.proofs.lemmas.Bool.Decides.{nat_tests}
 use Rattle.std.proofs.lemmas.List.{get_or_default, length-append}
-use Rattle.forever_laws.specs.dioid.declared.dates.Date.{Date}
-use Rattle.forever_laws.specs.dioid.declared.dates.Date.TheVariants.{Early, At, Never}
+use Rattle.dioid.specs.declared.dates.Date.{Date}
+use Rattle.dioid.specs.declared.dates.Date.TheVariants.{Early, At, Never}
 use Rattle.forever_laws.specs.series_laws.SeriesForms.{Form}
-use Rattle.forever_laws.specs.series_form.NumberBounds.{IsSeries, IsSmallDate}
-use Rattle.forever_laws.specs.teg_net.Nets.{NetLists, IsNet}
+use Rattle.series_form.specs.NumberBounds.{IsSeries, IsSmallDate}
+use Rattle.teg_net.specs.Nets.{NetLists, IsNet}
 use Rattle.teg_text.specs.Lines.{is_word, is_line, are_lines}
 use Rattle.teg_text.specs.WordsOfNames.{name_of_transition, transition_in}
 use Rattle.teg_text.specs.WordReading.{lines_in, line_at, word, stands_at, number_in, signed_in, date_of_word}

@@ -5,13 +5,13 @@ use Rattle.forever_laws.specs.dioid_matrix.Residuals.{RowFits}
 use Rattle.forever_laws.proofs.dioid_matrix_proofs.Meets.{meet_more, row_fits}
 use Rattle.forever_laws.specs.series_laws.SeriesForms.{Form, form_with, value_at}
 use Rattle.forever_laws.proofs.series_laws_proofs.Canonical.{one_canonical}
-use Rattle.forever_laws.specs.series_ops.declared.gains.Gain.{Gain}
-use Rattle.forever_laws.specs.series_ops.Gains.{gain_left, gain_meet, gain_of, MeetFits}
-use Rattle.forever_laws.specs.series_form.NumberBounds.{IsSeries}
+use Rattle.series_ops.specs.declared.gains.Gain.{Gain}
+use Rattle.series_ops.specs.Gains.{gain_left, gain_meet, gain_of, MeetFits}
+use Rattle.series_form.specs.NumberBounds.{IsSeries}
 use Rattle.forever_laws.specs.periodic_laws.Equations.{gains}
-use Rattle.forever_laws.specs.teg_net.Nets.{NetLists, IsNet}
+use Rattle.teg_net.specs.Nets.{NetLists, IsNet}
 use Rattle.forever_laws.specs.settled_laws.SettledForms.{SettledForm}
-use Rattle.forever_laws.specs.teg_settle.Transfers.{IsTransferOf}
+use Rattle.teg_settle.specs.Transfers.{IsTransferOf}
 use Rattle.forever_laws.specs.declared.rows.EndlessRow.{EndlessRow}
 use Rattle.forever_laws.specs.SeriesColumns.{AreSeriesColumns, IsDueSeries, IsWalkSeries, gain_residuals}
 use Rattle.forever_laws.proofs.OneColumn.{one_due, one_time}

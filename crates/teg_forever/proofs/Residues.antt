@@ -2,14 +2,14 @@
 use Rattle.std.proofs.Common.{ℕ, ◌+◌, ◌-◌, ◌≤◌, ◌≡◌, ◌==◌, true, List, [], ◌∷◌, Option, Some, None, Result, Ok, Err, length, refl, sym, subst, ap, ◌∙◌, arith}
 use Rattle.std.specs.Prelude.{IfNone, IfOk, OnOk, slice_get}
 use Rattle.forever_laws.specs.series_laws.SeriesForms.{Form, value_at}
-use Rattle.forever_laws.specs.series_form.NumberBounds.{IsSeries}
-use Rattle.forever_laws.specs.series_ops.declared.gains.Gain.{Gain}
-use Rattle.forever_laws.specs.series_ops.Gains.{gain_zero}
-use Rattle.forever_laws.specs.teg_net.declared.entries.TransitionId.{TransitionId}
-use Rattle.forever_laws.specs.teg_net.Nets.{NetLists, IsNet, IsInput}
-use Rattle.forever_laws.specs.teg_net.Circuits.{IsLive}
+use Rattle.series_form.specs.NumberBounds.{IsSeries}
+use Rattle.series_ops.specs.declared.gains.Gain.{Gain}
+use Rattle.series_ops.specs.Gains.{gain_zero}
+use Rattle.teg_net.specs.declared.entries.TransitionId.{TransitionId}
+use Rattle.teg_net.specs.Nets.{NetLists, IsNet, IsInput}
+use Rattle.teg_net.specs.Circuits.{IsLive}
 use Rattle.forever_laws.specs.settled_laws.SettledForms.{SettledForm, settled_length}
-use Rattle.forever_laws.specs.teg_settle.Transfers.{IsTransferOf}
+use Rattle.teg_settle.specs.Transfers.{IsTransferOf}
 use Rattle.forever_laws.specs.due_laws.MeetingDueDates.{InputsMeet, inputs_at_zero}
 use Rattle.forever_laws.specs.due_laws.LatestDates.{IsLatestDate}
 use Rattle.forever_laws.specs.declared.rows.EndlessRow.{EndlessRow}

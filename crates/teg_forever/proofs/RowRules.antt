@@ -7,11 +7,11 @@ use Rattle.std.specs.Str.Parse.{digits_value}
 use Rattle.std.proofs.lemmas.Bool.{cases_Bool, and_parts}
 use Rattle.std.proofs.lemmas.List.Folds.{list_all_at}
 use Rattle.std.proofs.lemmas.List.Sorted.{IsNonDecreasingBy-from_default}
-use Rattle.teg_due.specs.csv_records.NumberFields.{is_number}
-use Rattle.teg_due.specs.csv_records.Records.{records_of}
-use Rattle.teg_due.proofs.csv_records_proofs.RowLaws.{differ, each_row, rows_once}
-use Rattle.forever_laws.specs.teg_net.Limits.{greatest_input_date, greatest_every}
-use Rattle.forever_laws.specs.teg_net.Nets.{NetLists}
+use Rattle.csv_records.specs.NumberFields.{is_number}
+use Rattle.csv_records.specs.Records.{records_of}
+use Rattle.csv_records.proofs.RowLaws.{differ, each_row, rows_once}
+use Rattle.teg_net.specs.Limits.{greatest_input_date, greatest_every}
+use Rattle.teg_net.specs.Nets.{NetLists}
 use Rattle.teg_due.specs.RowNames.{number_named, is_input}
 use Rattle.teg_due.proofs.DueRules.{named_in, no_input}
 use Rattle.forever_laws.specs.declared.rows.EndlessRow.{EndlessRow}

@@ -4,19 +4,19 @@ use Rattle.std.specs.Prelude.{slice_get, if◌then◌else◌}
 use Rattle.std.proofs.lemmas.Bool.{cases_Bool, cases_lt}
 use Rattle.std.proofs.lemmas.Bool.Decides.{nat_tests}
 use Rattle.std.proofs.lemmas.List.Sums.{sum_by-cons}
-use Rattle.forever_laws.specs.dioid.declared.dates.Date.{Date}
-use Rattle.forever_laws.specs.dioid.declared.dates.Date.TheVariants.{At}
-use Rattle.forever_laws.specs.dioid.Dates.{IsAtMostDate, delayed, move}
+use Rattle.dioid.specs.declared.dates.Date.{Date}
+use Rattle.dioid.specs.declared.dates.Date.TheVariants.{At}
+use Rattle.dioid.specs.Dates.{IsAtMostDate, delayed, move}
 use Rattle.forever_laws.specs.series_laws.SeriesForms.{value_at}
-use Rattle.forever_laws.specs.teg_net.declared.entries.PlaceId.{PlaceId}
-use Rattle.forever_laws.specs.teg_net.declared.walks.Step.{Step}
-use Rattle.forever_laws.specs.teg_net.declared.walks.Step.TheVariants.{By, Next}
-use Rattle.forever_laws.specs.teg_net.Nets.{NetLists, IsNet, IsInput}
-use Rattle.forever_laws.specs.teg_net.Circuits.{IsLive, no_place, place_at}
-use Rattle.forever_laws.specs.teg_net.Walks.{Walks, step_time, walk_time}
+use Rattle.teg_net.specs.declared.entries.PlaceId.{PlaceId}
+use Rattle.teg_net.specs.declared.walks.Step.{Step}
+use Rattle.teg_net.specs.declared.walks.Step.TheVariants.{By, Next}
+use Rattle.teg_net.specs.Nets.{NetLists, IsNet, IsInput}
+use Rattle.teg_net.specs.Circuits.{IsLive, no_place, place_at}
+use Rattle.teg_net.specs.Walks.{Walks, step_time, walk_time}
 use Rattle.forever_laws.specs.settled_laws.SettledForms.{RepeatsAfter, SettledForm, settled_length, step_of_form}
-use Rattle.forever_laws.specs.teg_settle.WalkTimes.{WalkTimesSettle}
-use Rattle.forever_laws.specs.teg_settle.Transfers.{AreWalkTimes, IsGreatestWalkTime}
+use Rattle.teg_settle.specs.WalkTimes.{WalkTimesSettle}
+use Rattle.teg_settle.specs.Transfers.{AreWalkTimes, IsGreatestWalkTime}
 use Rattle.teg_due.specs.RowNames.{is_input}
 use Rattle.forever_laws.specs.due_laws.LatestDates.{IsDateToDue}
 use Rattle.forever_laws.specs.declared.rows.EndlessRow.{EndlessRow}

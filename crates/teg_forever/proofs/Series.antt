@@ -1,18 +1,18 @@
 -- Series that are made of lists.
 use Rattle.std.proofs.Common.{ℕ, inl, inr, ◌≡◌, ◌+◌, ◌<◌, ◌≤◌, List, [], ◌∷◌, ◌++◌, Option, Some, None, Result, Ok, Err, length, get_or, refl, sym, subst, ap, ◌∙◌, arith}
 use Rattle.std.specs.Prelude.{IfOk, slice_get}
-use Rattle.forever_laws.specs.dioid.declared.dates.Date.{Date}
+use Rattle.dioid.specs.declared.dates.Date.{Date}
 use Rattle.forever_laws.specs.series_laws.SeriesForms.{Form, value_at, HasValues, IsCanonical}
-use Rattle.forever_laws.specs.series_form.declared.forms.SeriesRefused.{SeriesRefused}
-use Rattle.forever_laws.specs.series_form.declared.forms.SeriesRefused.TheVariants.{TooLong, TooGreat, OutOfMemory}
-use Rattle.forever_laws.specs.series_form.NumberBounds.{IsSeries}
-use Rattle.forever_laws.proofs.series_form_proofs.Great.{no_great}
-use Rattle.forever_laws.specs.series_form.SeriesAnswers.{AnswersOf}
-use Rattle.forever_laws.specs.series_ops.declared.gains.Gain.{Gain}
-use Rattle.forever_laws.specs.teg_net.Nets.{NetLists}
+use Rattle.series_form.specs.declared.forms.SeriesRefused.{SeriesRefused}
+use Rattle.series_form.specs.declared.forms.SeriesRefused.TheVariants.{TooLong, TooGreat, OutOfMemory}
+use Rattle.series_form.specs.NumberBounds.{IsSeries}
+use Rattle.series_form.proofs.Great.{no_great}
+use Rattle.series_form.specs.SeriesAnswers.{AnswersOf}
+use Rattle.series_ops.specs.declared.gains.Gain.{Gain}
+use Rattle.teg_net.specs.Nets.{NetLists}
 use Rattle.forever_laws.specs.declared.rows.EndlessRow.{EndlessRow}
 use Rattle.forever_laws.specs.SeriesColumns.{IsDueSeries, IsWalkSeries, due_date_at}
-use Rattle.forever_laws.specs.teg_settle.Transfers.{IsGreatestWalkTime}
+use Rattle.teg_settle.specs.Transfers.{IsGreatestWalkTime}
 use Rattle.std.proofs.lemmas.List.{get_or_default}
 use Rattle.std.proofs.lemmas.Option.{slice_get_cases}
 use Rattle.teg_forever.specs.InputAnswers.{FitsIfMade}

@@ -3,7 +3,7 @@ use Rattle.std.proofs.Common.{◌≡◌, ◌<◌, ◌+◌, ℕ, length, get_or, 
 use Rattle.teg_text.specs.Lines.{line_then}
 use Rattle.std.proofs.lemmas.List.{drop_more}
 use Rattle.std.specs.Prelude.{OnOk, IfOk}
-use Rattle.forever_laws.specs.teg_net.Nets.{NetLists}
+use Rattle.teg_net.specs.Nets.{NetLists}
 use Rattle.teg_forever.specs.declared.releases.Release.{Release}
 use Rattle.teg_text.specs.Lines.{written}
 use Rattle.teg_text.proofs.Joining.{line_append}

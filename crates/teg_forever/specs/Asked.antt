@@ -1,10 +1,10 @@
 -- Working definitions of what the search for the releases of inputs goes by.
 use Rattle.std.specs.Prelude.{ℕ, ◌≤◌, List}
-use Rattle.forever_laws.specs.teg_check.Ranks.{IsRanking}
-use Rattle.forever_laws.specs.teg_net.Circuits.{IsLive}
-use Rattle.forever_laws.specs.teg_net.Nets.{NetLists, IsNet, IsInput}
+use Rattle.teg_check.specs.Ranks.{IsRanking}
+use Rattle.teg_net.specs.Circuits.{IsLive}
+use Rattle.teg_net.specs.Nets.{NetLists, IsNet, IsInput}
 use Rattle.forever_laws.specs.settled_laws.SettledForms.{SettledForm, settled_length}
-use Rattle.forever_laws.specs.teg_settle.Transfers.{IsTransferOf}
+use Rattle.teg_settle.specs.Transfers.{IsTransferOf}
 use Rattle.forever_laws.specs.due_laws.MeetingDueDates.{InputsMeet, inputs_at_zero}
 use Rattle.forever_laws.specs.declared.rows.EndlessRow.{EndlessRow}
 use Rattle.forever_laws.specs.EndlessRows.{IsEndlessOf, due_on}

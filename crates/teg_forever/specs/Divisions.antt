@@ -1,13 +1,13 @@
 -- Working definitions of the residuals of due series by walk series: what is kept of them, and what they tell of an input.
 use Rattle.std.specs.Prelude.{ℕ, ◌-◌, ◌≡◌, ◌<◌, ◌∷◌, ◌++◌, [], List, Some, All, IsTrue, length, get_or, slice_get, take, ⊤}
-use Rattle.forever_laws.specs.dioid.declared.algebra.Refused.{Refused}
-use Rattle.forever_laws.specs.dioid.declared.algebra.Refused.TheVariants.{Range, OutOfMemory as NoRoom}
+use Rattle.dioid.specs.declared.algebra.Refused.{Refused}
+use Rattle.dioid.specs.declared.algebra.Refused.TheVariants.{Range, OutOfMemory as NoRoom}
 use Rattle.forever_laws.specs.dioid_matrix.Residuals.{RowFits}
-use Rattle.forever_laws.specs.series_ops.declared.gains.Gain.{Gain}
-use Rattle.forever_laws.specs.series_ops.Gains.{gain_left, gain_meet, LeftFits, MeetFits}
+use Rattle.series_ops.specs.declared.gains.Gain.{Gain}
+use Rattle.series_ops.specs.Gains.{gain_left, gain_meet, LeftFits, MeetFits}
 use Rattle.forever_laws.specs.periodic_laws.Equations.{gains}
-use Rattle.forever_laws.specs.teg_net.declared.entries.TransitionId.{TransitionId}
-use Rattle.forever_laws.specs.teg_net.Nets.{NetLists}
+use Rattle.teg_net.specs.declared.entries.TransitionId.{TransitionId}
+use Rattle.teg_net.specs.Nets.{NetLists}
 use Rattle.forever_laws.specs.declared.rows.EndlessRow.{EndlessRow}
 use Rattle.forever_laws.specs.SeriesColumns.{AreSeriesColumns, IsDueSeries, gain_residuals, residual_over}
 use Rattle.teg_forever.specs.declared.divisions.Divided.{Divided}

@@ -3,11 +3,11 @@ use Rattle.std.specs.Prelude.{ℕ, Bool, true, false, ◌+◌, ◌-◌, ◌==◌
 use Rattle.std.specs.List.{list_all, list_any}
 use Rattle.std.specs.Str.{bytes_eq}
 use Rattle.std.specs.Str.Parse.{digits_value}
-use Rattle.teg_due.specs.csv_records.NumberFields.{is_number}
-use Rattle.teg_due.specs.csv_records.Records.{records_of}
-use Rattle.teg_due.specs.csv_records.RowsOfRecords.{rows_of}
-use Rattle.forever_laws.specs.teg_net.Limits.{greatest_input_date, greatest_every}
-use Rattle.forever_laws.specs.teg_net.Nets.{NetLists}
+use Rattle.csv_records.specs.NumberFields.{is_number}
+use Rattle.csv_records.specs.Records.{records_of}
+use Rattle.csv_records.specs.RowsOfRecords.{rows_of}
+use Rattle.teg_net.specs.Limits.{greatest_input_date, greatest_every}
+use Rattle.teg_net.specs.Nets.{NetLists}
 use Rattle.teg_due.specs.RowNames.{number_named, is_input}
 use Rattle.forever_laws.specs.declared.rows.EndlessRow.{EndlessRow}
 use Rattle.forever_laws.specs.EndlessRows.{most_endless_dates}

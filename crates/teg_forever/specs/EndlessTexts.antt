@@ -3,8 +3,8 @@ use Rattle.std.specs.Prelude.{ℕ, ◌<◌, ◌≡◌, ◌^◌, List, [], ◌∷
 use Rattle.std.specs.List.{zip}
 use Rattle.std.specs.Fmt.{decimal, signed_decimal}
 use Rattle.forever_laws.specs.series_laws.SeriesForms.{Form}
-use Rattle.forever_laws.specs.series_form.NumberBounds.{IsSeries}
-use Rattle.forever_laws.specs.teg_net.Nets.{NetLists, IsNet}
+use Rattle.series_form.specs.NumberBounds.{IsSeries}
+use Rattle.teg_net.specs.Nets.{NetLists, IsNet}
 use Rattle.teg_text.specs.Faults.{row_line}
 use Rattle.teg_text.specs.Lines.{phrase, written}
 use Rattle.teg_text.specs.WordsOfNames.{name_of_transition}

@@ -2,16 +2,16 @@
 use Rattle.std.specs.Prelude.{ℕ, ◌≡◌, ◌≢◌, ◌<◌, List, Some, Result, Ok, Err, length, slice_get, ⊤}
 use Rattle.forever_laws.specs.dioid_matrix.Residuals.{RowFits}
 use Rattle.forever_laws.specs.dioid_matrix.Tables.{StopsAt}
-use Rattle.forever_laws.specs.dioid.declared.dates.Date.TheVariants.{Never}
+use Rattle.dioid.specs.declared.dates.Date.TheVariants.{Never}
 use Rattle.forever_laws.specs.series_laws.SeriesForms.{Form, value_at}
-use Rattle.forever_laws.specs.series_form.NumberBounds.{IsSeries}
-use Rattle.forever_laws.specs.series_form.declared.forms.SeriesRefused.{SeriesRefused}
-use Rattle.forever_laws.specs.series_form.declared.forms.SeriesRefused.TheVariants.{TooLong, TooGreat, OutOfMemory as NoSpace}
-use Rattle.forever_laws.specs.series_ops.declared.gains.Gain.{Gain}
+use Rattle.series_form.specs.NumberBounds.{IsSeries}
+use Rattle.series_form.specs.declared.forms.SeriesRefused.{SeriesRefused}
+use Rattle.series_form.specs.declared.forms.SeriesRefused.TheVariants.{TooLong, TooGreat, OutOfMemory as NoSpace}
+use Rattle.series_ops.specs.declared.gains.Gain.{Gain}
 use Rattle.forever_laws.specs.periodic_laws.Equations.{gains}
-use Rattle.forever_laws.specs.teg_net.declared.entries.TransitionId.{TransitionId}
-use Rattle.forever_laws.specs.teg_net.Nets.{NetLists, IsInput}
-use Rattle.forever_laws.specs.teg_settle.Transfers.{TransferSettlesPast}
+use Rattle.teg_net.specs.declared.entries.TransitionId.{TransitionId}
+use Rattle.teg_net.specs.Nets.{NetLists, IsInput}
+use Rattle.teg_settle.specs.Transfers.{TransferSettlesPast}
 use Rattle.forever_laws.specs.declared.rows.EndlessRow.{EndlessRow}
 use Rattle.forever_laws.specs.SeriesColumns.{AreSeriesColumns, gain_residuals}
 use Rattle.teg_forever.specs.declared.releases.Release.{Release}

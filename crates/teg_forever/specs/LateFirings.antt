@@ -1,9 +1,9 @@
 -- Working definitions of what the search for a late firing goes by.
 use Rattle.std.specs.Prelude.{ℕ, pos, ◌+◌, ◌*◌, ◌<◌, ◌≤◌, ◌≡◌, length}
-use Rattle.forever_laws.specs.dioid.declared.dates.Date.{Date}
-use Rattle.forever_laws.specs.dioid.declared.dates.Date.TheVariants.{At}
-use Rattle.forever_laws.specs.dioid.Dates.{move}
-use Rattle.forever_laws.specs.teg_net.Nets.{NetLists}
+use Rattle.dioid.specs.declared.dates.Date.{Date}
+use Rattle.dioid.specs.declared.dates.Date.TheVariants.{At}
+use Rattle.dioid.specs.Dates.{move}
+use Rattle.teg_net.specs.Nets.{NetLists}
 use Rattle.forever_laws.specs.teg_model.DateBounds.{greatest_least_date}
 use Rattle.forever_laws.specs.teg_model.Datings.{IsLeastUnder}
 use Rattle.forever_laws.specs.settled_laws.SettledForms.{SettledForm, StandsFor, settled_date, step_of_form}

@@ -1,17 +1,17 @@
 -- What is answered of endless due dates: when the inputs are released at the latest, or why they are not told (chapter 5).
 use Rattle.std.specs.Prelude.{ℕ, zero, suc, pos, ◌-◌, ◌^◌, ◌<◌, ◌≤◌, ◌≡◌, ◌==◌, List, [], ◌∷◌, ◌++◌, Some, length, slice_get, if◌then◌else◌, ⊤}
-use Rattle.forever_laws.specs.dioid.declared.dates.Date.{Date}
-use Rattle.forever_laws.specs.dioid.declared.dates.Date.TheVariants.{At, Never}
+use Rattle.dioid.specs.declared.dates.Date.{Date}
+use Rattle.dioid.specs.declared.dates.Date.TheVariants.{At, Never}
 use Rattle.forever_laws.specs.dioid_matrix.Residuals.{RowFits}
 use Rattle.forever_laws.specs.dioid_matrix.Tables.{StopsAt}
 use Rattle.forever_laws.specs.series_laws.SeriesForms.{value_at}
-use Rattle.forever_laws.specs.series_form.NumberBounds.{IsSeries}
-use Rattle.forever_laws.specs.series_ops.declared.gains.Gain.{Gain}
+use Rattle.series_form.specs.NumberBounds.{IsSeries}
+use Rattle.series_ops.specs.declared.gains.Gain.{Gain}
 use Rattle.forever_laws.specs.periodic_laws.Equations.{gains}
-use Rattle.forever_laws.specs.teg_net.Nets.{NetLists, IsInput}
+use Rattle.teg_net.specs.Nets.{NetLists, IsInput}
 use Rattle.forever_laws.specs.teg_model.Datings.{IsLeastUnder}
 use Rattle.forever_laws.specs.settled_laws.SettledForms.{SettledForm, settled_length}
-use Rattle.forever_laws.specs.teg_settle.Transfers.{IsTransferOf, TransferSettlesPast}
+use Rattle.teg_settle.specs.Transfers.{IsTransferOf, TransferSettlesPast}
 use Rattle.forever_laws.specs.due_laws.MeetingDueDates.{InputsMeet, AreLatestInputs, inputs_at_zero}
 use Rattle.forever_laws.specs.due_laws.LatestDates.{IsLatestDate}
 use Rattle.forever_laws.specs.due_laws.LatestInputs.{LeadsToNoDue}

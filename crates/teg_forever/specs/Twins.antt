@@ -1,9 +1,9 @@
 -- Working definitions of inputs whose places lead on alike: such have one release.
 use Rattle.std.specs.Prelude.{ℕ, ◌≡◌, ◌<◌, All, Some, length, slice_get}
-use Rattle.forever_laws.specs.teg_net.declared.entries.Place.{Place}
-use Rattle.forever_laws.specs.teg_net.declared.entries.PlaceId.{PlaceId}
-use Rattle.forever_laws.specs.teg_net.Circuits.{place_at}
-use Rattle.forever_laws.specs.teg_net.Nets.{NetLists, IsInput}
+use Rattle.teg_net.specs.declared.entries.Place.{Place}
+use Rattle.teg_net.specs.declared.entries.PlaceId.{PlaceId}
+use Rattle.teg_net.specs.Circuits.{place_at}
+use Rattle.teg_net.specs.Nets.{NetLists, IsInput}
 use Rattle.teg_forever.specs.LatestReleases.{inputs_below}
 
 -- place q leaves transition v, and has the end, the holding time and the tokens of place p

@@ -1,16 +1,16 @@
 //! Rows that have the walk series and the due series of the row before.
 ghost use Rattle.std.specs.Prelude.{◌≡◌, ◌<◌, length, IsTrue};
-ghost use Rattle.forever_laws.specs.teg_net.Nets.{IsNet};
-ghost use Rattle.forever_laws.specs.teg_settle.Transfers.{IsTransferOf};
+ghost use Rattle.teg_net.specs.Nets.{IsNet};
+ghost use Rattle.teg_settle.specs.Transfers.{IsTransferOf};
 ghost use Rattle.forever_laws.specs.EndlessRows.{IsEndlessOf};
 ghost use Rattle.teg_forever.specs.Alike.{HaveSameWalks};
 ghost use Rattle.teg_forever.specs.Divisions.{AreDivisions, IsAsBefore};
 
 use crate::divisions::Divisions;
+use dioid::Date;
 use forever_laws::EndlessRow;
-use forever_laws::dioid::Date;
-use forever_laws::teg_net::{Net, TransitionId};
-use forever_laws::teg_settle::Settled;
+use teg_net::{Net, TransitionId};
+use teg_settle::Settled;
 
 // Whether the dates are the same.
 fn are_same(dates: &[Date], other: &[Date]) -> bool

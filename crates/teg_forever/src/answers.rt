@@ -1,9 +1,9 @@
 //! The latest releases of the inputs under endless due dates.
 ghost use Rattle.std.specs.Prelude.{◌<◌, ℕ, length, All, IfOk, IfErr};
 ghost use Rattle.forever_laws.specs.due_laws.MeetingDueDates.{InputsMeet, inputs_at_zero};
-ghost use Rattle.forever_laws.specs.teg_check.Ranks.{IsRanking};
-ghost use Rattle.forever_laws.specs.teg_net.Circuits.{IsLive};
-ghost use Rattle.forever_laws.specs.teg_net.Nets.{IsNet};
+ghost use Rattle.teg_check.specs.Ranks.{IsRanking};
+ghost use Rattle.teg_net.specs.Circuits.{IsLive};
+ghost use Rattle.teg_net.specs.Nets.{IsNet};
 ghost use Rattle.forever_laws.specs.settled_laws.SettledForms.{settled_date};
 ghost use Rattle.forever_laws.specs.Late.{NoneLate};
 ghost use Rattle.forever_laws.specs.EndlessRows.{IsEndlessOf, due_on};
@@ -13,14 +13,14 @@ ghost use Rattle.teg_forever.specs.LateFirings.{IsClimbing, IsZeroForm};
 use crate::inputs::releases_of;
 use crate::late::late_in_row;
 use crate::releases::{ForeverRefusal, Release};
-use forever_laws::teg_check::{Live, ranked_nets_are_live};
-use forever_laws::teg_net::{Net, OutOfMemory};
-use forever_laws::teg_settle::{Settled, settle};
 use forever_laws::{
     EndlessRow, latest_at_inputs_are_latest, turns_tell_late, zero_inputs_are_no_lists,
     zero_meets_where_none_late,
 };
 use std::alloc::Global;
+use teg_check::{Live, ranked_nets_are_live};
+use teg_net::{Net, OutOfMemory};
+use teg_settle::{Settled, settle};
 
 // The settled form of the least dating with all inputs at 0.
 fn settled_at_zero(alloc: Global, net: &Net, live: &Live) -> Result<Settled, OutOfMemory>

@@ -5,11 +5,11 @@ ghost use Rattle.forever_laws.specs.EndlessRows.{IsEndlessOf};
 ghost use Rattle.teg_forever.specs.Divisions.{AreAlike, AreDivisions, AreFirstsTo, IsAlikeAt, IsFirstPart, IsKeptIn, IsMisfit, IsDividedAt, StandsAt};
 
 use crate::gains::due_gain;
+use dioid::{Dioid, Refused, Residuated};
 use forever_laws::EndlessRow;
-use forever_laws::dioid::{Dioid, Refused, Residuated};
-use forever_laws::series_ops::Gain;
-use forever_laws::teg_net::Net;
+use series_ops::Gain;
 use std::alloc::{AllocError, Global};
+use teg_net::Net;
 
 // The values of series that are kept, at most: 96 MB, and one pair more.
 const MOST_KEPT: usize = 3_000_000;

@@ -1,26 +1,26 @@
 //! The series of the due dates of a row, and of the times of walks from an input to its transition.
 ghost use Rattle.std.specs.Prelude.{◌≡◌, ◌<◌, ◌≤◌, Ok, length, map, pos, IfOk};
-ghost use Rattle.forever_laws.specs.dioid.declared.dates.Date.TheVariants.{At};
-ghost use Rattle.forever_laws.specs.teg_net.Circuits.{IsLive};
-ghost use Rattle.forever_laws.specs.teg_net.Nets.{IsInput, IsNet};
-ghost use Rattle.forever_laws.specs.series_form.SeriesAnswers.{AnswersOf};
+ghost use Rattle.dioid.specs.declared.dates.Date.TheVariants.{At};
+ghost use Rattle.teg_net.specs.Circuits.{IsLive};
+ghost use Rattle.teg_net.specs.Nets.{IsInput, IsNet};
+ghost use Rattle.series_form.specs.SeriesAnswers.{AnswersOf};
 ghost use Rattle.forever_laws.specs.series_laws.SeriesForms.{HasValues, value_at};
 ghost use Rattle.forever_laws.specs.series_laws.Periodic.{Rising};
 ghost use Rattle.forever_laws.specs.settled_laws.SettledForms.{row_of, settled_length};
-ghost use Rattle.forever_laws.specs.teg_settle.Transfers.{IsTransferOf};
+ghost use Rattle.teg_settle.specs.Transfers.{IsTransferOf};
 ghost use Rattle.forever_laws.specs.SeriesColumns.{IsDueSeries, IsWalkSeries};
 ghost use Rattle.forever_laws.specs.EndlessRows.{IsEndlessRow};
 ghost use Rattle.teg_forever.specs.Alike.{told_form};
 ghost use Rattle.teg_forever.specs.InputAnswers.{FitsIfMade};
 ghost use Rattle.teg_forever.specs.LatestReleases.{longest_form};
 
-use forever_laws::dioid::Date;
-use forever_laws::series_form::{Series, SeriesRefused};
-use forever_laws::series_ops::Gain;
-use forever_laws::teg_net::{Net, OutOfMemory, TransitionId};
-use forever_laws::teg_settle::Settled;
+use dioid::Date;
 use forever_laws::{EndlessRow, forms_are_series, series_fit};
+use series_form::{Series, SeriesRefused};
+use series_ops::Gain;
 use std::alloc::{AllocError, Global};
+use teg_net::{Net, OutOfMemory, TransitionId};
+use teg_settle::Settled;
 
 // The listed dates.
 fn listed(alloc: Global, dates: &[u64]) -> Result<Vec<Date>, AllocError>

@@ -1,7 +1,7 @@
 //! The latest releases of the inputs, one by one.
 ghost use Rattle.std.specs.Prelude.{◌≡◌, ◌<◌, ◌≤◌, ◌+◌, Some, length, slice_get, IfOk, IfErr, OnOk};
 ghost use Rattle.forever_laws.specs.due_laws.MeetingDueDates.{InputsMeet, inputs_at_zero};
-ghost use Rattle.forever_laws.specs.teg_net.Nets.{IsInput};
+ghost use Rattle.teg_net.specs.Nets.{IsInput};
 ghost use Rattle.forever_laws.specs.EndlessRows.{due_on};
 ghost use Rattle.teg_forever.specs.Asked.{CanMeet, IsAsked};
 ghost use Rattle.teg_forever.specs.InputAnswers.{AreReleasesBelow, IsReleaseBy, IsStopped};
@@ -12,14 +12,14 @@ use crate::divisions::Divisions;
 use crate::releases::{ForeverRefusal, Release};
 use crate::residuals::meet_of;
 use crate::twins::twin_before;
-use forever_laws::dioid::Date;
-use forever_laws::series_form::Series;
-use forever_laws::teg_check::Live;
-use forever_laws::teg_net::{Net, TransitionId};
-use forever_laws::teg_settle::{SettleRefusal, Settled, transfer, walk_times_settle};
+use dioid::Date;
 use forever_laws::{EndlessRow, columns_exist, residuals_are_latest_dates};
+use series_form::Series;
 use std::alloc::{AllocError, Global};
+use teg_check::Live;
 use teg_due::is_input;
+use teg_net::{Net, TransitionId};
+use teg_settle::{SettleRefusal, Settled, transfer, walk_times_settle};
 
 // The longest settled form of walk times that is taken.
 const LONGEST_FORM: u32 = 20_000;

@@ -1,19 +1,19 @@
 //! The least late number of a row: the firing that comes later than due, whatever the inputs are.
 ghost use Rattle.std.specs.Prelude.{◌≡◌, ◌<◌, ◌≤◌, ◌+◌, ◌*◌, ◌%◌, ◌⊎◌, pos, IfOk, IfNone, IfSome, IsTrue};
-ghost use Rattle.forever_laws.specs.dioid.declared.dates.Date.TheVariants.{At};
-ghost use Rattle.forever_laws.specs.teg_net.Circuits.{IsLive};
-ghost use Rattle.forever_laws.specs.teg_net.Nets.{IsNet};
-ghost use Rattle.forever_laws.specs.teg_net.Limits.{greatest_firing_number, greatest_input_date};
+ghost use Rattle.dioid.specs.declared.dates.Date.TheVariants.{At};
+ghost use Rattle.teg_net.specs.Circuits.{IsLive};
+ghost use Rattle.teg_net.specs.Nets.{IsNet};
+ghost use Rattle.teg_net.specs.Limits.{greatest_firing_number, greatest_input_date};
 ghost use Rattle.forever_laws.specs.settled_laws.SettledForms.{settled_date};
 ghost use Rattle.forever_laws.specs.EndlessRows.{IsEndlessRow, row_due};
 ghost use Rattle.forever_laws.specs.Late.{IsLeastLate, NoneLate, NoneLateTo};
 ghost use Rattle.forever_laws.specs.LateSearches.{IsSoonest, IsCommonPeriodOf, turns_to};
 ghost use Rattle.teg_forever.specs.LateFirings.{GoesOnBySteps, IsClimbing, IsGoingRow, IsLateAfter, IsSoonLate, IsZeroForm, RisesIn};
 
-use forever_laws::dioid::Date;
-use forever_laws::teg_net::{Net, OutOfMemory, TransitionId};
-use forever_laws::teg_settle::Settled;
+use dioid::Date;
 use forever_laws::{EndlessRow, late_is_soon, turns_tell_late};
+use teg_net::{Net, OutOfMemory, TransitionId};
+use teg_settle::Settled;
 
 // The greatest number that a settled form tells.
 const GREATEST_NUMBER: u64 = 1_000_000_000_000_000_000;

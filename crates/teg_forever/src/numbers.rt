@@ -2,13 +2,13 @@
 ghost use Rattle.std.specs.Prelude.{◌≡◌, ◌≤◌, ◌<◌, [], true, IfOk, length, get_or, option_map, nat_le};
 ghost use Rattle.std.specs.List.{list_all};
 ghost use Rattle.teg_due.specs.csv.Records.{fields_of};
-ghost use Rattle.teg_due.specs.csv_records.NumberFields.{is_number, number_up_to};
-ghost use Rattle.forever_laws.specs.teg_net.Limits.{greatest_firing_number, greatest_input_date};
+ghost use Rattle.csv_records.specs.NumberFields.{is_number, number_up_to};
+ghost use Rattle.teg_net.specs.Limits.{greatest_firing_number, greatest_input_date};
 ghost use Rattle.teg_forever.specs.EndlessFiles.{has_numbers, IsLimited, AreDatesOfFields, goes_on, rises_from};
 
-use forever_laws::teg_net::OutOfMemory;
+use csv_records::{ByteRecord, is_number, number_up_to};
 use std::alloc::Global;
-use teg_due::csv_records::{ByteRecord, is_number, number_up_to};
+use teg_net::OutOfMemory;
 
 // The greatest gap and the greatest date.
 const GREATEST_DATE: u64 = 1_000_000_000_000;

@@ -1,17 +1,17 @@
 //! Files of due dates without end.
 ghost use Rattle.std.specs.Prelude.{◌≡◌, ◌≢◌, ◌≤◌, Ok, Err, true, false, length, IfOk, IfErr};
 ghost use Rattle.teg_due.specs.csv.Records.{fields_of};
-ghost use Rattle.teg_due.specs.csv_records.Records.{most_file_bytes};
+ghost use Rattle.csv_records.specs.Records.{most_file_bytes};
 ghost use Rattle.forever_laws.specs.EndlessRows.{IsEndlessOf};
 ghost use Rattle.teg_forever.specs.EndlessFiles.{dates_of_fields, endless_numbered, endless_of, every_in, gap_in, has_numbers, has_row};
 
 use crate::numbers::{field_at, goes_on, has_numbers, limited_numbers};
 use crate::rows::EndlessRefusal;
+use csv_records::{ByteRecord, RowFile, read_rows};
 use forever_laws::EndlessRow;
-use forever_laws::teg_net::{DateList, NameOrder, Net, TransitionId};
 use std::alloc::Global;
-use teg_due::csv_records::{ByteRecord, RowFile, read_rows};
 use teg_due::{is_input, transition_named};
+use teg_net::{DateList, NameOrder, Net, TransitionId};
 
 // A file of due dates without end, which is read against a net.
 #[derive(Drop)]

@@ -2,9 +2,9 @@
 ghost use Rattle.std.specs.Prelude.{◌≡◌};
 ghost use Rattle.teg_forever.specs.declared.releases.ForeverRefusal.TheVariants.{OutOfMemory};
 
-use forever_laws::series_form::Series;
-use forever_laws::teg_net::{OutOfMemory, TransitionId};
+use series_form::Series;
 use std::alloc::AllocError;
+use teg_net::{OutOfMemory, TransitionId};
 
 /// When an input is released at the latest.
 #[derive(Drop)]

@@ -1,7 +1,7 @@
 //! The meet over the rows of the residuals of their due series by the walk series of an input.
 ghost use Rattle.std.specs.Prelude.{◌≡◌, ◌<◌, ◌≤◌, ◌+◌, Err, length, true, IfErr, IfOk, IsTrue, OnOk};
-ghost use Rattle.forever_laws.specs.dioid.ElementAnswers.{Answers};
-ghost use Rattle.forever_laws.specs.series_ops.Gains.{gain_meet, MeetFits};
+ghost use Rattle.dioid.specs.ElementAnswers.{Answers};
+ghost use Rattle.series_ops.specs.Gains.{gain_meet, MeetFits};
 ghost use Rattle.teg_forever.specs.Asked.{IsAsked};
 ghost use Rattle.teg_forever.specs.InputAnswers.{IsStopped};
 ghost use Rattle.teg_forever.specs.Divisions.{AreDivisions, AreMet, IsMeetOver, IsMeetSoFar, IsRefusedAt, IsResidualOf, refusal_at};
@@ -10,12 +10,12 @@ use crate::alike::is_as_before;
 use crate::divisions::Divisions;
 use crate::gains::walk_gain;
 use crate::releases::ForeverRefusal;
-use forever_laws::dioid::{Dioid, Refused, Residuated};
-use forever_laws::series_ops::Gain;
-use forever_laws::teg_net::{Net, TransitionId};
-use forever_laws::teg_settle::Settled;
+use dioid::{Dioid, Refused, Residuated};
 use forever_laws::{EndlessRow, columns_exist};
+use series_ops::Gain;
 use std::alloc::Global;
+use teg_net::{Net, TransitionId};
+use teg_settle::Settled;
 
 // Why an operation on the series of a row of the input gives none.
 fn refusal_at(why: Refused, input: TransitionId, row: &EndlessRow) -> ForeverRefusal

@@ -2,7 +2,7 @@
 ghost use Rattle.std.specs.Prelude.{◌≡◌};
 ghost use Rattle.teg_forever.specs.declared.rows.EndlessRefusal.TheVariants.{OutOfMemory};
 
-use forever_laws::teg_net::OutOfMemory;
+use teg_net::OutOfMemory;
 
 /// Why a file has no endless due dates: its first faulty row, and the first of its faults in this
 /// order.

@@ -1,17 +1,17 @@
 //! The texts of the answers about endless due dates.
 ghost use Rattle.std.specs.Prelude.{◌≡◌, ◌≢◌, ◌<◌, ◌++◌, [], Ok, Err, Some, All, get_or, length, map, slice_get, IfOk, string_bytes};
-ghost use Rattle.forever_laws.specs.series_form.NumberBounds.{IsSeries};
-ghost use Rattle.forever_laws.specs.teg_net.Nets.{NetLists};
+ghost use Rattle.series_form.specs.NumberBounds.{IsSeries};
+ghost use Rattle.teg_net.specs.Nets.{NetLists};
 ghost use Rattle.teg_text.specs.Lines.{further_then, line_then, written};
 ghost use Rattle.teg_forever.specs.LatestReleases.{inputs_of};
 ghost use Rattle.teg_forever.specs.EndlessTexts.{IsFaultTold, IsRefusalIn, IsReleaseTold, IsEndlessTold, TextsOfEndlessDiffer, Faulty, Answered, answer_lines, endless_line, forever_line, endless_lines_of, release_line, series_words};
 
 use crate::releases::{ForeverRefusal, Release};
 use crate::rows::EndlessRefusal;
-use forever_laws::series_form::Series;
-use forever_laws::teg_net::{Net, OutOfMemory, TransitionId};
+use series_form::Series;
 use std::alloc::{AllocError, Global};
 use teg_due::is_input;
+use teg_net::{Net, OutOfMemory, TransitionId};
 use teg_text::{push_dates, row_fault};
 
 // Appends the end of the line of an input: the values of its series, its period and its step.

@@ -3,8 +3,8 @@
 ghost use Rattle.std.specs.Prelude.{◌≡◌, ◌<◌, length, IfSome, IsTrue};
 ghost use Rattle.teg_forever.specs.Twins.{AreTwins, HasTwinPlace, IsTwinAt, IsTwinPlace, LeadsAlike};
 
-use forever_laws::teg_net::{Net, Place, TransitionId};
 use teg_due::is_input;
+use teg_net::{Net, Place, TransitionId};
 
 // Whether the other place leaves this transition, and ends and holds tokens as the first does.
 fn is_twin_place(from: TransitionId, place: &Place, other: &Place) -> bool

@@ -5,15 +5,15 @@ use Rattle.std.proofs.lemmas.Bool.{cases_eq, cases_lt}
 use Rattle.std.proofs.lemmas.Int.{ints}
 use Rattle.std.proofs.lemmas.List.{get_or_default}
 use Rattle.std.proofs.lemmas.List.Sums.{sum_by-cons}
-use Rattle.teg_model.specs.dioid.declared.dates.Date.{Date}
-use Rattle.teg_model.specs.dioid.declared.dates.Date.TheVariants.{Early, At}
-use Rattle.teg_model.specs.dioid.Dates.{IsAtMostDate, delayed}
-use Rattle.teg_model.proofs.dioid_proofs.DateOrder.{at_most_trans, later_left}
-use Rattle.teg_model.specs.teg_net.declared.entries.PlaceId.{PlaceId}
-use Rattle.teg_model.specs.teg_net.declared.entries.Place.{Place}
-use Rattle.teg_model.specs.teg_net.Nets.{NetLists, IsInput}
-use Rattle.teg_model.specs.teg_net.Circuits.{no_place, place_at, time_of, tokens_of}
-use Rattle.teg_model.specs.teg_net.ReadyDates.{start_date}
+use Rattle.dioid.specs.declared.dates.Date.{Date}
+use Rattle.dioid.specs.declared.dates.Date.TheVariants.{Early, At}
+use Rattle.dioid.specs.Dates.{IsAtMostDate, delayed}
+use Rattle.dioid.proofs.DateOrder.{at_most_trans, later_left}
+use Rattle.teg_net.specs.declared.entries.PlaceId.{PlaceId}
+use Rattle.teg_net.specs.declared.entries.Place.{Place}
+use Rattle.teg_net.specs.Nets.{NetLists, IsInput}
+use Rattle.teg_net.specs.Circuits.{no_place, place_at, time_of, tokens_of}
+use Rattle.teg_net.specs.ReadyDates.{start_date}
 use Rattle.teg_model.specs.Systems.{System}
 use Rattle.teg_model.specs.LiveRanks.{AreRanks}
 use Rattle.teg_model.specs.Starts.{start_of_firing}

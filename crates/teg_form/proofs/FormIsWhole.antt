@@ -5,18 +5,18 @@ use Rattle.std.proofs.lemmas.Bool.{cases_lt}
 use Rattle.std.proofs.lemmas.List.{get_or_default}
 use Rattle.std.proofs.lemmas.Option.{slice_get_past}
 use Rattle.std.proofs.lemmas.List.Sums.{sum_by-cons}
-use Rattle.teg_model.specs.dioid.declared.dates.Date.{Date}
-use Rattle.teg_model.specs.dioid.declared.dates.Date.TheVariants.{Early, At}
-use Rattle.teg_model.specs.dioid.Dates.{IsAtMostDate, delayed}
-use Rattle.teg_model.proofs.dioid_proofs.DateOrder.{at_most_trans, later_least}
-use Rattle.teg_model.specs.teg_net.declared.entries.Role.TheVariants.{Input}
-use Rattle.teg_model.specs.teg_net.declared.entries.Transition.{Transition}
-use Rattle.teg_model.specs.teg_net.declared.entries.PlaceId.{PlaceId}
-use Rattle.teg_model.specs.teg_net.declared.entries.Place.{Place}
-use Rattle.teg_model.specs.teg_net.Nets.{NetLists, IsInput}
-use Rattle.teg_model.specs.teg_net.Circuits.{no_place, place_at, IsPathBetween, time_of, tokens_of}
-use Rattle.teg_model.specs.teg_net.ReadyDates.{ready_date, start_date}
-use Rattle.teg_model.proofs.teg_net_proofs.StartDates.{IsStartDate-start_date}
+use Rattle.dioid.specs.declared.dates.Date.{Date}
+use Rattle.dioid.specs.declared.dates.Date.TheVariants.{Early, At}
+use Rattle.dioid.specs.Dates.{IsAtMostDate, delayed}
+use Rattle.dioid.proofs.DateOrder.{at_most_trans, later_least}
+use Rattle.teg_net.specs.declared.entries.Role.TheVariants.{Input}
+use Rattle.teg_net.specs.declared.entries.Transition.{Transition}
+use Rattle.teg_net.specs.declared.entries.PlaceId.{PlaceId}
+use Rattle.teg_net.specs.declared.entries.Place.{Place}
+use Rattle.teg_net.specs.Nets.{NetLists, IsInput}
+use Rattle.teg_net.specs.Circuits.{no_place, place_at, IsPathBetween, time_of, tokens_of}
+use Rattle.teg_net.specs.ReadyDates.{ready_date, start_date}
+use Rattle.teg_net.proofs.StartDates.{IsStartDate-start_date}
 use Rattle.teg_model.specs.Systems.{System}
 use Rattle.teg_model.specs.LiveRanks.{AreRanks, HasEndsInRange}
 use Rattle.teg_model.specs.Datings.{implicit_place, extended_places, initial_date, available_at, at_input, system_of, IsFeasibleUnder, IsLeastUnder}

@@ -3,11 +3,11 @@ use Rattle.std.proofs.Common.{ℕ, ◌+◌, ◌*◌, ◌<◌, ◌≤◌, ◌≡�
 use Rattle.std.proofs.lemmas.Bool.{cases_lt}
 use Rattle.std.proofs.lemmas.List.{get_or_past}
 use Rattle.std.proofs.lemmas.List.Sums.{sum_by-cons, sum_by-append}
-use Rattle.teg_model.specs.teg_net.declared.entries.PlaceId.{PlaceId}
-use Rattle.teg_model.specs.teg_net.Nets.{NetLists, IsNet}
-use Rattle.teg_model.specs.teg_net.Circuits.{no_place, place_at, IsPathBetween, time_of, tokens_of}
-use Rattle.teg_model.specs.teg_net.Limits.{greatest_circuit_time, greatest_hold}
-use Rattle.teg_model.proofs.teg_net_proofs.PathLaws.{IsPathBetween-append}
+use Rattle.teg_net.specs.declared.entries.PlaceId.{PlaceId}
+use Rattle.teg_net.specs.Nets.{NetLists, IsNet}
+use Rattle.teg_net.specs.Circuits.{no_place, place_at, IsPathBetween, time_of, tokens_of}
+use Rattle.teg_net.specs.Limits.{greatest_circuit_time, greatest_hold}
+use Rattle.teg_net.proofs.PathLaws.{IsPathBetween-append}
 use Rattle.teg_check.specs.Ranks.{IsRanking}
 use Rattle.teg_form.specs.StandardForms.{IsTimeOfFreePath}
 

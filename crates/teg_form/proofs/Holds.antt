@@ -2,13 +2,13 @@
 use Rattle.std.proofs.Common.{ℕ, pos, ◌+◌, ◌*◌, ◌<◌, ◌≤◌, ◌≡◌, ◌≢◌, List, length, get_or, set, refl, sym, ap, subst, ◌∙◌, arith, ⊎_elim}
 use Rattle.std.proofs.lemmas.Bool.{cases_eq, cases_lt}
 use Rattle.std.proofs.lemmas.List.{length-set, get_or-set_same, get_or-set_other}
-use Rattle.teg_model.specs.dioid.declared.dates.Date.{Date}
-use Rattle.teg_model.specs.dioid.declared.dates.Date.TheVariants.{Early, At}
-use Rattle.teg_model.specs.dioid.Dates.{IsAtMostDate, later_of}
-use Rattle.teg_model.proofs.dioid_proofs.DateOrder.{at_most_refl, at_most_trans, later_left, later_right, later_either}
-use Rattle.teg_model.specs.teg_net.declared.entries.Place.{Place}
-use Rattle.teg_model.specs.teg_net.Nets.{NetLists, IsNet, IsPlaceOf}
-use Rattle.teg_model.specs.teg_net.Circuits.{no_place}
+use Rattle.dioid.specs.declared.dates.Date.{Date}
+use Rattle.dioid.specs.declared.dates.Date.TheVariants.{Early, At}
+use Rattle.dioid.specs.Dates.{IsAtMostDate, later_of}
+use Rattle.dioid.proofs.DateOrder.{at_most_refl, at_most_trans, later_left, later_right, later_either}
+use Rattle.teg_net.specs.declared.entries.Place.{Place}
+use Rattle.teg_net.specs.Nets.{NetLists, IsNet, IsPlaceOf}
+use Rattle.teg_net.specs.Circuits.{no_place}
 use Rattle.teg_form.specs.Times.{cell, IsHoldBetween}
 use Rattle.teg_form.proofs.Cells.{cell_in, one_cell}
 

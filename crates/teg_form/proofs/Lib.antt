@@ -12,7 +12,7 @@ pub mod OneForm
 mod PathDates
 mod DatesByForm
 mod FormIsWhole
-pub use Rattle.teg_model.proofs.dioid_proofs as dioid_proofs
-pub use Rattle.teg_model.proofs.teg_net_proofs as teg_net_proofs
+pub use Rattle.dioid.proofs as dioid_proofs
+pub use Rattle.teg_net.proofs as teg_net_proofs
 pub use Rattle.teg_check.proofs as teg_check_proofs
 pub use Rattle.teg_model.proofs as teg_model_proofs

@@ -7,9 +7,9 @@ use Rattle.std.proofs.lemmas.List.{get_or_default, length-set, get_or-set_same, 
 use Rattle.std.proofs.lemmas.List.Sums.{sum_by-cons}
 use Rattle.std.proofs.lemmas.List.Elements.{All-push, All-set}
 use Rattle.std.proofs.lemmas.List.Quantifiers.{Any-push, all_pairs_push, any-set}
-use Rattle.teg_model.specs.teg_net.declared.entries.PlaceId.{PlaceId}
-use Rattle.teg_model.specs.teg_net.Nets.{NetLists, IsNet}
-use Rattle.teg_model.specs.teg_net.Circuits.{no_place, place_at, time_of}
+use Rattle.teg_net.specs.declared.entries.PlaceId.{PlaceId}
+use Rattle.teg_net.specs.Nets.{NetLists, IsNet}
+use Rattle.teg_net.specs.Circuits.{no_place, place_at, time_of}
 use Rattle.teg_form.specs.declared.form.Entry.{Entry}
 use Rattle.teg_form.specs.declared.order.Marked.{Marked}
 use Rattle.teg_form.specs.StandardForms.{IsTimeOfMarkedPath, IsGreatestTime, IsEntryBefore, AreEntries}

@@ -1,7 +1,7 @@
 -- A net has one standard form.
 use Rattle.std.proofs.Common.{◌≡◌, ℕ, ◌<◌, ◌⊎◌, ⊎_elim, inl, inr, List, subst, ◌∙◌, arith}
 use Rattle.std.specs.Prelude.{Contains}
-use Rattle.teg_model.specs.teg_net.Nets.{NetLists}
+use Rattle.teg_net.specs.Nets.{NetLists}
 use Rattle.teg_form.specs.declared.form.StarEntry.{StarEntry}
 use Rattle.teg_form.specs.declared.form.Entry.{Entry}
 use Rattle.teg_form.specs.StandardForms.{FormLists, IsTimeOfFreePath, IsTimeOfMarkedPath, IsGreatestTime, IsStarEntry, IsStarBefore, AreStars, IsEntry, IsEntryBefore, AreEntries, IsStandardFormOf}

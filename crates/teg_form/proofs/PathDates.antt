@@ -2,14 +2,14 @@
 use Rattle.std.proofs.Common.{ℕ, ◌+◌, ◌-◌, ◌<◌, ◌≤◌, ◌≡◌, List, [], ◌∷◌, length, sym, ap, subst, ◌∙◌, arith}
 use Rattle.std.proofs.lemmas.List.Sums.{sum_by-cons}
 use Rattle.std.proofs.lemmas.Int.{ints}
-use Rattle.teg_model.specs.dioid.declared.dates.Date.{Date}
-use Rattle.teg_model.specs.dioid.declared.dates.Date.TheVariants.{Early, At, Never}
-use Rattle.teg_model.specs.dioid.Dates.{IsAtMostDate, delayed}
-use Rattle.teg_model.proofs.dioid_proofs.DateOrder.{at_most_trans, at_most_is, delayed_rises}
-use Rattle.teg_model.specs.teg_net.declared.entries.PlaceId.{PlaceId}
-use Rattle.teg_model.specs.teg_net.declared.entries.Place.{Place}
-use Rattle.teg_model.specs.teg_net.Nets.{NetLists}
-use Rattle.teg_model.specs.teg_net.Circuits.{place_at, IsPathBetween, time_of, tokens_of}
+use Rattle.dioid.specs.declared.dates.Date.{Date}
+use Rattle.dioid.specs.declared.dates.Date.TheVariants.{Early, At, Never}
+use Rattle.dioid.specs.Dates.{IsAtMostDate, delayed}
+use Rattle.dioid.proofs.DateOrder.{at_most_trans, at_most_is, delayed_rises}
+use Rattle.teg_net.specs.declared.entries.PlaceId.{PlaceId}
+use Rattle.teg_net.specs.declared.entries.Place.{Place}
+use Rattle.teg_net.specs.Nets.{NetLists}
+use Rattle.teg_net.specs.Circuits.{place_at, IsPathBetween, time_of, tokens_of}
 use Rattle.teg_model.specs.Datings.{initial_date, available_at}
 use Rattle.teg_model.proofs.Delays.{delayed_twice, delayed_not}
 use Rattle.teg_model.proofs.Tokens.{available_after}

@@ -4,16 +4,16 @@ use Rattle.std.proofs.Common.{ℕ, pos, zero, suc, ◌+◌, ◌<◌, ◌≤◌, 
 use Rattle.std.specs.Prelude.{⊤}
 use Rattle.std.specs.Int.{w128}
 use Rattle.std.proofs.lemmas.Int.{ints, fits_signed_from_abs}
-use Rattle.teg_model.specs.dioid.declared.dates.Date.{Date}
-use Rattle.teg_model.specs.dioid.declared.dates.Date.TheVariants.{Early, At, Never}
-use Rattle.teg_model.specs.dioid.declared.algebra.Dioid.{Ghosts as DioidOf}
-use Rattle.teg_model.specs.dioid.declared.algebra.Kleene.{Ghosts as KleeneOf}
-use Rattle.teg_model.specs.dioid.Dates.{later_of, date_product, date_star, DateProductFits}
-use Rattle.teg_model.proofs.dioid_proofs.DateOrder.{later_either}
+use Rattle.dioid.specs.declared.dates.Date.{Date}
+use Rattle.dioid.specs.declared.dates.Date.TheVariants.{Early, At, Never}
+use Rattle.dioid.specs.declared.algebra.Dioid.{Ghosts as DioidOf}
+use Rattle.dioid.specs.declared.algebra.Kleene.{Ghosts as KleeneOf}
+use Rattle.dioid.specs.Dates.{later_of, date_product, date_star, DateProductFits}
+use Rattle.dioid.proofs.DateOrder.{later_either}
 use Rattle.dioid_matrix.specs.MatrixStars.{steps_of}
 use Rattle.dioid_matrix.specs.Turns.{EntryFits, LastFits}
-use Rattle.teg_model.specs.teg_net.Nets.{NetLists, IsNet}
-use Rattle.teg_model.specs.teg_net.Limits.{greatest_circuit_time}
+use Rattle.teg_net.specs.Nets.{NetLists, IsNet}
+use Rattle.teg_net.specs.Limits.{greatest_circuit_time}
 use Rattle.teg_check.specs.Ranks.{IsRanking}
 use Rattle.teg_form.specs.StandardForms.{IsTimeOfFreePath}
 use Rattle.teg_form.proofs.FreePaths.{joined, time_below}

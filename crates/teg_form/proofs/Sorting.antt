@@ -1,8 +1,8 @@
 -- The loop of `by_source`.
 use Rattle.std.proofs.Common.{ℕ, ◌<◌, ◌≤◌, List, length, get_or}
 use Rattle.std.specs.Prelude.{All, Contains}
-use Rattle.teg_model.specs.teg_net.Nets.{NetLists}
-use Rattle.teg_model.specs.teg_net.Circuits.{no_place}
+use Rattle.teg_net.specs.Nets.{NetLists}
+use Rattle.teg_net.specs.Circuits.{no_place}
 use Rattle.teg_form.specs.declared.order.Marked.{Marked}
 use Rattle.teg_form.specs.KeyOrder.{IsMarkedPlace, marked_at}
 

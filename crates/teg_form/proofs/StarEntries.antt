@@ -8,16 +8,16 @@ use Rattle.std.proofs.lemmas.Int.{ints, fits_signed_from_abs}
 use Rattle.std.proofs.lemmas.Nat.{div-add-mod'}
 use Rattle.std.proofs.lemmas.List.Elements.{All-push}
 use Rattle.std.proofs.lemmas.List.Quantifiers.{Any-push, all_pairs_push}
-use Rattle.teg_model.specs.dioid.declared.dates.Date.{Date}
-use Rattle.teg_model.specs.dioid.declared.dates.Date.TheVariants.{Early, At}
-use Rattle.teg_model.specs.dioid.Dates.{IsAtMostDate}
+use Rattle.dioid.specs.declared.dates.Date.{Date}
+use Rattle.dioid.specs.declared.dates.Date.TheVariants.{Early, At}
+use Rattle.dioid.specs.Dates.{IsAtMostDate}
 use Rattle.dioid_matrix.specs.Tables.{Table}
-use Rattle.teg_model.specs.teg_net.declared.entries.Place.{Place}
-use Rattle.teg_model.specs.teg_net.declared.entries.PlaceId.{PlaceId}
+use Rattle.teg_net.specs.declared.entries.Place.{Place}
+use Rattle.teg_net.specs.declared.entries.PlaceId.{PlaceId}
 use Rattle.std.proofs.lemmas.List.{get_or_read}
-use Rattle.teg_model.specs.teg_net.Nets.{NetLists, IsNet}
-use Rattle.teg_model.specs.teg_net.Circuits.{no_place, place_at, IsPathBetween}
-use Rattle.teg_model.specs.teg_net.Limits.{greatest_circuit_time}
+use Rattle.teg_net.specs.Nets.{NetLists, IsNet}
+use Rattle.teg_net.specs.Circuits.{no_place, place_at, IsPathBetween}
+use Rattle.teg_net.specs.Limits.{greatest_circuit_time}
 use Rattle.teg_form.specs.declared.form.StarEntry.{StarEntry}
 use Rattle.teg_form.specs.StandardForms.{IsTimeOfFreePath, IsGreatestTime, IsStarEntry, IsStarBefore, AreStars}
 use Rattle.teg_form.specs.Times.{cell, IsTimeBetween, AreFreeTimes, IsTimeFrom}

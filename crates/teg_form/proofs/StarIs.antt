@@ -2,18 +2,18 @@
 use Rattle.std.proofs.Common.{ℕ, pos, ◌+◌, ◌*◌, ◌<◌, ◌≡◌, ◌≢◌, List, [], true, false, cond, eqb, get_or, length, refl, sym, ap, subst, ◌∙◌, arith, ⊎_elim}
 use Rattle.std.proofs.lemmas.Bool.{cases_eq}
 use Rattle.std.proofs.lemmas.Bool.Decides.{nat_tests}
-use Rattle.teg_model.specs.dioid.declared.dates.Date.{Date}
-use Rattle.teg_model.specs.dioid.declared.dates.Date.TheVariants.{Early, At, Never}
-use Rattle.teg_model.specs.dioid.declared.algebra.Dioid.{Ghosts as DioidOf}
-use Rattle.teg_model.specs.dioid.declared.algebra.Kleene.{Ghosts as KleeneOf}
-use Rattle.teg_model.specs.dioid.Dates.{IsAtMostDate, later_of}
+use Rattle.dioid.specs.declared.dates.Date.{Date}
+use Rattle.dioid.specs.declared.dates.Date.TheVariants.{Early, At, Never}
+use Rattle.dioid.specs.declared.algebra.Dioid.{Ghosts as DioidOf}
+use Rattle.dioid.specs.declared.algebra.Kleene.{Ghosts as KleeneOf}
+use Rattle.dioid.specs.Dates.{IsAtMostDate, later_of}
 use Rattle.dioid_matrix.specs.MatrixStars.{steps_of, star_of}
 use Rattle.dioid_matrix.specs.Tables.{Table, table_of, entry_of}
 use Rattle.dioid_matrix.specs.Turns.{IsStar, StarRefused}
 use Rattle.dioid_matrix.specs.declared.refusals.MatrixRefused.TheVariants.{Range}
 use Rattle.dioid_matrix.proofs.Least.{is_itself}
-use Rattle.teg_model.specs.teg_net.Nets.{NetLists, IsNet}
-use Rattle.teg_model.specs.teg_net.Circuits.{no_place, place_at, time_of}
+use Rattle.teg_net.specs.Nets.{NetLists, IsNet}
+use Rattle.teg_net.specs.Circuits.{no_place, place_at, time_of}
 use Rattle.teg_check.specs.Ranks.{IsRanking}
 use Rattle.teg_form.specs.StandardForms.{IsTimeOfFreePath}
 use Rattle.teg_form.specs.Times.{cell, IsHoldBetween, AreFreeHolds, IsTimeBetween, AreFreeTimes}

@@ -4,17 +4,17 @@ use Rattle.std.proofs.lemmas.Int.{ints}
 use Rattle.std.proofs.lemmas.Bool.Decides.{nat_tests}
 use Rattle.std.proofs.lemmas.List.Sums.{sum_by-cons}
 use Rattle.std.proofs.Math.Nat.{eq-or-lt_of_le}
-use Rattle.teg_model.specs.dioid.declared.dates.Date.{Date}
-use Rattle.teg_model.specs.dioid.declared.dates.Date.TheVariants.{Early, At, Never}
-use Rattle.teg_model.specs.dioid.declared.algebra.Dioid.{Ghosts as DioidOf}
-use Rattle.teg_model.specs.dioid.declared.algebra.Kleene.{Ghosts as KleeneOf}
-use Rattle.teg_model.specs.dioid.Dates.{IsAtMostDate, later_of, date_product}
-use Rattle.teg_model.proofs.dioid_proofs.DateOrder.{at_most_trans, later_left, later_right}
+use Rattle.dioid.specs.declared.dates.Date.{Date}
+use Rattle.dioid.specs.declared.dates.Date.TheVariants.{Early, At, Never}
+use Rattle.dioid.specs.declared.algebra.Dioid.{Ghosts as DioidOf}
+use Rattle.dioid.specs.declared.algebra.Kleene.{Ghosts as KleeneOf}
+use Rattle.dioid.specs.Dates.{IsAtMostDate, later_of, date_product}
+use Rattle.dioid.proofs.DateOrder.{at_most_trans, later_left, later_right}
 use Rattle.dioid_matrix.specs.Sums.{total_of_first, dot}
 use Rattle.dioid_matrix.specs.MatrixStars.{IsLeastSolution}
-use Rattle.teg_model.specs.teg_net.declared.entries.PlaceId.{PlaceId}
-use Rattle.teg_model.specs.teg_net.Nets.{NetLists, IsNet}
-use Rattle.teg_model.specs.teg_net.Circuits.{no_place, place_at, IsPathBetween, time_of, tokens_of}
+use Rattle.teg_net.specs.declared.entries.PlaceId.{PlaceId}
+use Rattle.teg_net.specs.Nets.{NetLists, IsNet}
+use Rattle.teg_net.specs.Circuits.{no_place, place_at, IsPathBetween, time_of, tokens_of}
 use Rattle.teg_form.proofs.Recursion.{AreOfDates}
 
 -- one at this place, and none elsewhere

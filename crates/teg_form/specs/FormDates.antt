@@ -1,10 +1,10 @@
 -- What the standard form says of dates: the date of a firing is the latest of its start, of the firing before, and of what
 -- the form's stars and entries lead to (chapter 2, the explicit form).
 use Rattle.std.specs.Prelude.{ℕ, ◌-◌, ◌<◌, ◌≤◌, ◌≡◌, length, All}
-use Rattle.teg_model.specs.dioid.declared.dates.Date.{Date}
-use Rattle.teg_model.specs.dioid.Dates.{IsAtMostDate, delayed}
-use Rattle.teg_model.specs.teg_net.Nets.{NetLists}
-use Rattle.teg_model.specs.teg_net.Circuits.{IsLive}
+use Rattle.dioid.specs.declared.dates.Date.{Date}
+use Rattle.dioid.specs.Dates.{IsAtMostDate, delayed}
+use Rattle.teg_net.specs.Nets.{NetLists}
+use Rattle.teg_net.specs.Circuits.{IsLive}
 use Rattle.teg_model.specs.LiveRanks.{HasEndsInRange}
 use Rattle.teg_model.specs.Starts.{start_of_firing}
 use Rattle.teg_model.specs.Datings.{IsLeastUnder}

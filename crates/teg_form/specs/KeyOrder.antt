@@ -1,8 +1,8 @@
 -- Working definitions of the order of the places with tokens: by their upstream transitions, then by their tokens.
 use Rattle.std.specs.Prelude.{ℕ, ◌<◌, ◌≤◌, ◌≡◌, ◌+◌, ◌*◌, List, length, All, Contains}
 use Rattle.std.specs.List.Sorted.{IsNonDecreasingBy}
-use Rattle.teg_model.specs.teg_net.Nets.{NetLists}
-use Rattle.teg_model.specs.teg_net.Circuits.{place_at}
+use Rattle.teg_net.specs.Nets.{NetLists}
+use Rattle.teg_net.specs.Circuits.{place_at}
 use Rattle.teg_form.specs.declared.order.Marked.{Marked}
 
 -- one of the net's places, with tokens, and its key

@@ -1,9 +1,9 @@
 -- The standard form of a net: the greatest times of its paths without tokens, and of those whose first place alone has tokens
 -- (chapter 2, the explicit form).
 use Rattle.std.specs.Prelude.{ℕ, ◌<◌, ◌≤◌, ◌≡◌, ◌≢◌, ◌⊎◌, List, ◌∷◌, All, Any, AllPairs}
-use Rattle.teg_model.specs.teg_net.declared.entries.PlaceId.{PlaceId}
-use Rattle.teg_model.specs.teg_net.Nets.{NetLists}
-use Rattle.teg_model.specs.teg_net.Circuits.{place_at, IsPathBetween, time_of, tokens_of}
+use Rattle.teg_net.specs.declared.entries.PlaceId.{PlaceId}
+use Rattle.teg_net.specs.Nets.{NetLists}
+use Rattle.teg_net.specs.Circuits.{place_at, IsPathBetween, time_of, tokens_of}
 use Rattle.teg_form.specs.declared.form.StarEntry.{StarEntry}
 use Rattle.teg_form.specs.declared.form.Entry.{Entry}
 

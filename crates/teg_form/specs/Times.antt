@@ -1,13 +1,13 @@
 -- Working definitions of the matrix of places without tokens, and of its star.
 use Rattle.std.specs.Prelude.{ℕ, pos, ◌<◌, ◌≤◌, ◌+◌, ◌*◌, ◌≡◌, List, length, get_or, ⊤}
-use Rattle.teg_model.specs.dioid.declared.dates.Date.{Date}
-use Rattle.teg_model.specs.dioid.declared.dates.Date.TheVariants.{Early, At, Never}
-use Rattle.teg_model.specs.dioid.Dates.{IsAtMostDate}
+use Rattle.dioid.specs.declared.dates.Date.{Date}
+use Rattle.dioid.specs.declared.dates.Date.TheVariants.{Early, At, Never}
+use Rattle.dioid.specs.Dates.{IsAtMostDate}
 use Rattle.dioid_matrix.specs.Tables.{Table}
-use Rattle.teg_model.specs.teg_net.declared.entries.PlaceId.{PlaceId}
-use Rattle.teg_model.specs.teg_net.Nets.{NetLists}
-use Rattle.teg_model.specs.teg_net.Circuits.{place_at}
-use Rattle.teg_model.specs.teg_net.Limits.{greatest_circuit_time}
+use Rattle.teg_net.specs.declared.entries.PlaceId.{PlaceId}
+use Rattle.teg_net.specs.Nets.{NetLists}
+use Rattle.teg_net.specs.Circuits.{place_at}
+use Rattle.teg_net.specs.Limits.{greatest_circuit_time}
 use Rattle.teg_form.specs.declared.form.Entry.{Entry}
 use Rattle.teg_form.specs.StandardForms.{IsTimeOfFreePath}
 

@@ -6,10 +6,10 @@ ghost use Rattle.teg_form.specs.Times.{AreFreeTimes, IsTimeFrom, IsFirstPlaceOf}
 
 use crate::form::Entry;
 use crate::order::by_source;
+use dioid::Date;
 use dioid_matrix::Matrix;
 use std::alloc::{AllocError, Global};
-use teg_model::dioid::Date;
-use teg_model::teg_net::{Net, OutOfMemory, PlaceId, TransitionId};
+use teg_net::{Net, OutOfMemory, PlaceId, TransitionId};
 
 // Whether the last entry is of the same kind: of the same ends and tokens.
 fn ends_in_kind(entries: &[Entry], entry: &Entry) -> bool

@@ -9,7 +9,7 @@ use crate::stars::stars_of;
 use std::alloc::Global;
 use std::marker::Model;
 use teg_check::Live;
-use teg_model::teg_net::{Net, OutOfMemory, TransitionId};
+use teg_net::{Net, OutOfMemory, TransitionId};
 
 /// The greatest time of a path of places without tokens, between two different transitions.
 #[derive(Clone, Copy, Debug, Drop, PartialEq, Eq)]

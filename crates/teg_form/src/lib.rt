@@ -18,6 +18,3 @@ mod stars;
 
 pub use form::{Entry, Form, StarEntry, standard_form};
 pub use laws::least_dates_are_by_form;
-pub use teg_check;
-pub use teg_model;
-pub use teg_model::{dioid, teg_net};

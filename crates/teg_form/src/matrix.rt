@@ -4,11 +4,11 @@ ghost use Rattle.std.specs.Prelude.{◌*◌, IfOk};
 ghost use Rattle.teg_check.specs.Ranks.{IsRanking};
 ghost use Rattle.teg_form.specs.Times.{AreFreeHolds, AreFreeTimes};
 
+use dioid::Date;
 use dioid_matrix::{Matrix, MatrixRefused};
 use std::alloc::{AllocError, Global};
 use teg_check::Live;
-use teg_model::dioid::Date;
-use teg_model::teg_net::{Net, OutOfMemory};
+use teg_net::{Net, OutOfMemory};
 
 // The greatest holding times of the places without tokens, by rows of upstream transitions.
 fn free_holds(alloc: Global, net: &Net) -> Result<Vec<Date>, AllocError>

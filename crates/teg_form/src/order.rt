@@ -3,7 +3,7 @@ ghost use Rattle.std.specs.Prelude.{IfOk};
 ghost use Rattle.teg_form.specs.KeyOrder.{IsKeyOrder};
 
 use std::alloc::{AllocError, Global};
-use teg_model::teg_net::{Net, PlaceId};
+use teg_net::{Net, PlaceId};
 
 // A place with its key: the number of its upstream transition by 1,001, plus its tokens, which are
 // at most 1,000.

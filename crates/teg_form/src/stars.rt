@@ -4,10 +4,10 @@ ghost use Rattle.teg_form.specs.StandardForms.{AreStars, IsStarEntry, IsTimeOfFr
 ghost use Rattle.teg_form.specs.Times.{AreFreeTimes};
 
 use crate::form::StarEntry;
+use dioid::Date;
 use dioid_matrix::Matrix;
 use std::alloc::{AllocError, Global};
-use teg_model::dioid::Date;
-use teg_model::teg_net::{Net, TransitionId};
+use teg_net::{Net, TransitionId};
 
 // The star entry of this pair of transitions, where there is one.
 fn star_entry(net: &Net, times: &Matrix<Date>, to: usize, from: usize) -> Option<StarEntry>

@@ -4,8 +4,8 @@ use Rattle.std.specs.Prelude.{ℤ, All, AllPairs}
 use Rattle.std.proofs.lemmas.Bool.{cases_lt, cases_Bool, eq-eqb, ne_eqb}
 use Rattle.std.proofs.lemmas.List.Quantifiers.{all_pairs_push}
 use Rattle.std.proofs.lemmas.List.Elements.{All-push}
-use Rattle.teg_check.specs.teg_net.declared.rounds.Choice.{Choice}
-use Rattle.teg_check.specs.teg_net.Parts.{IsMember}
+use Rattle.teg_net.specs.declared.rounds.Choice.{Choice}
+use Rattle.teg_net.specs.Parts.{IsMember}
 use Rattle.teg_howard.specs.Policies.{Policy}
 use Rattle.teg_howard.specs.PolicyRounds.{choice_of_member}
 use Rattle.teg_howard.specs.FoundCircuits.{value_held, value_or_zero}

@@ -2,13 +2,13 @@
 use Rattle.std.proofs.Common.{ℕ, ◌+◌, ◌*◌, ◌<◌, List, sym, subst, arith, ⊎_elim}
 use Rattle.std.specs.Prelude.{pos, ◌+ℤ◌, ◌≤ℤ◌}
 use Rattle.std.proofs.lemmas.Int.{ints}
-use Rattle.teg_check.specs.teg_net.declared.entries.PlaceId.{PlaceId}
-use Rattle.teg_check.specs.teg_net.Nets.{NetLists}
-use Rattle.teg_check.specs.teg_net.declared.rounds.Round.{Round}
+use Rattle.teg_net.specs.declared.entries.PlaceId.{PlaceId}
+use Rattle.teg_net.specs.Nets.{NetLists}
+use Rattle.teg_net.specs.declared.rounds.Round.{Round}
 use Rattle.teg_howard.specs.declared.settling.RoundState.{RoundState}
 use Rattle.teg_howard.specs.PolicyRounds.{potential}
-use Rattle.teg_check.specs.teg_net.ReducedTimes.{IsMagnitudeWithin}
-use Rattle.teg_check.specs.teg_net.Limits.{greatest_circuit_time, most_circuit_tokens}
+use Rattle.teg_net.specs.ReducedTimes.{IsMagnitudeWithin}
+use Rattle.teg_net.specs.Limits.{greatest_circuit_time, most_circuit_tokens}
 use Rattle.teg_howard.specs.RoundStates.{IsRoundState, RisesEach, Rises}
 use Rattle.teg_howard.proofs.Measure.{level, level_rises, level_bound, height, height_rises, height_bound, remaining, falls_by_ratio, falls_by_sum}
 

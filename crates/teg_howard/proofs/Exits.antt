@@ -3,9 +3,9 @@ use Rattle.std.proofs.Common.{ℕ, List, Option, Some, None, Bool, true, false, 
 use Rattle.std.specs.Prelude.{IfNone, IsSome, All, Any}
 use Rattle.std.proofs.lemmas.List.{get_or-replicate, get_or_default}
 use lib.ListN.{replicate}
-use Rattle.teg_check.specs.teg_net.declared.entries.PlaceId.{PlaceId}
-use Rattle.teg_check.specs.teg_net.Nets.{NetLists}
-use Rattle.teg_check.specs.teg_net.Parts.{IsPlaceOfPart, to_of}
+use Rattle.teg_net.specs.declared.entries.PlaceId.{PlaceId}
+use Rattle.teg_net.specs.Nets.{NetLists}
+use Rattle.teg_net.specs.Parts.{IsPlaceOfPart, to_of}
 use Rattle.teg_parts.specs.Components.{IsMarked}
 use Rattle.teg_howard.specs.Policies.{first_id}
 use Rattle.teg_parts.proofs.Marks.{flag_past, false_not_true}

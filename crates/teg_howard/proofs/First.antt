@@ -4,13 +4,13 @@ use Rattle.std.specs.Prelude.{All, Any}
 use Rattle.std.proofs.lemmas.Bool.{cases_lt}
 use Rattle.std.proofs.lemmas.List.{length-drop, get_or_append_left, get_or-append_right, get_or-drop, get_or-take, get_or_default}
 use Rattle.std.proofs.lemmas.List.Elements.{All-append, All-take, All-drop}
-use Rattle.teg_check.specs.teg_net.declared.entries.PlaceId.{PlaceId}
-use Rattle.teg_check.specs.teg_net.Nets.{NetLists}
-use Rattle.teg_check.specs.teg_net.Circuits.{place_at, time_of, tokens_of, from_of}
-use Rattle.teg_check.proofs.teg_net_proofs.Turning.{turned, length-turned, turned_circuit, turned_sum}
-use Rattle.teg_check.specs.teg_net.Parts.{IsPlaceOfPart, to_of}
+use Rattle.teg_net.specs.declared.entries.PlaceId.{PlaceId}
+use Rattle.teg_net.specs.Nets.{NetLists}
+use Rattle.teg_net.specs.Circuits.{place_at, time_of, tokens_of, from_of}
+use Rattle.teg_net.proofs.Turning.{turned, length-turned, turned_circuit, turned_sum}
+use Rattle.teg_net.specs.Parts.{IsPlaceOfPart, to_of}
 use Rattle.teg_howard.specs.Policies.{Policy, IsPolicyCircuit, IsBestCircuit, first_id}
-use Rattle.teg_check.specs.teg_net.PartAnswers.{first_transition_of}
+use Rattle.teg_net.specs.PartAnswers.{first_transition_of}
 
 any_turned : (P : PlaceId → Type 0) (xs : List PlaceId) (k : ℕ) → k ≤ length xs → Any P xs → Any P (turned xs k)
 any_turned P xs k l w =

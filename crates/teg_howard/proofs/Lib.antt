@@ -26,6 +26,6 @@ pub mod Unique
 pub mod LowestTerms
 pub mod OneRun
 pub use Rattle.teg_check.proofs.number_laws_proofs as number_laws_proofs
-pub use Rattle.teg_check.proofs.teg_net_proofs as teg_net_proofs
+pub use Rattle.teg_net.proofs as teg_net_proofs
 pub use Rattle.teg_check.proofs as teg_check_proofs
 pub use Rattle.teg_parts.proofs as teg_parts_proofs

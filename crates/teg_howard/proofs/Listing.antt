@@ -5,14 +5,14 @@ use Rattle.std.proofs.lemmas.Int.{ints}
 use Rattle.std.proofs.lemmas.Bool.{cases_lt, cases_Bool, eqb-true, eq-eqb, ne_eqb}
 use Rattle.std.proofs.lemmas.List.{get_or-map, length-map, ext_get_or}
 use Rattle.std.proofs.lemmas.List.Elements.{All-map, All-tail}
-use Rattle.teg_check.specs.teg_net.declared.entries.PlaceId.{PlaceId}
-use Rattle.teg_check.specs.teg_net.declared.rounds.Choice.{Choice}
-use Rattle.teg_check.specs.teg_net.declared.rounds.Round.{Round}
-use Rattle.teg_check.specs.teg_net.Nets.{NetLists}
-use Rattle.teg_check.specs.teg_net.Circuits.{from_of, BeginsLowest}
-use Rattle.teg_check.specs.teg_net.Parts.{IsMember, ListsMembers}
-use Rattle.teg_check.specs.teg_net.PartAnswers.{first_transition_of, transitions_of}
-use Rattle.teg_check.specs.teg_net.Limits.{most_transitions}
+use Rattle.teg_net.specs.declared.entries.PlaceId.{PlaceId}
+use Rattle.teg_net.specs.declared.rounds.Choice.{Choice}
+use Rattle.teg_net.specs.declared.rounds.Round.{Round}
+use Rattle.teg_net.specs.Nets.{NetLists}
+use Rattle.teg_net.specs.Circuits.{from_of, BeginsLowest}
+use Rattle.teg_net.specs.Parts.{IsMember, ListsMembers}
+use Rattle.teg_net.specs.PartAnswers.{first_transition_of, transitions_of}
+use Rattle.teg_net.specs.Limits.{most_transitions}
 use Rattle.teg_howard.specs.PolicyRounds.{choice_of_member, chosen, chosen_for, chosen_place, potential, value_in}
 use Rattle.teg_howard.specs.PolicyRuns.{sum_below, PairRises, potential_of}
 use Rattle.teg_howard.specs.FoundCircuits.{ListsChoices}

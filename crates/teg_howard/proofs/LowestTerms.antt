@@ -1,7 +1,7 @@
 -- A ratio has one form in lowest terms.
 use Rattle.std.proofs.Common.{ℕ, ◌*◌, ◌<◌, ◌≤◌, ◌≡◌, ap, arith}
 use Rattle.teg_check.proofs.number_laws_proofs.Fractions.{one_fraction}
-use Rattle.teg_check.specs.teg_net.Ratios.{Fraction, IsRatioOf}
+use Rattle.teg_net.specs.Ratios.{Fraction, IsRatioOf}
 use Rattle.teg_howard.proofs.Measure.{cancel}
 
 pub one_ratio : (time tokens : ℕ) (r q : Fraction) → 0 < tokens → IsRatioOf time tokens r → IsRatioOf time tokens q → (r.time ≡ q.time) × (r.tokens ≡ q.tokens)

@@ -3,18 +3,18 @@ use Rattle.std.proofs.Common.{ℕ, zero, suc, ◌+◌, ◌-◌, ◌<◌, ◌≤�
 use Rattle.std.specs.Prelude.{All, Any}
 use Rattle.std.proofs.lemmas.Bool.{cases_Bool, cases_lt, eqb-true}
 use Rattle.std.proofs.lemmas.List.Elements.{All-tail}
-use Rattle.teg_check.specs.teg_net.declared.entries.PlaceId.{PlaceId}
-use Rattle.teg_check.specs.teg_net.Nets.{NetLists, IsNet}
-use Rattle.teg_check.specs.teg_net.Circuits.{IsLive, time_of, tokens_of, from_of}
-use Rattle.teg_check.specs.teg_net.declared.rounds.Choice.{Choice}
-use Rattle.teg_check.specs.teg_net.declared.rounds.Round.{Round}
-use Rattle.teg_check.specs.teg_net.Parts.{IsMember, IsPlaceOfPart, to_of}
+use Rattle.teg_net.specs.declared.entries.PlaceId.{PlaceId}
+use Rattle.teg_net.specs.Nets.{NetLists, IsNet}
+use Rattle.teg_net.specs.Circuits.{IsLive, time_of, tokens_of, from_of}
+use Rattle.teg_net.specs.declared.rounds.Choice.{Choice}
+use Rattle.teg_net.specs.declared.rounds.Round.{Round}
+use Rattle.teg_net.specs.Parts.{IsMember, IsPlaceOfPart, to_of}
 use Rattle.teg_howard.specs.Policies.{Policy, IsPolicy, IsBestCircuit, LeadsBack, IsRouted, Joins, IsRouting, AreSums, IsImprovement, IsChanged, Improves}
-use Rattle.teg_check.specs.teg_net.PartAnswers.{first_transition_of}
+use Rattle.teg_net.specs.PartAnswers.{first_transition_of}
 use Rattle.teg_howard.specs.PolicyRounds.{chosen, potential, chosen_place, value_in, choice_of_member, IsRound, IsRoundOf, IsFirstRound, KeepsCircuit, FollowsRound, IsRunTo, IsPolicyRun}
-use Rattle.teg_check.specs.teg_net.Ratios.{IsRatioOf}
+use Rattle.teg_net.specs.Ratios.{IsRatioOf}
 use Rattle.teg_howard.proofs.Turns.{cases_member, better_is_policy, still_back_to_root}
-use Rattle.teg_check.proofs.teg_net_proofs.Reading.{same_id}
+use Rattle.teg_net.proofs.Reading.{same_id}
 use Rattle.teg_howard.proofs.Routing.{all_home}
 use Rattle.teg_howard.proofs.Optimum.{some_token}
 use Rattle.teg_howard.proofs.Listing.{only_members}

@@ -3,12 +3,12 @@ use Rattle.std.proofs.Common.{ℕ, suc, ◌*◌, ◌<◌, ◌≤◌, ◌≡◌, 
 use Rattle.std.specs.Prelude.{ℤ, pos, ◌≤ℤ◌, All}
 use Rattle.std.proofs.lemmas.Int.{ints, by_lt_z}
 use Rattle.std.proofs.lemmas.Bool.{cases_eq}
-use Rattle.teg_check.specs.teg_net.declared.entries.PlaceId.{PlaceId}
-use Rattle.teg_check.specs.teg_net.Nets.{NetLists}
-use Rattle.teg_check.specs.teg_net.Circuits.{IsPathBetween, IsCircuit, IsLive, time_of, tokens_of}
-use Rattle.teg_check.specs.teg_net.Parts.{IsMember, IsPlaceOfPart, to_of}
+use Rattle.teg_net.specs.declared.entries.PlaceId.{PlaceId}
+use Rattle.teg_net.specs.Nets.{NetLists}
+use Rattle.teg_net.specs.Circuits.{IsPathBetween, IsCircuit, IsLive, time_of, tokens_of}
+use Rattle.teg_net.specs.Parts.{IsMember, IsPlaceOfPart, to_of}
 use Rattle.teg_howard.specs.Policies.{Policy, IsPolicy, step_back, LeadsBack, offer_of, AreSums, Improves}
-use Rattle.teg_check.specs.teg_net.ReducedTimes.{reduced_time_of}
+use Rattle.teg_net.specs.ReducedTimes.{reduced_time_of}
 use Rattle.teg_howard.proofs.Search.{FirstBelow, first_below}
 use Rattle.teg_howard.proofs.Back.{trail, trail_leads, trail_inside}
 use Rattle.teg_howard.proofs.Sums.{weight_is, above_along, sum_back}

@@ -4,9 +4,9 @@ use Rattle.std.specs.Prelude.{◌⊎◌}
 use Rattle.std.proofs.lemmas.Bool.{cases_eq, cases_lt}
 use Rattle.std.proofs.lemmas.List.{get_or-set_same, get_or-set_other, length-set}
 use Rattle.std.proofs.lemmas.List.Sums.{sum_by-set, count_by-le-length}
-use Rattle.teg_check.specs.teg_net.Nets.{NetLists}
-use Rattle.teg_check.specs.teg_net.Circuits.{from_of}
-use Rattle.teg_check.specs.teg_net.Parts.{IsMember}
+use Rattle.teg_net.specs.Nets.{NetLists}
+use Rattle.teg_net.specs.Circuits.{from_of}
+use Rattle.teg_net.specs.Parts.{IsMember}
 use Rattle.teg_parts.specs.Components.{IsMarked}
 use Rattle.teg_howard.specs.Policies.{Policy, IsPolicy, step_back, LeadsBack}
 use Rattle.teg_howard.specs.CircuitStarts.{IsLowestOnCircuit, IsLowestBack, walk_at, HasWalkPassed, AreStarts}

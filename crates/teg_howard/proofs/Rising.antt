@@ -1,8 +1,8 @@
 -- What rises from round to round, case by case.
 use Rattle.std.proofs.Common.{ℕ, zero, suc, ◌+◌, ◌*◌, ◌<◌, ◌≡◌, List, length, get_or, subst, arith, ⊎_elim}
-use Rattle.teg_check.specs.teg_net.Nets.{NetLists}
-use Rattle.teg_check.specs.teg_net.Circuits.{IsLive, time_of, tokens_of}
-use Rattle.teg_check.specs.teg_net.declared.rounds.Round.{Round}
+use Rattle.teg_net.specs.Nets.{NetLists}
+use Rattle.teg_net.specs.Circuits.{IsLive, time_of, tokens_of}
+use Rattle.teg_net.specs.declared.rounds.Round.{Round}
 use Rattle.teg_howard.specs.PolicyRounds.{chosen, potential, IsRound, IsRunTo}
 use Rattle.teg_howard.specs.PolicyRuns.{RisesInSum, PairRises, AllRise, RisesByCase, RiseByCase}
 use Rattle.teg_howard.proofs.Turns.{greater_ratio}

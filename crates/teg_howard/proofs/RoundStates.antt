@@ -3,15 +3,15 @@ use Rattle.std.proofs.Common.{ℕ, ◌+◌, ◌*◌, ◌<◌, ◌≤◌, ◌≡�
 use Rattle.std.specs.Prelude.{pos, All, Any}
 use Rattle.std.proofs.lemmas.Int.{ints}
 use Rattle.std.proofs.lemmas.Bool.{cases_lt}
-use Rattle.teg_check.specs.teg_net.declared.entries.PlaceId.{PlaceId}
-use Rattle.teg_check.specs.teg_net.Nets.{NetLists, IsNet}
-use Rattle.teg_check.specs.teg_net.Circuits.{IsLive, time_of, tokens_of, from_of}
-use Rattle.teg_check.specs.teg_net.Ratios.{Fraction, IsRatioOf}
+use Rattle.teg_net.specs.declared.entries.PlaceId.{PlaceId}
+use Rattle.teg_net.specs.Nets.{NetLists, IsNet}
+use Rattle.teg_net.specs.Circuits.{IsLive, time_of, tokens_of, from_of}
+use Rattle.teg_net.specs.Ratios.{Fraction, IsRatioOf}
 use Rattle.teg_howard.specs.declared.settling.RoundState.{RoundState}
 use Rattle.teg_howard.specs.declared.policy_circuits.FoundCircuit.{FoundCircuit}
-use Rattle.teg_check.specs.teg_net.Parts.{IsMember, IsPlaceOfPart, to_of}
+use Rattle.teg_net.specs.Parts.{IsMember, IsPlaceOfPart, to_of}
 use Rattle.teg_howard.specs.Policies.{Policy, IsPolicy, Enters, IsPolicyCircuit, IsBestCircuit, LeadsBack, IsRouting, AreSums, Improves, IsImprovement, IsChanged, first_id, offer_of}
-use Rattle.teg_check.specs.teg_net.PartAnswers.{first_transition_of}
+use Rattle.teg_net.specs.PartAnswers.{first_transition_of}
 use Rattle.teg_howard.specs.PolicyRounds.{chosen, potential, chosen_place, value_in, IsRound, IsRoundOf, IsFirstRound}
 use Rattle.teg_howard.specs.FoundCircuits.{policy_of, potentials, value_or_zero, IsCircuitRatio, AreLowest, CanSettle, IsSettled, IsBestFound, IsBetterPolicy}
 use Rattle.teg_howard.specs.RoundStates.{IsRoundState, HasCircuit, IsNextRoundState, IsLastRound}

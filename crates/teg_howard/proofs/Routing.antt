@@ -2,12 +2,12 @@
 use Rattle.std.proofs.Common.{ℕ, zero, suc, ◌+◌, ◌-◌, ◌<◌, ◌≤◌, ◌≡◌, List, length, get_or, take, refl, sym, ap, subst, ◌∙◌, arith, ⊎_elim}
 use Rattle.std.specs.Prelude.{Any}
 use Rattle.std.proofs.lemmas.List.{get_or_default, get_or-take, length-take-le}
-use Rattle.teg_check.specs.teg_net.declared.entries.PlaceId.{PlaceId}
-use Rattle.teg_check.specs.teg_net.Nets.{NetLists}
-use Rattle.teg_check.specs.teg_net.Circuits.{from_of}
-use Rattle.teg_check.specs.teg_net.Parts.{IsMember, to_of}
+use Rattle.teg_net.specs.declared.entries.PlaceId.{PlaceId}
+use Rattle.teg_net.specs.Nets.{NetLists}
+use Rattle.teg_net.specs.Circuits.{from_of}
+use Rattle.teg_net.specs.Parts.{IsMember, to_of}
 use Rattle.teg_howard.specs.Policies.{Policy, IsPolicy, Enters, IsPolicyCircuit, step_back, LeadsBack, first_id, Joins, IsRouting}
-use Rattle.teg_check.specs.teg_net.PartAnswers.{first_transition_of}
+use Rattle.teg_net.specs.PartAnswers.{first_transition_of}
 use Rattle.teg_howard.proofs.Back.{back_add, back_member}
 use Rattle.teg_howard.proofs.Turns.{on_circuit}
 

@@ -4,26 +4,26 @@ use Rattle.std.specs.Prelude.{All}
 use Rattle.std.proofs.lemmas.Bool.{cases_lt, cases_eq}
 use Rattle.std.proofs.lemmas.List.{length_push, get_or_push, get_or_append_left, get_or_default}
 use Rattle.std.proofs.lemmas.List.Elements.{All-tail}
-use Rattle.teg_check.specs.teg_net.declared.entries.PlaceId.{PlaceId}
-use Rattle.teg_check.specs.teg_net.Nets.{NetLists}
-use Rattle.teg_check.specs.teg_net.Circuits.{IsPathBetween}
-use Rattle.teg_check.specs.teg_net.declared.rounds.Round.{Round}
-use Rattle.teg_check.specs.teg_net.Parts.{IsMember, IsPlaceOfPart, Reaches, to_of}
+use Rattle.teg_net.specs.declared.entries.PlaceId.{PlaceId}
+use Rattle.teg_net.specs.Nets.{NetLists}
+use Rattle.teg_net.specs.Circuits.{IsPathBetween}
+use Rattle.teg_net.specs.declared.rounds.Round.{Round}
+use Rattle.teg_net.specs.Parts.{IsMember, IsPlaceOfPart, Reaches, to_of}
 use Rattle.teg_howard.specs.Policies.{Enters, IsPolicy, Improves, first_id}
-use Rattle.teg_check.specs.teg_net.PartAnswers.{first_transition_of}
+use Rattle.teg_net.specs.PartAnswers.{first_transition_of}
 use Rattle.teg_howard.specs.PolicyRounds.{IsFirstRound, FollowsRound, IsRunTo, IsPolicyRun, last_policy_round, potential}
 use Rattle.teg_howard.specs.FoundCircuits.{policy_of, potentials, AreLowest}
 use Rattle.teg_howard.specs.RoundStates.{IsRoundState, HasCircuit, IsLastRound, Rises}
 use Rattle.teg_howard.specs.PolicyRuns.{AllRise, IsAnswerOf, KeepsLimits, potential_of}
 use Rattle.std.specs.Prelude.{map}
-use Rattle.teg_check.specs.teg_net.Ratios.{Fraction}
-use Rattle.teg_check.specs.teg_net.declared.answers.Potential.{Potential}
-use Rattle.teg_check.specs.teg_net.declared.answers.PartAnswer.{PartAnswer}
-use Rattle.teg_check.specs.teg_net.declared.answers.PartAnswer.TheVariants.{NoCircuit, Best}
-use Rattle.teg_check.specs.teg_net.Parts.{ListsMembers}
-use Rattle.teg_check.specs.teg_net.ReducedTimes.{IsGreatestPathTime, IsMagnitudeWithin}
-use Rattle.teg_check.specs.teg_net.PartAnswers.{IsBestOfPart, IsPartAnswer}
-use Rattle.teg_check.specs.teg_net.Limits.{greatest_scaled_potential}
+use Rattle.teg_net.specs.Ratios.{Fraction}
+use Rattle.teg_net.specs.declared.answers.Potential.{Potential}
+use Rattle.teg_net.specs.declared.answers.PartAnswer.{PartAnswer}
+use Rattle.teg_net.specs.declared.answers.PartAnswer.TheVariants.{NoCircuit, Best}
+use Rattle.teg_net.specs.Parts.{ListsMembers}
+use Rattle.teg_net.specs.ReducedTimes.{IsGreatestPathTime, IsMagnitudeWithin}
+use Rattle.teg_net.specs.PartAnswers.{IsBestOfPart, IsPartAnswer}
+use Rattle.teg_net.specs.Limits.{greatest_scaled_potential}
 use Rattle.teg_howard.proofs.Listing.{lists_members, begins_lowest, same_transitions, told_potentials, pair_rises}
 use Rattle.teg_howard.proofs.Values.{path_inside}
 use Rattle.teg_howard.proofs.Turns.{cases_member}

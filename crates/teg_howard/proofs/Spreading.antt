@@ -6,9 +6,9 @@ use Rattle.std.proofs.lemmas.Bool.{cases_eq, cases_lt}
 use Rattle.std.proofs.lemmas.List.{get_or-set_same, get_or-set_other, length-set, length_push, get_or_push, get_or_append_left}
 use lib.ListN.{replicate}
 use Rattle.std.proofs.lemmas.List.{get_or-replicate, length-replicate, append-nil}
-use Rattle.teg_check.specs.teg_net.Nets.{NetLists}
-use Rattle.teg_check.specs.teg_net.Circuits.{from_of}
-use Rattle.teg_check.specs.teg_net.Parts.{IsMember}
+use Rattle.teg_net.specs.Nets.{NetLists}
+use Rattle.teg_net.specs.Circuits.{from_of}
+use Rattle.teg_net.specs.Parts.{IsMember}
 use Rattle.teg_howard.specs.declared.following.Followers.{Followers}
 use Rattle.teg_howard.specs.Policies.{Policy}
 use Rattle.teg_howard.specs.FoundCircuits.{value_held, IsFollower}

@@ -4,12 +4,12 @@ use Rattle.std.specs.Prelude.{ℤ, pos, ◌+ℤ◌, ◌≤ℤ◌, ◌<ℤ◌, Al
 use Rattle.std.proofs.lemmas.Int.{ints}
 use Rattle.std.proofs.lemmas.List.Sums.{sum_by-cons}
 use Rattle.std.proofs.lemmas.List.Elements.{All-tail}
-use Rattle.teg_check.specs.teg_net.declared.entries.PlaceId.{PlaceId}
-use Rattle.teg_check.specs.teg_net.Nets.{NetLists}
-use Rattle.teg_check.specs.teg_net.Circuits.{place_at, IsPathBetween, time_of, tokens_of, from_of}
-use Rattle.teg_check.specs.teg_net.Parts.{IsMember, to_of}
+use Rattle.teg_net.specs.declared.entries.PlaceId.{PlaceId}
+use Rattle.teg_net.specs.Nets.{NetLists}
+use Rattle.teg_net.specs.Circuits.{place_at, IsPathBetween, time_of, tokens_of, from_of}
+use Rattle.teg_net.specs.Parts.{IsMember, to_of}
 use Rattle.teg_howard.specs.Policies.{Policy, IsPolicy, step_back, offer_of, AreSums}
-use Rattle.teg_check.specs.teg_net.ReducedTimes.{reduced_time_of}
+use Rattle.teg_net.specs.ReducedTimes.{reduced_time_of}
 use Rattle.teg_howard.proofs.Back.{trail, back_add, back_member}
 
 pub weight_is : (net : NetLists) (a b : ℕ) (ps : List PlaceId) → (reduced_time_of net a b ps +ℤ pos (a * tokens_of net ps)) ≡ pos (b * time_of net ps)

@@ -3,17 +3,17 @@ use Rattle.std.proofs.Common.{ℕ, zero, suc, ◌+◌, ◌-◌, ◌*◌, ◌<◌
 use Rattle.std.specs.Prelude.{ℤ, pos, ◌+ℤ◌, ◌≤ℤ◌, ◌<ℤ◌, All, Any, ◌⊎◌}
 use Rattle.std.proofs.lemmas.Int.{ints, by_lt_z}
 use Rattle.std.proofs.lemmas.Bool.{cases_eq, cases_lt}
-use Rattle.teg_check.specs.teg_net.declared.entries.PlaceId.{PlaceId}
-use Rattle.teg_check.specs.teg_net.Nets.{NetLists}
-use Rattle.teg_check.specs.teg_net.Circuits.{time_of, tokens_of, from_of}
-use Rattle.teg_check.specs.teg_net.Parts.{IsMember, IsPlaceOfPart, to_of}
+use Rattle.teg_net.specs.declared.entries.PlaceId.{PlaceId}
+use Rattle.teg_net.specs.Nets.{NetLists}
+use Rattle.teg_net.specs.Circuits.{time_of, tokens_of, from_of}
+use Rattle.teg_net.specs.Parts.{IsMember, IsPlaceOfPart, to_of}
 use Rattle.teg_howard.specs.Policies.{Policy, IsPolicy, Enters, IsPolicyCircuit, step_back, LeadsBack, first_id, offer_of, AreSums, Improves, IsImprovement, IsChanged}
-use Rattle.teg_check.specs.teg_net.PartAnswers.{first_transition_of}
-use Rattle.teg_check.specs.teg_net.ReducedTimes.{reduced_time, reduced_time_of}
+use Rattle.teg_net.specs.PartAnswers.{first_transition_of}
+use Rattle.teg_net.specs.ReducedTimes.{reduced_time, reduced_time_of}
 use Rattle.teg_howard.proofs.Search.{FirstBelow, first_below}
 use Rattle.teg_howard.proofs.Back.{trail, length-trail, back_add, get_or-trail, back_member, trail_leads, trail_inside, trail_own, trail_circuit, first_return, to_a_circuit}
 use Rattle.teg_howard.proofs.Sums.{weight_is, weight-append, below_along, above_by_one, trail_add, own_trail, sum_back}
-use Rattle.teg_check.proofs.teg_net_proofs.Reading.{same_id}
+use Rattle.teg_net.proofs.Reading.{same_id}
 
 pub cases_id : (p q : PlaceId) → (p ≡ q) ⊎ (p ≢ q)
 cases_id p q = ⊎_elim (λ (e : p.index ≡ q.index). inl (same_id p q e)) (λ (e : p.index ≢ q.index). inr (λ f. e (ap (λ r. r.index) f))) (cases_eq p.index q.index)

@@ -5,16 +5,16 @@ use Rattle.std.proofs.lemmas.Int.{ints}
 use Rattle.std.proofs.lemmas.Bool.{cases_eq, cases_lt}
 use Rattle.std.proofs.lemmas.List.{take_more}
 use Rattle.std.proofs.Math.Seq.{take-length}
-use Rattle.teg_check.specs.teg_net.declared.entries.PlaceId.{PlaceId}
-use Rattle.teg_check.specs.teg_net.Nets.{NetLists, IsNet}
-use Rattle.teg_check.specs.teg_net.Circuits.{time_of, tokens_of, from_of}
-use Rattle.teg_check.specs.teg_net.Parts.{IsMember, to_of}
+use Rattle.teg_net.specs.declared.entries.PlaceId.{PlaceId}
+use Rattle.teg_net.specs.Nets.{NetLists, IsNet}
+use Rattle.teg_net.specs.Circuits.{time_of, tokens_of, from_of}
+use Rattle.teg_net.specs.Parts.{IsMember, to_of}
 use Rattle.teg_howard.specs.Policies.{Policy, IsPolicy, IsPolicyCircuit, IsBestCircuit, step_back, LeadsBack, IsRouted, JoinsNext, IsRouting, AreSums, Improves, IsImprovement, first_id, offer_of}
-use Rattle.teg_check.specs.teg_net.PartAnswers.{first_transition_of}
-use Rattle.teg_check.specs.teg_net.ReducedTimes.{reduced_time}
+use Rattle.teg_net.specs.PartAnswers.{first_transition_of}
+use Rattle.teg_net.specs.ReducedTimes.{reduced_time}
 use Rattle.teg_howard.proofs.Back.{back_member, back_add}
 use Rattle.teg_howard.proofs.Turns.{cases_improves}
-use Rattle.teg_check.proofs.teg_net_proofs.Reading.{same_id}
+use Rattle.teg_net.proofs.Reading.{same_id}
 use Rattle.teg_howard.proofs.Walks.{same_circuit}
 
 one_between : (x y : ℤ) → x ≤ℤ y → y ≤ℤ x → x ≡ y

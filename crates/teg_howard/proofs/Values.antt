@@ -10,16 +10,16 @@ use Rattle.std.proofs.lemmas.List.{length-set, get_or-set_same, get_or-set_other
 use Rattle.std.proofs.Math.Seq.{take-length}
 use Rattle.std.proofs.lemmas.List.Sums.{sum_by-set, count_by-le-length}
 use Rattle.std.proofs.lemmas.List.Elements.{All-tail, All-cons}
-use Rattle.teg_check.proofs.teg_net_proofs.PathLaws.{IsPathBetween-append}
-use Rattle.teg_check.specs.teg_net.declared.entries.PlaceId.{PlaceId}
-use Rattle.teg_check.specs.teg_net.Nets.{NetLists, IsNet, IsPlaceOf}
-use Rattle.teg_check.specs.teg_net.Circuits.{place_at, no_place, IsPathBetween, from_of}
-use Rattle.teg_check.specs.teg_net.Ratios.{Fraction}
+use Rattle.teg_net.proofs.PathLaws.{IsPathBetween-append}
+use Rattle.teg_net.specs.declared.entries.PlaceId.{PlaceId}
+use Rattle.teg_net.specs.Nets.{NetLists, IsNet, IsPlaceOf}
+use Rattle.teg_net.specs.Circuits.{place_at, no_place, IsPathBetween, from_of}
+use Rattle.teg_net.specs.Ratios.{Fraction}
 use Rattle.teg_parts.specs.Partitions.{AreStrong}
-use Rattle.teg_check.specs.teg_net.Parts.{IsMember, IsPlaceOfPart, Reaches, to_of}
+use Rattle.teg_net.specs.Parts.{IsMember, IsPlaceOfPart, Reaches, to_of}
 use Rattle.teg_howard.specs.Policies.{Policy, IsPolicy, step_back, LeadsBack, first_id, IsRouted, Joins, JoinsNext, IsRouting, AreSums, offer_of}
-use Rattle.teg_check.specs.teg_net.ReducedTimes.{reduced_time, IsMagnitudeWithin}
-use Rattle.teg_check.specs.teg_net.Limits.{greatest_scaled_potential, greatest_circuit_time, greatest_hold, most_circuit_tokens}
+use Rattle.teg_net.specs.ReducedTimes.{reduced_time, IsMagnitudeWithin}
+use Rattle.teg_net.specs.Limits.{greatest_scaled_potential, greatest_circuit_time, greatest_hold, most_circuit_tokens}
 use Rattle.teg_howard.specs.FoundCircuits.{policy_of, value_or_zero, value_held, potentials, IsCircuitRatio, IsFollower, IsJoin, IsNextJoin}
 use Rattle.teg_howard.specs.Following.{step_bound, filled, Valued, Followed}
 use Rattle.teg_howard.proofs.Back.{back_add}

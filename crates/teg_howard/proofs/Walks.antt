@@ -4,14 +4,14 @@ use Rattle.std.specs.Prelude.{All}
 use Rattle.std.proofs.lemmas.Bool.{cases_eq, cases_lt}
 use Rattle.std.proofs.lemmas.List.{reverse-append}
 use Rattle.std.proofs.lemmas.List.Sums.{sum_by-cons}
-use Rattle.teg_check.specs.teg_net.declared.entries.PlaceId.{PlaceId}
-use Rattle.teg_check.specs.teg_net.Nets.{NetLists, IsNet, IsPlaceOf}
-use Rattle.teg_check.specs.teg_net.Circuits.{place_at, no_place, IsCircuit, time_of, tokens_of, from_of}
+use Rattle.teg_net.specs.declared.entries.PlaceId.{PlaceId}
+use Rattle.teg_net.specs.Nets.{NetLists, IsNet, IsPlaceOf}
+use Rattle.teg_net.specs.Circuits.{place_at, no_place, IsCircuit, time_of, tokens_of, from_of}
 use Rattle.teg_howard.specs.declared.policy_circuits.FoundCircuit.{FoundCircuit}
-use Rattle.teg_check.specs.teg_net.Parts.{IsMember, to_of}
+use Rattle.teg_net.specs.Parts.{IsMember, to_of}
 use Rattle.teg_howard.specs.Policies.{Policy, IsPolicy, IsPolicyCircuit, step_back}
-use Rattle.teg_check.specs.teg_net.PartAnswers.{first_transition_of}
-use Rattle.teg_check.specs.teg_net.Limits.{greatest_circuit_time, greatest_hold, most_circuit_tokens}
+use Rattle.teg_net.specs.PartAnswers.{first_transition_of}
+use Rattle.teg_net.specs.Limits.{greatest_circuit_time, greatest_hold, most_circuit_tokens}
 use Rattle.teg_howard.specs.FoundCircuits.{IsOnPolicy, IsFoundAt, GoesBelow}
 use Rattle.teg_howard.proofs.Search.{pigeons}
 use Rattle.teg_howard.proofs.Back.{trail, back_add, back_member, trail_circuit}

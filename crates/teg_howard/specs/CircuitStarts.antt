@@ -1,7 +1,7 @@
 -- Working definitions of the walk that finds where the circuits of a policy begin.
 use Rattle.std.specs.Prelude.{ℕ, ◌<◌, ◌≤◌, ◌≡◌, ◌≢◌, List, length, Bool, Option, Some, None, slice_index_or}
-use Rattle.teg_check.specs.teg_net.Nets.{NetLists}
-use Rattle.teg_check.specs.teg_net.Parts.{IsMember}
+use Rattle.teg_net.specs.Nets.{NetLists}
+use Rattle.teg_net.specs.Parts.{IsMember}
 use Rattle.teg_parts.specs.Components.{IsMarked}
 use Rattle.teg_howard.specs.Policies.{Policy, step_back, LeadsBack}
 

@@ -1,11 +1,11 @@
 -- Working definitions of how potentials spread along a policy: each transition's followers, and what has a value.
 use Rattle.std.specs.Prelude.{ℕ, ℤ, pos, ◌+ℤ◌, ◌*◌, ◌<◌, ◌≡◌, ◌≢◌, List, [], ◌∷◌, length, All, Option, Some, None, is_some, count_by, slice_index_or}
-use Rattle.teg_check.specs.teg_net.declared.entries.PlaceId.{PlaceId}
-use Rattle.teg_check.specs.teg_net.Nets.{NetLists, IsNet}
-use Rattle.teg_check.specs.teg_net.Circuits.{from_of}
-use Rattle.teg_check.specs.teg_net.Ratios.{Fraction}
-use Rattle.teg_check.specs.teg_net.Parts.{IsMember}
-use Rattle.teg_check.specs.teg_net.ReducedTimes.{reduced_time, IsMagnitudeWithin}
+use Rattle.teg_net.specs.declared.entries.PlaceId.{PlaceId}
+use Rattle.teg_net.specs.Nets.{NetLists, IsNet}
+use Rattle.teg_net.specs.Circuits.{from_of}
+use Rattle.teg_net.specs.Ratios.{Fraction}
+use Rattle.teg_net.specs.Parts.{IsMember}
+use Rattle.teg_net.specs.ReducedTimes.{reduced_time, IsMagnitudeWithin}
 use Rattle.teg_howard.specs.declared.following.Followers.{Followers}
 use Rattle.teg_howard.specs.Policies.{Policy, IsPolicy, LeadsBack}
 use Rattle.teg_howard.specs.FoundCircuits.{policy_of, value_held, IsCircuitRatio}

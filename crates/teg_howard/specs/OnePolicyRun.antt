@@ -1,8 +1,8 @@
 -- Policy runs are determined by the net and the part.
 use Rattle.std.specs.Prelude.{ℕ, ◌<◌, ◌≡◌, List, length, slice_index_or}
-use Rattle.teg_check.specs.teg_net.declared.rounds.Round.{Round}
-use Rattle.teg_check.specs.teg_net.Nets.{NetLists, IsNet}
-use Rattle.teg_check.specs.teg_net.Circuits.{IsLive}
+use Rattle.teg_net.specs.declared.rounds.Round.{Round}
+use Rattle.teg_net.specs.Nets.{NetLists, IsNet}
+use Rattle.teg_net.specs.Circuits.{IsLive}
 use Rattle.teg_howard.specs.PolicyRounds.{chosen, potential, IsPolicyRun}
 
 -- the rounds have the same choices, and so the same places and potentials of each transition, the same circuit and the

@@ -1,11 +1,11 @@
 -- Policies of a part: for each member one place that enters it.
 use Rattle.std.specs.Prelude.{ℕ, zero, suc, ℤ, pos, ◌+ℤ◌, ◌<ℤ◌, ◌≤ℤ◌, ◌*◌, ◌<◌, ◌≤◌, ◌≡◌, ◌≢◌, ◌⊎◌, List, length, All, Any, take, slice_index_or}
-use Rattle.teg_check.specs.teg_net.declared.entries.PlaceId.{PlaceId}
-use Rattle.teg_check.specs.teg_net.Nets.{NetLists}
-use Rattle.teg_check.specs.teg_net.Circuits.{from_of, IsCircuit, time_of, tokens_of}
-use Rattle.teg_check.specs.teg_net.Parts.{IsMember, IsPlaceOfPart, to_of}
-use Rattle.teg_check.specs.teg_net.PartAnswers.{first_transition_of}
-use Rattle.teg_check.specs.teg_net.ReducedTimes.{reduced_time}
+use Rattle.teg_net.specs.declared.entries.PlaceId.{PlaceId}
+use Rattle.teg_net.specs.Nets.{NetLists}
+use Rattle.teg_net.specs.Circuits.{from_of, IsCircuit, time_of, tokens_of}
+use Rattle.teg_net.specs.Parts.{IsMember, IsPlaceOfPart, to_of}
+use Rattle.teg_net.specs.PartAnswers.{first_transition_of}
+use Rattle.teg_net.specs.ReducedTimes.{reduced_time}
 
 -- the place that the policy gives to a transition
 abbrev pub Policy : Type 0

@@ -1,14 +1,14 @@
 -- Policy runs: lists of rounds of which each follows from the one before.
 use Rattle.std.specs.Prelude.{ℕ, ℤ, pos, ◌+◌, ◌-◌, ◌<◌, ◌≤◌, ◌≡◌, ◌==◌, if◌then◌else◌, ◌⊎◌, List, [], ◌∷◌, length, Any, map, Option, Some, None, slice_index_or}
-use Rattle.teg_check.specs.teg_net.declared.entries.PlaceId.{PlaceId}
-use Rattle.teg_check.specs.teg_net.Nets.{NetLists}
-use Rattle.teg_check.specs.teg_net.Circuits.{BeginsLowest, time_of, tokens_of}
-use Rattle.teg_check.specs.teg_net.Ratios.{IsRatioOf}
-use Rattle.teg_check.specs.teg_net.declared.rounds.Choice.{Choice}
-use Rattle.teg_check.specs.teg_net.declared.rounds.Round.{Round}
-use Rattle.teg_check.specs.teg_net.Parts.{IsMember, to_of, ListsMembers}
+use Rattle.teg_net.specs.declared.entries.PlaceId.{PlaceId}
+use Rattle.teg_net.specs.Nets.{NetLists}
+use Rattle.teg_net.specs.Circuits.{BeginsLowest, time_of, tokens_of}
+use Rattle.teg_net.specs.Ratios.{IsRatioOf}
+use Rattle.teg_net.specs.declared.rounds.Choice.{Choice}
+use Rattle.teg_net.specs.declared.rounds.Round.{Round}
+use Rattle.teg_net.specs.Parts.{IsMember, to_of, ListsMembers}
 use Rattle.teg_howard.specs.Policies.{Policy, IsPolicy, Enters, IsPolicyCircuit, IsBestCircuit, IsRouting, AreSums, Improves, IsImprovement, IsChanged, first_id}
-use Rattle.teg_check.specs.teg_net.PartAnswers.{first_transition_of}
+use Rattle.teg_net.specs.PartAnswers.{first_transition_of}
 
 -- the choice for a transition
 abbrev pub choice_of_member : List Choice → ℕ → Option Choice

@@ -1,15 +1,15 @@
 -- What holds from round to round of a policy run, and what its last round answers.
 use Rattle.std.specs.Prelude.{ℕ, zero, suc, ℤ, pos, ◌+ℤ◌, ◌<ℤ◌, ◌+◌, ◌*◌, ◌<◌, ◌≤◌, ◌≡◌, ◌⊎◌, ⊤, List, length, All, map, slice_index_or}
-use Rattle.teg_check.specs.teg_net.declared.rounds.Choice.{Choice}
-use Rattle.teg_check.specs.teg_net.declared.rounds.Round.{Round}
-use Rattle.teg_check.specs.teg_net.declared.answers.Potential.{Potential}
-use Rattle.teg_check.specs.teg_net.declared.answers.PartAnswer.{PartAnswer}
-use Rattle.teg_check.specs.teg_net.declared.answers.PartAnswer.TheVariants.{NoCircuit, Best}
-use Rattle.teg_check.specs.teg_net.declared.entries.PlaceId.{PlaceId}
-use Rattle.teg_check.specs.teg_net.Nets.{NetLists}
-use Rattle.teg_check.specs.teg_net.Parts.{IsPlaceOfPart}
-use Rattle.teg_check.specs.teg_net.ReducedTimes.{IsMagnitudeWithin}
-use Rattle.teg_check.specs.teg_net.Limits.{most_transitions, greatest_circuit_time, most_circuit_tokens, greatest_scaled_potential}
+use Rattle.teg_net.specs.declared.rounds.Choice.{Choice}
+use Rattle.teg_net.specs.declared.rounds.Round.{Round}
+use Rattle.teg_net.specs.declared.answers.Potential.{Potential}
+use Rattle.teg_net.specs.declared.answers.PartAnswer.{PartAnswer}
+use Rattle.teg_net.specs.declared.answers.PartAnswer.TheVariants.{NoCircuit, Best}
+use Rattle.teg_net.specs.declared.entries.PlaceId.{PlaceId}
+use Rattle.teg_net.specs.Nets.{NetLists}
+use Rattle.teg_net.specs.Parts.{IsPlaceOfPart}
+use Rattle.teg_net.specs.ReducedTimes.{IsMagnitudeWithin}
+use Rattle.teg_net.specs.Limits.{most_transitions, greatest_circuit_time, most_circuit_tokens, greatest_scaled_potential}
 use Rattle.teg_howard.specs.Policies.{Policy, IsImprovement, IsChanged}
 use Rattle.teg_howard.specs.PolicyRounds.{chosen, potential, last_policy_round, IsRoundOf, KeepsCircuit, IsPolicyRun}
 

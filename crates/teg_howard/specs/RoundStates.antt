@@ -1,18 +1,18 @@
 -- Working definitions of what holds between two rounds.
 use Rattle.std.specs.Prelude.{ℕ, ◌*◌, ◌<◌, ◌≤◌, ◌≡◌, ◌≢◌, ◌⊎◌, ◌<ℤ◌, ◌≤ℤ◌, List, length, All, None}
-use Rattle.teg_check.specs.teg_net.declared.entries.PlaceId.{PlaceId}
-use Rattle.teg_check.specs.teg_net.Nets.{NetLists, IsNet}
-use Rattle.teg_check.specs.teg_net.Circuits.{IsLive, time_of, tokens_of, from_of}
-use Rattle.teg_check.specs.teg_net.declared.rounds.Round.{Round}
+use Rattle.teg_net.specs.declared.entries.PlaceId.{PlaceId}
+use Rattle.teg_net.specs.Nets.{NetLists, IsNet}
+use Rattle.teg_net.specs.Circuits.{IsLive, time_of, tokens_of, from_of}
+use Rattle.teg_net.specs.declared.rounds.Round.{Round}
 use Rattle.teg_howard.specs.declared.settling.RoundState.{RoundState}
 use Rattle.teg_parts.specs.Partitions.{AreStrong}
-use Rattle.teg_check.specs.teg_net.Parts.{IsMember, IsPlaceOfPart}
+use Rattle.teg_net.specs.Parts.{IsMember, IsPlaceOfPart}
 use Rattle.teg_howard.specs.Policies.{IsPolicy, IsPolicyCircuit, LeadsBack, AreSums, Improves, first_id}
-use Rattle.teg_check.specs.teg_net.ReducedTimes.{IsMagnitudeWithin}
-use Rattle.teg_check.specs.teg_net.PartAnswers.{first_transition_of}
+use Rattle.teg_net.specs.ReducedTimes.{IsMagnitudeWithin}
+use Rattle.teg_net.specs.PartAnswers.{first_transition_of}
 use Rattle.teg_howard.specs.PolicyRounds.{chosen, potential, FollowsRound}
-use Rattle.teg_check.specs.teg_net.Ratios.{IsRatioOf}
-use Rattle.teg_check.specs.teg_net.Limits.{greatest_scaled_potential}
+use Rattle.teg_net.specs.Ratios.{IsRatioOf}
+use Rattle.teg_net.specs.Limits.{greatest_scaled_potential}
 use Rattle.teg_howard.specs.FoundCircuits.{policy_of, potentials, value_held, value_or_zero, IsCircuitRatio, ListsChoices}
 
 -- a round stands on the policy that the list gives

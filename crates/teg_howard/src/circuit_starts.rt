@@ -1,13 +1,13 @@
 //! Where the circuits of a policy begin, by one walk that marks what it has passed.
 ghost use Rattle.std.specs.Prelude.{ℕ, ◌≡◌, ◌↔◌, ◌<◌, length, All, IsTrue, IfOk, IfSome, IfNone, Some};
-ghost use Rattle.teg_check.specs.teg_net.Nets.{IsNet};
+ghost use Rattle.teg_net.specs.Nets.{IsNet};
 ghost use Rattle.teg_howard.specs.Policies.{IsPolicy};
 ghost use Rattle.teg_howard.specs.FoundCircuits.{policy_of, IsOnPolicy};
 ghost use Rattle.teg_howard.specs.CircuitStarts.{ComesAgain, IsLowestBack, HasWalkPassed, AreStarts, walk_at};
 
 use crate::steps::place_into;
 use std::alloc::{AllocError, Global};
-use teg_check::teg_net::{Net, PlaceId};
+use teg_net::{Net, PlaceId};
 
 // Follows the policy backwards from `start` to a transition that was passed before, and notes of
 // each on the way that this walk was the first there. It gives where the walk ends.

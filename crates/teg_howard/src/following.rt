@@ -5,7 +5,7 @@ ghost use Rattle.teg_howard.specs.Following.{AreFollowers, Followed, CanFollow, 
 
 use crate::offers::offer_from;
 use std::alloc::{AllocError, Global};
-use teg_check::teg_net::{Net, PlaceId, Ratio};
+use teg_net::{Net, PlaceId, Ratio};
 
 // The followers of each transition, the members whose policy places start there, but for the root:
 // the highest numbered one, and for each member the next lower one that has the same start.

@@ -1,10 +1,10 @@
 //! Which places lie in a part.
 ghost use Rattle.std.specs.Prelude.{◌≡◌, ◌<◌, ◌↔◌, length, IsTrue, IfOk};
-ghost use Rattle.teg_check.specs.teg_net.Parts.{IsMember};
+ghost use Rattle.teg_net.specs.Parts.{IsMember};
 ghost use Rattle.teg_howard.specs.InnerPlaces.{ListsPlaces};
 
 use std::alloc::{AllocError, Global};
-use teg_check::teg_net::{Net, Place, PlaceId};
+use teg_net::{Net, Place, PlaceId};
 
 // Whether both ends of the place lie in the part.
 pub(crate) fn is_inside(parts: &[u32], part: u32, place: &Place) -> bool

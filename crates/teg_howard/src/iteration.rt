@@ -1,6 +1,6 @@
 //! The rounds of a part, from the first to the one that no place improves.
 ghost use Rattle.std.specs.Prelude.{◌≡◌, IfOk, IfSome, IfNone, map};
-ghost use Rattle.teg_check.specs.teg_net.PartAnswers.{IsPartAnswer};
+ghost use Rattle.teg_net.specs.PartAnswers.{IsPartAnswer};
 ghost use Rattle.teg_howard.specs.PolicyRounds.{IsFirstRound, IsPolicyRun};
 ghost use Rattle.teg_howard.specs.PolicyRuns.{potential_of, IsAnswerOf, IsAnswerOfLast, EndsRun, KeepsLimits, AllRise, RiseByCase};
 ghost use Rattle.teg_howard.specs.FoundCircuits.{AreLowest};
@@ -12,7 +12,7 @@ use crate::policies::{improve, is_any, lowest_places};
 use crate::policy_circuits::best_circuit;
 use crate::settling::{RoundState, settle};
 use std::alloc::{AllocError, Global};
-use teg_check::teg_net::{Choice, Circuit, Net, PartAnswer, PlaceId, Potential, Ratio, Round};
+use teg_net::{Choice, Circuit, Net, PartAnswer, PlaceId, Potential, Ratio, Round};
 
 // The first round: each member takes its lowest numbered place.
 fn first_state(

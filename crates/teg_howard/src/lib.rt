@@ -22,6 +22,3 @@ mod steps;
 
 pub use laws::policy_runs_are_one;
 pub use part_answers::{howard, last_round};
-pub use teg_check;
-pub use teg_check::teg_net;
-pub use teg_parts;

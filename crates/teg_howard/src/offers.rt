@@ -1,13 +1,13 @@
 //! What places offer to their ends.
 ghost use Rattle.std.specs.Prelude.{◌≡◌, ◌≢◌, ◌*◌, ◌<◌, ◌≤◌, ◌+ℤ◌, ◌-ℤ◌, pos, length, None};
-ghost use Rattle.teg_check.specs.teg_net.Circuits.{from_of};
-ghost use Rattle.teg_check.specs.teg_net.Parts.{to_of};
-ghost use Rattle.teg_check.specs.teg_net.ReducedTimes.{IsMagnitudeWithin};
-ghost use Rattle.teg_check.specs.teg_net.Limits.{greatest_scaled_potential, greatest_hold};
+ghost use Rattle.teg_net.specs.Circuits.{from_of};
+ghost use Rattle.teg_net.specs.Parts.{to_of};
+ghost use Rattle.teg_net.specs.ReducedTimes.{IsMagnitudeWithin};
+ghost use Rattle.teg_net.specs.Limits.{greatest_scaled_potential, greatest_hold};
 ghost use Rattle.teg_howard.specs.Policies.{offer_of};
 ghost use Rattle.teg_howard.specs.FoundCircuits.{value_held, potentials, IsCircuitRatio};
 
-use teg_check::teg_net::{Net, Place, PlaceId, Ratio};
+use teg_net::{Net, Place, PlaceId, Ratio};
 
 // What a place offers to its end, where its start has the value.
 fn offer(ratio: Ratio, place: &Place, value: i128) -> i128

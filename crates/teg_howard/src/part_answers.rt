@@ -1,6 +1,6 @@
 //! Policy iteration on one part of a net: its answer alone, or with the rounds that led to it.
 ghost use Rattle.std.specs.Prelude.{IfOk};
-ghost use Rattle.teg_check.specs.teg_net.PartAnswers.{IsPartAnswer};
+ghost use Rattle.teg_net.specs.PartAnswers.{IsPartAnswer};
 ghost use Rattle.teg_check.specs.Ranks.{IsRanking};
 ghost use Rattle.teg_parts.specs.Partitions.{AreParts};
 ghost use Rattle.teg_howard.specs.PolicyRounds.{IsPolicyRun};
@@ -9,7 +9,7 @@ ghost use Rattle.teg_howard.specs.PolicyRuns.{HasInnerPlace, IsAnswerOfLast, End
 use crate::iteration::{last_answer, policy_run};
 use std::alloc::Global;
 use teg_check::Live;
-use teg_check::teg_net::{Net, OutOfMemory, PartAnswer, Round};
+use teg_net::{Net, OutOfMemory, PartAnswer, Round};
 use teg_parts::Parts;
 
 /// The greatest ratio of a part that has a circuit (chapter 3), by policy iteration (Howard's

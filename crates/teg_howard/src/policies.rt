@@ -7,7 +7,7 @@ ghost use Rattle.teg_howard.specs.FoundCircuits.{AreLowest, IsBar, CanImprove, I
 use crate::inside::is_inside;
 use crate::offers::{end_of, offer_from};
 use std::alloc::{AllocError, Global};
-use teg_check::teg_net::{Net, PlaceId, Ratio};
+use teg_net::{Net, PlaceId, Ratio};
 
 // For each member the lowest numbered place that enters it.
 pub(crate) fn lowest_places(

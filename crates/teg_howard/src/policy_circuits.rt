@@ -1,17 +1,17 @@
 //! The circuits of a policy, and the best of them.
 ghost use Rattle.std.specs.Prelude.{◌≡◌, ◌<◌, ◌↔◌, List, length, All, Any, IsTrue, IfOk, IfSome, IfNone, Some};
-ghost use Rattle.teg_check.specs.teg_net.Nets.{IsNet};
-ghost use Rattle.teg_check.specs.teg_net.Circuits.{IsLive, AreInRange};
-ghost use Rattle.teg_check.specs.teg_net.Parts.{to_of};
+ghost use Rattle.teg_net.specs.Nets.{IsNet};
+ghost use Rattle.teg_net.specs.Circuits.{IsLive, AreInRange};
+ghost use Rattle.teg_net.specs.Parts.{to_of};
 ghost use Rattle.teg_howard.specs.Policies.{IsPolicy, IsPolicyCircuit};
-ghost use Rattle.teg_check.specs.teg_net.declared.entries.PlaceId.{PlaceId};
+ghost use Rattle.teg_net.specs.declared.entries.PlaceId.{PlaceId};
 ghost use Rattle.teg_parts.specs.Components.{IsMarked};
 ghost use Rattle.teg_howard.specs.FoundCircuits.{policy_of, IsOnPolicy, IsFoundAt, IsAbove, IsFoundSmall, IsBestFound, GoesBelow};
 
 use crate::circuit_starts::circuit_starts;
 use crate::steps::place_into;
 use std::alloc::{AllocError, Global};
-use teg_check::teg_net::{Net, PlaceId};
+use teg_net::{Net, PlaceId};
 
 // A circuit of a policy, with its sums.
 #[derive(Debug, Drop)]

@@ -1,14 +1,14 @@
 //! The potentials of a policy: every member is routed to the circuit, and gets its potential (value determination).
 ghost use Rattle.std.specs.Prelude.{◌≡◌, ◌≢◌, ◌<◌, ◌≤◌, ◌↔◌, ℕ, length, IsTrue, IfOk, IfSome, IfNone, None};
-ghost use Rattle.teg_check.specs.teg_net.Parts.{IsMember};
-ghost use Rattle.teg_check.specs.teg_net.declared.entries.PlaceId.{PlaceId};
+ghost use Rattle.teg_net.specs.Parts.{IsMember};
+ghost use Rattle.teg_net.specs.declared.entries.PlaceId.{PlaceId};
 ghost use Rattle.teg_howard.specs.InnerPlaces.{ListsPlaces};
 ghost use Rattle.teg_howard.specs.FoundCircuits.{policy_of, value_held, LeadsOn, IsJoin, IsNextJoin, IsRoundMade, CanSettle, IsSettled};
 
 use crate::following::follow;
 use crate::offers::{end_of, offer_from};
 use std::alloc::{AllocError, Global};
-use teg_check::teg_net::{Choice, Circuit, Net, PlaceId, Ratio, Round, TransitionId};
+use teg_net::{Choice, Circuit, Net, PlaceId, Ratio, Round, TransitionId};
 
 // A round, and the members' potentials by transition.
 #[derive(Debug, Drop)]

@@ -1,9 +1,9 @@
 //! One step back along a policy.
 ghost use Rattle.std.specs.Prelude.{◌≡◌, length};
-ghost use Rattle.teg_check.specs.teg_net.Circuits.{place_at};
+ghost use Rattle.teg_net.specs.Circuits.{place_at};
 ghost use Rattle.teg_howard.specs.FoundCircuits.{policy_of, IsOnPolicy};
 
-use teg_check::teg_net::{Net, Place, PlaceId};
+use teg_net::{Net, Place, PlaceId};
 
 // The place that the policy gives to the transition.
 pub(crate) fn place_into<'net>(net: &'net Net, policy: &[PlaceId], at: usize) -> &'net Place

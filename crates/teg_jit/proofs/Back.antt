@@ -7,10 +7,10 @@ use Rattle.teg_dates.specs.dioid.declared.dates.Date.{Date}
 use Rattle.teg_dates.specs.dioid.declared.dates.Date.TheVariants.{At as on_date}
 use Rattle.teg_dates.specs.dioid.Dates.{IsAtMostDate, delayed}
 use Rattle.teg_dates.proofs.dioid_proofs.DateOrder.{at_most_is, at_most_trans, delayed_rises}
-use Rattle.teg_dates.specs.teg_net.declared.entries.PlaceId.{PlaceId}
-use Rattle.teg_dates.specs.teg_net.declared.entries.Place.{Place}
-use Rattle.teg_dates.specs.teg_net.Nets.{NetLists, IsNet, IsPlaceOf}
-use Rattle.teg_dates.specs.teg_net.Circuits.{no_place, place_at}
+use Rattle.teg_net.specs.declared.entries.PlaceId.{PlaceId}
+use Rattle.teg_net.specs.declared.entries.Place.{Place}
+use Rattle.teg_net.specs.Nets.{NetLists, IsNet, IsPlaceOf}
+use Rattle.teg_net.specs.Circuits.{no_place, place_at}
 use Rattle.teg_dates.specs.teg_model.Datings.{IsFeasibleUnder}
 use Rattle.due_laws.specs.MeetingDueDates.{KeepsDues, inputs_at_zero}
 use Rattle.teg_dates.specs.DateTables.{firing_position}

@@ -6,7 +6,7 @@ use Rattle.std.proofs.lemmas.List.{get_or-map, get_or-set_same, get_or-set_other
 use Rattle.std.proofs.lemmas.List.Elements.{All-push, Contains-push, Contains-append_left}
 use Rattle.teg_dates.specs.dioid.declared.dates.Date.{Date}
 use Rattle.teg_dates.specs.dioid.declared.dates.Date.TheVariants.{Early}
-use Rattle.teg_dates.specs.teg_net.Nets.{NetLists}
+use Rattle.teg_net.specs.Nets.{NetLists}
 use Rattle.teg_dates.specs.teg_model.Datings.{IsLeastDating}
 use Rattle.teg_dates.specs.DateCells.{date_of_cell}
 use Rattle.teg_due.specs.declared.rows.DueRow.{DueRow}

@@ -8,11 +8,11 @@ use Rattle.std.proofs.lemmas.Option.{slice_get-get_or}
 use Rattle.teg_dates.specs.dioid.declared.dates.Date.{Date}
 use Rattle.teg_dates.specs.dioid.declared.dates.Date.TheVariants.{Early, At as on_date, Never}
 use Rattle.teg_dates.proofs.dioid_proofs.DateOrder.{at_most_is}
-use Rattle.teg_dates.specs.teg_net.Limits.{greatest_input_date}
-use Rattle.teg_dates.specs.teg_net.Nets.{NetLists, IsNet, without_inputs}
-use Rattle.teg_dates.specs.teg_net.ReadyDates.{start_date}
-use Rattle.teg_dates.specs.teg_net.Walks.{walk_time}
-use Rattle.teg_dates.specs.teg_check.Ranks.{IsRanking}
+use Rattle.teg_net.specs.Limits.{greatest_input_date}
+use Rattle.teg_net.specs.Nets.{NetLists, IsNet, without_inputs}
+use Rattle.teg_net.specs.ReadyDates.{start_date}
+use Rattle.teg_net.specs.Walks.{walk_time}
+use Rattle.teg_check.specs.Ranks.{IsRanking}
 use Rattle.teg_dates.specs.teg_model.Datings.{IsLeastUnder, IsLeastDating}
 use Rattle.teg_dates.proofs.teg_model_proofs.OfNet.{net_ends}
 use Rattle.teg_dates.proofs.teg_model_proofs.Within.{AreWithin, least_within}

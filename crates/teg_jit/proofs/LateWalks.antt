@@ -7,11 +7,11 @@ use Rattle.teg_dates.specs.dioid.declared.dates.Date.{Date}
 use Rattle.teg_dates.specs.dioid.declared.dates.Date.TheVariants.{Early, At as on_date}
 use Rattle.teg_dates.specs.dioid.Dates.{IsAtMostDate, delayed}
 use Rattle.teg_dates.proofs.dioid_proofs.DateOrder.{at_most_is, at_most_trans, same_by_at_most, later_is_left}
-use Rattle.teg_dates.specs.teg_net.declared.walks.Step.{Step}
-use Rattle.teg_dates.specs.teg_net.declared.walks.Walk.{Walk}
-use Rattle.teg_dates.specs.teg_net.Nets.{NetLists, IsNet, IsInput}
-use Rattle.teg_dates.specs.teg_net.ReadyDates.{start_date}
-use Rattle.teg_dates.specs.teg_net.Walks.{Walks, walk_time}
+use Rattle.teg_net.specs.declared.walks.Step.{Step}
+use Rattle.teg_net.specs.declared.walks.Walk.{Walk}
+use Rattle.teg_net.specs.Nets.{NetLists, IsNet, IsInput}
+use Rattle.teg_net.specs.ReadyDates.{start_date}
+use Rattle.teg_net.specs.Walks.{Walks, walk_time}
 use Rattle.teg_dates.specs.teg_model.LiveRanks.{AreRanks, HasEndsInRange}
 use Rattle.teg_dates.specs.teg_model.Datings.{IsLeastUnder, at_input}
 use Rattle.teg_dates.specs.teg_model.Starts.{start_of_firing}

@@ -4,10 +4,10 @@ use Rattle.std.specs.Prelude.{All}
 use Rattle.std.proofs.lemmas.Bool.{cases_lt}
 use Rattle.std.proofs.lemmas.Int.{ints}
 use Rattle.std.proofs.lemmas.List.{get_or_default}
-use Rattle.teg_dates.specs.teg_net.Nets.{NetLists, IsNet}
-use Rattle.teg_dates.specs.teg_net.Circuits.{IsLive}
-use Rattle.teg_dates.specs.teg_net.ReadyDates.{start_date}
-use Rattle.teg_dates.specs.teg_net.Walks.{walk_time}
+use Rattle.teg_net.specs.Nets.{NetLists, IsNet}
+use Rattle.teg_net.specs.Circuits.{IsLive}
+use Rattle.teg_net.specs.ReadyDates.{start_date}
+use Rattle.teg_net.specs.Walks.{walk_time}
 use Rattle.teg_dates.specs.teg_model.Datings.{IsLeastUnder, system_of}
 use Rattle.due_laws.specs.MeetingDueDates.{inputs_at_zero}
 use Rattle.teg_dates.proofs.teg_model_proofs.LeastOver.{least_over}

@@ -5,11 +5,11 @@ use Rattle.std.proofs.lemmas.Int.{ints}
 use Rattle.std.proofs.lemmas.List.{get_or_default}
 use Rattle.teg_dates.specs.dioid.declared.dates.Date.TheVariants.{At as on_date}
 use Rattle.teg_dates.specs.dioid.Dates.{IsAtMostDate}
-use Rattle.teg_dates.specs.teg_net.declared.entries.Place.{Place}
-use Rattle.teg_dates.specs.teg_net.Nets.{NetLists}
-use Rattle.teg_dates.specs.teg_net.Circuits.{no_place}
-use Rattle.teg_dates.specs.teg_net.ReadyDates.{ready_date, start_date}
-use Rattle.teg_dates.proofs.teg_net_proofs.StartDates.{IsStartDate-start_date}
+use Rattle.teg_net.specs.declared.entries.Place.{Place}
+use Rattle.teg_net.specs.Nets.{NetLists}
+use Rattle.teg_net.specs.Circuits.{no_place}
+use Rattle.teg_net.specs.ReadyDates.{ready_date, start_date}
+use Rattle.teg_net.proofs.StartDates.{IsStartDate-start_date}
 use Rattle.teg_jit.specs.Plans.{PlanDates, dates_of_plan}
 use Rattle.teg_jit.specs.FirstLate.{HasDateAtStart, HasDateWhenReady, HasDateZero, IsAtStart, IsWhenReady, StartsAreKept}
 

@@ -7,12 +7,12 @@ use Rattle.teg_dates.specs.dioid.declared.dates.Date.{Date}
 use Rattle.teg_dates.specs.dioid.declared.dates.Date.TheVariants.{At as on_date, Never}
 use Rattle.teg_dates.specs.dioid.Dates.{delayed}
 use Rattle.teg_dates.proofs.dioid_proofs.DateOrder.{at_most_is, at_most_trans}
-use Rattle.teg_dates.specs.teg_net.declared.entries.Place.{Place}
-use Rattle.teg_dates.specs.teg_net.Nets.{NetLists, IsNet, IsPlaceOf}
-use Rattle.teg_dates.specs.teg_net.Circuits.{no_place, place_at, IsLive}
-use Rattle.teg_dates.specs.teg_check.Ranks.{IsRanking}
+use Rattle.teg_net.specs.declared.entries.Place.{Place}
+use Rattle.teg_net.specs.Nets.{NetLists, IsNet, IsPlaceOf}
+use Rattle.teg_net.specs.Circuits.{no_place, place_at, IsLive}
+use Rattle.teg_check.specs.Ranks.{IsRanking}
 use Rattle.std.proofs.lemmas.List.{get_or_past}
-use Rattle.teg_dates.specs.teg_net.Walks.{walk_time}
+use Rattle.teg_net.specs.Walks.{walk_time}
 use Rattle.teg_dates.specs.teg_model.LiveRanks.{AreRanks}
 use Rattle.teg_dates.proofs.teg_model_proofs.OfNet.{net_ends}
 use Rattle.due_laws.specs.LatestDates.{IsDateToDue, AreLatestDates}

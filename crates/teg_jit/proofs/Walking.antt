@@ -7,14 +7,14 @@ use Rattle.std.proofs.lemmas.List.Sums.{sum_by-cons}
 use Rattle.teg_dates.specs.dioid.declared.dates.Date.TheVariants.{At as on_date, Never}
 use Rattle.teg_dates.specs.dioid.Dates.{delayed}
 use Rattle.teg_dates.proofs.dioid_proofs.DateOrder.{at_most_is}
-use Rattle.teg_dates.specs.teg_net.declared.entries.PlaceId.{PlaceId}
-use Rattle.teg_dates.specs.teg_net.declared.entries.Place.{Place}
-use Rattle.teg_dates.specs.teg_net.declared.walks.Step.{Step}
-use Rattle.teg_dates.specs.teg_net.declared.walks.Step.TheVariants.{By as by_place, Next as to_next}
-use Rattle.teg_dates.specs.teg_net.declared.walks.Walk.{Walk}
-use Rattle.teg_dates.specs.teg_net.Nets.{NetLists, IsNet, IsPlaceOf}
-use Rattle.teg_dates.specs.teg_net.Circuits.{no_place, place_at}
-use Rattle.teg_dates.specs.teg_net.Walks.{Walks, numbers_of, step_time, walk_time}
+use Rattle.teg_net.specs.declared.entries.PlaceId.{PlaceId}
+use Rattle.teg_net.specs.declared.entries.Place.{Place}
+use Rattle.teg_net.specs.declared.walks.Step.{Step}
+use Rattle.teg_net.specs.declared.walks.Step.TheVariants.{By as by_place, Next as to_next}
+use Rattle.teg_net.specs.declared.walks.Walk.{Walk}
+use Rattle.teg_net.specs.Nets.{NetLists, IsNet, IsPlaceOf}
+use Rattle.teg_net.specs.Circuits.{no_place, place_at}
+use Rattle.teg_net.specs.Walks.{Walks, numbers_of, step_time, walk_time}
 use Rattle.teg_dates.proofs.teg_model_proofs.Delays.{delayed_twice, delayed_not}
 use Rattle.teg_dates.proofs.teg_model_proofs.OfNet.{net_ends}
 use Rattle.teg_dates.proofs.teg_model_proofs.WalkSteps.{walk_append, walk_time-append}

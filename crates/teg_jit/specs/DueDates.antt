@@ -1,6 +1,6 @@
 -- The due dates of a list, as a function of the firing.
 use Rattle.std.specs.Prelude.{ℕ, ◌<◌, ◌≤◌, ◌≡◌, ◌≢◌, ◌⊎◌, ◌==◌, ◌&&◌, List, length, All, AllPairs, Any, Option, find, option_map}
-use Rattle.teg_dates.specs.teg_net.Nets.{NetLists}
+use Rattle.teg_net.specs.Nets.{NetLists}
 use Rattle.teg_due.specs.declared.rows.DueRow.{DueRow}
 
 -- the date of the row that names firing k of transition t; none where no row does

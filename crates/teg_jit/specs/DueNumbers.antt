@@ -3,7 +3,7 @@ use Rattle.std.specs.Prelude.{ℕ, pos, ◌<◌, ◌≤◌, ◌≡◌, List, len
 use Rattle.std.specs.List.Sorted.{IsNonDecreasingBy}
 use Rattle.teg_dates.specs.dioid.declared.dates.Date.{Date}
 use Rattle.teg_dates.specs.dioid.declared.dates.Date.TheVariants.{At}
-use Rattle.teg_dates.specs.teg_net.Nets.{NetLists}
+use Rattle.teg_net.specs.Nets.{NetLists}
 use Rattle.teg_dates.specs.DateCells.{date_of_cell}
 use Rattle.teg_dates.specs.Streams.{IsLeastRow}
 use Rattle.teg_due.specs.declared.rows.DueRow.{DueRow}

@@ -2,10 +2,10 @@
 use Rattle.std.specs.Prelude.{ℕ, pos, ◌<◌, ◌≤◌, ◌≡◌, List, length, slice_index_or}
 use Rattle.teg_dates.specs.dioid.declared.dates.Date.{Date}
 use Rattle.teg_dates.specs.dioid.declared.dates.Date.TheVariants.{At}
-use Rattle.teg_dates.specs.teg_net.Nets.{NetLists}
+use Rattle.teg_net.specs.Nets.{NetLists}
 use Rattle.teg_dates.specs.dioid.Dates.{IsAtMostDate}
-use Rattle.teg_dates.specs.teg_net.Circuits.{place_at}
-use Rattle.teg_dates.specs.teg_net.ReadyDates.{ready_date, start_date}
+use Rattle.teg_net.specs.Circuits.{place_at}
+use Rattle.teg_net.specs.ReadyDates.{ready_date, start_date}
 use Rattle.teg_due.specs.declared.rows.DueRow.{DueRow}
 use Rattle.teg_jit.specs.LatestCells.{most_cell_date}
 use Rattle.teg_jit.specs.Plans.{PlanDates, dates_of_plan}

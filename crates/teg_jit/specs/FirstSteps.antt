@@ -1,7 +1,7 @@
 -- Working definitions of the first step of a latest date as a step of a walk.
 use Rattle.std.specs.Prelude.{◌≡◌, Option, Some, None}
-use Rattle.teg_dates.specs.teg_net.declared.walks.Step.{Step}
-use Rattle.teg_dates.specs.teg_net.declared.walks.Step.TheVariants.{By as by_place, Next as to_next}
+use Rattle.teg_net.specs.declared.walks.Step.{Step}
+use Rattle.teg_net.specs.declared.walks.Step.TheVariants.{By as by_place, Next as to_next}
 use Rattle.teg_jit.specs.declared.answers.Onward.{Onward}
 use Rattle.teg_jit.specs.declared.answers.Onward.TheVariants.{Due, By, Next}
 use Rattle.teg_jit.specs.declared.answers.LatestDate.{LatestDate}

@@ -2,9 +2,9 @@
 use Rattle.std.specs.Prelude.{ℕ, ◌+◌, ◌*◌, ◌<◌, ◌≤◌, ◌≡◌, List, length, slice_index_or, Option, Some, None, nat_lt, if◌then◌else◌}
 use Rattle.teg_dates.specs.dioid.declared.dates.Date.{Date}
 use Rattle.teg_dates.specs.dioid.Dates.{IsAtMostDate, delayed}
-use Rattle.teg_dates.specs.teg_net.declared.entries.PlaceId.{PlaceId}
-use Rattle.teg_dates.specs.teg_net.Nets.{NetLists}
-use Rattle.teg_dates.specs.teg_net.Circuits.{place_at}
+use Rattle.teg_net.specs.declared.entries.PlaceId.{PlaceId}
+use Rattle.teg_net.specs.Nets.{NetLists}
+use Rattle.teg_net.specs.Circuits.{place_at}
 use Rattle.teg_dates.specs.teg_model.Datings.{IsFeasibleUnder}
 use Rattle.due_laws.specs.MeetingDueDates.{KeepsDues, inputs_at_zero}
 use Rattle.teg_jit.specs.declared.answers.Onward.{Onward}

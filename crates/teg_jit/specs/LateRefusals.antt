@@ -3,8 +3,8 @@ use Rattle.std.specs.Prelude.{ℕ, pos, ◌<◌, ◌≡◌, List, All, take, sli
 use Rattle.teg_dates.specs.dioid.declared.dates.Date.{Date}
 use Rattle.teg_dates.specs.dioid.declared.dates.Date.TheVariants.{At}
 use Rattle.teg_dates.specs.dioid.Dates.{IsAtMostDate}
-use Rattle.teg_dates.specs.teg_net.declared.entries.TransitionId.{TransitionId}
-use Rattle.teg_dates.specs.teg_net.Nets.{NetLists}
+use Rattle.teg_net.specs.declared.entries.TransitionId.{TransitionId}
+use Rattle.teg_net.specs.Nets.{NetLists}
 use Rattle.teg_dates.specs.teg_model.Datings.{IsLeastUnder}
 use Rattle.due_laws.specs.MeetingDueDates.{inputs_at_zero}
 use Rattle.due_laws.specs.LatestDates.{IsLateWalk}

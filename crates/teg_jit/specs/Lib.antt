@@ -10,7 +10,7 @@ pub mod FirstLate
 pub mod BackwardOrder
 pub mod GoingBack
 pub use Rattle.teg_due.specs.csv_records as csv_records
-pub use Rattle.teg_dates.specs.teg_net as teg_net
+pub use Rattle.teg_net.specs as teg_net
 pub use Rattle.teg_due.specs as teg_due
-pub use Rattle.teg_dates.specs.teg_check as teg_check
+pub use Rattle.teg_check.specs as teg_check
 pub use Rattle.due_laws.specs as due_laws

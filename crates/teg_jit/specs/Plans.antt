@@ -2,11 +2,11 @@
 use Rattle.std.specs.Prelude.{ℕ, pos, ◌+◌, ◌*◌, ◌<◌, ◌≤◌, ◌≡◌, ◌≢◌, List, [], ◌∷◌, length, slice_index_or, Option, Some, ⊤}
 use Rattle.teg_dates.specs.dioid.declared.dates.Date.{Date}
 use Rattle.teg_dates.specs.dioid.declared.dates.Date.TheVariants.{At as on_date, Never}
-use Rattle.teg_dates.specs.teg_net.declared.walks.Step.{Step}
-use Rattle.teg_dates.specs.teg_net.declared.walks.Step.TheVariants.{By as by_place, Next as to_next}
-use Rattle.teg_dates.specs.teg_net.Limits.{most_transitions}
-use Rattle.teg_dates.specs.teg_net.Nets.{NetLists}
-use Rattle.teg_dates.specs.teg_net.Circuits.{place_at, from_of, IsLive}
+use Rattle.teg_net.specs.declared.walks.Step.{Step}
+use Rattle.teg_net.specs.declared.walks.Step.TheVariants.{By as by_place, Next as to_next}
+use Rattle.teg_net.specs.Limits.{most_transitions}
+use Rattle.teg_net.specs.Nets.{NetLists}
+use Rattle.teg_net.specs.Circuits.{place_at, from_of, IsLive}
 use Rattle.teg_dates.specs.DateTables.{most_numbers, firing_position}
 use Rattle.due_laws.specs.LatestDates.{AreLatestDates}
 use Rattle.teg_jit.specs.declared.answers.Onward.{Onward}

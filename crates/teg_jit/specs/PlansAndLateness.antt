@@ -3,13 +3,13 @@ use Rattle.std.specs.Prelude.{ℕ, pos, ◌+◌, ◌<◌, ◌≤◌, ◌≡◌, 
 use Rattle.teg_dates.specs.dioid.declared.dates.Date.{Date}
 use Rattle.teg_dates.specs.dioid.declared.dates.Date.TheVariants.{At as on_date}
 use Rattle.teg_dates.specs.dioid.Dates.{delayed}
-use Rattle.teg_dates.specs.teg_net.declared.entries.TransitionId.{TransitionId}
-use Rattle.teg_dates.specs.teg_net.declared.walks.Step.{Step}
-use Rattle.teg_dates.specs.teg_net.declared.walks.Walk.{Walk}
-use Rattle.teg_dates.specs.teg_net.Nets.{NetLists, IsNet}
-use Rattle.teg_dates.specs.teg_net.Circuits.{IsLive}
-use Rattle.teg_dates.specs.teg_net.ReadyDates.{start_date}
-use Rattle.teg_dates.specs.teg_net.Walks.{Walks, walk_time}
+use Rattle.teg_net.specs.declared.entries.TransitionId.{TransitionId}
+use Rattle.teg_net.specs.declared.walks.Step.{Step}
+use Rattle.teg_net.specs.declared.walks.Walk.{Walk}
+use Rattle.teg_net.specs.Nets.{NetLists, IsNet}
+use Rattle.teg_net.specs.Circuits.{IsLive}
+use Rattle.teg_net.specs.ReadyDates.{start_date}
+use Rattle.teg_net.specs.Walks.{Walks, walk_time}
 use Rattle.teg_dates.specs.teg_model.Datings.{IsLeastUnder}
 use Rattle.due_laws.specs.MeetingDueDates.{KeepsDues, InputsMeet, inputs_at_zero}
 use Rattle.teg_due.specs.declared.rows.DueRow.{DueRow}

@@ -1,7 +1,7 @@
 -- Working definitions of latest dates that stand transition by transition, and of the same number by number.
 use Rattle.std.specs.Prelude.{ℕ, ◌+◌, ◌*◌, ◌/◌, ◌%◌, ◌<◌, ◌≤◌, ◌≡◌, List, length, map, slice_index_or}
 use Rattle.std.specs.List.{range_with_len}
-use Rattle.teg_dates.specs.teg_net.Limits.{most_transitions}
+use Rattle.teg_net.specs.Limits.{most_transitions}
 use Rattle.teg_dates.specs.DateTables.{most_numbers}
 use Rattle.teg_jit.specs.declared.answers.LatestDate.{LatestDate}
 use Rattle.teg_jit.specs.declared.answers.LatestDate.TheVariants.{Free}

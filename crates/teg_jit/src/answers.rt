@@ -3,7 +3,7 @@ ghost use Rattle.std.specs.Prelude.{◌≡◌};
 ghost use Rattle.teg_jit.specs.declared.answers.JitRefusal.TheVariants.{OutOfMemory};
 
 use std::alloc::AllocError;
-use teg_dates::teg_net::{OutOfMemory, PlaceId, TransitionId, Walk};
+use teg_net::{OutOfMemory, PlaceId, TransitionId, Walk};
 
 /// The first step of a walk by which a latest date is attained.
 #[derive(Clone, Copy, Debug, PartialEq, Eq)]

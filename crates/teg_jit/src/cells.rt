@@ -1,9 +1,9 @@
 //! Where the dates of firings stand in a list with one row a number.
 ghost use Rattle.std.specs.Prelude.{◌≡◌, ◌<◌, ◌≤◌, ◌*◌};
-ghost use Rattle.teg_dates.specs.teg_net.Limits.{most_transitions};
+ghost use Rattle.teg_net.specs.Limits.{most_transitions};
 ghost use Rattle.teg_dates.specs.DateTables.{firing_position, most_numbers};
 
-use teg_dates::teg_net::TransitionId;
+use teg_net::TransitionId;
 
 // Where the date of a firing stands in a list of this width.
 pub(crate) fn cell_of(width: usize, transition: TransitionId, number: u32) -> usize

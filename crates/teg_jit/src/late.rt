@@ -2,9 +2,9 @@
 ghost use Rattle.std.specs.Prelude.{◌≡◌, ◌<◌, ◌≤◌, ℕ, length, IfOk, IfErr, IfNone, IfSome, All, pos};
 ghost use Rattle.teg_dates.specs.dioid.declared.dates.Date.{Date};
 ghost use Rattle.teg_dates.specs.dioid.declared.dates.Date.TheVariants.{At};
-ghost use Rattle.teg_dates.specs.teg_net.Nets.{IsNet};
-ghost use Rattle.teg_dates.specs.teg_net.ReadyDates.{start_date};
-ghost use Rattle.teg_dates.specs.teg_check.Ranks.{IsRanking};
+ghost use Rattle.teg_net.specs.Nets.{IsNet};
+ghost use Rattle.teg_net.specs.ReadyDates.{start_date};
+ghost use Rattle.teg_check.specs.Ranks.{IsRanking};
 ghost use Rattle.teg_dates.specs.teg_model.Datings.{IsLeastUnder};
 ghost use Rattle.teg_dates.specs.DateTables.{most_numbers};
 ghost use Rattle.due_laws.specs.MeetingDueDates.{InputsMeet, inputs_at_zero};
@@ -20,9 +20,9 @@ use crate::due_numbers::dates_of_rows;
 use crate::planning::plan_for;
 use crate::starts::first_at_start;
 use std::alloc::Global;
-use teg_dates::teg_check::Live;
-use teg_dates::teg_net::{Net, OutOfMemory, Walk};
+use teg_check::Live;
 use teg_due::DueRow;
+use teg_net::{Net, OutOfMemory, Walk};
 
 // A walk to the row's firing whose start plus time is the firing's date with all inputs at 0.
 fn late_walk(

@@ -6,7 +6,7 @@ ghost use Rattle.teg_jit.specs.LatestCells.{most_cell_date, step_numbers, step_o
 use crate::answers::{LatestDate, Onward};
 use std::alloc::{AllocError, Global};
 use std::marker::Model;
-use teg_dates::teg_net::PlaceId;
+use teg_net::PlaceId;
 
 // The number of eight bytes that stands for a date that is free.
 const FREE: u64 = u64::MAX;

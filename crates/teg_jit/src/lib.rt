@@ -28,10 +28,6 @@ mod starts;
 mod turned_list;
 
 pub use answers::{JitRefusal, LatestDate, Onward};
-pub use due_laws;
 pub use laws::{dues_are_kept_by_rows, late_excludes_meet, meet_or_late, plans_lead};
 pub use plan::Plan;
 pub use planning::{latest, latest_inputs};
-pub use teg_dates::{teg_check, teg_net};
-pub use teg_due;
-pub use teg_due::csv_records;

@@ -1,8 +1,8 @@
 //! One number after another, going back: the due dates are set, then each date of a number is lowered
 //! to that of the next number, and to what each place leaves of the date at its end.
 ghost use Rattle.std.specs.Prelude.{◌≡◌, ◌+◌, ◌-◌, ◌*◌, ◌<◌, ◌≤◌, ℕ, List, length, All, IfOk, IfSome, slice_index_or, slice_set, Option};
-ghost use Rattle.teg_dates.specs.teg_net.Limits.{most_transitions};
-ghost use Rattle.teg_dates.specs.teg_check.Ranks.{IsRanking};
+ghost use Rattle.teg_net.specs.Limits.{most_transitions};
+ghost use Rattle.teg_check.specs.Ranks.{IsRanking};
 ghost use Rattle.teg_dates.specs.DateTables.{most_numbers};
 ghost use Rattle.teg_jit.specs.DueDates.{due_in, IsGreatestNumber, NameFirings};
 ghost use Rattle.teg_jit.specs.BackwardOrder.{IsBackOrder};
@@ -16,8 +16,8 @@ use crate::cells::cell_of;
 use crate::latest_list::LatestList;
 use crate::order::Depth;
 use std::alloc::{AllocError, Global};
-use teg_dates::teg_net::{Net, TransitionId};
 use teg_due::DueRow;
+use teg_net::{Net, TransitionId};
 
 // Lowers a date to this one, where it comes before.
 fn lower(dates: &mut LatestList, cell: usize, date: u64, onward: Onward)

@@ -10,7 +10,7 @@ use crate::cells::cell_of;
 use crate::turned_list::TurnedList;
 use std::alloc::{AllocError, Global};
 use std::marker::Model;
-use teg_dates::teg_net::{Net, OutOfMemory, Step, TransitionId, Walk};
+use teg_net::{Net, OutOfMemory, Step, TransitionId, Walk};
 
 /// The latest dates of the firings up to the greatest number that is due. Contracts see how many
 /// transitions and numbers there are, and the dates, number by number.

@@ -1,9 +1,9 @@
 //! The latest dates, going back from the greatest number that is due.
 ghost use Rattle.std.specs.Prelude.{◌≡◌, ◌≤◌, ◌<◌, All, IfOk, IfErr};
-ghost use Rattle.teg_dates.specs.teg_net.Nets.{IsNet};
-ghost use Rattle.teg_dates.specs.teg_check.Ranks.{IsRanking};
+ghost use Rattle.teg_net.specs.Nets.{IsNet};
+ghost use Rattle.teg_check.specs.Ranks.{IsRanking};
 ghost use Rattle.teg_dates.specs.DateTables.{most_numbers};
-ghost use Rattle.teg_dates.specs.teg_form.StandardForms.{IsStandardFormOf};
+ghost use Rattle.teg_form.specs.StandardForms.{IsStandardFormOf};
 ghost use Rattle.due_laws.specs.MeetingDueDates.{InputsMeet, AreLatestInputs, inputs_at_zero};
 ghost use Rattle.teg_due.specs.RowRules.{IsDueOf};
 ghost use Rattle.teg_jit.specs.LateRefusals.{LateIsRight};
@@ -19,10 +19,10 @@ use crate::passes::{begin, pass_all};
 use crate::plan::Plan;
 use crate::turned_list::TurnedList;
 use std::alloc::{AllocError, Global};
-use teg_dates::teg_check::Live;
-use teg_dates::teg_form::Form;
-use teg_dates::teg_net::Net;
+use teg_check::Live;
 use teg_due::{Due, DueRow};
+use teg_form::Form;
+use teg_net::Net;
 
 // The latest dates where the least dating with all inputs 0 keeps the due dates.
 pub(crate) fn plan_for(

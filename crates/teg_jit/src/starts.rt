@@ -4,7 +4,7 @@ ghost use Rattle.teg_jit.specs.FirstLate.{HasDateAtStart, HasDateWhenReady, HasD
 
 use crate::answers::LatestDate;
 use crate::plan::Plan;
-use teg_dates::teg_net::{Net, PlaceId, TransitionId};
+use teg_net::{Net, PlaceId, TransitionId};
 
 // The first firing whose latest date is 0.
 fn first_at_zero(plan: &Plan, width: usize) -> Option<(TransitionId, u32)>

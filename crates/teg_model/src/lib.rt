@@ -13,7 +13,6 @@
 mod laws;
 mod systems;
 
-pub use dioid;
 pub use laws::{
     least_dates_are_walks, least_dates_are_within, least_datings_are_one, least_datings_are_tight,
     least_datings_exist, live_nets_are_ranked,
@@ -21,4 +20,3 @@ pub use laws::{
 pub use systems::{
     least_in_are_tight, least_in_are_walks, least_in_are_within, systems_have_least,
 };
-pub use teg_net;

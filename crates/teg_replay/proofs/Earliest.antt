@@ -2,8 +2,8 @@
 use Rattle.std.proofs.Common.{ℕ, ◌<◌, ◌≡◌, List, Some, max, length, get_or, refl, subst, arith}
 use Rattle.std.specs.Prelude.{All}
 use Rattle.std.proofs.lemmas.List.{get_or_default}
-use Rattle.teg_due.specs.teg_net.Nets.{NetLists}
-use Rattle.teg_due.specs.teg_net.Circuits.{no_place}
+use Rattle.teg_net.specs.Nets.{NetLists}
+use Rattle.teg_net.specs.Circuits.{no_place}
 use Rattle.run_laws.specs.teg_model.Datings.{extended_places}
 use Rattle.run_laws.proofs.teg_model_proofs.OfNet.{all_extended, extended_has, implicit_is}
 use Rattle.run_laws.specs.declared.fired.Fired.{Fired}

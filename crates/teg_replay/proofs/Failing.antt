@@ -2,7 +2,7 @@
 use Rattle.std.proofs.Common.{ℕ, zero, suc, [], ◌∷◌, ◌<◌, ◌≡◌, List, length, take, get_or, refl, sym, ap, ◌∙◌, arith}
 use Rattle.std.specs.Prelude.{Result, Ok, Err, IfOk}
 use Rattle.std.proofs.lemmas.List.{take-map, length-map}
-use Rattle.teg_due.specs.teg_net.Nets.{NetLists, IsNet}
+use Rattle.teg_net.specs.Nets.{NetLists, IsNet}
 use Rattle.teg_outside.specs.declared.monitor.Firing.{Firing}
 use Rattle.run_laws.specs.declared.fired.Fired.{Fired}
 use Rattle.teg_due.specs.declared.rows.LogRow.{LogRow}

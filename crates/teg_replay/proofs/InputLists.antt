@@ -5,10 +5,10 @@ use Rattle.std.proofs.lemmas.Bool.{cases_eq, cases_Bool}
 use Rattle.std.proofs.lemmas.Bool.Decides.{nat_tests}
 use Rattle.std.proofs.lemmas.List.{length-set, length-take-le, get_or-set_same, get_or-set_other, get_or-take, take_more}
 use Rattle.std.proofs.lemmas.Option.{slice_get_within, slice_get-get_or}
-use Rattle.teg_due.specs.teg_net.declared.entries.InputList.{InputList}
-use Rattle.teg_due.specs.teg_net.declared.entries.Role.TheVariants.{Input}
-use Rattle.teg_due.specs.teg_net.declared.entries.Transition.{Transition}
-use Rattle.teg_due.specs.teg_net.Nets.{NetLists, IsNet, IsInput}
+use Rattle.teg_net.specs.declared.entries.InputList.{InputList}
+use Rattle.teg_net.specs.declared.entries.Role.TheVariants.{Input}
+use Rattle.teg_net.specs.declared.entries.Transition.{Transition}
+use Rattle.teg_net.specs.Nets.{NetLists, IsNet, IsInput}
 use Rattle.teg_replay.specs.Games.{input_list_at}
 
 -- what stands past the end of the lists

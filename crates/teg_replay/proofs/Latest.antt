@@ -2,9 +2,9 @@
 use Rattle.std.proofs.Common.{ℕ, ◌+◌, ◌<◌, ◌≤◌, ◌≡◌, ◌≢◌, List, Option, Some, length, get_or, max, sym, ap, subst, ◌∙◌, arith, ⊎_elim}
 use Rattle.std.proofs.lemmas.Bool.{cases_eq, cases_lt}
 use Rattle.std.proofs.lemmas.List.{get_or_default}
-use Rattle.teg_due.specs.teg_net.declared.entries.PlaceId.{PlaceId}
-use Rattle.teg_due.specs.teg_net.Nets.{NetLists}
-use Rattle.teg_due.specs.teg_net.Circuits.{no_place, place_at}
+use Rattle.teg_net.specs.declared.entries.PlaceId.{PlaceId}
+use Rattle.teg_net.specs.Nets.{NetLists}
+use Rattle.teg_net.specs.Circuits.{no_place, place_at}
 use Rattle.run_laws.specs.declared.fired.Fired.{Fired}
 use Rattle.run_laws.specs.Runs.{next_number, token_date, IsThereBy, HasTokensBy}
 use Rattle.run_laws.specs.FiringFailures.{IsFirstLateToken}

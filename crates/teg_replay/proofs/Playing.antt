@@ -2,7 +2,7 @@
 use Rattle.std.proofs.Common.{ℕ, ◌+◌, ◌-◌, ◌^◌, ◌<◌, ◌≤◌, ◌≡◌, [], ◌∷◌, ◌++◌, length, get_or, arith}
 use Rattle.std.specs.Prelude.{◌==◌}
 use Rattle.std.proofs.lemmas.List.Sums.{count_by-le-length}
-use Rattle.teg_due.specs.teg_net.Nets.{NetLists}
+use Rattle.teg_net.specs.Nets.{NetLists}
 use Rattle.run_laws.specs.declared.fired.Fired.{Fired}
 use Rattle.run_laws.specs.Runs.{IsLegalAfter}
 use Rattle.run_laws.specs.Earliest.{tokens_after}

@@ -1,10 +1,10 @@
 -- What a game keeps, and for which net it stands.
 use Rattle.std.specs.Prelude.{ℕ, ◌<◌, ◌≡◌, ◌==◌, List, [], Option, Some, None, length, All, AllPairs, Contains, count_by, slice_get, slice_index_or}
-use Rattle.teg_due.specs.teg_net.declared.entries.PlaceId.{PlaceId}
-use Rattle.teg_due.specs.teg_net.declared.entries.InputList.{InputList}
-use Rattle.teg_due.specs.teg_net.Nets.{NetLists, IsNet}
-use Rattle.teg_due.specs.teg_net.Circuits.{place_at}
-use Rattle.teg_due.specs.teg_net.Inputs.{list_of_input}
+use Rattle.teg_net.specs.declared.entries.PlaceId.{PlaceId}
+use Rattle.teg_net.specs.declared.entries.InputList.{InputList}
+use Rattle.teg_net.specs.Nets.{NetLists, IsNet}
+use Rattle.teg_net.specs.Circuits.{place_at}
+use Rattle.teg_net.specs.Inputs.{list_of_input}
 use Rattle.run_laws.specs.declared.fired.Fired.{Fired}
 use Rattle.run_laws.specs.Runs.{dates_of_transition, IsLegalRun}
 use Rattle.run_laws.specs.Earliest.{tokens_after}

@@ -1,6 +1,6 @@
 -- What a refusal tells of the firing.
 use Rattle.std.specs.Prelude.{◌<◌, List, length, ⊤}
-use Rattle.teg_due.specs.teg_net.Nets.{NetLists}
+use Rattle.teg_net.specs.Nets.{NetLists}
 use Rattle.run_laws.specs.declared.fired.Fired.{Fired}
 use Rattle.run_laws.specs.FiringFailures.{IsFirstLateToken, IsBackInTime, IsBeforeRelease}
 use Rattle.teg_replay.specs.declared.refusal.FireRefusal.{FireRefusal}

@@ -3,8 +3,8 @@ use Rattle.std.specs.Prelude.{ℕ, pos, ◌≤◌, ◌≡◌, List, None, length
 use Rattle.run_laws.specs.dioid.declared.dates.Date.{Date}
 use Rattle.run_laws.specs.dioid.declared.dates.Date.TheVariants.{At}
 use Rattle.run_laws.specs.dioid.Dates.{IsAtMostDate}
-use Rattle.teg_due.specs.teg_net.Nets.{NetLists}
-use Rattle.teg_due.specs.teg_net.Circuits.{IsLive}
+use Rattle.teg_net.specs.Nets.{NetLists}
+use Rattle.teg_net.specs.Circuits.{IsLive}
 use Rattle.run_laws.specs.teg_model.Datings.{IsLeastDating}
 use Rattle.teg_due.specs.declared.rows.LogRow.{LogRow}
 use Rattle.teg_outside.specs.declared.monitor.Firing.{Firing}

@@ -1,7 +1,7 @@
 -- Working definitions of what the parts of a firing's wait come to.
 use Rattle.std.specs.Prelude.{ℕ, ◌<◌, ◌≤◌, ◌≡◌, List, Some}
-use Rattle.teg_due.specs.teg_net.Nets.{NetLists, IsInput}
-use Rattle.teg_due.specs.teg_net.Inputs.{input_date}
+use Rattle.teg_net.specs.Nets.{NetLists, IsInput}
+use Rattle.teg_net.specs.Inputs.{input_date}
 use Rattle.run_laws.specs.declared.fired.Fired.{Fired}
 use Rattle.teg_replay.specs.declared.refusal.FireRefusal.{FireRefusal}
 use Rattle.teg_replay.specs.declared.refusal.FireRefusal.TheVariants.{Illegal, BackInTime, BeforeRelease, OutOfMemory}

@@ -15,7 +15,7 @@ use crate::waits::next_number;
 use run_laws::Fired;
 use std::alloc::Global;
 use std::marker::Model;
-use teg_due::teg_net::{Net, OutOfMemory, TransitionId};
+use teg_net::{Net, OutOfMemory, TransitionId};
 use teg_outside::Firing;
 
 /// The token game of a net: the list of its accepted firings, which is a legal run. Contracts see

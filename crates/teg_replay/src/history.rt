@@ -7,7 +7,7 @@ use crate::column::Column;
 use run_laws::Fired;
 use std::alloc::{AllocError, Global};
 use std::marker::Model;
-use teg_due::teg_net::TransitionId;
+use teg_net::TransitionId;
 
 // A run over a number of transitions. Contracts see that number and the run.
 #[derive(Debug, Drop)]

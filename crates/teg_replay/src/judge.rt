@@ -10,7 +10,7 @@ use crate::history::History;
 use crate::refusal::FireRefusal;
 use crate::waits::{date_before, in_order, next_number, released, tokens_there};
 use run_laws::Fired;
-use teg_due::teg_net::Net;
+use teg_net::Net;
 
 // The earliest date that the firing could have had, where it may follow the run; and else the first
 // way in which it fails.

@@ -12,7 +12,7 @@ use crate::replayed::{Refused, Replayed};
 use crate::watching::show_each;
 use std::alloc::Global;
 use teg_due::LogRow;
-use teg_due::teg_net::{Net, OutOfMemory};
+use teg_net::{Net, OutOfMemory};
 use teg_outside::Monitor;
 
 // The answer where a row is refused.

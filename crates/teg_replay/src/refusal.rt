@@ -3,7 +3,7 @@ ghost use Rattle.std.specs.Prelude.{◌≡◌};
 ghost use Rattle.teg_replay.specs.declared.refusal.FireRefusal.TheVariants.{OutOfMemory};
 
 use std::alloc::AllocError;
-use teg_due::teg_net::PlaceId;
+use teg_net::PlaceId;
 
 /// Why a firing is refused: the first of three ways to fail, or want of memory. Dates are in the
 /// user's unit of time.

@@ -1,7 +1,7 @@
 //! What a firing waits for: the tokens of the places into its transition, the firings before it, and a release.
 ghost use Rattle.std.specs.Prelude.{◌≡◌, ◌<◌, ◌≤◌, ◌+◌, ◌^◌, IfOk, IfErr, Some, length, ◌-◌};
-ghost use Rattle.teg_due.specs.teg_net.Circuits.{place_at};
-ghost use Rattle.teg_due.specs.teg_net.Inputs.{input_date};
+ghost use Rattle.teg_net.specs.Circuits.{place_at};
+ghost use Rattle.teg_net.specs.Inputs.{input_date};
 ghost use Rattle.run_laws.specs.Runs.{dates_of_transition, next_number, token_date, HasTokensBy, IsReleasedBy, IsThereBy, last_date, IsNotBefore};
 ghost use Rattle.run_laws.specs.Earliest.{last_listed_date};
 ghost use Rattle.teg_replay.specs.RefusedFirings.{Fails};
@@ -13,7 +13,7 @@ use crate::ends::EndLists;
 use crate::history::History;
 use crate::refusal::FireRefusal;
 use run_laws::Fired;
-use teg_due::teg_net::{Net, PlaceId, Role, TransitionId};
+use teg_net::{Net, PlaceId, Role, TransitionId};
 
 // The number that the next firing of the transition has.
 pub(crate) fn next_number(history: &History, transition: TransitionId) -> u64

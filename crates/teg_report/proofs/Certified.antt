@@ -6,21 +6,21 @@ use Rattle.std.proofs.lemmas.List.Elements.{All-cons}
 use Rattle.std.proofs.lemmas.List.Kept.{AllPairs-cons}
 use Rattle.std.proofs.Math.Dec.{leb→le}
 use Rattle.std.proofs.lemmas.Simd.{map-map}
-use Rattle.teg_settle.specs.teg_net.declared.answers.CycleAnswer.{CycleAnswer}
-use Rattle.teg_settle.specs.teg_net.declared.answers.PartAnswer.{PartAnswer}
-use Rattle.teg_settle.specs.teg_net.declared.answers.PartAnswer.TheVariants.{NoCircuit, Best}
-use Rattle.teg_settle.specs.teg_net.declared.answers.Potential.{Potential}
-use Rattle.teg_settle.specs.teg_net.declared.entries.PlaceId.{PlaceId}
-use Rattle.teg_settle.specs.teg_net.declared.entries.TransitionId.{TransitionId}
-use Rattle.teg_settle.specs.teg_net.Certificates.{IsCertificate, IsPartCertificate}
-use Rattle.teg_settle.specs.teg_net.Circuits.{AreInRange, IsPathBetween, place_at}
-use Rattle.teg_settle.specs.teg_net.GreatestRatios.{IsFirstGreatest, ratio_in, ratio_at}
-use Rattle.teg_settle.specs.teg_net.Limits.{greatest_checked_potential}
-use Rattle.teg_settle.specs.teg_net.Nets.{NetLists}
-use Rattle.teg_settle.specs.teg_net.PartAnswers.{transitions_of}
-use Rattle.teg_settle.specs.teg_net.Parts.{IsMember, ListsMembers}
-use Rattle.teg_settle.specs.teg_net.Ratios.{Fraction}
-use Rattle.teg_settle.specs.teg_net.ReducedTimes.{IsMagnitudeWithin}
+use Rattle.teg_net.specs.declared.answers.CycleAnswer.{CycleAnswer}
+use Rattle.teg_net.specs.declared.answers.PartAnswer.{PartAnswer}
+use Rattle.teg_net.specs.declared.answers.PartAnswer.TheVariants.{NoCircuit, Best}
+use Rattle.teg_net.specs.declared.answers.Potential.{Potential}
+use Rattle.teg_net.specs.declared.entries.PlaceId.{PlaceId}
+use Rattle.teg_net.specs.declared.entries.TransitionId.{TransitionId}
+use Rattle.teg_net.specs.Certificates.{IsCertificate, IsPartCertificate}
+use Rattle.teg_net.specs.Circuits.{AreInRange, IsPathBetween, place_at}
+use Rattle.teg_net.specs.GreatestRatios.{IsFirstGreatest, ratio_in, ratio_at}
+use Rattle.teg_net.specs.Limits.{greatest_checked_potential}
+use Rattle.teg_net.specs.Nets.{NetLists}
+use Rattle.teg_net.specs.PartAnswers.{transitions_of}
+use Rattle.teg_net.specs.Parts.{IsMember, ListsMembers}
+use Rattle.teg_net.specs.Ratios.{Fraction}
+use Rattle.teg_net.specs.ReducedTimes.{IsMagnitudeWithin}
 use Rattle.teg_report.specs.Cycles.{NoCircuitIn, members_from, told_part_at, has_ratio, IsCycleTold, IsPartTold, IsFirstOfRatio, HasFirst}
 use Rattle.teg_report.specs.AnswerMeanings.{cycle_lists, part_lists}
 

@@ -8,25 +8,25 @@ use Rattle.std.proofs.lemmas.List.{map-id}
 use Rattle.std.proofs.lemmas.List.Concat.{flat_map-append}
 use Rattle.std.proofs.lemmas.List.Folds.{flat_map-map}
 use Rattle.std.specs.List.{flat_map, list_all, range_with_len}
-use Rattle.teg_settle.specs.teg_net.declared.answers.Potential.{Potential}
-use Rattle.teg_settle.specs.teg_net.declared.entries.TransitionId.{TransitionId}
-use Rattle.teg_settle.specs.teg_net.Nets.{NetLists, IsNet}
-use Rattle.teg_settle.specs.teg_net.Ratios.{Fraction}
+use Rattle.teg_net.specs.declared.answers.Potential.{Potential}
+use Rattle.teg_net.specs.declared.entries.TransitionId.{TransitionId}
+use Rattle.teg_net.specs.Nets.{NetLists, IsNet}
+use Rattle.teg_net.specs.Ratios.{Fraction}
 use Rattle.teg_report.specs.Cycles.{potential_in, part_in, members_in, is_member, is_part, is_part_line, told_in, parts_in, cycle_in, CycleLists, ToldPart, NoCircuitIn, BestOf, members_from, member_line, potential_line, part_lines, told_part_at, best_lines, cycle_lines, IsPotentialIn, IsPartTold, has_ratio, IsFirstOfRatio, IsCycleTold}
 use Rattle.teg_report.specs.RoundLines.{is_first_round, round_in, rounds_in_lines, some_runs, IsRunKept, RoundLists, AreRoundsTold, circuits_in, runs_lines, told_runs}
 use Rattle.teg_report.specs.Answering.{answer_of}
 use Rattle.teg_report.specs.AnswerValues.{Cycle}
 use Rattle.teg_report.proofs.IsRead.{IsRead}
 use Rattle.teg_report.proofs.RoundsRead.{all_pass, those_all, those_none, those_append, round_blocks, runs_read, rounds_told, rounds_back}
-use Rattle.teg_calc.proofs.teg_text_proofs.NamesRead.{circuits, ratio_back, transition_back, transition_is_word}
-use Rattle.teg_calc.specs.teg_text.Lines.{is_line, are_lines}
-use Rattle.teg_calc.specs.teg_text.WordsOfNames.{ratio_of_word, transition_in}
-use Rattle.teg_calc.specs.teg_text.WordReading.{line_at, word}
-use Rattle.teg_calc.specs.teg_text.LineBlocks.{LineBlocks, blocks_in, first_where, those}
-use Rattle.teg_calc.proofs.teg_text_proofs.Back.{signed_back, ratio_is_word}
-use Rattle.teg_calc.proofs.teg_text_proofs.LineBlocks.{IsReadBack, rows, map_passes, map_back, blocks_back, flat_passes, range_all, row_back, numbered_back, first_at}
-use Rattle.teg_calc.proofs.teg_text_proofs.Words.{all_append, decimal_is_word, signed_is_word}
-use Rattle.teg_calc.proofs.teg_text_proofs.HeadedBlocks.{is_block}
+use Rattle.teg_text.proofs.NamesRead.{circuits, ratio_back, transition_back, transition_is_word}
+use Rattle.teg_text.specs.Lines.{is_line, are_lines}
+use Rattle.teg_text.specs.WordsOfNames.{ratio_of_word, transition_in}
+use Rattle.teg_text.specs.WordReading.{line_at, word}
+use Rattle.teg_text.specs.LineBlocks.{LineBlocks, blocks_in, first_where, those}
+use Rattle.teg_text.proofs.Back.{signed_back, ratio_is_word}
+use Rattle.teg_text.proofs.LineBlocks.{IsReadBack, rows, map_passes, map_back, blocks_back, flat_passes, range_all, row_back, numbered_back, first_at}
+use Rattle.teg_text.proofs.Words.{all_append, decimal_is_word, signed_is_word}
+use Rattle.teg_text.proofs.HeadedBlocks.{is_block}
 
 -- members of parts
 

@@ -1,9 +1,9 @@
 -- A line of dates that is made from its end.
 use Rattle.std.proofs.Common.{ℕ, ◌+◌, ◌-◌, ◌<◌, ◌≡◌, List, [], ◌∷◌, ◌++◌, length, drop, map, get_or, sym, ap, ◌∙◌, arith}
 use Rattle.std.proofs.lemmas.List.{drop_all, drop_more, get_or-map, length-map}
-use Rattle.teg_settle.specs.dioid.declared.dates.Date.{Date}
-use Rattle.teg_settle.specs.dioid.declared.dates.Date.TheVariants.{Early}
-use Rattle.teg_calc.specs.teg_text.Lines.{further_then}
+use Rattle.dioid.specs.declared.dates.Date.{Date}
+use Rattle.dioid.specs.declared.dates.Date.TheVariants.{Early}
+use Rattle.teg_text.specs.Lines.{further_then}
 
 -- no word is there yet
 pub none_behind : {A : Type 0} (f : A → List ℕ) (xs : List A) → further_then (map f (drop (length xs - 0) xs)) [] ≡ 10 ∷ []

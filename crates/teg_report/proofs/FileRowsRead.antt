@@ -3,12 +3,12 @@ use Rattle.std.proofs.Common.{◌≡◌, ℕ, true, false, not, ◌==◌, ⊎_el
 use Rattle.std.proofs.lemmas.Bool.{cases_Bool}
 use Rattle.std.specs.List.{list_all}
 use Rattle.teg_outside.specs.Monitors.{IsOneLine}
-use Rattle.teg_jit.specs.teg_due.declared.rows.DueRefusal.{DueRefusal}
-use Rattle.teg_jit.specs.teg_due.declared.rows.DueRefusal.TheVariants.{BadRow as BadDueRow, UnknownTransition as UnknownDue, NotDue, RepeatedDue, OutOfRange as DueOutOfRange, OutOfMemory as NoDueRoom}
-use Rattle.teg_jit.specs.teg_due.declared.rows.LogRefusal.{LogRefusal}
-use Rattle.teg_jit.specs.teg_due.declared.rows.LogRefusal.TheVariants.{BadRow as BadLogRow, UnknownTransition as UnknownFiring, OutOfRange as LogOutOfRange, OutOfMemory as NoLogRoom}
-use Rattle.teg_settle.specs.teg_net.declared.entries.PlaceId.{PlaceId}
-use Rattle.teg_settle.specs.teg_net.Nets.{NetLists, IsNet}
+use Rattle.teg_due.specs.declared.rows.DueRefusal.{DueRefusal}
+use Rattle.teg_due.specs.declared.rows.DueRefusal.TheVariants.{BadRow as BadDueRow, UnknownTransition as UnknownDue, NotDue, RepeatedDue, OutOfRange as DueOutOfRange, OutOfMemory as NoDueRoom}
+use Rattle.teg_due.specs.declared.rows.LogRefusal.{LogRefusal}
+use Rattle.teg_due.specs.declared.rows.LogRefusal.TheVariants.{BadRow as BadLogRow, UnknownTransition as UnknownFiring, OutOfRange as LogOutOfRange, OutOfMemory as NoLogRoom}
+use Rattle.teg_net.specs.declared.entries.PlaceId.{PlaceId}
+use Rattle.teg_net.specs.Nets.{NetLists, IsNet}
 use Rattle.teg_report.specs.declared.answer.Failure.{Failure}
 use Rattle.teg_report.specs.declared.answer.Failure.TheVariants.{Illegal, BackInTime, BeforeRelease}
 use Rattle.teg_report.specs.Answering.{IsNamedBy}
@@ -17,13 +17,13 @@ use Rattle.teg_report.specs.FileRows.{IsFailureIn, due_line, log_line, refused_l
 use Rattle.teg_report.specs.Widths.{IsWord32, IsWord64}
 use Rattle.teg_report.specs.Reports.{names_from}
 use Rattle.teg_report.proofs.IsRead.{IsRead, with_net}
-use Rattle.teg_calc.proofs.teg_text_proofs.NamesRead.{place_back, place_is_word}
-use Rattle.teg_calc.specs.teg_text.Lines.{are_lines, is_line, phrase}
-use Rattle.teg_calc.specs.teg_text.WordReading.{phrase_in}
-use Rattle.teg_calc.proofs.teg_text_proofs.Back.{word32_back, word64_back}
-use Rattle.teg_calc.proofs.teg_text_proofs.Phrases.{phrase_back, phrase_is_line}
-use Rattle.teg_calc.proofs.teg_text_proofs.LineBlocks.{map_back, map_passes}
-use Rattle.teg_calc.proofs.teg_text_proofs.Words.{decimal_is_word}
+use Rattle.teg_text.proofs.NamesRead.{place_back, place_is_word}
+use Rattle.teg_text.specs.Lines.{are_lines, is_line, phrase}
+use Rattle.teg_text.specs.WordReading.{phrase_in}
+use Rattle.teg_text.proofs.Back.{word32_back, word64_back}
+use Rattle.teg_text.proofs.Phrases.{phrase_back, phrase_is_line}
+use Rattle.teg_text.proofs.LineBlocks.{map_back, map_passes}
+use Rattle.teg_text.proofs.Words.{decimal_is_word}
 
 pub due_read : (names : NetLists) (refusal : DueRefusal) → IsDueKept refusal → IsRead names (due_line refusal ∷ []) (Due refusal)
 due_read names (BadDueRow row) h = record { words = rw (decimal_is_word row) refl; back = rw (word32_back row h) refl }

@@ -3,9 +3,9 @@ use Rattle.std.proofs.Common.{◌≡◌, ℕ, ◌+◌, ◌<◌, ◌≤◌, List,
 use Rattle.std.specs.List.{flat_map}
 use Rattle.std.proofs.lemmas.List.{take_all}
 use Rattle.std.proofs.lemmas.Simd.{map-map}
-use Rattle.teg_calc.specs.teg_text.Lines.{phrase, further_then, line_then, written}
-use Rattle.teg_calc.proofs.teg_text_proofs.Joining.{phrase_behind, lines_end, phrase_some}
-use Rattle.teg_calc.proofs.teg_text_proofs.Listing.{more_items}
+use Rattle.teg_text.specs.Lines.{phrase, further_then, line_then, written}
+use Rattle.teg_text.proofs.Joining.{phrase_behind, lines_end, phrase_some}
+use Rattle.teg_text.proofs.Listing.{more_items}
 
 -- a line that is a phrase
 line_of : (line : List (List ℕ)) (word text : List ℕ) (words : List (List ℕ)) → line ≡ word ∷ words → further_then line [] ≡ 32 ∷ text → line_then line [] ≡ text

@@ -1,17 +1,17 @@
 -- Standard forms are read back from their lines.
 use Rattle.std.proofs.Common.{◌<◌, All, refl, length, map}
-use Rattle.teg_settle.specs.teg_form.declared.form.Entry.{Entry}
-use Rattle.teg_settle.specs.teg_form.declared.form.StarEntry.{StarEntry}
-use Rattle.teg_settle.specs.teg_form.StandardForms.{FormLists}
-use Rattle.teg_settle.specs.teg_net.Nets.{NetLists, IsNet}
+use Rattle.teg_form.specs.declared.form.Entry.{Entry}
+use Rattle.teg_form.specs.declared.form.StarEntry.{StarEntry}
+use Rattle.teg_form.specs.StandardForms.{FormLists}
+use Rattle.teg_net.specs.Nets.{NetLists, IsNet}
 use Rattle.teg_report.specs.FormLines.{star_in, entry_in, is_star, HasEndsIn, form_lines, star_line, entry_line, IsStarKept, IsEntryKept}
 use Rattle.teg_report.specs.AnswerValues.{Form}
 use Rattle.teg_report.proofs.IsRead.{IsRead}
-use Rattle.teg_calc.proofs.teg_text_proofs.NamesRead.{transition_back, transition_is_word}
-use Rattle.teg_calc.specs.teg_text.Lines.{is_line}
-use Rattle.teg_calc.proofs.teg_text_proofs.Back.{word32_back, word64_back}
-use Rattle.teg_calc.proofs.teg_text_proofs.LineBlocks.{IsReadBack, rows, joined_back}
-use Rattle.teg_calc.proofs.teg_text_proofs.Words.{all_append, decimal_is_word}
+use Rattle.teg_text.proofs.NamesRead.{transition_back, transition_is_word}
+use Rattle.teg_text.specs.Lines.{is_line}
+use Rattle.teg_text.proofs.Back.{word32_back, word64_back}
+use Rattle.teg_text.proofs.LineBlocks.{IsReadBack, rows, joined_back}
+use Rattle.teg_text.proofs.Words.{all_append, decimal_is_word}
 
 -- what an entry keeps is that its ends are transitions of the net, and that its numbers have their bits
 

@@ -5,14 +5,14 @@ use Rattle.std.specs.List.{flat_map, range_with_len}
 use Rattle.std.proofs.lemmas.List.{append-nil, ext_get_or, get_or-map, length-map}
 use Rattle.std.proofs.lemmas.List.Folds.{flat_map-map}
 use Rattle.std.proofs.lemmas.List.FromFn.{get_or-map-range_with_len, length-map-range_with_len}
-use Rattle.teg_settle.specs.dioid.declared.dates.Date.{Date}
-use Rattle.teg_settle.specs.dioid.declared.dates.Date.TheVariants.{Early}
-use Rattle.teg_settle.specs.teg_net.Nets.{NetLists}
-use Rattle.teg_settle.specs.teg_dates.Passes.{IsRowOf}
+use Rattle.dioid.specs.declared.dates.Date.{Date}
+use Rattle.dioid.specs.declared.dates.Date.TheVariants.{Early}
+use Rattle.teg_net.specs.Nets.{NetLists}
+use Rattle.teg_dates.specs.Passes.{IsRowOf}
 use Rattle.teg_report.specs.DateLists.{dated_firing, number_line, listed_count_line, names_line, list_lines, head_text, row_text}
-use Rattle.teg_calc.specs.teg_text.Lines.{line_then, written}
-use Rattle.teg_calc.specs.teg_text.ValueWords.{date_word}
-use Rattle.teg_calc.proofs.teg_text_proofs.Joining.{written_map, head_then}
+use Rattle.teg_text.specs.Lines.{line_then, written}
+use Rattle.teg_text.specs.ValueWords.{date_word}
+use Rattle.teg_text.proofs.Joining.{written_map, head_then}
 
 -- two texts of pieces that are the same, number by number
 maps_same : (f g : ℕ → List ℕ) (a n : ℕ) → ((k : ℕ) → a ≤ k → k < a + n → f k ≡ g k) → map f (range_with_len a n) ≡ map g (range_with_len a n)

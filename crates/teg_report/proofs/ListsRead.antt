@@ -3,22 +3,22 @@ use Rattle.std.proofs.Common.{◌≡◌, ℕ, ◌*◌, ◌≤◌, true, List, []
 use Rattle.std.proofs.lemmas.Bool.{and_from}
 use Rattle.std.specs.List.{range_with_len}
 use Rattle.std.specs.Prelude.{⊤}
-use Rattle.teg_settle.specs.dioid.declared.dates.Date.{Date}
-use Rattle.teg_settle.specs.dioid.declared.dates.Date.TheVariants.{Early}
-use Rattle.teg_settle.specs.teg_dates.DateTables.{TableDates, IsDateTable, date_at, most_numbers}
-use Rattle.teg_settle.specs.teg_net.declared.entries.Transition.{Transition}
-use Rattle.teg_settle.specs.teg_net.Names.{is_name}
-use Rattle.teg_settle.specs.teg_net.Nets.{NetLists, IsNet}
+use Rattle.dioid.specs.declared.dates.Date.{Date}
+use Rattle.dioid.specs.declared.dates.Date.TheVariants.{Early}
+use Rattle.teg_dates.specs.DateTables.{TableDates, IsDateTable, date_at, most_numbers}
+use Rattle.teg_net.specs.declared.entries.Transition.{Transition}
+use Rattle.teg_net.specs.Names.{is_name}
+use Rattle.teg_net.specs.Nets.{NetLists, IsNet}
 use Rattle.teg_report.specs.DateLists.{table_in, dated_firing, list_lines, number_line}
 use Rattle.teg_report.specs.AnswerValues.{Listed}
 use Rattle.teg_report.proofs.IsRead.{IsRead}
-use Rattle.teg_calc.proofs.teg_text_proofs.NamesRead.{name_is_word}
-use Rattle.teg_calc.specs.teg_text.Lines.{is_word, is_line, are_lines}
-use Rattle.teg_calc.specs.teg_text.WordReading.{date_of_word}
-use Rattle.teg_calc.specs.teg_text.ValueWords.{IsDate, date_word}
-use Rattle.teg_calc.proofs.teg_text_proofs.Back.{number_back, date_back}
-use Rattle.teg_calc.proofs.teg_text_proofs.LineBlocks.{map_passes, cells_back}
-use Rattle.teg_calc.proofs.teg_text_proofs.Words.{decimal_is_word, date_is_word}
+use Rattle.teg_text.proofs.NamesRead.{name_is_word}
+use Rattle.teg_text.specs.Lines.{is_word, is_line, are_lines}
+use Rattle.teg_text.specs.WordReading.{date_of_word}
+use Rattle.teg_text.specs.ValueWords.{IsDate, date_word}
+use Rattle.teg_text.proofs.Back.{number_back, date_back}
+use Rattle.teg_text.proofs.LineBlocks.{map_passes, cells_back}
+use Rattle.teg_text.proofs.Words.{decimal_is_word, date_is_word}
 
 table_of : (net : NetLists) (count : ℕ) (dates : List Date) → count ≤ most_numbers → All IsDate dates → length dates ≡ count * length net.transitions →
     table_in net (list_lines net (date_at (record { width = length net.transitions; count = count; dates = dates })) count) ≡ record { width = length net.transitions; count = count; dates = dates }

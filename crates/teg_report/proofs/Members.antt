@@ -4,7 +4,7 @@ use Rattle.std.proofs.lemmas.Bool.{cases_Bool}
 use Rattle.std.proofs.lemmas.List.{length-take-le}
 use Rattle.std.proofs.Math.Seq.{take-suc}
 use native.Mathlib.Numerals.{unary_clauses}
-use Rattle.teg_settle.specs.teg_net.declared.entries.TransitionId.{TransitionId}
+use Rattle.teg_net.specs.declared.entries.TransitionId.{TransitionId}
 use Rattle.teg_report.specs.Cycles.{members_from}
 
 members_append : (k : ℕ) (ps qs : List ℕ) (part : ℕ) → members_from k (ps ++ qs) part ≡ members_from k ps part ++ members_from (k + length ps) qs part

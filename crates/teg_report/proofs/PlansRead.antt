@@ -9,24 +9,24 @@ use Rattle.teg_jit.specs.declared.answers.LatestDate.TheVariants.{Free, At}
 use Rattle.teg_jit.specs.declared.answers.Onward.{Onward}
 use Rattle.teg_jit.specs.declared.answers.Onward.TheVariants.{Due, By as ByPlace, Next as ToNext}
 use Rattle.teg_jit.specs.Plans.{PlanDates, latest_at}
-use Rattle.teg_settle.specs.teg_net.declared.entries.PlaceId.{PlaceId}
-use Rattle.teg_settle.specs.teg_net.declared.entries.Role.{Role}
-use Rattle.teg_settle.specs.teg_net.declared.entries.Role.TheVariants.{Internal, Input, Output}
-use Rattle.teg_settle.specs.teg_net.declared.entries.TransitionId.{TransitionId}
-use Rattle.teg_settle.specs.teg_net.declared.walks.Step.{Step}
-use Rattle.teg_settle.specs.teg_net.declared.walks.Step.TheVariants.{By, Next}
-use Rattle.teg_settle.specs.teg_net.Circuits.{place_at, no_place}
-use Rattle.teg_settle.specs.teg_net.Nets.{NetLists, IsNet}
-use Rattle.teg_settle.specs.teg_net.Walks.{Walks}
+use Rattle.teg_net.specs.declared.entries.PlaceId.{PlaceId}
+use Rattle.teg_net.specs.declared.entries.Role.{Role}
+use Rattle.teg_net.specs.declared.entries.Role.TheVariants.{Internal, Input, Output}
+use Rattle.teg_net.specs.declared.entries.TransitionId.{TransitionId}
+use Rattle.teg_net.specs.declared.walks.Step.{Step}
+use Rattle.teg_net.specs.declared.walks.Step.TheVariants.{By, Next}
+use Rattle.teg_net.specs.Circuits.{place_at, no_place}
+use Rattle.teg_net.specs.Nets.{NetLists, IsNet}
+use Rattle.teg_net.specs.Walks.{Walks}
 use Rattle.teg_report.specs.PlanLines.{latest_in_line, late_in, onward_in, plan_in_lines, steps_in, AreLateNumbers, AreLatestKept, IsLateKept, IsLatestKept, IsLateIn, IsLatePlanTold, IsLatestIn, IsOnwardIn, IsPlanIn, LateLists, late_line, late_lines, latest_words, onward_words, path_line, plan_lines, planned_line, planned_lines, role_word, steps_words}
 use Rattle.teg_report.specs.AnswerValues.{Jit, Late}
 use Rattle.teg_report.proofs.IsRead.{IsRead}
-use Rattle.teg_calc.proofs.teg_text_proofs.NamesRead.{place_back, place_is_word, transition_back, transition_is_word}
-use Rattle.teg_calc.specs.teg_text.Lines.{is_line, is_word}
-use Rattle.teg_calc.proofs.teg_text_proofs.Back.{number_back, word32_back, word64_back}
-use Rattle.teg_calc.proofs.teg_text_proofs.LineBlocks.{positive_width, grid_passes, numbered_back}
-use Rattle.teg_calc.proofs.teg_text_proofs.Words.{decimal_is_word, decimal_is_numeral}
-use Rattle.teg_calc.specs.teg_text.WordsOfNames.{name_of_transition, no_transition}
+use Rattle.teg_text.proofs.NamesRead.{place_back, place_is_word, transition_back, transition_is_word}
+use Rattle.teg_text.specs.Lines.{is_line, is_word}
+use Rattle.teg_text.proofs.Back.{number_back, word32_back, word64_back}
+use Rattle.teg_text.proofs.LineBlocks.{positive_width, grid_passes, numbered_back}
+use Rattle.teg_text.proofs.Words.{decimal_is_word, decimal_is_numeral}
+use Rattle.teg_text.specs.WordsOfNames.{name_of_transition, no_transition}
 
 -- latest dates
 

@@ -5,16 +5,16 @@ use Rattle.std.specs.List.{flat_map}
 use Rattle.std.proofs.Math.ListN.{drop_of_length-le}
 use Rattle.std.proofs.Math.Seq.{drop-cons}
 use native.Mathlib.Numerals.{unary_clauses}
-use Rattle.teg_settle.specs.teg_net.declared.entries.TransitionId.{TransitionId}
-use Rattle.teg_settle.specs.teg_net.declared.walks.Step.{Step}
-use Rattle.teg_settle.specs.teg_net.declared.walks.Step.TheVariants.{By, Next}
-use Rattle.teg_settle.specs.teg_net.Circuits.{place_at, no_place}
-use Rattle.teg_settle.specs.teg_net.Limits.{greatest_firing_number}
-use Rattle.teg_settle.specs.teg_net.Nets.{NetLists, IsNet}
-use Rattle.teg_settle.specs.teg_net.Walks.{numbers_of, IsStepOf}
+use Rattle.teg_net.specs.declared.entries.TransitionId.{TransitionId}
+use Rattle.teg_net.specs.declared.walks.Step.{Step}
+use Rattle.teg_net.specs.declared.walks.Step.TheVariants.{By, Next}
+use Rattle.teg_net.specs.Circuits.{place_at, no_place}
+use Rattle.teg_net.specs.Limits.{greatest_firing_number}
+use Rattle.teg_net.specs.Nets.{NetLists, IsNet}
+use Rattle.teg_net.specs.Walks.{numbers_of, IsStepOf}
 use Rattle.teg_report.specs.PlanLines.{IsPathIn, step_number, step_to, step_words, steps_words}
-use Rattle.teg_calc.specs.teg_text.Lines.{further_then, line_then, written}
-use Rattle.teg_calc.proofs.teg_text_proofs.Joining.{line_append, written_append}
+use Rattle.teg_text.specs.Lines.{further_then, line_then, written}
+use Rattle.teg_text.proofs.Joining.{line_append, written_append}
 
 -- words behind others
 further_more : (words more : List (List ℕ)) → further_then (words ++ more) [] ≡ flat_map (λ word. 32 ∷ word) words ++ further_then more []

@@ -1,6 +1,6 @@
 -- Each answer that is told is read back from its text.
 use Rattle.std.proofs.Common.{IsSomeAnd, IfSome, ◌≡◌, refl, Option, None, Some}
-use Rattle.teg_settle.specs.teg_net.Nets.{NetLists, IsNet}
+use Rattle.teg_net.specs.Nets.{NetLists, IsNet}
 use Rattle.teg_report.specs.Answering.{answer_of, answer_in, AreOfOneNet, IsNamedBy}
 use Rattle.teg_report.specs.AnswerValues.{Answer, Usage, Live, Listed, Form, NoCircuit, Cycle, Dates, Date, Jit, Late, Slack, Transfer, Replayed, Refused, Calc, Trial, Read, TooLarge, TokenFree, NoTransition, Due, Log, TooLong, Parse, Series, Fault}
 use Rattle.teg_report.specs.KeptAnswers.{IsAnswerTold}
@@ -16,7 +16,7 @@ use Rattle.teg_report.proofs.FileRowsRead.{due_read, log_read, refused_read, rep
 use Rattle.teg_report.proofs.SeriesRead.{series_read, parse_read, series_refused_read}
 use Rattle.teg_report.proofs.SettledRead.{settled_read, transfer_read}
 use Rattle.teg_report.proofs.SlacksRead.{slack_read, trial_read}
-use Rattle.teg_calc.proofs.teg_text_proofs.Telling.{text_back}
+use Rattle.teg_text.proofs.Telling.{text_back}
 
 -- an answer that names things of the net, which is then given
 by_net : (P : NetLists → Type 0) (answer : Answer) (net : Option NetLists) (names : NetLists) → IsNamedBy net names → IfSome net IsNet → IsSomeAnd net P →

@@ -7,18 +7,18 @@ use Rattle.std.proofs.lemmas.List.Folds.{flat_map-map}
 use Rattle.std.proofs.lemmas.List.Concat.{flat_map-append}
 use Rattle.std.proofs.lemmas.List.FromFn.{get_or-range_with_len, length-range_with_len}
 use Rattle.std.specs.List.{flat_map, list_all, range_with_len}
-use Rattle.teg_settle.specs.teg_net.declared.rounds.Choice.{Choice}
-use Rattle.teg_settle.specs.teg_net.Nets.{NetLists, IsNet}
+use Rattle.teg_net.specs.declared.rounds.Choice.{Choice}
+use Rattle.teg_net.specs.Nets.{NetLists, IsNet}
 use Rattle.teg_report.specs.RoundLines.{choice_in_line, is_first_round, round_in, some_runs, IsChoiceKept, IsRoundKept, IsRunKept, RoundLists, Run, no_round, choice_line, round_lines, run_lines, runs_lines, circuits_in, runs_from, told_runs, IsChoiceIn, IsRoundIn, IsRunIn, AreRoundsTold}
 use Rattle.teg_report.specs.Cycles.{is_part, is_part_line, ToldPart, NoCircuitIn, BestOf}
-use Rattle.teg_calc.proofs.teg_text_proofs.NamesRead.{circuits, place_back, place_is_word, ratio_back, transition_back, transition_is_word}
-use Rattle.teg_calc.specs.teg_text.Lines.{is_line, are_lines}
-use Rattle.teg_calc.specs.teg_text.WordReading.{number_in}
-use Rattle.teg_calc.specs.teg_text.LineBlocks.{LineBlocks, blocks_in, those}
-use Rattle.teg_calc.proofs.teg_text_proofs.Back.{number_back, signed_back, ratio_is_word}
-use Rattle.teg_calc.proofs.teg_text_proofs.LineBlocks.{IsReadBack, rows, map_passes, blocks_back, flat_passes, range_all, row_back}
-use Rattle.teg_calc.proofs.teg_text_proofs.Words.{decimal_is_word, signed_is_word}
-use Rattle.teg_calc.proofs.teg_text_proofs.HeadedBlocks.{is_block}
+use Rattle.teg_text.proofs.NamesRead.{circuits, place_back, place_is_word, ratio_back, transition_back, transition_is_word}
+use Rattle.teg_text.specs.Lines.{is_line, are_lines}
+use Rattle.teg_text.specs.WordReading.{number_in}
+use Rattle.teg_text.specs.LineBlocks.{LineBlocks, blocks_in, those}
+use Rattle.teg_text.proofs.Back.{number_back, signed_back, ratio_is_word}
+use Rattle.teg_text.proofs.LineBlocks.{IsReadBack, rows, map_passes, blocks_back, flat_passes, range_all, row_back}
+use Rattle.teg_text.proofs.Words.{decimal_is_word, signed_is_word}
+use Rattle.teg_text.proofs.HeadedBlocks.{is_block}
 
 -- lists of which each element passes a test
 

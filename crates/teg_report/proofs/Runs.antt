@@ -4,13 +4,13 @@ use Rattle.std.proofs.lemmas.List.{get_or-map, length-map, length-take-le, take-
 use Rattle.std.specs.Global.{Vec}
 use Rattle.std.proofs.Math.Seq.{take-suc}
 use native.Mathlib.Numerals.{unary_clauses}
-use Rattle.teg_settle.specs.teg_net.declared.answers.PartAnswer.{PartAnswer}
-use Rattle.teg_settle.specs.teg_net.declared.answers.PartAnswer.TheVariants.{Best}
-use Rattle.teg_settle.specs.teg_net.declared.answers.Potential.{Potential}
-use Rattle.teg_settle.specs.teg_net.declared.circuits.Circuit.{Circuit}
-use Rattle.teg_settle.specs.teg_net.declared.rounds.Round.{Round}
-use Rattle.teg_settle.specs.teg_net.declared.entries.PlaceId.{PlaceId}
-use Rattle.teg_settle.specs.teg_net.Ratios.{Fraction}
+use Rattle.teg_net.specs.declared.answers.PartAnswer.{PartAnswer}
+use Rattle.teg_net.specs.declared.answers.PartAnswer.TheVariants.{Best}
+use Rattle.teg_net.specs.declared.answers.Potential.{Potential}
+use Rattle.teg_net.specs.declared.circuits.Circuit.{Circuit}
+use Rattle.teg_net.specs.declared.rounds.Round.{Round}
+use Rattle.teg_net.specs.declared.entries.PlaceId.{PlaceId}
+use Rattle.teg_net.specs.Ratios.{Fraction}
 use Rattle.teg_report.specs.Cycles.{ToldPart, NoCircuitIn, BestOf}
 use Rattle.teg_report.specs.AnswerMeanings.{part_lists, round_lists, runs_lists}
 use Rattle.teg_report.specs.RoundLines.{RoundLists, Run, circuits_in, runs_from}

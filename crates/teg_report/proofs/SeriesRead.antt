@@ -4,25 +4,25 @@ use Rattle.std.specs.Fmt.{decimal, signed_decimal}
 use Rattle.std.specs.Prelude.{⊤}
 use Rattle.std.proofs.lemmas.Bool.{and_from}
 use Rattle.std.proofs.lemmas.List.{get_or_default, length-append}
-use Rattle.teg_settle.specs.dioid.declared.dates.Date.{Date}
-use Rattle.teg_settle.specs.dioid.declared.dates.Date.TheVariants.{Early, At, Never}
-use Rattle.teg_settle.specs.series_form.NumberBounds.{IsSeries, IsSmallDate}
-use Rattle.teg_settle.specs.series_form.declared.forms.SeriesRefused.{SeriesRefused}
-use Rattle.teg_settle.specs.series_form.declared.forms.SeriesRefused.TheVariants.{TooLong, TooGreat, OutOfMemory as NoRoom}
+use Rattle.dioid.specs.declared.dates.Date.{Date}
+use Rattle.dioid.specs.declared.dates.Date.TheVariants.{Early, At, Never}
+use Rattle.series_form.specs.NumberBounds.{IsSeries, IsSmallDate}
+use Rattle.series_form.specs.declared.forms.SeriesRefused.{SeriesRefused}
+use Rattle.series_form.specs.declared.forms.SeriesRefused.TheVariants.{TooLong, TooGreat, OutOfMemory as NoRoom}
 use Rattle.teg_settle.specs.series_laws.SeriesForms.{Form as SeriesForm}
 use Rattle.teg_calc.specs.declared.refusals.ParseRefused.{ParseRefused}
 use Rattle.teg_calc.specs.declared.refusals.ParseRefused.TheVariants.{Syntax, TooDeep, OutOfMemory as NoText}
 use Rattle.teg_calc.specs.Printing.{series_line}
-use Rattle.teg_settle.specs.teg_net.Nets.{NetLists}
+use Rattle.teg_net.specs.Nets.{NetLists}
 use Rattle.teg_report.specs.Series.{series_in, IsSeriesKept, IsParseKept, IsSeriesRefusalKept, parse_line, series_refused_line}
 use Rattle.teg_report.specs.AnswerValues.{Calc, Parse, Series}
 use Rattle.teg_report.proofs.IsRead.{IsRead}
-use Rattle.teg_calc.specs.teg_text.Lines.{is_word}
-use Rattle.teg_calc.specs.teg_text.WordReading.{date_of_word, number_in, signed_in}
-use Rattle.teg_calc.specs.teg_text.ValueWords.{IsDate, date_word}
-use Rattle.teg_calc.proofs.teg_text_proofs.Back.{number_back, word32_back, word64_back, signed_back, date_back}
-use Rattle.teg_calc.proofs.teg_text_proofs.LineBlocks.{before_back, behind_back, map_back, map_passes}
-use Rattle.teg_calc.proofs.teg_text_proofs.Words.{all_append, decimal_is_word, date_is_word, signed_is_word}
+use Rattle.teg_text.specs.Lines.{is_word}
+use Rattle.teg_text.specs.WordReading.{date_of_word, number_in, signed_in}
+use Rattle.teg_text.specs.ValueWords.{IsDate, date_word}
+use Rattle.teg_text.proofs.Back.{number_back, word32_back, word64_back, signed_back, date_back}
+use Rattle.teg_text.proofs.LineBlocks.{before_back, behind_back, map_back, map_passes}
+use Rattle.teg_text.proofs.Words.{all_append, decimal_is_word, date_is_word, signed_is_word}
 
 abbrev told_values : SeriesForm → List (List ℕ)
 told_values f = map date_word f.values

@@ -5,22 +5,22 @@ use Rattle.std.specs.List.{flat_map, list_all, range_with_len}
 use Rattle.std.specs.Prelude.{⊤}
 use Rattle.std.proofs.lemmas.Bool.{and_from}
 use Rattle.std.proofs.lemmas.List.{length-append}
-use Rattle.teg_settle.specs.dioid.declared.dates.Date.{Date}
+use Rattle.dioid.specs.declared.dates.Date.{Date}
 use Rattle.teg_settle.specs.settled_laws.SettledForms.{SettledForm, row_of, step_of_form}
-use Rattle.teg_settle.specs.teg_net.Nets.{NetLists, IsNet}
+use Rattle.teg_net.specs.Nets.{NetLists, IsNet}
 use Rattle.teg_report.specs.SettledTexts.{is_from, row_dates_in, row_step_in, times_to_in, times_from_in, AreTimesKept, AreTimesToKept, IsSettledKept, AreTimesIn, TimesFrom, TimesTo, from_line, from_lines, output_count, row_words, settled_line, settled_lines, to_line, transfer_lines}
 use Rattle.teg_report.specs.AnswerValues.{Dates, Transfer}
 use Rattle.teg_report.proofs.IsRead.{IsRead}
-use Rattle.teg_calc.proofs.teg_text_proofs.NamesRead.{settled_are_words, transition_back, transition_is_word}
-use Rattle.teg_calc.specs.teg_text.Lines.{is_line, is_word}
-use Rattle.teg_calc.specs.teg_text.WordsOfNames.{name_of_transition}
-use Rattle.teg_calc.specs.teg_text.WordReading.{date_of_word, signed_in}
-use Rattle.teg_calc.specs.teg_text.LineBlocks.{LineBlocks, blocks_in}
-use Rattle.teg_calc.specs.teg_text.ValueWords.{IsDate, date_word}
-use Rattle.teg_calc.proofs.teg_text_proofs.Back.{date_back, signed_back, word64_back}
-use Rattle.teg_calc.proofs.teg_text_proofs.LineBlocks.{IsReadBack, before_back, behind_back, blocks_back, flat_passes, map_back, map_passes, range_all, row_back, rows}
-use Rattle.teg_calc.proofs.teg_text_proofs.Words.{all_append, date_is_word, decimal_is_word, signed_is_word}
-use Rattle.teg_calc.proofs.teg_text_proofs.HeadedBlocks.{is_block}
+use Rattle.teg_text.proofs.NamesRead.{settled_are_words, transition_back, transition_is_word}
+use Rattle.teg_text.specs.Lines.{is_line, is_word}
+use Rattle.teg_text.specs.WordsOfNames.{name_of_transition}
+use Rattle.teg_text.specs.WordReading.{date_of_word, signed_in}
+use Rattle.teg_text.specs.LineBlocks.{LineBlocks, blocks_in}
+use Rattle.teg_text.specs.ValueWords.{IsDate, date_word}
+use Rattle.teg_text.proofs.Back.{date_back, signed_back, word64_back}
+use Rattle.teg_text.proofs.LineBlocks.{IsReadBack, before_back, behind_back, blocks_back, flat_passes, map_back, map_passes, range_all, row_back, rows}
+use Rattle.teg_text.proofs.Words.{all_append, date_is_word, decimal_is_word, signed_is_word}
+use Rattle.teg_text.proofs.HeadedBlocks.{is_block}
 
 -- dates and a step
 

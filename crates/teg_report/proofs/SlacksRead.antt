@@ -1,22 +1,22 @@
 -- Slack and summaries of nets are read back from their lines.
 use Rattle.std.proofs.Common.{◌≡◌, ℕ, ◌<◌, true, List, [], ◌∷◌, All, refl, ap₂, ◌∙◌, map, drop, length, slice_index_or, arith}
 use Rattle.std.specs.List.{list_all, range_with_len}
-use Rattle.teg_settle.specs.dioid.declared.dates.Date.{Date}
+use Rattle.dioid.specs.declared.dates.Date.{Date}
 use Rattle.teg_critical.specs.declared.slacks.Slack.{Slack}
 use Rattle.teg_critical.specs.declared.slacks.Slack.TheVariants.{NoCircuit, Critical, Rise}
-use Rattle.teg_settle.specs.teg_net.Nets.{NetLists, IsNet}
-use Rattle.teg_settle.specs.teg_net.Ratios.{Fraction}
+use Rattle.teg_net.specs.Nets.{NetLists, IsNet}
+use Rattle.teg_net.specs.Ratios.{Fraction}
 use Rattle.teg_report.specs.Answering.{answer_of}
 use Rattle.teg_report.specs.SlackLines.{slack_in, IsRatioKept, IsSlackKept, IsTrialKept, slack_line, slack_lines, slack_words, trial_lines}
 use Rattle.teg_report.specs.AnswerValues.{Slack as SlackAnswer, Trial}
 use Rattle.teg_report.proofs.IsRead.{IsRead}
-use Rattle.teg_calc.proofs.teg_text_proofs.NamesRead.{place_is_word, ratio_back}
-use Rattle.teg_calc.specs.teg_text.Lines.{is_line, is_word}
-use Rattle.teg_calc.specs.teg_text.WordsOfNames.{ratio_of_word}
-use Rattle.teg_calc.specs.teg_text.ValueWords.{ratio_word}
-use Rattle.teg_calc.proofs.teg_text_proofs.Back.{word32_back, word64_back, date_back, ratio_is_word}
-use Rattle.teg_calc.proofs.teg_text_proofs.LineBlocks.{map_passes, range_all, row_back}
-use Rattle.teg_calc.proofs.teg_text_proofs.Words.{decimal_is_word, date_is_word}
+use Rattle.teg_text.proofs.NamesRead.{place_is_word, ratio_back}
+use Rattle.teg_text.specs.Lines.{is_line, is_word}
+use Rattle.teg_text.specs.WordsOfNames.{ratio_of_word}
+use Rattle.teg_text.specs.ValueWords.{ratio_word}
+use Rattle.teg_text.proofs.Back.{word32_back, word64_back, date_back, ratio_is_word}
+use Rattle.teg_text.proofs.LineBlocks.{map_passes, range_all, row_back}
+use Rattle.teg_text.proofs.Words.{decimal_is_word, date_is_word}
 
 words_are_words : (slack : Slack) → list_all is_word (slack_words slack) ≡ true
 words_are_words NoCircuit = refl

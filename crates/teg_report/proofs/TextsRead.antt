@@ -1,21 +1,21 @@
 -- The short answers are read back from their lines.
 use Rattle.std.proofs.Common.{ℕ, ◌<◌, refl, length, ◌∷◌, [], List, ap}
-use Rattle.teg_settle.specs.dioid.declared.dates.Date.{Date as DateOf}
-use Rattle.teg_settle.specs.teg_net.declared.entries.TransitionId.{TransitionId}
-use Rattle.teg_settle.specs.teg_net.Nets.{NetLists, IsNet}
+use Rattle.dioid.specs.declared.dates.Date.{Date as DateOf}
+use Rattle.teg_net.specs.declared.entries.TransitionId.{TransitionId}
+use Rattle.teg_net.specs.Nets.{NetLists, IsNet}
 use Rattle.teg_report.specs.declared.answer.Which.{Which}
 use Rattle.teg_report.specs.declared.answer.Which.TheVariants.{Net as NetFile, Due as DueFile, Log as LogFile, Timetable as TimetableFile}
 use Rattle.teg_report.specs.AnswerValues.{Live, Date, TooLarge, TokenFree, NoTransition, TooLong, Fault}
 use Rattle.teg_report.specs.Widths.{IsWord64, IsWord32}
 use Rattle.teg_report.specs.ShortAnswers.{date_line, token_free_line, live_lines, too_large_line, read_fault_line, no_transition_line, too_long_line}
 use Rattle.teg_report.proofs.IsRead.{IsRead}
-use Rattle.teg_calc.proofs.teg_text_proofs.NamesRead.{transition_back, transition_is_word, circuits}
-use Rattle.teg_calc.specs.teg_text.WordsOfNames.{name_of_transition}
-use Rattle.teg_calc.specs.teg_text.ValueWords.{IsDate, AreBytes}
-use Rattle.teg_calc.proofs.teg_text_proofs.Back.{word32_back, word64_back, date_back, label_back}
-use Rattle.teg_calc.proofs.teg_text_proofs.Words.{decimal_is_word, date_is_word, label_is_word}
-use Rattle.teg_settle.specs.teg_net.declared.entries.PlaceId.{PlaceId}
-use Rattle.teg_settle.specs.teg_net.Circuits.{AreInRange}
+use Rattle.teg_text.proofs.NamesRead.{transition_back, transition_is_word, circuits}
+use Rattle.teg_text.specs.WordsOfNames.{name_of_transition}
+use Rattle.teg_text.specs.ValueWords.{IsDate, AreBytes}
+use Rattle.teg_text.proofs.Back.{word32_back, word64_back, date_back, label_back}
+use Rattle.teg_text.proofs.Words.{decimal_is_word, date_is_word, label_is_word}
+use Rattle.teg_net.specs.declared.entries.PlaceId.{PlaceId}
+use Rattle.teg_net.specs.Circuits.{AreInRange}
 
 pub live_read : (names : NetLists) (transitions places : ℕ) → IsWord32 transitions × IsWord32 places → IsRead names (live_lines transitions places) (Live transitions places)
 live_read names transitions places h = record {

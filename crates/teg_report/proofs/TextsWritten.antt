@@ -2,8 +2,8 @@
 use Rattle.std.proofs.Common.{◌≡◌, ℕ, ◌+◌, ◌-◌, ◌≤◌, List, [], ◌∷◌, ◌++◌, length, map, take, drop, get_or, sym, ap, ◌∙◌, append_assoc, arith, codes}
 use Rattle.std.proofs.lemmas.List.{take_all}
 use Rattle.teg_report.specs.ShortAnswers.{usage_from}
-use Rattle.teg_calc.specs.teg_text.Lines.{phrase, line_then, written}
-use Rattle.teg_calc.proofs.teg_text_proofs.Joining.{line_append}
+use Rattle.teg_text.specs.Lines.{phrase, line_then, written}
+use Rattle.teg_text.proofs.Joining.{line_append}
 use Rattle.teg_report.proofs.FileRowsWritten.{phrase_line}
 
 -- the line of a command

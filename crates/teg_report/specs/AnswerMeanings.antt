@@ -2,10 +2,10 @@
 use Rattle.std.specs.Prelude.{List, Option, Some, None, map, string_bytes}
 use Rattle.std.specs.Global.{Vec}
 use Rattle.std.specs.Option.{option_copied, option_map}
-use Rattle.teg_settle.specs.teg_net.declared.answers.CycleAnswer.{CycleAnswer}
-use Rattle.teg_settle.specs.teg_net.declared.answers.PartAnswer.{PartAnswer}
-use Rattle.teg_settle.specs.teg_net.declared.answers.PartAnswer.TheVariants.{NoCircuit as CodedNoCircuitIn, Best as CodedBest}
-use Rattle.teg_settle.specs.teg_net.declared.rounds.Round.{Round}
+use Rattle.teg_net.specs.declared.answers.CycleAnswer.{CycleAnswer}
+use Rattle.teg_net.specs.declared.answers.PartAnswer.{PartAnswer}
+use Rattle.teg_net.specs.declared.answers.PartAnswer.TheVariants.{NoCircuit as CodedNoCircuitIn, Best as CodedBest}
+use Rattle.teg_net.specs.declared.rounds.Round.{Round}
 use Rattle.teg_report.specs.declared.answer.Answer.{Answer as CodedAnswer}
 use Rattle.teg_report.specs.declared.answer.Answer.TheVariants.{Usage as CodedUsage, Live as CodedLive, List as CodedList, Form as CodedForm, NoCircuit as CodedNoCircuit, Cycle as CodedCycle, Dates as CodedDates, Date as CodedDate, Jit as CodedJit, Late as CodedLate, Slack as CodedSlack, Transfer as CodedTransfer, Replayed as CodedReplayed, Refused as CodedRefused, Calc as CodedCalc, Trial as CodedTrial, Read as CodedRead, TooLarge as CodedTooLarge, TokenFree as CodedTokenFree, NoTransition as CodedNoTransition, Due as CodedDue, Log as CodedLog, TooLong as CodedTooLong, Parse as CodedParse, Series as CodedSeries, Fault as CodedFault}
 use Rattle.teg_report.specs.Cycles.{ToldPart, NoCircuitIn, BestOf, CycleLists}

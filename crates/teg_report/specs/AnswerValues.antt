@@ -1,17 +1,17 @@
 -- The answers that can be told, by their values.
 use Rattle.std.specs.Prelude.{ℕ, List, Option}
-use Rattle.teg_settle.specs.dioid.declared.dates.Date.{Date as DateOf}
+use Rattle.dioid.specs.declared.dates.Date.{Date as DateOf}
 use Rattle.teg_critical.specs.declared.slacks.Slack.{Slack as PlaceSlack}
-use Rattle.teg_settle.specs.teg_dates.DateTables.{TableDates}
-use Rattle.teg_jit.specs.teg_due.declared.rows.DueRefusal.{DueRefusal}
-use Rattle.teg_jit.specs.teg_due.declared.rows.LogRefusal.{LogRefusal}
-use Rattle.teg_settle.specs.teg_form.StandardForms.{FormLists}
-use Rattle.teg_settle.specs.teg_net.declared.entries.PlaceId.{PlaceId}
-use Rattle.teg_settle.specs.teg_net.declared.entries.TransitionId.{TransitionId}
-use Rattle.teg_settle.specs.teg_net.Ratios.{Fraction}
+use Rattle.teg_dates.specs.DateTables.{TableDates}
+use Rattle.teg_due.specs.declared.rows.DueRefusal.{DueRefusal}
+use Rattle.teg_due.specs.declared.rows.LogRefusal.{LogRefusal}
+use Rattle.teg_form.specs.StandardForms.{FormLists}
+use Rattle.teg_net.specs.declared.entries.PlaceId.{PlaceId}
+use Rattle.teg_net.specs.declared.entries.TransitionId.{TransitionId}
+use Rattle.teg_net.specs.Ratios.{Fraction}
 use Rattle.teg_reader.specs.declared.refusals.ReadRefusal.{ReadRefusal}
 use Rattle.teg_settle.specs.settled_laws.SettledForms.{SettledForm}
-use Rattle.teg_settle.specs.series_form.declared.forms.SeriesRefused.{SeriesRefused}
+use Rattle.series_form.specs.declared.forms.SeriesRefused.{SeriesRefused}
 use Rattle.teg_settle.specs.series_laws.SeriesForms.{Form as SeriesForm}
 use Rattle.teg_calc.specs.declared.refusals.ParseRefused.{ParseRefused}
 use Rattle.teg_report.specs.declared.answer.Failure.{Failure}

@@ -1,14 +1,14 @@
 -- How an answer is read back from its text. No text rests on this, nor on what is said with each answer of how it is read back: all that
 -- it says is that there is such a function.
 use Rattle.std.specs.Prelude.{ℕ, Bool, ◌≡◌, ◌&&◌, ◌||◌, List, map, drop, codes, Option, Some, None, if◌then◌else◌, ⊤}
-use Rattle.teg_settle.specs.teg_net.Nets.{NetLists}
+use Rattle.teg_net.specs.Nets.{NetLists}
 use Rattle.teg_report.specs.PlanLines.{plan_in, late_in}
 use Rattle.teg_report.specs.AnswerValues.{Answer, Usage, Listed, Form, NoCircuit, Cycle, Dates, Jit, Late, Slack, Transfer, Calc, Read, TooLarge, TokenFree, NoTransition, Due, TooLong, Parse, Series, Fault}
 use Rattle.teg_report.specs.Cycles.{cycle_in}
 use Rattle.teg_report.specs.RoundLines.{rounds_in_lines}
 use Rattle.teg_report.specs.SettledTexts.{settled_in, transfer_in}
-use Rattle.teg_calc.specs.teg_text.WordsOfNames.{place_named, ratio_of_word}
-use Rattle.teg_calc.specs.teg_text.WordReading.{lines_in, line_at, word, stands_at, number_in, label_in}
+use Rattle.teg_text.specs.WordsOfNames.{place_named, ratio_of_word}
+use Rattle.teg_text.specs.WordReading.{lines_in, line_at, word, stands_at, number_in, label_in}
 use Rattle.teg_report.specs.Series.{series_in, parse_in, series_refused_in}
 use Rattle.teg_report.specs.FormLines.{form_in}
 use Rattle.teg_report.specs.FileRefusalLines.{refusal_in}

@@ -3,16 +3,16 @@ use Rattle.std.specs.Prelude.{ℕ, Bool, false, ◌+◌, ◌<◌, ◌^◌, ◌�
 use Rattle.std.specs.Int.RustNames.{unsigned_abs}
 use Rattle.std.specs.Fmt.{decimal, signed_decimal}
 use Rattle.std.specs.List.{range_with_len}
-use Rattle.teg_settle.specs.teg_net.declared.answers.Potential.{Potential}
-use Rattle.teg_settle.specs.teg_net.declared.entries.PlaceId.{PlaceId}
-use Rattle.teg_settle.specs.teg_net.declared.entries.TransitionId.{TransitionId}
-use Rattle.teg_settle.specs.teg_net.Circuits.{AreInRange}
-use Rattle.teg_settle.specs.teg_net.Nets.{NetLists}
-use Rattle.teg_settle.specs.teg_net.Ratios.{Fraction}
-use Rattle.teg_calc.specs.teg_text.WordsOfNames.{circuit_line, name_of_transition, transition_in, place_named, ratio_of_word}
-use Rattle.teg_calc.specs.teg_text.ValueWords.{ratio_word}
-use Rattle.teg_calc.specs.teg_text.WordReading.{line_at, word, stands_at, signed_in}
-use Rattle.teg_calc.specs.teg_text.LineBlocks.{those, first_where, blocks_in}
+use Rattle.teg_net.specs.declared.answers.Potential.{Potential}
+use Rattle.teg_net.specs.declared.entries.PlaceId.{PlaceId}
+use Rattle.teg_net.specs.declared.entries.TransitionId.{TransitionId}
+use Rattle.teg_net.specs.Circuits.{AreInRange}
+use Rattle.teg_net.specs.Nets.{NetLists}
+use Rattle.teg_net.specs.Ratios.{Fraction}
+use Rattle.teg_text.specs.WordsOfNames.{circuit_line, name_of_transition, transition_in, place_named, ratio_of_word}
+use Rattle.teg_text.specs.ValueWords.{ratio_word}
+use Rattle.teg_text.specs.WordReading.{line_at, word, stands_at, signed_in}
+use Rattle.teg_text.specs.LineBlocks.{those, first_where, blocks_in}
 
 -- what is told of a part: that no circuit lies in it, or its greatest ratio, a circuit and potentials
 pub data ToldPart : Type 0 where

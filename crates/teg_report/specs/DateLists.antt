@@ -2,14 +2,14 @@
 use Rattle.std.specs.Prelude.{ℕ, ◌≡◌, ◌≤◌, List, [], ◌∷◌, ◌++◌, length, map, codes, ◌*◌, drop}
 use Rattle.std.specs.Fmt.{decimal}
 use Rattle.std.specs.List.{flat_map, range_with_len}
-use Rattle.teg_settle.specs.dioid.declared.dates.Date.{Date}
-use Rattle.teg_settle.specs.teg_net.Nets.{NetLists}
-use Rattle.teg_settle.specs.teg_dates.Passes.{IsRowOf}
-use Rattle.teg_calc.specs.teg_text.Lines.{line_then, written}
-use Rattle.teg_calc.specs.teg_text.ValueWords.{date_word}
-use Rattle.teg_settle.specs.teg_dates.DateTables.{TableDates}
-use Rattle.teg_calc.specs.teg_text.WordReading.{line_at, word, number_in, date_of_word}
-use Rattle.teg_calc.specs.teg_text.LineBlocks.{cell_in}
+use Rattle.dioid.specs.declared.dates.Date.{Date}
+use Rattle.teg_net.specs.Nets.{NetLists}
+use Rattle.teg_dates.specs.Passes.{IsRowOf}
+use Rattle.teg_text.specs.Lines.{line_then, written}
+use Rattle.teg_text.specs.ValueWords.{date_word}
+use Rattle.teg_dates.specs.DateTables.{TableDates}
+use Rattle.teg_text.specs.WordReading.{line_at, word, number_in, date_of_word}
+use Rattle.teg_text.specs.LineBlocks.{cell_in}
 
 -- the date of firing k of transition t
 abbrev pub dated_firing : (ℕ → ℕ → Date) → ℕ → ℕ → List ℕ

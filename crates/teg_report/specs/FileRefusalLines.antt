@@ -7,12 +7,12 @@ use Rattle.teg_reader.specs.declared.refusals.Section.{Section}
 use Rattle.teg_reader.specs.declared.refusals.Section.TheVariants.{Top, Transition, Place, Input}
 use Rattle.teg_reader.specs.declared.refusals.Spot.{Spot}
 use Rattle.teg_reader.specs.Keys.{key_text}
-use Rattle.teg_calc.specs.teg_text.Lines.{phrase}
-use Rattle.teg_calc.specs.teg_text.ValueWords.{label_word, AreBytes}
+use Rattle.teg_text.specs.Lines.{phrase}
+use Rattle.teg_text.specs.ValueWords.{label_word, AreBytes}
 use Rattle.teg_reader.specs.declared.keys.Key.{Key}
 use Rattle.teg_reader.specs.declared.keys.Key.TheVariants.{Version, Transition as TransitionKey, Place as PlaceKey, Input as InputKey, Name, Role, Duration, From, To, Hold, Tokens, Ready, Dates, Every, Gap}
-use Rattle.teg_calc.specs.teg_text.WordReading.{word, stands_at, number_in, is_numeral, label_in}
-use Rattle.teg_settle.specs.teg_net.Names.{is_name}
+use Rattle.teg_text.specs.WordReading.{word, stands_at, number_in, is_numeral, label_in}
+use Rattle.teg_net.specs.Names.{is_name}
 use Rattle.teg_reader.specs.RefusalSpots.{IsPlainSpot}
 use Rattle.teg_report.specs.Widths.{IsWord32}
 

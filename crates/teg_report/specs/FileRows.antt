@@ -1,18 +1,18 @@
 -- Due files and logs that are refused, and recorded runs: their lines, what they keep, and how they are read back.
 use Rattle.std.specs.Prelude.{ℕ, ◌<◌, List, [], ◌∷◌, Option, IsSomeAnd, map, length, codes, ⊤, drop, if◌then◌else◌}
 use Rattle.std.specs.Fmt.{decimal}
-use Rattle.teg_jit.specs.teg_due.declared.rows.DueRefusal.{DueRefusal}
-use Rattle.teg_jit.specs.teg_due.declared.rows.DueRefusal.TheVariants.{BadRow as BadDueRow, UnknownTransition as UnknownDue, NotDue, RepeatedDue, OutOfRange as DueOutOfRange, OutOfMemory as NoDueRoom}
-use Rattle.teg_jit.specs.teg_due.declared.rows.LogRefusal.{LogRefusal}
-use Rattle.teg_jit.specs.teg_due.declared.rows.LogRefusal.TheVariants.{BadRow as BadLogRow, UnknownTransition as UnknownFiring, OutOfRange as LogOutOfRange, OutOfMemory as NoLogRoom}
-use Rattle.teg_settle.specs.teg_net.Nets.{NetLists}
+use Rattle.teg_due.specs.declared.rows.DueRefusal.{DueRefusal}
+use Rattle.teg_due.specs.declared.rows.DueRefusal.TheVariants.{BadRow as BadDueRow, UnknownTransition as UnknownDue, NotDue, RepeatedDue, OutOfRange as DueOutOfRange, OutOfMemory as NoDueRoom}
+use Rattle.teg_due.specs.declared.rows.LogRefusal.{LogRefusal}
+use Rattle.teg_due.specs.declared.rows.LogRefusal.TheVariants.{BadRow as BadLogRow, UnknownTransition as UnknownFiring, OutOfRange as LogOutOfRange, OutOfMemory as NoLogRoom}
+use Rattle.teg_net.specs.Nets.{NetLists}
 use Rattle.teg_report.specs.declared.answer.Failure.{Failure}
 use Rattle.teg_report.specs.declared.answer.Failure.TheVariants.{Illegal, BackInTime, BeforeRelease}
-use Rattle.teg_calc.specs.teg_text.Faults.{row_line}
-use Rattle.teg_calc.specs.teg_text.Lines.{phrase}
-use Rattle.teg_calc.specs.teg_text.WordsOfNames.{name_of_place, place_named}
+use Rattle.teg_text.specs.Faults.{row_line}
+use Rattle.teg_text.specs.Lines.{phrase}
+use Rattle.teg_text.specs.WordsOfNames.{name_of_place, place_named}
 use Rattle.teg_report.specs.AnswerValues.{Answer, Replayed, Refused, Log}
-use Rattle.teg_calc.specs.teg_text.WordReading.{line_at, word, stands_at, number_in, phrase_in}
+use Rattle.teg_text.specs.WordReading.{line_at, word, stands_at, number_in, phrase_in}
 use Rattle.teg_report.specs.Widths.{IsWord32}
 
 -- why a file is no due file; nothing is told of want of memory

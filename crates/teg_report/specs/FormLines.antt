@@ -1,13 +1,13 @@
 -- A standard form: its lines, what its numbers keep, and how it is read back.
 use Rattle.std.specs.Prelude.{ℕ, ◌<◌, List, [], ◌∷◌, ◌++◌, length, map, All, codes, Bool, not, drop}
 use Rattle.std.specs.Fmt.{decimal}
-use Rattle.teg_settle.specs.teg_form.declared.form.Entry.{Entry}
-use Rattle.teg_settle.specs.teg_form.declared.form.StarEntry.{StarEntry}
-use Rattle.teg_settle.specs.teg_form.StandardForms.{FormLists}
-use Rattle.teg_settle.specs.teg_net.Nets.{NetLists}
-use Rattle.teg_calc.specs.teg_text.WordsOfNames.{name_of_transition, transition_in}
-use Rattle.teg_calc.specs.teg_text.WordReading.{word, stands_at, number_in}
-use Rattle.teg_calc.specs.teg_text.LineBlocks.{those}
+use Rattle.teg_form.specs.declared.form.Entry.{Entry}
+use Rattle.teg_form.specs.declared.form.StarEntry.{StarEntry}
+use Rattle.teg_form.specs.StandardForms.{FormLists}
+use Rattle.teg_net.specs.Nets.{NetLists}
+use Rattle.teg_text.specs.WordsOfNames.{name_of_transition, transition_in}
+use Rattle.teg_text.specs.WordReading.{word, stands_at, number_in}
+use Rattle.teg_text.specs.LineBlocks.{those}
 use Rattle.teg_report.specs.Widths.{IsWord32, IsWord64}
 
 -- how many entries there are

@@ -1,14 +1,14 @@
 -- What the values of an answer keep, and where an answer is told in the one way that it has.
 use Rattle.std.specs.Prelude.{Option, IfSome, All, ⊤}
-use Rattle.teg_settle.specs.teg_dates.DateTables.{IsDateTable}
-use Rattle.teg_settle.specs.teg_net.Nets.{NetLists, IsNet}
+use Rattle.teg_dates.specs.DateTables.{IsDateTable}
+use Rattle.teg_net.specs.Nets.{NetLists, IsNet}
 use Rattle.teg_reader.specs.RefusalSpots.{HasPlainSpot}
 use Rattle.teg_report.specs.AnswerValues.{Answer, Usage, Live, Listed, Form, NoCircuit, Cycle, Dates, Date, Jit, Late, Slack, Transfer, Replayed, Refused, Calc, Trial, Read, TooLarge, TokenFree, NoTransition, Due, Log, TooLong, Parse, Series, Fault}
 use Rattle.teg_report.specs.Reports.{IsAbout}
 use Rattle.teg_report.specs.PlanLines.{AreLatestKept, IsLateKept}
 use Rattle.teg_report.specs.RoundLines.{IsRunKept}
 use Rattle.teg_report.specs.SettledTexts.{IsSettledKept, AreTimesKept}
-use Rattle.teg_calc.specs.teg_text.ValueWords.{AreBytes, IsDate}
+use Rattle.teg_text.specs.ValueWords.{AreBytes, IsDate}
 use Rattle.teg_report.specs.Series.{IsSeriesKept, IsParseKept, IsSeriesRefusalKept}
 use Rattle.teg_report.specs.FormLines.{IsStarKept, IsEntryKept}
 use Rattle.teg_report.specs.FileRefusalLines.{IsReadRefusalKept}

@@ -7,17 +7,17 @@ use Rattle.teg_jit.specs.declared.answers.LatestDate.TheVariants.{Free, At}
 use Rattle.teg_jit.specs.declared.answers.Onward.{Onward}
 use Rattle.teg_jit.specs.declared.answers.Onward.TheVariants.{Due, By as ByPlace, Next as ToNext}
 use Rattle.teg_jit.specs.Plans.{PlanDates, latest_at, KeepsSizes}
-use Rattle.teg_settle.specs.teg_net.declared.entries.Role.{Role}
-use Rattle.teg_settle.specs.teg_net.declared.entries.Role.TheVariants.{Internal, Input, Output}
-use Rattle.teg_settle.specs.teg_net.declared.entries.TransitionId.{TransitionId}
-use Rattle.teg_settle.specs.teg_net.declared.walks.Step.{Step}
-use Rattle.teg_settle.specs.teg_net.declared.walks.Step.TheVariants.{By, Next}
-use Rattle.teg_settle.specs.teg_net.Circuits.{place_at}
-use Rattle.teg_settle.specs.teg_net.Limits.{greatest_firing_number}
-use Rattle.teg_settle.specs.teg_net.Nets.{NetLists}
-use Rattle.teg_settle.specs.teg_net.Walks.{Walks, numbers_of}
-use Rattle.teg_calc.specs.teg_text.WordsOfNames.{name_of_place, name_of_transition, no_transition, transition_in, place_named}
-use Rattle.teg_calc.specs.teg_text.WordReading.{line_at, word, stands_at, number_in, is_numeral}
+use Rattle.teg_net.specs.declared.entries.Role.{Role}
+use Rattle.teg_net.specs.declared.entries.Role.TheVariants.{Internal, Input, Output}
+use Rattle.teg_net.specs.declared.entries.TransitionId.{TransitionId}
+use Rattle.teg_net.specs.declared.walks.Step.{Step}
+use Rattle.teg_net.specs.declared.walks.Step.TheVariants.{By, Next}
+use Rattle.teg_net.specs.Circuits.{place_at}
+use Rattle.teg_net.specs.Limits.{greatest_firing_number}
+use Rattle.teg_net.specs.Nets.{NetLists}
+use Rattle.teg_net.specs.Walks.{Walks, numbers_of}
+use Rattle.teg_text.specs.WordsOfNames.{name_of_place, name_of_transition, no_transition, transition_in, place_named}
+use Rattle.teg_text.specs.WordReading.{line_at, word, stands_at, number_in, is_numeral}
 use Rattle.teg_report.specs.Widths.{IsWord32, IsWord64}
 
 -- the first step of a walk by which a latest date is attained

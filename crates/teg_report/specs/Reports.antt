@@ -1,14 +1,14 @@
 -- The text of an answer, and what an answer about a net meets.
 use Rattle.std.specs.Prelude.{ℕ, ◌<◌, ◌≡◌, ◌≢◌, List, [], ◌∷◌, ◌++◌, Option, Some, None, IsSomeAnd, length, All, ⊤}
-use Rattle.teg_settle.specs.teg_dates.DateTables.{date_at}
-use Rattle.teg_settle.specs.teg_net.Circuits.{AreInRange}
-use Rattle.teg_settle.specs.teg_net.Nets.{NetLists}
-use Rattle.teg_settle.specs.series_form.declared.forms.SeriesRefused.TheVariants.{OutOfMemory as NoRoom}
+use Rattle.teg_dates.specs.DateTables.{date_at}
+use Rattle.teg_net.specs.Circuits.{AreInRange}
+use Rattle.teg_net.specs.Nets.{NetLists}
+use Rattle.series_form.specs.declared.forms.SeriesRefused.TheVariants.{OutOfMemory as NoRoom}
 use Rattle.teg_outside.specs.Monitors.{IsOneLine}
 use Rattle.teg_calc.specs.declared.refusals.ParseRefused.TheVariants.{OutOfMemory as NoText}
 use Rattle.teg_calc.specs.Printing.{series_line}
-use Rattle.teg_jit.specs.teg_due.declared.rows.DueRefusal.TheVariants.{OutOfMemory as NoDueRoom}
-use Rattle.teg_jit.specs.teg_due.declared.rows.LogRefusal.TheVariants.{OutOfMemory as NoLogRoom}
+use Rattle.teg_due.specs.declared.rows.DueRefusal.TheVariants.{OutOfMemory as NoDueRoom}
+use Rattle.teg_due.specs.declared.rows.LogRefusal.TheVariants.{OutOfMemory as NoLogRoom}
 use Rattle.teg_reader.specs.declared.refusals.ReadRefusal.TheVariants.{OutOfMemory}
 use Rattle.teg_report.specs.Series.{parse_line, series_refused_line}
 use Rattle.teg_report.specs.AnswerValues.{Answer, Usage, Live, Listed, Form, NoCircuit, Cycle, Dates, Date, Jit, Late, Slack, Transfer, Replayed, Refused, Calc, Trial, Read, TooLarge, TokenFree, NoTransition, Due, Log, TooLong, Parse, Series, Fault}
@@ -19,8 +19,8 @@ use Rattle.teg_report.specs.FormLines.{HasEndsIn, form_lines}
 use Rattle.teg_report.specs.PlanLines.{IsLatePlanTold, IsPlanIn, late_lines, plan_lines}
 use Rattle.teg_report.specs.SettledTexts.{AreTimesIn, settled_lines, transfer_lines}
 use Rattle.teg_report.specs.SlackLines.{slack_lines, trial_lines}
-use Rattle.teg_calc.specs.teg_text.Lines.{written}
-use Rattle.teg_calc.specs.teg_text.WordsOfNames.{name_of_transition}
+use Rattle.teg_text.specs.Lines.{written}
+use Rattle.teg_text.specs.WordsOfNames.{name_of_transition}
 use Rattle.teg_report.specs.DateLists.{list_lines}
 use Rattle.teg_report.specs.FileRefusalLines.{read_line}
 use Rattle.teg_report.specs.ShortAnswers.{usage_lines, live_lines, no_circuit_line, too_large_line, read_fault_line, token_free_line, no_transition_line, too_long_line, date_line}

@@ -2,16 +2,16 @@
 use Rattle.std.specs.Prelude.{ℕ, suc, ◌+◌, ◌<◌, ◌≡◌, List, [], ◌∷◌, All, Option, Some, None, map, flat_map, length, slice_index_or, codes, ⊤, Bool, not, ◌==◌, drop, ◌^◌}
 use Rattle.std.specs.Fmt.{decimal, signed_decimal}
 use Rattle.std.specs.List.{range_with_len}
-use Rattle.teg_settle.specs.teg_net.declared.entries.PlaceId.{PlaceId}
-use Rattle.teg_settle.specs.teg_net.declared.rounds.Choice.{Choice}
-use Rattle.teg_settle.specs.teg_net.Circuits.{AreInRange}
-use Rattle.teg_settle.specs.teg_net.Nets.{NetLists}
-use Rattle.teg_settle.specs.teg_net.Ratios.{Fraction}
+use Rattle.teg_net.specs.declared.entries.PlaceId.{PlaceId}
+use Rattle.teg_net.specs.declared.rounds.Choice.{Choice}
+use Rattle.teg_net.specs.Circuits.{AreInRange}
+use Rattle.teg_net.specs.Nets.{NetLists}
+use Rattle.teg_net.specs.Ratios.{Fraction}
 use Rattle.teg_report.specs.Cycles.{ToldPart, NoCircuitIn, BestOf, told_in, is_part}
-use Rattle.teg_calc.specs.teg_text.WordsOfNames.{circuit_line, name_of_place, name_of_transition, transition_in, place_named, ratio_of_word}
-use Rattle.teg_calc.specs.teg_text.ValueWords.{ratio_word}
-use Rattle.teg_calc.specs.teg_text.WordReading.{line_at, word, number_in, signed_in}
-use Rattle.teg_calc.specs.teg_text.LineBlocks.{those, blocks_in}
+use Rattle.teg_text.specs.WordsOfNames.{circuit_line, name_of_place, name_of_transition, transition_in, place_named, ratio_of_word}
+use Rattle.teg_text.specs.ValueWords.{ratio_word}
+use Rattle.teg_text.specs.WordReading.{line_at, word, number_in, signed_in}
+use Rattle.teg_text.specs.LineBlocks.{those, blocks_in}
 use Rattle.std.specs.Int.RustNames.{unsigned_abs}
 use Rattle.teg_report.specs.Widths.{IsWord64}
 

@@ -1,15 +1,15 @@
 -- Series, and what the series calculator refuses: their lines, what they keep, and how they are read back.
 use Rattle.std.specs.Prelude.{ℕ, List, [], ◌∷◌, ◌++◌, codes, ◌<◌, length, All, map, drop, take, ◌-◌, if◌then◌else◌, ◌^◌}
 use Rattle.std.specs.Fmt.{decimal, signed_decimal}
-use Rattle.teg_settle.specs.series_form.declared.forms.SeriesRefused.{SeriesRefused}
-use Rattle.teg_settle.specs.series_form.declared.forms.SeriesRefused.TheVariants.{TooLong, TooGreat, OutOfMemory as NoRoom}
+use Rattle.series_form.specs.declared.forms.SeriesRefused.{SeriesRefused}
+use Rattle.series_form.specs.declared.forms.SeriesRefused.TheVariants.{TooLong, TooGreat, OutOfMemory as NoRoom}
 use Rattle.teg_calc.specs.declared.refusals.ParseRefused.{ParseRefused}
 use Rattle.teg_calc.specs.declared.refusals.ParseRefused.TheVariants.{Syntax, TooDeep, OutOfMemory}
-use Rattle.teg_calc.specs.teg_text.Lines.{phrase}
+use Rattle.teg_text.specs.Lines.{phrase}
 use Rattle.teg_settle.specs.series_laws.SeriesForms.{Form as SeriesForm}
-use Rattle.teg_calc.specs.teg_text.WordReading.{word, stands_at, number_in, signed_in, date_of_word}
+use Rattle.teg_text.specs.WordReading.{word, stands_at, number_in, signed_in, date_of_word}
 use Rattle.std.specs.Int.RustNames.{unsigned_abs}
-use Rattle.teg_calc.specs.teg_text.ValueWords.{IsDate}
+use Rattle.teg_text.specs.ValueWords.{IsDate}
 use Rattle.teg_report.specs.Widths.{IsWord32, IsWord64}
 
 -- where a text is no expression, or too deep; nothing is told of want of memory

@@ -3,16 +3,16 @@
 use Rattle.std.specs.Prelude.{ℕ, ℤ, Bool, true, false, ◌<◌, List, [], ◌∷◌, ◌++◌, All, map, flat_map, length, count_by, codes, ◌≡◌, drop, take, ◌-◌, ◌^◌}
 use Rattle.std.specs.Fmt.{decimal, signed_decimal}
 use Rattle.std.specs.List.{range_with_len}
-use Rattle.teg_settle.specs.dioid.declared.dates.Date.{Date}
+use Rattle.dioid.specs.declared.dates.Date.{Date}
 use Rattle.teg_settle.specs.settled_laws.SettledForms.{SettledForm, row_of, step_of_form}
-use Rattle.teg_settle.specs.teg_net.declared.entries.Role.{Role}
-use Rattle.teg_settle.specs.teg_net.declared.entries.Role.TheVariants.{Internal, Input, Output}
-use Rattle.teg_settle.specs.teg_net.declared.entries.TransitionId.{TransitionId}
-use Rattle.teg_settle.specs.teg_net.Nets.{NetLists}
-use Rattle.teg_calc.specs.teg_text.WordsOfNames.{name_of_transition, settled_words, transition_in}
-use Rattle.teg_calc.specs.teg_text.ValueWords.{date_word, IsDate}
-use Rattle.teg_calc.specs.teg_text.WordReading.{line_at, word, stands_at, number_in, signed_in, date_of_word}
-use Rattle.teg_calc.specs.teg_text.LineBlocks.{blocks_in}
+use Rattle.teg_net.specs.declared.entries.Role.{Role}
+use Rattle.teg_net.specs.declared.entries.Role.TheVariants.{Internal, Input, Output}
+use Rattle.teg_net.specs.declared.entries.TransitionId.{TransitionId}
+use Rattle.teg_net.specs.Nets.{NetLists}
+use Rattle.teg_text.specs.WordsOfNames.{name_of_transition, settled_words, transition_in}
+use Rattle.teg_text.specs.ValueWords.{date_word, IsDate}
+use Rattle.teg_text.specs.WordReading.{line_at, word, stands_at, number_in, signed_in, date_of_word}
+use Rattle.teg_text.specs.LineBlocks.{blocks_in}
 use Rattle.std.specs.Int.RustNames.{unsigned_abs}
 use Rattle.teg_report.specs.Widths.{IsWord64}
 

@@ -1,17 +1,17 @@
 -- The short answers: their lines, and how they are read back.
 use Rattle.std.specs.Prelude.{ℕ, List, [], ◌∷◌, ◌++◌, map, codes, bytes_eq, if◌then◌else◌}
 use Rattle.std.specs.Fmt.{decimal}
-use Rattle.teg_settle.specs.dioid.declared.dates.Date.{Date as DateOf}
-use Rattle.teg_settle.specs.teg_net.declared.entries.PlaceId.{PlaceId}
-use Rattle.teg_settle.specs.teg_net.Nets.{NetLists}
+use Rattle.dioid.specs.declared.dates.Date.{Date as DateOf}
+use Rattle.teg_net.specs.declared.entries.PlaceId.{PlaceId}
+use Rattle.teg_net.specs.Nets.{NetLists}
 use Rattle.teg_report.specs.declared.answer.Which.{Which}
 use Rattle.teg_report.specs.declared.answer.Which.TheVariants.{Net as NetFile, Due as DueFile, Log as LogFile, Timetable as TimetableFile}
 use Rattle.teg_report.specs.declared.usage.TheConstants.{COMMANDS}
-use Rattle.teg_calc.specs.teg_text.Lines.{phrase}
-use Rattle.teg_calc.specs.teg_text.WordsOfNames.{name_of_place, transition_in}
-use Rattle.teg_calc.specs.teg_text.ValueWords.{date_word, label_word}
+use Rattle.teg_text.specs.Lines.{phrase}
+use Rattle.teg_text.specs.WordsOfNames.{name_of_place, transition_in}
+use Rattle.teg_text.specs.ValueWords.{date_word, label_word}
 use Rattle.teg_report.specs.AnswerValues.{Answer, Live, Date}
-use Rattle.teg_calc.specs.teg_text.WordReading.{line_at, word, number_in, date_of_word}
+use Rattle.teg_text.specs.WordReading.{line_at, word, number_in, date_of_word}
 
 -- the commands, each as it is used: its name and what follows it, from the one table of them
 abbrev pub command_forms : List (List ℕ)

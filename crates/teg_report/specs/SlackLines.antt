@@ -2,17 +2,17 @@
 use Rattle.std.specs.Prelude.{ℕ, List, [], ◌∷◌, ◌++◌, map, length, slice_index_or, codes, ⊤, if◌then◌else◌}
 use Rattle.std.specs.Fmt.{decimal}
 use Rattle.std.specs.List.{range_with_len}
-use Rattle.teg_settle.specs.dioid.declared.dates.Date.{Date}
+use Rattle.dioid.specs.declared.dates.Date.{Date}
 use Rattle.teg_critical.specs.declared.slacks.Slack.{Slack}
 use Rattle.teg_critical.specs.declared.slacks.Slack.TheVariants.{NoCircuit, Critical, Rise}
-use Rattle.teg_settle.specs.teg_net.Nets.{NetLists}
-use Rattle.teg_settle.specs.teg_net.Ratios.{Fraction}
+use Rattle.teg_net.specs.Nets.{NetLists}
+use Rattle.teg_net.specs.Ratios.{Fraction}
 use Rattle.teg_report.specs.ShortAnswers.{word_and_number}
-use Rattle.teg_calc.specs.teg_text.Lines.{phrase}
-use Rattle.teg_calc.specs.teg_text.WordsOfNames.{name_of_place, ratio_of_word}
-use Rattle.teg_calc.specs.teg_text.ValueWords.{date_word, ratio_word, IsDate}
+use Rattle.teg_text.specs.Lines.{phrase}
+use Rattle.teg_text.specs.WordsOfNames.{name_of_place, ratio_of_word}
+use Rattle.teg_text.specs.ValueWords.{date_word, ratio_word, IsDate}
 use Rattle.teg_report.specs.AnswerValues.{Answer, Trial}
-use Rattle.teg_calc.specs.teg_text.WordReading.{line_at, word, stands_at, number_in, date_of_word}
+use Rattle.teg_text.specs.WordReading.{line_at, word, stands_at, number_in, date_of_word}
 use Rattle.teg_report.specs.Widths.{IsWord32, IsWord64}
 
 -- the greatest ratio of a net

@@ -1,12 +1,12 @@
 -- That the text of an answer tells it, and which facts make sure of it.
 use Rattle.std.specs.Prelude.{ℕ, ◌≡◌, List, length, Option, Some, None}
-use Rattle.teg_settle.specs.series_form.NumberBounds.{IsSeries}
+use Rattle.series_form.specs.NumberBounds.{IsSeries}
 use Rattle.teg_settle.specs.series_laws.SeriesForms.{Form as SeriesForm}
-use Rattle.teg_settle.specs.teg_net.declared.answers.CycleAnswer.{CycleAnswer}
-use Rattle.teg_settle.specs.teg_net.declared.entries.PlaceId.{PlaceId}
-use Rattle.teg_settle.specs.teg_net.Certificates.{IsCertificate}
-use Rattle.teg_settle.specs.teg_net.Circuits.{IsTokenFree}
-use Rattle.teg_settle.specs.teg_net.Nets.{NetLists, IsNet}
+use Rattle.teg_net.specs.declared.answers.CycleAnswer.{CycleAnswer}
+use Rattle.teg_net.specs.declared.entries.PlaceId.{PlaceId}
+use Rattle.teg_net.specs.Certificates.{IsCertificate}
+use Rattle.teg_net.specs.Circuits.{IsTokenFree}
+use Rattle.teg_net.specs.Nets.{NetLists, IsNet}
 use Rattle.teg_report.specs.Answering.{AreOfOneNet, IsReadFrom}
 use Rattle.teg_report.specs.AnswerValues.{Answer, Calc, Cycle, Live, TokenFree}
 use Rattle.teg_report.specs.KeptAnswers.{IsAnswerTold}

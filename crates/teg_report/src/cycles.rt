@@ -5,13 +5,13 @@ ghost use Rattle.std.specs.Option.{option_copied, option_map};
 ghost use Rattle.teg_report.specs.Cycles.{HasPartCircuitIn, IsCycleTold, IsPartTold, IsPotentialIn, best_lines, best_of, cycle_lines, member_line, members_from, part_lines, potential_line, ratio_line};
 ghost use Rattle.teg_report.specs.AnswerMeanings.{cycle_lists, part_lists, runs_lists};
 ghost use Rattle.teg_report.specs.RoundLines.{AreRoundsTold, IsRunKept, runs_lines as runs_text, told_runs};
-ghost use Rattle.teg_calc.specs.teg_text.Lines.{line_then, written};
+ghost use Rattle.teg_text.specs.Lines.{line_then, written};
 
 use crate::rounds::push_runs;
 use crate::told::{Told, push_each};
 use std::alloc::{AllocError, Global};
-use teg_calc::teg_text::push_circuit;
-use teg_settle::teg_net::{CycleAnswer, Net, OutOfMemory, PartAnswer, Potential, Ratio, Round};
+use teg_net::{CycleAnswer, Net, OutOfMemory, PartAnswer, Potential, Ratio, Round};
+use teg_text::push_circuit;
 
 impl Told for Potential {
     ghost line = { potential_line };

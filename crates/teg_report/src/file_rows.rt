@@ -1,19 +1,19 @@
 //! The texts of due files and logs that are refused, and of recorded runs.
 ghost use Rattle.std.specs.Prelude.{◌≡◌, ◌≢◌, ◌++◌, ◌∷◌, [], IfOk, codes, map, string_bytes};
 ghost use Rattle.std.specs.Option.{option_copied};
-ghost use Rattle.teg_jit.specs.teg_due.declared.rows.DueRefusal.TheVariants.{OutOfMemory as NoDueRoom};
-ghost use Rattle.teg_jit.specs.teg_due.declared.rows.LogRefusal.TheVariants.{OutOfMemory as NoLogRoom};
+ghost use Rattle.teg_due.specs.declared.rows.DueRefusal.TheVariants.{OutOfMemory as NoDueRoom};
+ghost use Rattle.teg_due.specs.declared.rows.LogRefusal.TheVariants.{OutOfMemory as NoLogRoom};
 ghost use Rattle.teg_report.specs.FileRows.{IsDueKept, IsFailureIn, IsLogKept, due_line, failure_words, log_line, refused_lines, replayed_lines};
 ghost use Rattle.teg_report.specs.Reports.{names_from};
 ghost use Rattle.teg_report.specs.Widths.{IsWord32, IsWord64};
-ghost use Rattle.teg_calc.specs.teg_text.Faults.{row_line};
-ghost use Rattle.teg_calc.specs.teg_text.Lines.{line_then, phrase, written};
+ghost use Rattle.teg_text.specs.Faults.{row_line};
+ghost use Rattle.teg_text.specs.Lines.{line_then, phrase, written};
 
 use crate::answer::Failure;
 use std::alloc::{AllocError, Global};
-use teg_calc::teg_text::row_fault;
-use teg_jit::teg_due::{DueRefusal, LogRefusal};
-use teg_settle::teg_net::{Net, OutOfMemory};
+use teg_due::{DueRefusal, LogRefusal};
+use teg_net::{Net, OutOfMemory};
+use teg_text::row_fault;
 
 // Why a file is no due file.
 pub(crate) fn due(alloc: Global, refusal: &DueRefusal) -> Result<Vec<u8>, OutOfMemory>

@@ -2,14 +2,14 @@
 ghost use Rattle.std.specs.Prelude.{◌≡◌, ◌+◌, ◌*◌, ◌++◌, ◌∷◌, ◌≤◌, ◌^◌, IfOk, drop, length, map, take};
 ghost use Rattle.std.specs.Fmt.{decimal};
 ghost use Rattle.teg_report.specs.DateLists.{ListsAreJoined, head_text, row_text};
-ghost use Rattle.teg_calc.specs.teg_text.ValueWords.{date_word};
+ghost use Rattle.teg_text.specs.ValueWords.{date_word};
 
 use crate::lists::head;
+use dioid::Date;
 use itoa::{Buffer, write_digits};
 use std::alloc::Global;
-use teg_settle::dioid::Date;
-use teg_settle::teg_dates::DateCell;
-use teg_settle::teg_net::{Net, OutOfMemory};
+use teg_dates::DateCell;
+use teg_net::{Net, OutOfMemory};
 
 /// The room that a row of so many dates needs in a block, in bytes: at most 41 for each date, 20 for
 /// its number, and 1 for the line feed.

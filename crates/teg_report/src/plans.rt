@@ -1,16 +1,16 @@
 //! The texts of latest dates, and of due dates that no inputs can meet.
 ghost use Rattle.std.specs.Prelude.{ℕ, ◌≡◌, ◌++◌, ◌<◌, ◌≤◌, ◌^◌, ◌∷◌, ◌+◌, [], IfOk, flat_map, length, string_bytes};
 ghost use Rattle.teg_jit.specs.Plans.{latest_at};
-ghost use Rattle.teg_settle.specs.teg_net.Limits.{greatest_firing_number};
-ghost use Rattle.teg_settle.specs.teg_net.Walks.{IsStepOf};
+ghost use Rattle.teg_net.specs.Limits.{greatest_firing_number};
+ghost use Rattle.teg_net.specs.Walks.{IsStepOf};
 ghost use Rattle.teg_report.specs.AnswerMeanings.{late_lists};
 ghost use Rattle.teg_report.specs.PlanLines.{AreLatestKept, IsLateKept, IsLatePlanTold, IsLatestIn, IsLatestKept, IsOnwardIn, IsPathIn, IsPlanIn, late_line, late_lines, latest_line, onward_words, path_line, plan_lines, planned_lines, role_word, start_lines, step_number, step_to, step_words, steps_words};
 ghost use Rattle.teg_report.specs.Widths.{IsWord32, IsWord64};
-ghost use Rattle.teg_calc.specs.teg_text.Lines.{further_then, line_then, written};
+ghost use Rattle.teg_text.specs.Lines.{further_then, line_then, written};
 
 use std::alloc::{AllocError, Global};
 use teg_jit::{JitRefusal, LatestDate, Onward, Plan};
-use teg_settle::teg_net::{Net, OutOfMemory, Role, Step, TransitionId, Walk};
+use teg_net::{Net, OutOfMemory, Role, Step, TransitionId, Walk};
 
 // How lines of a transition begin.
 fn role_word(role: Role) -> &'static str

@@ -1,18 +1,18 @@
 //! The texts of refused net files.
 ghost use Rattle.std.specs.Prelude.{◌≡◌, [], ◌∷◌, IfOk, IsTrue, string_bytes};
-ghost use Rattle.teg_settle.specs.teg_net.Names.{is_name};
+ghost use Rattle.teg_net.specs.Names.{is_name};
 ghost use Rattle.teg_reader.specs.RefusalSpots.{HasPlainSpot};
 ghost use Rattle.teg_report.specs.FileRefusalLines.{IsReadRefusalKept, ends_line, entered_line, fault_line, hold_line, input_line, read_line, ready_line};
 ghost use Rattle.teg_report.specs.SpotWords.{spot_text};
 ghost use Rattle.teg_report.specs.Widths.{IsWord32};
-ghost use Rattle.teg_calc.specs.teg_text.Lines.{written};
-ghost use Rattle.teg_calc.specs.teg_text.ValueWords.{AreBytes, label_word};
+ghost use Rattle.teg_text.specs.Lines.{written};
+ghost use Rattle.teg_text.specs.ValueWords.{AreBytes, label_word};
 
 use crate::texts::bytes_of;
 use std::alloc::Global;
-use teg_calc::teg_text::push_label;
+use teg_net::{Label, Name, OutOfMemory};
 use teg_reader::{ReadRefusal, Section, Spot};
-use teg_settle::teg_net::{Label, Name, OutOfMemory};
+use teg_text::push_label;
 
 // A table of the file.
 fn spot_text(alloc: Global, spot: &Spot) -> Result<String, OutOfMemory>

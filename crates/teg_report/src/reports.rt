@@ -1,7 +1,7 @@
 //! The text of an answer.
 ghost use Rattle.std.specs.Prelude.{◌≡◌, None, Some, IfOk, IfSome};
 ghost use Rattle.std.specs.Option.{option_copied};
-ghost use Rattle.teg_settle.specs.teg_net.Nets.{IsNet};
+ghost use Rattle.teg_net.specs.Nets.{IsNet};
 ghost use Rattle.teg_report.specs.Answering.{AreOfOneNet, IsReadFrom};
 ghost use Rattle.teg_report.specs.KeptAnswers.{IsAnswerKept, IsPlain, IsAnswerTold};
 ghost use Rattle.teg_report.specs.AnswerMeanings.{meant};
@@ -12,7 +12,7 @@ use crate::{
     cycles, file_rows, forms, lists, plans, refusals, series, settled, slacks, texts, usage,
 };
 use std::alloc::Global;
-use teg_settle::teg_net::{Net, OutOfMemory};
+use teg_net::{Net, OutOfMemory};
 
 // The text of an answer that names nothing of a net.
 fn alone(alloc: Global, answer: &Answer<'_>) -> Result<Vec<u8>, OutOfMemory>

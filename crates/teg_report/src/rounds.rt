@@ -4,12 +4,12 @@ ghost use Rattle.std.specs.Prelude.{◌≡◌, ◌++◌, ◌<◌, ◌^◌, [], A
 ghost use Rattle.teg_report.specs.AnswerMeanings.{part_lists, round_lists, runs_lists};
 ghost use Rattle.teg_report.specs.RoundLines.{AreRunsTold, IsChoiceIn, IsChoiceKept, IsRoundIn, IsRoundKept, IsRunIn, IsRunKept, choice_line, round_lines, run_lines, runs_from, runs_lines as runs_text, turn_line};
 ghost use Rattle.teg_report.specs.Widths.{IsWord64};
-ghost use Rattle.teg_calc.specs.teg_text.Lines.{line_then, written};
+ghost use Rattle.teg_text.specs.Lines.{line_then, written};
 
 use crate::told::{Told, push_each};
 use std::alloc::AllocError;
-use teg_calc::teg_text::push_circuit;
-use teg_settle::teg_net::{Choice, Net, PartAnswer, Ratio, Round};
+use teg_net::{Choice, Net, PartAnswer, Ratio, Round};
+use teg_text::push_circuit;
 
 impl Told for Choice {
     ghost line = { choice_line };

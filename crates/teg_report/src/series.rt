@@ -1,17 +1,17 @@
 //! The texts of the series calculator.
 ghost use Rattle.std.specs.Prelude.{◌≡◌, ◌≢◌, ◌<◌, ◌^◌, [], ◌∷◌, IfOk};
 ghost use Rattle.std.specs.Int.RustNames.{unsigned_abs};
-ghost use Rattle.teg_settle.specs.series_form.declared.forms.SeriesRefused.TheVariants.{OutOfMemory as NoRoom, TooGreat, TooLong};
+ghost use Rattle.series_form.specs.declared.forms.SeriesRefused.TheVariants.{OutOfMemory as NoRoom, TooGreat, TooLong};
 ghost use Rattle.teg_calc.specs.declared.refusals.ParseRefused.TheVariants.{OutOfMemory as NoText, Syntax, TooDeep};
 ghost use Rattle.teg_calc.specs.Printing.{series_line};
 ghost use Rattle.teg_report.specs.Series.{IsParseKept, IsSeriesKept, IsSeriesRefusalKept, parse_line, series_refused_line};
 ghost use Rattle.teg_report.specs.Widths.{IsWord32};
-ghost use Rattle.teg_calc.specs.teg_text.Lines.{written};
+ghost use Rattle.teg_text.specs.Lines.{written};
 
+use series_form::{Series, SeriesRefused};
 use std::alloc::Global;
 use teg_calc::{ParseRefused, print};
-use teg_settle::series_form::{Series, SeriesRefused};
-use teg_settle::teg_net::OutOfMemory;
+use teg_net::OutOfMemory;
 
 // A series.
 pub(crate) fn calc(alloc: Global, series: &Series) -> Result<Vec<u8>, OutOfMemory>

@@ -6,17 +6,17 @@ ghost use Rattle.teg_settle.specs.settled_laws.SettledForms.{row_of, step_of_for
 ghost use Rattle.teg_report.specs.AnswerMeanings.{times_from, times_to};
 ghost use Rattle.teg_report.specs.SettledTexts.{AreTimesIn, AreTimesKept, AreTimesToKept, IsSettledKept, from_line, from_lines, output_count, row_words, settled_line, settled_lines, to_line, transfer_lines};
 ghost use Rattle.teg_report.specs.Widths.{IsWord64};
-ghost use Rattle.teg_calc.specs.teg_text.Lines.{further_then, line_then, written};
-ghost use Rattle.teg_calc.specs.teg_text.WordsOfNames.{name_of_transition};
-ghost use Rattle.teg_calc.specs.teg_text.ValueWords.{IsDate};
+ghost use Rattle.teg_text.specs.Lines.{further_then, line_then, written};
+ghost use Rattle.teg_text.specs.WordsOfNames.{name_of_transition};
+ghost use Rattle.teg_text.specs.ValueWords.{IsDate};
 
 use crate::answer::{TransferFrom, TransferLine};
 use crate::told::{Told, push_each};
+use dioid::Date;
 use std::alloc::{AllocError, Global};
-use teg_calc::teg_text::push_dates;
+use teg_net::{Net, OutOfMemory, Role, TransitionId};
 use teg_settle::Settled;
-use teg_settle::dioid::Date;
-use teg_settle::teg_net::{Net, OutOfMemory, Role, TransitionId};
+use teg_text::push_dates;
 
 // Ends a line with dates and the step by which they go on.
 fn end_row(text: &mut String, dates: &[Date], step: i128) -> Result<(), AllocError>

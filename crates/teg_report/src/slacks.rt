@@ -1,13 +1,13 @@
 //! The texts of slack, and of nets that were made.
 ghost use Rattle.std.specs.Prelude.{◌≡◌, ◌++◌, ◌<◌, [], All, IfOk, length, string_bytes};
 ghost use Rattle.teg_report.specs.SlackLines.{IsRatioKept, IsSlackKept, IsTrialKept, cycle_time_line, slack_line, slack_lines, trial_lines};
-ghost use Rattle.teg_calc.specs.teg_text.Lines.{line_then, written};
+ghost use Rattle.teg_text.specs.Lines.{line_then, written};
 
+use dioid::Date;
 use std::alloc::{AllocError, Global};
-use teg_calc::teg_text::push_date;
 use teg_critical::{Slack, Slacks};
-use teg_settle::dioid::Date;
-use teg_settle::teg_net::{Net, OutOfMemory, PlaceId, Ratio};
+use teg_net::{Net, OutOfMemory, PlaceId, Ratio};
+use teg_text::push_date;
 
 // Appends the line of the greatest ratio.
 fn push_cycle_time(text: &mut String, ratio: Ratio) -> Result<(), AllocError>

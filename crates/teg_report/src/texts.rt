@@ -1,17 +1,17 @@
 //! The texts of the short answers. Each line ends with a line feed.
 ghost use Rattle.std.specs.Prelude.{◌≡◌, ◌<◌, [], ◌∷◌, IfOk, length};
-ghost use Rattle.teg_settle.specs.teg_net.Circuits.{AreInRange};
+ghost use Rattle.teg_net.specs.Circuits.{AreInRange};
 ghost use Rattle.teg_report.specs.ShortAnswers.{date_line, live_lines, no_circuit_line, no_transition_line, read_fault_line, token_free_line, too_large_line, too_long_line};
 ghost use Rattle.teg_report.specs.Widths.{IsWord32, IsWord64};
-ghost use Rattle.teg_calc.specs.teg_text.Lines.{written};
-ghost use Rattle.teg_calc.specs.teg_text.WordsOfNames.{name_of_transition};
-ghost use Rattle.teg_calc.specs.teg_text.ValueWords.{AreBytes, IsDate};
+ghost use Rattle.teg_text.specs.Lines.{written};
+ghost use Rattle.teg_text.specs.WordsOfNames.{name_of_transition};
+ghost use Rattle.teg_text.specs.ValueWords.{AreBytes, IsDate};
 
 use crate::answer::Which;
+use dioid::Date;
 use std::alloc::Global;
-use teg_calc::teg_text::{push_date, push_label, push_places};
-use teg_settle::dioid::Date;
-use teg_settle::teg_net::{Circuit, Label, Net, OutOfMemory, TransitionId};
+use teg_net::{Circuit, Label, Net, OutOfMemory, TransitionId};
+use teg_text::{push_date, push_label, push_places};
 
 // The bytes of a text.
 pub(crate) fn bytes_of(alloc: Global, text: &str) -> Result<Vec<u8>, OutOfMemory>

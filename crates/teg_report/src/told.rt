@@ -1,14 +1,14 @@
 //! What has a line of a text, and the lines of a list of it.
 ghost use Rattle.std.specs.Prelude.{◌≡◌, ◌++◌, [], All, IfOk, map, string_bytes};
-ghost use Rattle.teg_calc.specs.teg_text.Lines.{line_then, written};
+ghost use Rattle.teg_text.specs.Lines.{line_then, written};
 
 use std::alloc::AllocError;
-use teg_settle::teg_net::Net;
+use teg_net::Net;
 
 // What has a line, with names of a net.
 pub(crate) trait Told {
     ghost use Rattle.std.specs.Prelude.{ℕ, List};
-    ghost use Rattle.teg_settle.specs.teg_net.Nets.{NetLists};
+    ghost use Rattle.teg_net.specs.Nets.{NetLists};
 
     // its line
     ghost line: { NetLists → Self → List (List ℕ) };

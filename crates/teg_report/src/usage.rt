@@ -1,10 +1,10 @@
 //! How the commands are used: one table, from which the usage is written.
 ghost use Rattle.std.specs.Prelude.{◌≡◌, ◌++◌, ◌∷◌, [], IfOk, codes, map, string_bytes};
 ghost use Rattle.teg_report.specs.ShortAnswers.{usage_from, usage_lines};
-ghost use Rattle.teg_calc.specs.teg_text.Lines.{line_then, phrase, written};
+ghost use Rattle.teg_text.specs.Lines.{line_then, phrase, written};
 
 use std::alloc::{AllocError, Global};
-use teg_settle::teg_net::OutOfMemory;
+use teg_net::OutOfMemory;
 
 /// The commands, in the order of the usage: the name of each, and what follows it.
 pub const COMMANDS: [(&str, &str); 17] = [

@@ -1,13 +1,13 @@
 -- How the ending of a request follows from its reads.
 use Rattle.std.proofs.Common.{◌≡◌, ℕ, List, [], ◌∷◌, Option, Some, None, Result, refl, sym, subst}
-use Rattle.teg_commands.specs.teg_net.Nets.{NetLists}
-use Rattle.teg_commands.specs.teg_outside.declared.shelf.ShelfFault.{ShelfFault}
-use Rattle.teg_commands.specs.teg_outside.Shelves.{ShelfState}
+use Rattle.teg_net.specs.Nets.{NetLists}
+use Rattle.teg_outside.specs.declared.shelf.ShelfFault.{ShelfFault}
+use Rattle.teg_outside.specs.Shelves.{ShelfState}
 use Rattle.teg_run.specs.declared.status.Status.{Status}
 use Rattle.teg_commands.specs.declared.outcome.Verdict.{Verdict}
 use Rattle.teg_commands.specs.CommandOutcomes.{Tells}
-use Rattle.teg_commands.specs.teg_report.declared.answer.Which.{Which}
-use Rattle.teg_commands.specs.teg_report.declared.answer.Which.TheVariants.{Net as NetFile}
+use Rattle.teg_report.specs.declared.answer.Which.{Which}
+use Rattle.teg_report.specs.declared.answer.Which.TheVariants.{Net as NetFile}
 use Rattle.teg_run.specs.Endings.{Ending, Whole, Lost, ending_of}
 use Rattle.teg_run.specs.Openings.{Opening, Accepted, Refused, OpensNet}
 use Rattle.teg_run.specs.Reads.{ReadsOnIfTaken, ReadsAll, OpenedBy}

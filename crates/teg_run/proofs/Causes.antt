@@ -1,17 +1,17 @@
 -- A status of a command comes only with what the command says of its accepted files.
 use Rattle.std.proofs.Common.{◌≡◌, ℕ, List, [], ◌∷◌, Some, Result, Ok, Err, sym, subst, ap, ◌∙◌}
-use Rattle.teg_commands.specs.teg_net.Nets.{NetLists}
-use Rattle.teg_commands.specs.teg_net.Circuits.{IsLive}
-use Rattle.teg_commands.specs.teg_reader.declared.refusals.ReadRefusal.{ReadRefusal}
-use Rattle.teg_commands.specs.teg_reader.declared.refusals.ReadRefusal.TheVariants.{NotToml}
-use Rattle.teg_commands.specs.teg_reader.Documents.{document}
-use Rattle.teg_commands.specs.teg_outside.declared.monitor.Firing.{Firing}
-use Rattle.teg_commands.specs.teg_outside.declared.shelf.ShelfFault.{ShelfFault}
-use Rattle.teg_commands.specs.teg_outside.declared.shelf.ShelfFault.TheVariants.{Failed, TooLarge, OutOfMemory}
-use Rattle.teg_commands.specs.teg_outside.Shelves.{ShelfState, Reads}
+use Rattle.teg_net.specs.Nets.{NetLists}
+use Rattle.teg_net.specs.Circuits.{IsLive}
+use Rattle.teg_reader.specs.declared.refusals.ReadRefusal.{ReadRefusal}
+use Rattle.teg_reader.specs.declared.refusals.ReadRefusal.TheVariants.{NotToml}
+use Rattle.teg_reader.specs.Documents.{document}
+use Rattle.teg_outside.specs.declared.monitor.Firing.{Firing}
+use Rattle.teg_outside.specs.declared.shelf.ShelfFault.{ShelfFault}
+use Rattle.teg_outside.specs.declared.shelf.ShelfFault.TheVariants.{Failed, TooLarge, OutOfMemory}
+use Rattle.teg_outside.specs.Shelves.{ShelfState, Reads}
 use Rattle.teg_commands.specs.csv_records.Records.{most_file_bytes}
-use Rattle.teg_commands.specs.teg_report.declared.answer.Which.{Which}
-use Rattle.teg_commands.specs.teg_report.declared.answer.Which.TheVariants.{Net as NetFile}
+use Rattle.teg_report.specs.declared.answer.Which.{Which}
+use Rattle.teg_report.specs.declared.answer.Which.TheVariants.{Net as NetFile}
 use Rattle.teg_run.specs.declared.status.Status.{Status}
 use Rattle.teg_run.specs.declared.status.Status.TheVariants.{Text, ReadFault}
 use Rattle.teg_run.specs.Headline.{Opens, Holds, IsSaidOf}

@@ -1,10 +1,10 @@
 -- What a way to an answer tells of the files of its request.
 use Rattle.std.proofs.Common.{◌≡◌, ℕ, ⊎_elim, inl, inr, List, [], ◌∷◌, ◌++◌, map, Some, refl, subst, ap, ◌∙◌}
-use Rattle.teg_commands.specs.teg_outside.Causes.{Rose, Rested}
-use Rattle.teg_commands.specs.teg_outside.Shelves.{ShelfState, ReadsGrow}
-use Rattle.teg_commands.proofs.teg_outside_proofs.Counts.{rose_then, rested_then}
-use Rattle.teg_commands.proofs.teg_outside_proofs.Growth.{reads_grow_then}
-use Rattle.teg_commands.specs.teg_report.declared.answer.Which.{Which}
+use Rattle.teg_outside.specs.Causes.{Rose, Rested}
+use Rattle.teg_outside.specs.Shelves.{ShelfState, ReadsGrow}
+use Rattle.teg_outside.proofs.Counts.{rose_then, rested_then}
+use Rattle.teg_outside.proofs.Growth.{reads_grow_then}
+use Rattle.teg_report.specs.declared.answer.Which.{Which}
 use Rattle.teg_run.specs.declared.status.Status.{Status}
 use Rattle.teg_run.specs.declared.status.Status.TheVariants.{Text, Net, ReadFault}
 use Rattle.teg_run.specs.Calls.{Call}

@@ -2,8 +2,8 @@
 use Rattle.std.proofs.Common.{◌≡◌, ℕ, ◌+◌, ◌-◌, List, ◌++◌, length, take, drop, Option, subst, arith, length-drop}
 use Rattle.std.proofs.Math.Seq.{take-add}
 use Rattle.std.proofs.lemmas.List.{take_all}
-use Rattle.teg_commands.specs.teg_outside.Sinks.{BytesGrow}
-use Rattle.teg_commands.proofs.teg_outside_proofs.Growth.{bytes_grow_then}
+use Rattle.teg_outside.specs.Sinks.{BytesGrow}
+use Rattle.teg_outside.proofs.Growth.{bytes_grow_then}
 
 -- after one more piece of a text, a longer first part of it is written
 pub grows_by_piece : (a b c : Option (List ℕ)) (text piece : List ℕ) (i n : ℕ) → piece ≡ drop i text →

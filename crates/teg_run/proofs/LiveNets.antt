@@ -1,17 +1,17 @@
 -- What is said where the net file is told and says a live net.
 use Rattle.std.proofs.Common.{◌≡◌, ℕ, List, [], ◌∷◌, Some, Result, Ok, Err, subst, ◌∙◌}
-use Rattle.teg_commands.specs.teg_net.Nets.{NetLists}
-use Rattle.teg_commands.specs.teg_net.Circuits.{IsLive}
-use Rattle.teg_commands.specs.teg_reader.declared.refusals.ReadRefusal.{ReadRefusal}
-use Rattle.teg_commands.specs.teg_reader.Documents.{document}
-use Rattle.teg_commands.specs.teg_outside.declared.shelf.ShelfFault.{ShelfFault}
-use Rattle.teg_commands.specs.teg_outside.declared.shelf.ShelfFault.TheVariants.{Failed, TooLarge, OutOfMemory}
-use Rattle.teg_commands.specs.teg_outside.Causes.{Rested}
-use Rattle.teg_commands.specs.teg_outside.Shelves.{ShelfState, Reads, file_of}
-use Rattle.teg_commands.proofs.teg_outside_proofs.Counts.{rose_not_rested, rested_then}
+use Rattle.teg_net.specs.Nets.{NetLists}
+use Rattle.teg_net.specs.Circuits.{IsLive}
+use Rattle.teg_reader.specs.declared.refusals.ReadRefusal.{ReadRefusal}
+use Rattle.teg_reader.specs.Documents.{document}
+use Rattle.teg_outside.specs.declared.shelf.ShelfFault.{ShelfFault}
+use Rattle.teg_outside.specs.declared.shelf.ShelfFault.TheVariants.{Failed, TooLarge, OutOfMemory}
+use Rattle.teg_outside.specs.Causes.{Rested}
+use Rattle.teg_outside.specs.Shelves.{ShelfState, Reads, file_of}
+use Rattle.teg_outside.proofs.Counts.{rose_not_rested, rested_then}
 use Rattle.teg_commands.specs.csv_records.Records.{most_file_bytes}
-use Rattle.teg_commands.specs.teg_report.declared.answer.Which.{Which}
-use Rattle.teg_commands.specs.teg_report.declared.answer.Which.TheVariants.{Net as NetFile}
+use Rattle.teg_report.specs.declared.answer.Which.{Which}
+use Rattle.teg_report.specs.declared.answer.Which.TheVariants.{Net as NetFile}
 use Rattle.teg_run.specs.declared.status.Status.{Status}
 use Rattle.teg_run.specs.Headline.{Opens, Holds}
 use Rattle.teg_run.specs.Openings.{Opening, Accepted, Refused, OpensNet, OpensDocument, OpensBytes}

@@ -1,15 +1,15 @@
 -- The promises of the whole call, from how it runs.
 use Rattle.std.proofs.Common.{◌≡◌, ◌≢◌, ℕ, ◌⊎◌, ⊎_elim, inl, inr, List, [], ◌∷◌, ◌++◌, Option, Some, None, refl, sym, subst, ◌∙◌}
 use Rattle.std.proofs.lemmas.List.{append_cancel_left}
-use Rattle.teg_commands.specs.teg_net.Nets.{NetLists}
-use Rattle.teg_commands.specs.teg_outside.Causes.{Rose}
-use Rattle.teg_commands.specs.teg_outside.Sinks.{BytesGrow}
-use Rattle.teg_commands.specs.teg_outside.Shelves.{ShelfState}
-use Rattle.teg_commands.specs.teg_outside.declared.shelf.ShelfFault.{ShelfFault}
+use Rattle.teg_net.specs.Nets.{NetLists}
+use Rattle.teg_outside.specs.Causes.{Rose}
+use Rattle.teg_outside.specs.Sinks.{BytesGrow}
+use Rattle.teg_outside.specs.Shelves.{ShelfState}
+use Rattle.teg_outside.specs.declared.shelf.ShelfFault.{ShelfFault}
 use Rattle.teg_run.specs.Reads.{ReadsAll}
 use Rattle.std.specs.Prelude.{Result}
-use Rattle.teg_commands.proofs.teg_outside_proofs.Counts.{rose_not_rested}
-use Rattle.teg_commands.specs.teg_report.declared.answer.Which.{Which}
+use Rattle.teg_outside.proofs.Counts.{rose_not_rested}
+use Rattle.teg_report.specs.declared.answer.Which.{Which}
 use Rattle.teg_run.specs.declared.status.Status.{Status}
 use Rattle.teg_run.specs.declared.status.Status.TheVariants.{Words, Text, Net, ReadFault, WriteFault, NoMemory}
 use Rattle.teg_commands.specs.declared.outcome.Verdict.{Verdict}

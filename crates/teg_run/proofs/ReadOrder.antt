@@ -1,12 +1,12 @@
 -- Reads one after another: what is told of them, and what became of the shelf.
 use Rattle.std.proofs.Common.{suc, ◌≡◌, ℕ, ◌⊎◌, ⊎_elim, inl, inr, List, [], ◌∷◌, take, map, Result, Ok, Err, refl, sym, subst, arith}
-use Rattle.teg_commands.specs.teg_outside.declared.shelf.ShelfFault.{ShelfFault}
-use Rattle.teg_commands.specs.teg_outside.declared.shelf.ShelfFault.TheVariants.{Failed, TooLarge, OutOfMemory}
-use Rattle.teg_commands.specs.teg_outside.Shelves.{ShelfState, Reads, ReadsGrow}
-use Rattle.teg_commands.proofs.teg_outside_proofs.Growth.{reads_grow_none, reads_grow_then}
+use Rattle.teg_outside.specs.declared.shelf.ShelfFault.{ShelfFault}
+use Rattle.teg_outside.specs.declared.shelf.ShelfFault.TheVariants.{Failed, TooLarge, OutOfMemory}
+use Rattle.teg_outside.specs.Shelves.{ShelfState, Reads, ReadsGrow}
+use Rattle.teg_outside.proofs.Growth.{reads_grow_none, reads_grow_then}
 use Rattle.teg_commands.specs.csv_records.Records.{most_file_bytes}
-use Rattle.teg_commands.specs.teg_report.declared.answer.Which.{Which}
-use Rattle.teg_commands.specs.teg_report.declared.answer.Which.TheVariants.{Net as NetFile, Due as DueFile, Log as LogFile, Timetable as TimetableFile}
+use Rattle.teg_report.specs.declared.answer.Which.{Which}
+use Rattle.teg_report.specs.declared.answer.Which.TheVariants.{Net as NetFile, Due as DueFile, Log as LogFile, Timetable as TimetableFile}
 use Rattle.teg_run.specs.Headline.{as_told, ReadsFirstOf}
 use Rattle.teg_run.specs.Openings.{IsTaken}
 use Rattle.teg_run.specs.Reads.{ReadsOnIfTaken, ReadsAll}

@@ -1,17 +1,17 @@
 -- One file that is refused: what the read of it tells, and which fault of the file it is.
 use Rattle.std.proofs.Common.{◌≡◌, ◌≢◌, ℕ, ◌≤◌, ◌⊎◌, ⊎_elim, inl, inr, List, [], ◌∷◌, length, Option, Some, Result, Ok, Err, sym, subst, ap, ◌∙◌, arith}
-use Rattle.teg_commands.specs.teg_net.declared.entries.PlaceId.{PlaceId}
-use Rattle.teg_commands.specs.teg_net.Nets.{NetLists}
-use Rattle.teg_commands.specs.teg_net.Circuits.{IsLive, IsTokenFree}
-use Rattle.teg_commands.specs.teg_reader.declared.refusals.ReadRefusal.{ReadRefusal}
-use Rattle.teg_commands.specs.teg_reader.declared.refusals.ReadRefusal.TheVariants.{NotToml}
-use Rattle.teg_commands.specs.teg_reader.Documents.{document}
-use Rattle.teg_commands.specs.teg_outside.Causes.{Rose, Rested}
-use Rattle.teg_commands.specs.teg_outside.Shelves.{ShelfState, IsFile, IsLongFile, ReadsGrow, file_of}
-use Rattle.teg_commands.proofs.teg_outside_proofs.Counts.{rose_not_rested}
+use Rattle.teg_net.specs.declared.entries.PlaceId.{PlaceId}
+use Rattle.teg_net.specs.Nets.{NetLists}
+use Rattle.teg_net.specs.Circuits.{IsLive, IsTokenFree}
+use Rattle.teg_reader.specs.declared.refusals.ReadRefusal.{ReadRefusal}
+use Rattle.teg_reader.specs.declared.refusals.ReadRefusal.TheVariants.{NotToml}
+use Rattle.teg_reader.specs.Documents.{document}
+use Rattle.teg_outside.specs.Causes.{Rose, Rested}
+use Rattle.teg_outside.specs.Shelves.{ShelfState, IsFile, IsLongFile, ReadsGrow, file_of}
+use Rattle.teg_outside.proofs.Counts.{rose_not_rested}
 use Rattle.teg_commands.specs.csv_records.Records.{most_file_bytes}
-use Rattle.teg_commands.specs.teg_report.declared.answer.Which.{Which}
-use Rattle.teg_commands.specs.teg_report.declared.answer.Which.TheVariants.{Net as NetFile, Due as DueFile, Log as LogFile, Timetable as TimetableFile}
+use Rattle.teg_report.specs.declared.answer.Which.{Which}
+use Rattle.teg_report.specs.declared.answer.Which.TheVariants.{Net as NetFile, Due as DueFile, Log as LogFile, Timetable as TimetableFile}
 use Rattle.teg_run.specs.declared.status.Status.{Status}
 use Rattle.teg_run.specs.declared.status.Status.TheVariants.{Text, Net, ReadFault}
 use Rattle.teg_run.specs.Headline.{IsFileTooLong, NetIsNoText, NetIsRefused, IsAccepted, IsNoText, IsNoNet}

@@ -1,8 +1,8 @@
 -- Refusals of files.
 use Rattle.std.proofs.Common.{List}
-use Rattle.teg_commands.specs.teg_net.declared.entries.PlaceId.{PlaceId}
-use Rattle.teg_commands.specs.teg_net.Nets.{NetLists}
-use Rattle.teg_commands.specs.teg_net.Circuits.{IsTokenFree, AreInRange}
+use Rattle.teg_net.specs.declared.entries.PlaceId.{PlaceId}
+use Rattle.teg_net.specs.Nets.{NetLists}
+use Rattle.teg_net.specs.Circuits.{IsTokenFree, AreInRange}
 use Rattle.teg_commands.proofs.Paths.{path_in_range}
 
 -- places of a circuit without tokens are places of the net

@@ -1,12 +1,12 @@
 -- A second file is read only after a net file that says a live net.
 use Rattle.std.proofs.Common.{◌≡◌, ◌≤◌, ℕ, List, [], ◌∷◌, ◌++◌, length, map, take, Option, Some, Result, ap, subst, arith}
 use Rattle.std.proofs.lemmas.List.{append_cancel_left, length-map, length-take-le}
-use Rattle.teg_commands.specs.teg_net.Nets.{NetLists}
-use Rattle.teg_commands.specs.teg_outside.declared.shelf.ShelfFault.{ShelfFault}
-use Rattle.teg_commands.specs.teg_outside.Shelves.{ShelfState, ReadsGrow}
+use Rattle.teg_net.specs.Nets.{NetLists}
+use Rattle.teg_outside.specs.declared.shelf.ShelfFault.{ShelfFault}
+use Rattle.teg_outside.specs.Shelves.{ShelfState, ReadsGrow}
 use Rattle.teg_commands.specs.csv_records.Records.{most_file_bytes}
-use Rattle.teg_commands.specs.teg_report.declared.answer.Which.{Which}
-use Rattle.teg_commands.specs.teg_report.declared.answer.Which.TheVariants.{Net as NetFile}
+use Rattle.teg_report.specs.declared.answer.Which.{Which}
+use Rattle.teg_report.specs.declared.answer.Which.TheVariants.{Net as NetFile}
 use Rattle.teg_run.specs.Calls.{Call}
 use Rattle.teg_run.specs.Endings.{Ending, Whole, Lost}
 use Rattle.teg_run.specs.Headline.{Opens, ReadsFirstOf, SecondOnlyOfLive, as_told}

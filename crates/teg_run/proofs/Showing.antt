@@ -1,20 +1,20 @@
 -- How an ending, and what the monitors were shown by it, follow from the reads of a request.
 use Rattle.std.proofs.Common.{◌≡◌, ℕ, Bool, true, false, List, [], ◌∷◌, Option, Some, None, Result, Ok, Err, refl, sym, subst}
 use Rattle.std.specs.Prelude.{is_ok}
-use Rattle.teg_commands.specs.teg_net.declared.memory.OutOfMemory.{OutOfMemory as NoMemory}
-use Rattle.teg_commands.specs.teg_net.Nets.{NetLists}
-use Rattle.teg_commands.specs.teg_outside.declared.monitor.Firing.{Firing}
-use Rattle.teg_commands.specs.teg_outside.declared.shelf.ShelfFault.{ShelfFault}
-use Rattle.teg_commands.specs.teg_outside.declared.shelf.ShelfFault.TheVariants.{Failed, TooLarge, OutOfMemory}
-use Rattle.teg_commands.specs.teg_outside.Shelves.{ShelfState, Reads}
-use Rattle.teg_commands.specs.teg_outside.Sinks.{SinkState}
+use Rattle.teg_net.specs.declared.memory.OutOfMemory.{OutOfMemory as NoMemory}
+use Rattle.teg_net.specs.Nets.{NetLists}
+use Rattle.teg_outside.specs.declared.monitor.Firing.{Firing}
+use Rattle.teg_outside.specs.declared.shelf.ShelfFault.{ShelfFault}
+use Rattle.teg_outside.specs.declared.shelf.ShelfFault.TheVariants.{Failed, TooLarge, OutOfMemory}
+use Rattle.teg_outside.specs.Shelves.{ShelfState, Reads}
+use Rattle.teg_outside.specs.Sinks.{SinkState}
 use Rattle.teg_commands.specs.csv_records.Records.{most_file_bytes}
 use Rattle.teg_commands.specs.declared.outcome.Outcome.{Outcome}
 use Rattle.teg_commands.specs.declared.outcome.Verdict.{Verdict}
 use Rattle.teg_commands.specs.CommandOutcomes.{Tells, outcome_of}
 use Rattle.teg_commands.proofs.Replayed.{nothing_shown, replay_unshown}
-use Rattle.teg_commands.specs.teg_report.declared.answer.Which.{Which}
-use Rattle.teg_commands.specs.teg_report.declared.answer.Which.TheVariants.{Net as NetFile}
+use Rattle.teg_report.specs.declared.answer.Which.{Which}
+use Rattle.teg_report.specs.declared.answer.Which.TheVariants.{Net as NetFile}
 use Rattle.teg_run.specs.declared.request.FileCommand.{FileCommand}
 use Rattle.teg_run.specs.declared.request.FileCommand.TheVariants.{Jit as JitNet, Replay as ReplayNet, Forever as ForeverNet, Timetable as TimetableNet}
 use Rattle.teg_run.specs.declared.request.Request.{Request}

@@ -1,18 +1,18 @@
 -- What the monitors of a call were shown, by its words, its status and the files that are told.
 use Rattle.std.proofs.Common.{◌≡◌, ◌≢◌, ℕ, Bool, true, false, ◌⊎◌, ⊎_elim, inl, inr, List, [], ◌∷◌, Option, Some, None, Result, Ok, Err, refl, sym, subst, ap, ◌∙◌}
-use Rattle.teg_commands.specs.teg_net.Nets.{NetLists}
-use Rattle.teg_commands.specs.teg_outside.declared.monitor.Firing.{Firing}
-use Rattle.teg_commands.specs.teg_outside.declared.shelf.ShelfFault.{ShelfFault}
-use Rattle.teg_commands.specs.teg_outside.declared.shelf.ShelfFault.TheVariants.{Failed, TooLarge, OutOfMemory}
-use Rattle.teg_commands.specs.teg_outside.Causes.{Rested}
-use Rattle.teg_commands.specs.teg_outside.Shelves.{ShelfState, Reads}
-use Rattle.teg_commands.proofs.teg_outside_proofs.Counts.{rose_not_rested, rested_then}
+use Rattle.teg_net.specs.Nets.{NetLists}
+use Rattle.teg_outside.specs.declared.monitor.Firing.{Firing}
+use Rattle.teg_outside.specs.declared.shelf.ShelfFault.{ShelfFault}
+use Rattle.teg_outside.specs.declared.shelf.ShelfFault.TheVariants.{Failed, TooLarge, OutOfMemory}
+use Rattle.teg_outside.specs.Causes.{Rested}
+use Rattle.teg_outside.specs.Shelves.{ShelfState, Reads}
+use Rattle.teg_outside.proofs.Counts.{rose_not_rested, rested_then}
 use Rattle.teg_commands.specs.csv_records.Records.{most_file_bytes}
 use Rattle.teg_commands.specs.declared.outcome.Verdict.{Verdict}
 use Rattle.teg_commands.specs.Replay.{ShowsNothing, ShowsReplay}
 use Rattle.teg_commands.proofs.Replayed.{replay_unshown}
-use Rattle.teg_commands.specs.teg_report.declared.answer.Which.{Which}
-use Rattle.teg_commands.specs.teg_report.declared.answer.Which.TheVariants.{Log as LogFile, Net as NetFile}
+use Rattle.teg_report.specs.declared.answer.Which.{Which}
+use Rattle.teg_report.specs.declared.answer.Which.TheVariants.{Log as LogFile, Net as NetFile}
 use Rattle.teg_run.specs.declared.request.FileCommand.{FileCommand}
 use Rattle.teg_run.specs.declared.request.FileCommand.TheVariants.{Jit as JitNet, Replay as ReplayNet, Forever as ForeverNet, Timetable as TimetableNet}
 use Rattle.teg_run.specs.declared.request.Request.{Request}

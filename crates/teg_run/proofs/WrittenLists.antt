@@ -10,16 +10,16 @@ use Rattle.teg_commands.specs.dioid.declared.dates.Date.{Date}
 use Rattle.teg_commands.specs.declared.outcome.Verdict.TheVariants.{Done as VerdictDone}
 use Rattle.teg_commands.specs.List.{SaysList}
 use Rattle.teg_commands.specs.CommandTexts.{list_text}
-use Rattle.teg_commands.specs.teg_dates.Passes.{IsRowOf}
+use Rattle.teg_dates.specs.Passes.{IsRowOf}
 use Rattle.teg_commands.specs.teg_model.Datings.{IsLeastDating}
-use Rattle.teg_commands.specs.teg_net.Nets.{NetLists}
-use Rattle.teg_commands.specs.teg_outside.Causes.{Rose}
-use Rattle.teg_commands.specs.teg_outside.declared.sink.SinkFault.{SinkFault}
-use Rattle.teg_commands.specs.teg_outside.declared.sink.SinkFault.TheVariants.{Failed}
-use Rattle.teg_commands.specs.teg_outside.Sinks.{SinkState, BytesGrow}
-use Rattle.teg_commands.proofs.teg_outside_proofs.Growth.{bytes_grow_none, bytes_grow_then}
-use Rattle.teg_commands.specs.teg_report.DateLists.{head_text, number_line, row_text}
-use Rattle.teg_commands.proofs.teg_report_proofs.ListRows.{row_is_line, list_of_lines}
+use Rattle.teg_net.specs.Nets.{NetLists}
+use Rattle.teg_outside.specs.Causes.{Rose}
+use Rattle.teg_outside.specs.declared.sink.SinkFault.{SinkFault}
+use Rattle.teg_outside.specs.declared.sink.SinkFault.TheVariants.{Failed}
+use Rattle.teg_outside.specs.Sinks.{SinkState, BytesGrow}
+use Rattle.teg_outside.proofs.Growth.{bytes_grow_none, bytes_grow_then}
+use Rattle.teg_report.specs.DateLists.{head_text, number_line, row_text}
+use Rattle.teg_report.proofs.ListRows.{row_is_line, list_of_lines}
 use Rattle.teg_run.specs.declared.status.Status.TheVariants.{Done, WriteFault}
 use Rattle.teg_run.specs.WrittenLists.{WritesFull, lines_text, piece}
 use Rattle.teg_run.specs.WholeCalls.{WritesOutcome}

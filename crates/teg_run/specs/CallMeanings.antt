@@ -1,7 +1,7 @@
 -- Working definitions of what values of the code mean.
 use Rattle.std.specs.Prelude.{ℕ, ◌≡◌, Option, Some, None, Result, Ok, Err}
 use Rattle.std.specs.Global.{Vec}
-use Rattle.teg_commands.specs.teg_net.declared.memory.OutOfMemory.{OutOfMemory}
+use Rattle.teg_net.specs.declared.memory.OutOfMemory.{OutOfMemory}
 use Rattle.teg_run.specs.declared.ending.Ending.{Ending as CodedEnding}
 use Rattle.teg_run.specs.declared.ending.Ending.TheVariants.{Whole as CodedWhole, Lost as CodedLost}
 use Rattle.teg_run.specs.declared.opening.Opened.{Opened}

@@ -1,8 +1,8 @@
 -- One call of the workbench, as its caller sees it.
 use Rattle.std.specs.Prelude.{ℕ, List}
-use Rattle.teg_commands.specs.teg_outside.declared.monitor.Firing.{Firing}
-use Rattle.teg_commands.specs.teg_outside.Shelves.{ShelfState}
-use Rattle.teg_commands.specs.teg_outside.Sinks.{SinkState}
+use Rattle.teg_outside.specs.declared.monitor.Firing.{Firing}
+use Rattle.teg_outside.specs.Shelves.{ShelfState}
+use Rattle.teg_outside.specs.Sinks.{SinkState}
 use Rattle.teg_run.specs.declared.status.Status.{Status}
 
 -- what it was given, what it did to the shelf and the sink, and how it ended

@@ -1,17 +1,17 @@
 -- What the whole call promises its caller, one promise at a time.
 use Rattle.std.specs.Prelude.{ℕ, ◌≡◌, ◌≢◌, ◌≤◌, ◌<◌, ◌⊎◌, List, [], ◌∷◌, ◌++◌, length, take, map, Some, None, Ok, Err, Result, ⊤}
-use Rattle.teg_commands.specs.teg_net.declared.entries.PlaceId.{PlaceId}
-use Rattle.teg_commands.specs.teg_net.Nets.{NetLists}
-use Rattle.teg_commands.specs.teg_net.Circuits.{IsLive, IsTokenFree}
-use Rattle.teg_commands.specs.teg_reader.declared.refusals.ReadRefusal.{ReadRefusal}
-use Rattle.teg_commands.specs.teg_reader.declared.refusals.ReadRefusal.TheVariants.{NotToml}
-use Rattle.teg_commands.specs.teg_reader.Documents.{document}
-use Rattle.teg_commands.specs.teg_outside.declared.shelf.ShelfFault.{ShelfFault}
-use Rattle.teg_commands.specs.teg_outside.Causes.{Rose, Rested}
-use Rattle.teg_commands.specs.teg_outside.Shelves.{ShelfState, ReadsGrow, file_of}
-use Rattle.teg_commands.specs.teg_outside.Sinks.{BytesGrow, PrefixGrows}
-use Rattle.teg_commands.specs.teg_report.declared.answer.Which.{Which}
-use Rattle.teg_commands.specs.teg_report.declared.answer.Which.TheVariants.{Net as NetFile, Due as DueFile, Log as LogFile, Timetable as TimetableFile}
+use Rattle.teg_net.specs.declared.entries.PlaceId.{PlaceId}
+use Rattle.teg_net.specs.Nets.{NetLists}
+use Rattle.teg_net.specs.Circuits.{IsLive, IsTokenFree}
+use Rattle.teg_reader.specs.declared.refusals.ReadRefusal.{ReadRefusal}
+use Rattle.teg_reader.specs.declared.refusals.ReadRefusal.TheVariants.{NotToml}
+use Rattle.teg_reader.specs.Documents.{document}
+use Rattle.teg_outside.specs.declared.shelf.ShelfFault.{ShelfFault}
+use Rattle.teg_outside.specs.Causes.{Rose, Rested}
+use Rattle.teg_outside.specs.Shelves.{ShelfState, ReadsGrow, file_of}
+use Rattle.teg_outside.specs.Sinks.{BytesGrow, PrefixGrows}
+use Rattle.teg_report.specs.declared.answer.Which.{Which}
+use Rattle.teg_report.specs.declared.answer.Which.TheVariants.{Net as NetFile, Due as DueFile, Log as LogFile, Timetable as TimetableFile}
 use Rattle.teg_run.specs.declared.status.Status.{Status}
 use Rattle.teg_run.specs.declared.status.Status.TheVariants.{Words, Text, Net, ReadFault, WriteFault, NoMemory}
 use Rattle.teg_commands.specs.declared.outcome.Verdict.{Verdict}
@@ -26,7 +26,7 @@ use Rattle.teg_run.specs.Requests.{request_of, files_of, asked_files}
 use Rattle.teg_run.specs.WholeCalls.{Finished, Runs}
 use Rattle.teg_run.specs.Says.{Asked, Says, SaysFiles, SaysNet}
 use Rattle.teg_run.specs.Statuses.{IsOwn, status_of}
-use Rattle.teg_commands.specs.teg_outside.declared.monitor.Firing.{Firing}
+use Rattle.teg_outside.specs.declared.monitor.Firing.{Firing}
 use Rattle.teg_commands.specs.csv_records.Records.{most_file_bytes}
 use Rattle.teg_commands.specs.Trial.{SaysTrial}
 use Rattle.teg_commands.specs.Calc.{SaysCalc}

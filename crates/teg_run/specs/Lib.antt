@@ -13,4 +13,4 @@ pub mod Says
 pub mod ShownFirings
 pub mod Statuses
 pub mod Writing
-pub use Rattle.teg_commands.specs.teg_outside as teg_outside
+pub use Rattle.teg_outside.specs as teg_outside

@@ -1,17 +1,17 @@
 -- What a read of a file opens: a value that the request goes on with, or a refusal.
 use Rattle.std.specs.Prelude.{ℕ, ◌≡◌, List, Result, Ok, Err}
-use Rattle.teg_commands.specs.teg_net.declared.entries.PlaceId.{PlaceId}
-use Rattle.teg_commands.specs.teg_reader.declared.refusals.ReadRefusal.{ReadRefusal}
-use Rattle.teg_commands.specs.teg_reader.declared.refusals.ReadRefusal.TheVariants.{NotToml}
-use Rattle.teg_commands.specs.teg_net.Nets.{NetLists}
-use Rattle.teg_commands.specs.teg_net.Circuits.{IsLive, IsTokenFree}
-use Rattle.teg_commands.specs.teg_reader.Documents.{document}
-use Rattle.teg_commands.specs.teg_outside.declared.shelf.ShelfFault.{ShelfFault}
-use Rattle.teg_commands.specs.teg_outside.declared.shelf.ShelfFault.TheVariants.{Failed, TooLarge, OutOfMemory}
+use Rattle.teg_net.specs.declared.entries.PlaceId.{PlaceId}
+use Rattle.teg_reader.specs.declared.refusals.ReadRefusal.{ReadRefusal}
+use Rattle.teg_reader.specs.declared.refusals.ReadRefusal.TheVariants.{NotToml}
+use Rattle.teg_net.specs.Nets.{NetLists}
+use Rattle.teg_net.specs.Circuits.{IsLive, IsTokenFree}
+use Rattle.teg_reader.specs.Documents.{document}
+use Rattle.teg_outside.specs.declared.shelf.ShelfFault.{ShelfFault}
+use Rattle.teg_outside.specs.declared.shelf.ShelfFault.TheVariants.{Failed, TooLarge, OutOfMemory}
 use Rattle.teg_run.specs.declared.status.Status.{Status}
 use Rattle.teg_run.specs.declared.status.Status.TheVariants.{Text, Net, ReadFault}
-use Rattle.teg_commands.specs.teg_report.declared.answer.Which.{Which}
-use Rattle.teg_commands.specs.teg_report.declared.answer.Which.TheVariants.{Net as NetFile, Due as DueFile, Log as LogFile, Timetable as TimetableFile}
+use Rattle.teg_report.specs.declared.answer.Which.{Which}
+use Rattle.teg_report.specs.declared.answer.Which.TheVariants.{Net as NetFile, Due as DueFile, Log as LogFile, Timetable as TimetableFile}
 use Rattle.teg_commands.specs.CommandTexts.{read_text, token_free_text, too_large_text, fault_text}
 
 -- what the file says, or the status and the text of its refusal

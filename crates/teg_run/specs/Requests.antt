@@ -2,8 +2,8 @@
 use Rattle.std.specs.Prelude.{ℕ, Bool, List, [], ◌∷◌, Option, Some, None, codes, bytes_eq, nat_le, length, if◌then◌else◌, is_some, option_and_then, ◌==◌}
 use Rattle.std.specs.Option.{option_map}
 use Rattle.std.specs.List.{before_first, after_first}
-use Rattle.teg_commands.specs.teg_dates.DateTables.{most_numbers}
-use Rattle.teg_commands.specs.teg_net.Limits.{greatest_firing_number, greatest_target_time, most_target_tokens}
+use Rattle.teg_dates.specs.DateTables.{most_numbers}
+use Rattle.teg_net.specs.Limits.{greatest_firing_number, greatest_target_time, most_target_tokens}
 use Rattle.teg_commands.specs.teg_settle.LimitRefusals.{greatest_limit}
 use Rattle.teg_commands.specs.teg_timetable.Spreads.{greatest_period}
 use Rattle.teg_words.specs.NumberWords.{number_of_word}
@@ -16,8 +16,8 @@ use Rattle.teg_run.specs.declared.request.FileCommand.TheVariants.{Jit as JitNet
 use Rattle.teg_run.specs.declared.request.Request.{Request}
 use Rattle.teg_run.specs.declared.request.Request.TheVariants.{OfNet, OfFiles, ValueOf, TrialOf}
 use Rattle.teg_run.specs.UsualLimits.{usual_limit}
-use Rattle.teg_commands.specs.teg_report.declared.answer.Which.{Which}
-use Rattle.teg_commands.specs.teg_report.declared.answer.Which.TheVariants.{Net as NetFile, Due as DueFile, Log as LogFile, Timetable as TimetableFile}
+use Rattle.teg_report.specs.declared.answer.Which.{Which}
+use Rattle.teg_report.specs.declared.answer.Which.TheVariants.{Net as NetFile, Due as DueFile, Log as LogFile, Timetable as TimetableFile}
 
 -- this command on the net of the one word that is given: as `check NET`
 abbrev pub only_net : NetCommand → List (List ℕ) → Option Request

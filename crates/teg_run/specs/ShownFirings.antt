@@ -1,13 +1,13 @@
 -- What the monitors of a call were shown, by what the reads of the call gave. Of the monitors before and now it is given what they would
 -- print by the further firings that they would see; `is_told` is false where memory ran out.
 use Rattle.std.specs.Prelude.{ℕ, ◌≡◌, ◌≢◌, Bool, true, false, List, [], ◌∷◌, Option, Some, None, Result, Ok}
-use Rattle.teg_commands.specs.teg_net.Nets.{NetLists}
-use Rattle.teg_commands.specs.teg_outside.declared.monitor.Firing.{Firing}
-use Rattle.teg_commands.specs.teg_outside.declared.shelf.ShelfFault.{ShelfFault}
-use Rattle.teg_commands.specs.teg_outside.Shelves.{ShelfState}
-use Rattle.teg_commands.specs.teg_outside.Sinks.{SinkState}
+use Rattle.teg_net.specs.Nets.{NetLists}
+use Rattle.teg_outside.specs.declared.monitor.Firing.{Firing}
+use Rattle.teg_outside.specs.declared.shelf.ShelfFault.{ShelfFault}
+use Rattle.teg_outside.specs.Shelves.{ShelfState}
+use Rattle.teg_outside.specs.Sinks.{SinkState}
 use Rattle.teg_commands.specs.Replay.{ShowsNothing, ShowsReplay}
-use Rattle.teg_commands.specs.teg_report.declared.answer.Which.{Which}
+use Rattle.teg_report.specs.declared.answer.Which.{Which}
 use Rattle.teg_run.specs.declared.request.FileCommand.{FileCommand}
 use Rattle.teg_run.specs.declared.request.FileCommand.TheVariants.{Jit as JitNet, Replay as ReplayNet, Forever as ForeverNet, Timetable as TimetableNet}
 use Rattle.teg_run.specs.declared.request.Request.{Request}

@@ -1,12 +1,12 @@
 -- The whole call: from the words to an answer by the files that they name, and its writing.
 use Rattle.std.specs.Prelude.{ℕ, ◌≡◌, ◌⊎◌, List, Option, Result}
-use Rattle.teg_commands.specs.teg_outside.declared.shelf.ShelfFault.{ShelfFault}
-use Rattle.teg_commands.specs.teg_outside.Causes.{Rose}
-use Rattle.teg_commands.specs.teg_outside.Shelves.{ShelfState}
-use Rattle.teg_commands.specs.teg_outside.Sinks.{SinkState, BytesGrow, PrefixGrows}
+use Rattle.teg_outside.specs.declared.shelf.ShelfFault.{ShelfFault}
+use Rattle.teg_outside.specs.Causes.{Rose}
+use Rattle.teg_outside.specs.Shelves.{ShelfState}
+use Rattle.teg_outside.specs.Sinks.{SinkState, BytesGrow, PrefixGrows}
 use Rattle.teg_run.specs.declared.status.Status.{Status}
 use Rattle.teg_run.specs.declared.status.Status.TheVariants.{WriteFault, NoMemory}
-use Rattle.teg_commands.specs.teg_report.declared.answer.Which.{Which}
+use Rattle.teg_report.specs.declared.answer.Which.{Which}
 use Rattle.teg_run.specs.Calls.{Call}
 use Rattle.teg_commands.specs.declared.outcome.Verdict.{Verdict}
 use Rattle.teg_commands.specs.CommandOutcomes.{Tells}

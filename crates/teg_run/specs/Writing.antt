@@ -1,9 +1,9 @@
 -- Working definitions of a text written into a sink.
 use Rattle.std.specs.Prelude.{ℕ, ◌≡◌, List, Result, Ok, Err}
-use Rattle.teg_commands.specs.teg_outside.Causes.{Rose}
-use Rattle.teg_commands.specs.teg_outside.Sinks.{SinkState, BytesGrow, PrefixGrows}
-use Rattle.teg_commands.specs.teg_outside.declared.sink.SinkFault.{SinkFault}
-use Rattle.teg_commands.specs.teg_outside.declared.sink.SinkFault.TheVariants.{Failed}
+use Rattle.teg_outside.specs.Causes.{Rose}
+use Rattle.teg_outside.specs.Sinks.{SinkState, BytesGrow, PrefixGrows}
+use Rattle.teg_outside.specs.declared.sink.SinkFault.{SinkFault}
+use Rattle.teg_outside.specs.declared.sink.SinkFault.TheVariants.{Failed}
 
 -- the whole of the text was written, or a first part before a fault
 abbrev pub WritesText : SinkState → SinkState → List ℕ → Result (Unit {0}) SinkFault → Type 0

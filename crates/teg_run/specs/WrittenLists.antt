@@ -2,12 +2,12 @@
 use Rattle.std.specs.Prelude.{ℕ, ◌≡◌, ◌+◌, ◌*◌, ◌≤◌, ◌<◌, ◌++◌, List, [], length, take, Result, Ok, Err}
 use Rattle.std.specs.List.{flat_map, range_with_len}
 use Rattle.teg_commands.specs.dioid.declared.dates.Date.{Date}
-use Rattle.teg_commands.specs.teg_dates.Streams.{AreFirstRowsOf, HasLeast, first_rows_given}
-use Rattle.teg_commands.specs.teg_net.Nets.{NetLists}
-use Rattle.teg_commands.specs.teg_outside.declared.sink.SinkFault.{SinkFault}
-use Rattle.teg_commands.specs.teg_outside.declared.sink.SinkFault.TheVariants.{Failed}
-use Rattle.teg_commands.specs.teg_outside.Sinks.{SinkState}
-use Rattle.teg_commands.specs.teg_report.DateLists.{head_text, number_line}
+use Rattle.teg_dates.specs.Streams.{AreFirstRowsOf, HasLeast, first_rows_given}
+use Rattle.teg_net.specs.Nets.{NetLists}
+use Rattle.teg_outside.specs.declared.sink.SinkFault.{SinkFault}
+use Rattle.teg_outside.specs.declared.sink.SinkFault.TheVariants.{Failed}
+use Rattle.teg_outside.specs.Sinks.{SinkState}
+use Rattle.teg_report.specs.DateLists.{head_text, number_line}
 use Rattle.teg_commands.specs.teg_text.Lines.{line_then}
 use Rattle.teg_run.specs.declared.listing.Buffers.{Buffers}
 use Rattle.teg_run.specs.declared.listing.Listing.{Listing}

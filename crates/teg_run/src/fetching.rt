@@ -1,5 +1,5 @@
 //! One read of a file.
-ghost use Rattle.teg_commands.specs.teg_outside.Shelves.{Reads, replied};
+ghost use Rattle.teg_outside.specs.Shelves.{Reads, replied};
 ghost use Rattle.teg_commands.specs.csv_records.Records.{most_file_bytes};
 
 use std::alloc::Global;

@@ -30,6 +30,5 @@ mod writing;
 
 pub use call::{serve, workbench};
 pub use status::Status;
-pub use teg_outside;
 pub use trial_net::make_trial;
 pub use watched::run_watched;

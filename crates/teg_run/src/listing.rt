@@ -2,13 +2,13 @@
 ghost use Rattle.std.specs.Prelude.{ℕ, ◌≡◌, ◌+◌, ◌*◌, ◌<◌, ◌≤◌, length, map, IfOk};
 ghost use Rattle.teg_commands.specs.dioid.declared.dates.Date.{Date};
 ghost use Rattle.teg_commands.specs.teg_model.Datings.{IsLeastDating};
-ghost use Rattle.teg_commands.specs.teg_dates.DateCells.{date_of_cell};
-ghost use Rattle.teg_commands.specs.teg_dates.Streams.{AreFirstRowsOf, IsLeastRow, first_rows_given};
-ghost use Rattle.teg_commands.specs.teg_dates.DateTables.{most_numbers};
+ghost use Rattle.teg_dates.specs.DateCells.{date_of_cell};
+ghost use Rattle.teg_dates.specs.Streams.{AreFirstRowsOf, IsLeastRow, first_rows_given};
+ghost use Rattle.teg_dates.specs.DateTables.{most_numbers};
 ghost use Rattle.teg_commands.specs.List.{SaysList};
 ghost use Rattle.teg_commands.specs.CommandTexts.{list_text};
-ghost use Rattle.teg_commands.specs.teg_report.DateLists.{head_text};
-ghost use Rattle.teg_commands.specs.teg_net.Limits.{most_transitions};
+ghost use Rattle.teg_report.specs.DateLists.{head_text};
+ghost use Rattle.teg_net.specs.Limits.{most_transitions};
 ghost use Rattle.teg_run.specs.WrittenLists.{HasRoom, IsListingOf, WritesFull, lines_text};
 ghost use Rattle.teg_run.specs.WholeCalls.{WritesOutcome};
 ghost use Rattle.teg_run.specs.Writing.{WritesText};

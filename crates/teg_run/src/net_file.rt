@@ -1,8 +1,8 @@
 //! The net file: a live net, or why there is none.
 ghost use Rattle.std.specs.Prelude.{◌≡◌, IfSome};
-ghost use Rattle.teg_commands.specs.teg_outside.Shelves.{replied};
-ghost use Rattle.teg_commands.specs.teg_reader.Documents.{document};
-ghost use Rattle.teg_commands.specs.teg_reader.PassWalks.{is_memory};
+ghost use Rattle.teg_outside.specs.Shelves.{replied};
+ghost use Rattle.teg_reader.specs.Documents.{document};
+ghost use Rattle.teg_reader.specs.PassWalks.{is_memory};
 ghost use Rattle.teg_run.specs.CallMeanings.{opening_of};
 ghost use Rattle.teg_run.specs.Openings.{OpensNet, OpensDocument, OpensNetLists, read_status};
 ghost use Rattle.teg_run.specs.Reads.{OpenedBy};

@@ -1,6 +1,6 @@
 //! A second file: its bytes, or why there are none.
 ghost use Rattle.std.specs.Prelude.{◌≡◌, ◌≤◌, IfOk, IfSome, length};
-ghost use Rattle.teg_commands.specs.teg_outside.Shelves.{replied};
+ghost use Rattle.teg_outside.specs.Shelves.{replied};
 ghost use Rattle.teg_commands.specs.csv_records.Records.{most_file_bytes};
 ghost use Rattle.teg_run.specs.CallMeanings.{opening_of};
 ghost use Rattle.teg_run.specs.Openings.{OpensBytes};

@@ -1,7 +1,7 @@
 //! The call of the program: the workbench with the program's monitors, as an exit status.
 ghost use Rattle.std.specs.Prelude.{◌≡◌, ◌∷◌, ◌++◌, ◌^◌, ◌-◌, [], IfErr, IfOk, length, map, min, string_bytes};
 ghost use Rattle.std.specs.Process.{exit_status};
-ghost use Rattle.teg_commands.specs.teg_outside.MonitorLines.{firings_line, greatest_lateness, greatest_tokens, high_water_line, lateness_line};
+ghost use Rattle.teg_outside.specs.MonitorLines.{firings_line, greatest_lateness, greatest_tokens, high_water_line, lateness_line};
 ghost use Rattle.teg_run.specs.Headline.{KeepsPromises};
 ghost use Rattle.teg_run.specs.Statuses.{code_of};
 ghost use Rattle.teg_run.specs.declared.status.Status.{Status};

@@ -3,10 +3,10 @@ use Rattle.std.proofs.Common.{ℕ, zero, suc, ◌+◌, ◌-◌, ◌<◌, ◌≤�
 use Rattle.std.specs.declared.alloc.Global.{Global}
 use Rattle.std.specs.Prelude.{ℤ, pos}
 use Rattle.std.proofs.lemmas.List.{get_or_default, get_or-map, length-map}
-use Rattle.periodic_laws.specs.dioid.declared.dates.Date.{Date}
-use Rattle.periodic_laws.specs.dioid.declared.dates.Date.TheVariants.{Early, Never}
-use Rattle.periodic_laws.specs.dioid.Dates.{move}
-use Rattle.periodic_laws.specs.teg_net.Nets.{NetLists, IsNet}
+use Rattle.dioid.specs.declared.dates.Date.{Date}
+use Rattle.dioid.specs.declared.dates.Date.TheVariants.{Early, Never}
+use Rattle.dioid.specs.Dates.{move}
+use Rattle.teg_net.specs.Nets.{NetLists, IsNet}
 use Rattle.periodic_laws.proofs.teg_model_proofs.DateFunctions.{Dating}
 use Rattle.periodic_laws.specs.settled_laws.SettledForms.{IsTail, SettledForm, row_of, step_of_form, HasSizes, StandsFor}
 use Rattle.periodic_laws.specs.settled_laws.DateDifferences.{between}

@@ -4,13 +4,13 @@ use Rattle.std.specs.Prelude.{pos, All, ◌⊎◌, slice_get}
 use Rattle.std.proofs.lemmas.Bool.{cases_lt}
 use Rattle.std.proofs.lemmas.Int.{ints}
 use Rattle.std.proofs.lemmas.List.{get_or_past}
-use Rattle.periodic_laws.specs.dioid.declared.dates.Date.{Date}
-use Rattle.periodic_laws.specs.dioid.declared.dates.Date.TheVariants.{Early, At}
-use Rattle.periodic_laws.specs.dioid.Dates.{IsAtMostDate}
-use Rattle.periodic_laws.proofs.dioid_proofs.DateOrder.{at_most_early}
-use Rattle.periodic_laws.specs.teg_net.Limits.{greatest_hold, greatest_firing_number}
-use Rattle.periodic_laws.specs.teg_net.Nets.{NetLists, IsNet, IsInput, IsInputOf}
-use Rattle.periodic_laws.specs.teg_net.Circuits.{no_place}
+use Rattle.dioid.specs.declared.dates.Date.{Date}
+use Rattle.dioid.specs.declared.dates.Date.TheVariants.{Early, At}
+use Rattle.dioid.specs.Dates.{IsAtMostDate}
+use Rattle.dioid.proofs.DateOrder.{at_most_early}
+use Rattle.teg_net.specs.Limits.{greatest_hold, greatest_firing_number}
+use Rattle.teg_net.specs.Nets.{NetLists, IsNet, IsInput, IsInputOf}
+use Rattle.teg_net.specs.Circuits.{no_place}
 use Rattle.periodic_laws.specs.teg_model.Systems.{System, IsLeastIn}
 use Rattle.periodic_laws.specs.teg_model.LiveRanks.{AreRanks}
 use Rattle.periodic_laws.specs.teg_model.DateBounds.{IsDateWithin, IsBoundedBy, greatest_least_date}

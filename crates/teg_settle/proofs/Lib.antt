@@ -18,12 +18,12 @@ pub mod OneTransfer
 pub mod Showing
 mod Steps
 pub use Rattle.periodic_laws.proofs.number_laws_proofs as number_laws_proofs
-pub use Rattle.periodic_laws.proofs.dioid_proofs as dioid_proofs
+pub use Rattle.dioid.proofs as dioid_proofs
 pub use Rattle.periodic_laws.proofs.dioid_matrix_proofs as dioid_matrix_proofs
 pub use Rattle.periodic_laws.proofs.series_laws_proofs as series_laws_proofs
 pub use Rattle.periodic_laws.proofs.series_form_proofs as series_form_proofs
-pub use Rattle.periodic_laws.proofs.teg_net_proofs as teg_net_proofs
-pub use Rattle.teg_dates.proofs.teg_check_proofs as teg_check_proofs
+pub use Rattle.teg_net.proofs as teg_net_proofs
+pub use Rattle.teg_check.proofs as teg_check_proofs
 pub use Rattle.slope_laws.proofs.teg_loops_proofs as teg_loops_proofs
 pub use Rattle.periodic_laws.proofs.teg_model_proofs as teg_model_proofs
 pub use Rattle.periodic_laws.proofs.settled_laws_proofs as settled_laws_proofs

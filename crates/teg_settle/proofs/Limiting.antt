@@ -2,8 +2,8 @@
 use Rattle.std.proofs.Common.{ℕ, ◌+◌, ◌*◌, ◌<◌, ◌≤◌, ◌≡◌, List, arith, ⊎_elim}
 use Rattle.std.specs.Prelude.{All}
 use Rattle.std.proofs.lemmas.Bool.{cases_lt}
-use Rattle.periodic_laws.specs.teg_net.Nets.{NetLists, IsNet}
-use Rattle.teg_dates.specs.teg_check.Ranks.{IsRanking}
+use Rattle.teg_net.specs.Nets.{NetLists, IsNet}
+use Rattle.teg_check.specs.Ranks.{IsRanking}
 use Rattle.periodic_laws.proofs.teg_model_proofs.DateFunctions.{Dating}
 use Rattle.periodic_laws.specs.settled_laws.SettledForms.{SettledForm}
 use Rattle.teg_dates.specs.DateTables.{TableDates}

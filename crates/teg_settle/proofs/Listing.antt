@@ -4,15 +4,15 @@ use Rattle.std.specs.Prelude.{pos, All, IfSome, slice_get}
 use Rattle.std.specs.List.Sorted.{IsNonDecreasing}
 use Rattle.std.proofs.lemmas.Bool.{cases_lt}
 use Rattle.std.proofs.lemmas.Int.{ints}
-use Rattle.periodic_laws.specs.dioid.declared.dates.Date.TheVariants.{At}
-use Rattle.periodic_laws.specs.dioid.Dates.{IsAtMostDate, delayed}
-use Rattle.periodic_laws.proofs.dioid_proofs.DateOrder.{never_last, delayed_rises}
-use Rattle.periodic_laws.specs.teg_net.declared.entries.Again.{Again}
-use Rattle.periodic_laws.specs.teg_net.declared.entries.InputList.{InputList}
-use Rattle.periodic_laws.specs.teg_net.Limits.{greatest_input_date}
-use Rattle.periodic_laws.specs.teg_net.Nets.{NetLists, IsInputOf, ListGoesOn, EndsOrGoesOn}
-use Rattle.periodic_laws.specs.teg_net.Inputs.{moved_by, GoOnBy, date_by_list, list_date}
-use Rattle.periodic_laws.proofs.teg_net_proofs.InputDates.{IsInputDates-list_date, list_date-most}
+use Rattle.dioid.specs.declared.dates.Date.TheVariants.{At}
+use Rattle.dioid.specs.Dates.{IsAtMostDate, delayed}
+use Rattle.dioid.proofs.DateOrder.{never_last, delayed_rises}
+use Rattle.teg_net.specs.declared.entries.Again.{Again}
+use Rattle.teg_net.specs.declared.entries.InputList.{InputList}
+use Rattle.teg_net.specs.Limits.{greatest_input_date}
+use Rattle.teg_net.specs.Nets.{NetLists, IsInputOf, ListGoesOn, EndsOrGoesOn}
+use Rattle.teg_net.specs.Inputs.{moved_by, GoOnBy, date_by_list, list_date}
+use Rattle.teg_net.proofs.InputDates.{IsInputDates-list_date, list_date-most}
 use Rattle.periodic_laws.specs.teg_model.DateBounds.{IsDateWithin}
 use Rattle.periodic_laws.specs.teg_model.Datings.{as_date}
 use Rattle.teg_settle.proofs.Releasing.{moved_date}

@@ -2,14 +2,14 @@
 use Rattle.std.proofs.Common.{ℕ, ◌+◌, ◌≡◌, List, [], ◌∷◌, ◌++◌, length, refl, subst, arith, ⊎_elim}
 use Rattle.std.specs.Prelude.{pos}
 use Rattle.std.proofs.lemmas.List.Sums.{sum_by-cons}
-use Rattle.periodic_laws.specs.dioid.declared.dates.Date.{Date}
-use Rattle.periodic_laws.specs.dioid.declared.dates.Date.TheVariants.{Early, At}
-use Rattle.periodic_laws.specs.dioid.Dates.{IsAtMostDate}
-use Rattle.periodic_laws.proofs.dioid_proofs.DateOrder.{same_by_at_most}
-use Rattle.periodic_laws.specs.teg_net.declared.walks.Step.{Step}
-use Rattle.periodic_laws.specs.teg_net.declared.walks.Step.TheVariants.{Next}
-use Rattle.periodic_laws.specs.teg_net.Nets.{NetLists}
-use Rattle.periodic_laws.specs.teg_net.Walks.{Walks, walk_time, step_time}
+use Rattle.dioid.specs.declared.dates.Date.{Date}
+use Rattle.dioid.specs.declared.dates.Date.TheVariants.{Early, At}
+use Rattle.dioid.specs.Dates.{IsAtMostDate}
+use Rattle.dioid.proofs.DateOrder.{same_by_at_most}
+use Rattle.teg_net.specs.declared.walks.Step.{Step}
+use Rattle.teg_net.specs.declared.walks.Step.TheVariants.{Next}
+use Rattle.teg_net.specs.Nets.{NetLists}
+use Rattle.teg_net.specs.Walks.{Walks, walk_time, step_time}
 use Rattle.periodic_laws.proofs.teg_model_proofs.WalkSteps.{walk_append, walk_time-append}
 use Rattle.periodic_laws.proofs.teg_model_proofs.DateFunctions.{Dating}
 use Rattle.periodic_laws.proofs.settled_laws_proofs.Shortest.{shortest_is_one}

@@ -1,8 +1,8 @@
 -- The shortest form of the least dates by a net's own releases is that of the net, and has the slopes of the net.
 use Rattle.std.proofs.Common.{ℕ, ◌≡◌, List}
-use Rattle.periodic_laws.specs.teg_net.Nets.{NetLists, IsNet}
-use Rattle.teg_dates.specs.teg_check.Ranks.{IsRanking}
-use Rattle.teg_dates.proofs.teg_check_proofs.Liveness.{ranking_is_live}
+use Rattle.teg_net.specs.Nets.{NetLists, IsNet}
+use Rattle.teg_check.specs.Ranks.{IsRanking}
+use Rattle.teg_check.proofs.Liveness.{ranking_is_live}
 use Rattle.periodic_laws.specs.settled_laws.SettledForms.{SettledForm, step_of_form, IsSettledFormOf, NetSettlesPast}
 use Rattle.slope_laws.proofs.FormSlopes.{settled_forms_have_slopes}
 use Rattle.teg_settle.specs.declared.refusals.SettleRefusal.{SettleRefusal}

@@ -5,12 +5,12 @@ use Rattle.std.proofs.lemmas.Bool.{cases_lt}
 use Rattle.std.proofs.lemmas.List.{get_or_past}
 use Rattle.std.proofs.lemmas.List.Folds.{find_at}
 use Rattle.std.proofs.lemmas.Option.{slice_get_past}
-use Rattle.periodic_laws.specs.dioid.declared.dates.Date.TheVariants.{Early}
-use Rattle.periodic_laws.specs.teg_net.declared.entries.Role.{Role}
-use Rattle.periodic_laws.specs.teg_net.declared.entries.Role.TheVariants.{Internal, Input, Output}
-use Rattle.periodic_laws.specs.teg_net.declared.entries.Transition.{Transition}
-use Rattle.periodic_laws.specs.teg_net.Nets.{NetLists, IsInput}
-use Rattle.periodic_laws.specs.teg_net.Inputs.{date_by_list}
+use Rattle.dioid.specs.declared.dates.Date.TheVariants.{Early}
+use Rattle.teg_net.specs.declared.entries.Role.{Role}
+use Rattle.teg_net.specs.declared.entries.Role.TheVariants.{Internal, Input, Output}
+use Rattle.teg_net.specs.declared.entries.Transition.{Transition}
+use Rattle.teg_net.specs.Nets.{NetLists, IsInput}
+use Rattle.teg_net.specs.Inputs.{date_by_list}
 use Rattle.periodic_laws.specs.teg_model.Systems.{IsFeasibleIn, IsLeastIn}
 use Rattle.periodic_laws.specs.teg_model.Datings.{as_date, listed_releases, by_role, by_transition, at_input, system_of, system_with, IsLeastDating}
 use Rattle.periodic_laws.proofs.teg_model_proofs.OfNet.{least_of_system}

@@ -1,8 +1,8 @@
 -- What is asked of the part of a net that the walks from an input reach, and what it tells of the net.
 use Rattle.std.proofs.Common.{ℕ, ◌<◌, ◌≡◌, true, List, length, get_or, arith}
-use Rattle.periodic_laws.specs.teg_net.Nets.{NetLists, IsNet, IsInput}
-use Rattle.periodic_laws.specs.teg_net.Circuits.{IsLive}
-use Rattle.teg_dates.specs.teg_check.Ranks.{IsRanking}
+use Rattle.teg_net.specs.Nets.{NetLists, IsNet, IsInput}
+use Rattle.teg_net.specs.Circuits.{IsLive}
+use Rattle.teg_check.specs.Ranks.{IsRanking}
 use Rattle.periodic_laws.specs.settled_laws.SettledForms.{SettledForm, step_of_form}
 use Rattle.teg_settle.specs.declared.reached.Part.{Part}
 use Rattle.teg_settle.specs.Alone.{IsAloneForm, AloneSettlesPast}

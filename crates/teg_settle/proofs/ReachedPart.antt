@@ -7,17 +7,17 @@ use Rattle.std.proofs.lemmas.List.{append-nil, get_or_default, get_or_past, get_
 use Rattle.std.proofs.lemmas.List.Elements.{All-nil, All-cons, All-head, All-tail, All-filter, All-from_get_or, All-map, filter_more, filter_passes}
 use Rattle.std.proofs.lemmas.List.Kept.{AllPairs-filter}
 use Rattle.std.proofs.lemmas.List.Sums.{sum_by-cons}
-use Rattle.periodic_laws.specs.dioid.declared.dates.Date.{Date}
-use Rattle.periodic_laws.specs.dioid.declared.dates.Date.TheVariants.{Early, At, Never}
-use Rattle.periodic_laws.specs.dioid.Dates.{IsAtMostDate, move}
-use Rattle.periodic_laws.specs.teg_net.declared.entries.Place.{Place}
-use Rattle.periodic_laws.specs.teg_net.declared.entries.PlaceId.{PlaceId}
-use Rattle.periodic_laws.specs.teg_net.declared.entries.Role.TheVariants.{Input, Internal}
-use Rattle.periodic_laws.specs.teg_net.declared.entries.Transition.{Transition}
-use Rattle.periodic_laws.specs.teg_net.Names.{is_name}
-use Rattle.periodic_laws.specs.teg_net.Nets.{NetLists, IsNet, IsInput, IsInputOf, IsPlaceOf}
-use Rattle.periodic_laws.specs.teg_net.Circuits.{no_place, place_at, IsPathBetween, IsLive, tokens_of}
-use Rattle.teg_dates.specs.teg_check.Ranks.{IsRanking}
+use Rattle.dioid.specs.declared.dates.Date.{Date}
+use Rattle.dioid.specs.declared.dates.Date.TheVariants.{Early, At, Never}
+use Rattle.dioid.specs.Dates.{IsAtMostDate, move}
+use Rattle.teg_net.specs.declared.entries.Place.{Place}
+use Rattle.teg_net.specs.declared.entries.PlaceId.{PlaceId}
+use Rattle.teg_net.specs.declared.entries.Role.TheVariants.{Input, Internal}
+use Rattle.teg_net.specs.declared.entries.Transition.{Transition}
+use Rattle.teg_net.specs.Names.{is_name}
+use Rattle.teg_net.specs.Nets.{NetLists, IsNet, IsInput, IsInputOf, IsPlaceOf}
+use Rattle.teg_net.specs.Circuits.{no_place, place_at, IsPathBetween, IsLive, tokens_of}
+use Rattle.teg_check.specs.Ranks.{IsRanking}
 use Rattle.periodic_laws.specs.teg_model.Systems.{available_in, IsFeasibleIn, IsLeastIn}
 use Rattle.periodic_laws.specs.teg_model.Datings.{implicit_place}
 use Rattle.periodic_laws.proofs.teg_model_proofs.OfNet.{all_extended_in, extended_has, implicit_is}

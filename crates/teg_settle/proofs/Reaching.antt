@@ -1,7 +1,7 @@
 -- The number of rows by which a search without a limit has ended: the lists of the net tell it.
 use Rattle.std.proofs.Common.{ℕ, ◌+◌, ◌≡◌, arith}
-use Rattle.periodic_laws.specs.teg_net.Nets.{NetLists}
-use Rattle.periodic_laws.specs.teg_net.Circuits.{IsLive}
+use Rattle.teg_net.specs.Nets.{NetLists}
+use Rattle.teg_net.specs.Circuits.{IsLive}
 use Rattle.periodic_laws.specs.RepeatNumbers.{repeats_past, repeats_in, repeats_by}
 use Rattle.periodic_laws.specs.LinearSystem.{LeastDatingsRepeat}
 use Rattle.teg_settle.specs.declared.releases.Tokens.TheVariants.{Ready}

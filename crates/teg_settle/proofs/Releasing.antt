@@ -6,13 +6,13 @@ use Rattle.std.proofs.lemmas.Bool.{cases_Bool}
 use Rattle.std.proofs.lemmas.Bool.Decides.{nat_tests}
 use Rattle.std.proofs.lemmas.Int.{ints}
 use Rattle.std.proofs.lemmas.List.Sums.{prefix_len-le-length}
-use Rattle.periodic_laws.specs.dioid.declared.dates.Date.TheVariants.{At}
-use Rattle.periodic_laws.specs.dioid.Dates.{delayed}
-use Rattle.periodic_laws.specs.teg_net.declared.entries.Again.{Again}
-use Rattle.periodic_laws.specs.teg_net.declared.entries.InputList.{InputList}
-use Rattle.periodic_laws.specs.teg_net.Nets.{NetLists, EndsOrGoesOn}
-use Rattle.periodic_laws.specs.teg_net.Inputs.{moved_by, GoOnBy, date_by_list, list_date}
-use Rattle.periodic_laws.proofs.teg_net_proofs.InputDates.{IsInputDates-list_date}
+use Rattle.dioid.specs.declared.dates.Date.TheVariants.{At}
+use Rattle.dioid.specs.Dates.{delayed}
+use Rattle.teg_net.specs.declared.entries.Again.{Again}
+use Rattle.teg_net.specs.declared.entries.InputList.{InputList}
+use Rattle.teg_net.specs.Nets.{NetLists, EndsOrGoesOn}
+use Rattle.teg_net.specs.Inputs.{moved_by, GoOnBy, date_by_list, list_date}
+use Rattle.teg_net.proofs.InputDates.{IsInputDates-list_date}
 use Rattle.periodic_laws.specs.teg_model.Datings.{as_date}
 use Rattle.teg_settle.specs.InitialReleases.{HasSpan, date_of_list}
 

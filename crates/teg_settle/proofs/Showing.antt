@@ -2,8 +2,8 @@
 use Rattle.std.proofs.Common.{ℕ, ◌+◌, ◌-◌, ◌<◌, ◌≤◌, ◌≡◌, List, [], length, get_or, refl, ap, ◌∙◌, arith}
 use Rattle.std.specs.Prelude.{ℤ, pos}
 use Rattle.std.proofs.lemmas.List.FromFn.{get_or-map-range_with_len, length-map-range_with_len}
-use Rattle.periodic_laws.specs.dioid.declared.dates.Date.TheVariants.{Early}
-use Rattle.periodic_laws.specs.teg_net.Nets.{NetLists}
+use Rattle.dioid.specs.declared.dates.Date.TheVariants.{Early}
+use Rattle.teg_net.specs.Nets.{NetLists}
 use Rattle.periodic_laws.specs.settled_laws.SettledForms.{row_of, row_date}
 use Rattle.teg_dates.specs.DateTables.{TableDates, date_at}
 use Rattle.teg_settle.specs.declared.releases.Repetition.{Repetition}

@@ -5,10 +5,10 @@ use Rattle.std.specs.Prelude.{ℤ, pos, ◌*ℤ◌}
 use Rattle.std.proofs.lemmas.Bool.{cases_lt, cases_Bool}
 use Rattle.std.proofs.lemmas.List.{get_or_append_left, get_or_default, get_or_past, get_or-map, get_or-replicate, length-map, length-replicate, map-append}
 use Rattle.std.proofs.Math.Seq.{get_or-append_seam}
-use Rattle.periodic_laws.specs.dioid.declared.dates.Date.{Date}
-use Rattle.periodic_laws.specs.dioid.declared.dates.Date.TheVariants.{Early}
-use Rattle.periodic_laws.specs.dioid.Dates.{move}
-use Rattle.periodic_laws.specs.teg_net.Limits.{most_transitions}
+use Rattle.dioid.specs.declared.dates.Date.{Date}
+use Rattle.dioid.specs.declared.dates.Date.TheVariants.{Early}
+use Rattle.dioid.specs.Dates.{move}
+use Rattle.teg_net.specs.Limits.{most_transitions}
 use Rattle.periodic_laws.specs.teg_model.DateBounds.{IsDateWithin, greatest_least_date}
 use Rattle.periodic_laws.specs.settled_laws.SettledForms.{SettledForm, settled_length, row_of, row_date, step_of_form, periods_past, settled_date, HasSizes}
 use Rattle.teg_settle.specs.Stored.{IsStored, stored_form}

@@ -1,7 +1,7 @@
 -- What rows of a net show, in the words of its least dating.
 use Rattle.std.proofs.Common.{ℕ, ◌<◌, ◌≤◌, ◌≡◌, Option, Some, None, IsSome, IfSome, IfNone, MatchOption, length, refl, sym, arith}
-use Rattle.periodic_laws.specs.teg_net.Nets.{NetLists}
-use Rattle.periodic_laws.specs.teg_net.Circuits.{IsLive}
+use Rattle.teg_net.specs.Nets.{NetLists}
+use Rattle.teg_net.specs.Circuits.{IsLive}
 use Rattle.periodic_laws.specs.teg_model.Datings.{IsLeastDating, listed_releases, system_of}
 use Rattle.periodic_laws.proofs.teg_model_proofs.OfNet.{only_least}
 use Rattle.periodic_laws.proofs.teg_model_proofs.DateFunctions.{Dating}

@@ -4,11 +4,11 @@ use Rattle.std.specs.Prelude.{ℤ, All, ◌⊎◌, ◌≤ℤ◌}
 use Rattle.std.proofs.lemmas.Bool.{cases_lt}
 use Rattle.std.proofs.lemmas.Int.{ints}
 use Rattle.std.proofs.lemmas.List.{get_or_default}
-use Rattle.periodic_laws.specs.dioid.declared.dates.Date.TheVariants.{Early, Never}
-use Rattle.periodic_laws.specs.dioid.Dates.{move}
-use Rattle.periodic_laws.specs.teg_net.declared.entries.Place.{Place}
-use Rattle.periodic_laws.specs.teg_net.Nets.{NetLists, IsPlaceOf}
-use Rattle.periodic_laws.specs.teg_net.Circuits.{no_place}
+use Rattle.dioid.specs.declared.dates.Date.TheVariants.{Early, Never}
+use Rattle.dioid.specs.Dates.{move}
+use Rattle.teg_net.specs.declared.entries.Place.{Place}
+use Rattle.teg_net.specs.Nets.{NetLists, IsPlaceOf}
+use Rattle.teg_net.specs.Circuits.{no_place}
 use Rattle.periodic_laws.specs.teg_model.Systems.{System}
 use Rattle.periodic_laws.specs.teg_model.DateBounds.{greatest_least_date}
 use Rattle.periodic_laws.proofs.teg_model_proofs.LeastOver.{only_least_in}

@@ -7,18 +7,18 @@ use Rattle.std.proofs.lemmas.Int.{ints}
 use Rattle.std.proofs.lemmas.List.{get_or_past}
 use Rattle.std.proofs.lemmas.List.Sums.{sum_by-cons}
 use Rattle.std.proofs.lemmas.Option.{slice_get_past}
-use Rattle.periodic_laws.specs.dioid.declared.dates.Date.{Date}
-use Rattle.periodic_laws.specs.dioid.declared.dates.Date.TheVariants.{Early, At}
-use Rattle.periodic_laws.specs.dioid.Dates.{IsAtMostDate, delayed}
-use Rattle.periodic_laws.proofs.dioid_proofs.DateOrder.{at_most_refl, at_most_early, same_by_at_most}
-use Rattle.periodic_laws.specs.teg_net.declared.entries.Transition.{Transition}
-use Rattle.periodic_laws.specs.teg_net.declared.entries.Role.TheVariants.{Input}
-use Rattle.periodic_laws.specs.teg_net.declared.walks.Step.{Step}
-use Rattle.periodic_laws.specs.teg_net.declared.walks.Step.TheVariants.{Next}
-use Rattle.periodic_laws.specs.teg_net.Nets.{NetLists, IsNet, IsInput}
-use Rattle.periodic_laws.specs.teg_net.Walks.{Walks, walk_time, step_time}
-use Rattle.periodic_laws.specs.teg_net.Inputs.{date_by_list}
-use Rattle.teg_dates.specs.teg_check.Ranks.{IsRanking}
+use Rattle.dioid.specs.declared.dates.Date.{Date}
+use Rattle.dioid.specs.declared.dates.Date.TheVariants.{Early, At}
+use Rattle.dioid.specs.Dates.{IsAtMostDate, delayed}
+use Rattle.dioid.proofs.DateOrder.{at_most_refl, at_most_early, same_by_at_most}
+use Rattle.teg_net.specs.declared.entries.Transition.{Transition}
+use Rattle.teg_net.specs.declared.entries.Role.TheVariants.{Input}
+use Rattle.teg_net.specs.declared.walks.Step.{Step}
+use Rattle.teg_net.specs.declared.walks.Step.TheVariants.{Next}
+use Rattle.teg_net.specs.Nets.{NetLists, IsNet, IsInput}
+use Rattle.teg_net.specs.Walks.{Walks, walk_time, step_time}
+use Rattle.teg_net.specs.Inputs.{date_by_list}
+use Rattle.teg_check.specs.Ranks.{IsRanking}
 use Rattle.periodic_laws.specs.teg_model.Systems.{IsLeastIn}
 use Rattle.periodic_laws.specs.teg_model.Starts.{IsStartIn}
 use Rattle.periodic_laws.specs.teg_model.Datings.{as_date, system_with}

@@ -1,7 +1,7 @@
 -- The times of walks from an input are the least dates of a system whose releases repeat, and so they settle.
 use Rattle.std.proofs.Common.{ℕ, pos, sym, arith}
-use Rattle.periodic_laws.proofs.dioid_proofs.DateOrder.{at_most_refl}
-use Rattle.periodic_laws.proofs.dioid_proofs.Moves.{move_zero}
+use Rattle.dioid.proofs.DateOrder.{at_most_refl}
+use Rattle.dioid.proofs.Moves.{move_zero}
 use Rattle.periodic_laws.proofs.teg_model_proofs.OfNet.{net_ends}
 use Rattle.periodic_laws.proofs.teg_model_proofs.LiveRanks.{live_is_ranked}
 use Rattle.periodic_laws.proofs.teg_model_proofs.SystemWalks.{least_in_is_walk}

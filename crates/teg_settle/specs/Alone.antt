@@ -1,8 +1,8 @@
 -- Working definitions of the system of a net in which one input alone is released.
 use Rattle.std.specs.Prelude.{ℕ, pos, ◌==◌, if◌then◌else◌, length}
-use Rattle.periodic_laws.specs.dioid.declared.dates.Date.{Date}
-use Rattle.periodic_laws.specs.dioid.declared.dates.Date.TheVariants.{Early, At}
-use Rattle.periodic_laws.specs.teg_net.Nets.{NetLists}
+use Rattle.dioid.specs.declared.dates.Date.{Date}
+use Rattle.dioid.specs.declared.dates.Date.TheVariants.{Early, At}
+use Rattle.teg_net.specs.Nets.{NetLists}
 use Rattle.periodic_laws.specs.teg_model.Systems.{System, IsLeastIn}
 use Rattle.periodic_laws.specs.teg_model.Datings.{system_with}
 use Rattle.periodic_laws.specs.settled_laws.SettledForms.{SettledForm, IsShortestForm}

@@ -1,13 +1,13 @@
 -- Working definitions of what rows of the least dating show of a period. The contract of `shown_form` cites `most_window`
 -- and rests on `read_step`; no other of them stands below the contract of a public call.
 use Rattle.std.specs.Prelude.{ℕ, ℤ, ◌+◌, ◌-◌, ◌^◌, ◌<◌, ◌≤◌, ◌≤ℤ◌, ◌≡◌, ◌⊎◌, List, length, All}
-use Rattle.periodic_laws.specs.dioid.declared.dates.Date.{Date}
-use Rattle.periodic_laws.specs.dioid.declared.dates.Date.TheVariants.{Early, Never}
-use Rattle.periodic_laws.specs.dioid.Dates.{move}
-use Rattle.periodic_laws.specs.teg_net.declared.entries.Place.{Place}
-use Rattle.periodic_laws.specs.teg_net.Limits.{greatest_firing_number}
-use Rattle.periodic_laws.specs.teg_net.Nets.{NetLists, IsNet}
-use Rattle.teg_dates.specs.teg_check.Ranks.{IsRanking}
+use Rattle.dioid.specs.declared.dates.Date.{Date}
+use Rattle.dioid.specs.declared.dates.Date.TheVariants.{Early, Never}
+use Rattle.dioid.specs.Dates.{move}
+use Rattle.teg_net.specs.declared.entries.Place.{Place}
+use Rattle.teg_net.specs.Limits.{greatest_firing_number}
+use Rattle.teg_net.specs.Nets.{NetLists, IsNet}
+use Rattle.teg_check.specs.Ranks.{IsRanking}
 use Rattle.periodic_laws.specs.teg_model.Systems.{IsLeastIn}
 use Rattle.periodic_laws.specs.teg_model.DateBounds.{IsDateWithin, greatest_least_date}
 use Rattle.periodic_laws.specs.settled_laws.SettledForms.{SettledForm, RepeatsAfter, IsShortestForm}

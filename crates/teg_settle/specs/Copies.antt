@@ -1,8 +1,8 @@
 -- Working definitions of a settled form that is copied from rows of dates.
 use Rattle.std.specs.Prelude.{ℕ, ◌-◌, ◌≤◌, ◌≡◌, List, length, slice_index_or}
-use Rattle.periodic_laws.specs.dioid.declared.dates.Date.{Date}
-use Rattle.periodic_laws.specs.dioid.declared.dates.Date.TheVariants.{Early}
-use Rattle.periodic_laws.specs.teg_net.Nets.{NetLists}
+use Rattle.dioid.specs.declared.dates.Date.{Date}
+use Rattle.dioid.specs.declared.dates.Date.TheVariants.{Early}
+use Rattle.teg_net.specs.Nets.{NetLists}
 use Rattle.periodic_laws.specs.settled_laws.SettledForms.{SettledForm, StandsFor}
 use Rattle.teg_dates.specs.DateTables.{TableDates, date_at}
 use Rattle.teg_settle.specs.declared.releases.Repetition.{Repetition}

@@ -1,7 +1,7 @@
 -- Working definitions of where a search without a limit ends.
 use Rattle.std.specs.Prelude.{ℕ, ℤ, ◌+◌, ◌≤◌, length}
-use Rattle.periodic_laws.specs.dioid.declared.dates.Date.{Date}
-use Rattle.periodic_laws.specs.teg_net.Nets.{NetLists}
+use Rattle.dioid.specs.declared.dates.Date.{Date}
+use Rattle.teg_net.specs.Nets.{NetLists}
 use Rattle.periodic_laws.specs.teg_model.Systems.{IsLeastIn}
 use Rattle.periodic_laws.specs.settled_laws.SettledForms.{RepeatsAfter}
 use Rattle.teg_settle.specs.declared.releases.Releases.{Releases}

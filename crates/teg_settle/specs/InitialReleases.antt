@@ -4,15 +4,15 @@
 -- those that these name.
 use Rattle.std.specs.Prelude.{ℕ, ◌+◌, ◌<◌, ◌≤◌, ◌≡◌, ◌==◌, if◌then◌else◌, List, Option, Some, None, length, slice_get, slice_index_or}
 use Rattle.std.specs.List.{position_or_len}
-use Rattle.periodic_laws.specs.dioid.declared.dates.Date.{Date}
-use Rattle.periodic_laws.specs.dioid.declared.dates.Date.TheVariants.{Early}
-use Rattle.periodic_laws.specs.dioid.Dates.{delayed}
-use Rattle.periodic_laws.specs.teg_net.declared.entries.Role.{Role}
-use Rattle.periodic_laws.specs.teg_net.declared.entries.Role.TheVariants.{Internal, Input, Output}
-use Rattle.periodic_laws.specs.teg_net.declared.entries.Transition.{Transition}
-use Rattle.periodic_laws.specs.teg_net.declared.entries.Place.{Place}
-use Rattle.periodic_laws.specs.teg_net.Nets.{NetLists, IsInput}
-use Rattle.periodic_laws.specs.teg_net.Inputs.{date_by_list}
+use Rattle.dioid.specs.declared.dates.Date.{Date}
+use Rattle.dioid.specs.declared.dates.Date.TheVariants.{Early}
+use Rattle.dioid.specs.Dates.{delayed}
+use Rattle.teg_net.specs.declared.entries.Role.{Role}
+use Rattle.teg_net.specs.declared.entries.Role.TheVariants.{Internal, Input, Output}
+use Rattle.teg_net.specs.declared.entries.Transition.{Transition}
+use Rattle.teg_net.specs.declared.entries.Place.{Place}
+use Rattle.teg_net.specs.Nets.{NetLists, IsInput}
+use Rattle.teg_net.specs.Inputs.{date_by_list}
 use Rattle.periodic_laws.specs.teg_model.Systems.{System}
 use Rattle.periodic_laws.specs.teg_model.Datings.{as_date, initial_date, system_with}
 use Rattle.teg_settle.specs.declared.releases.Tokens.{Tokens}

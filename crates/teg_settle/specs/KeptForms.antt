@@ -1,6 +1,6 @@
 -- What each settled form in memory keeps.
 use Rattle.std.specs.Prelude.{ℕ, ◌<◌, ◌≤◌, length}
-use Rattle.periodic_laws.specs.teg_net.Limits.{most_transitions, greatest_firing_number, most_rows}
+use Rattle.teg_net.specs.Limits.{most_transitions, greatest_firing_number, most_rows}
 use Rattle.periodic_laws.specs.teg_model.DateBounds.{IsDateWithin, greatest_least_date}
 use Rattle.periodic_laws.specs.settled_laws.SettledForms.{SettledForm, settled_length, settled_date, HasSizes}
 

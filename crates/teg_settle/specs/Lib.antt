@@ -15,13 +15,13 @@ pub mod Endless
 pub mod Steps
 pub mod SlopesOfNets
 pub mod WalkTimes
-pub use Rattle.periodic_laws.specs.dioid as dioid
+pub use Rattle.dioid.specs as dioid
 pub use Rattle.periodic_laws.specs.dioid_matrix as dioid_matrix
 pub use Rattle.periodic_laws.specs.series_laws as series_laws
 pub use Rattle.periodic_laws.specs.series_form as series_form
 pub use Rattle.periodic_laws.specs.series_ops as series_ops
-pub use Rattle.periodic_laws.specs.teg_net as teg_net
-pub use Rattle.teg_dates.specs.teg_check as teg_check
+pub use Rattle.teg_net.specs as teg_net
+pub use Rattle.teg_check.specs as teg_check
 pub use Rattle.slope_laws.specs.teg_loops as teg_loops
 pub use Rattle.periodic_laws.specs.teg_model as teg_model
 pub use Rattle.periodic_laws.specs.settled_laws as settled_laws

@@ -1,9 +1,9 @@
 -- Working definitions of the part of a net that the walks from an input reach.
 use Rattle.std.specs.Prelude.{ℕ, Bool, false, ◌<◌, ◌≤◌, ◌≡◌, List, [], length, map, All, IsTrue, slice_index, slice_index_or}
 use Rattle.std.specs.List.{filter}
-use Rattle.periodic_laws.specs.teg_net.declared.entries.Place.{Place}
-use Rattle.periodic_laws.specs.teg_net.declared.entries.Transition.{Transition}
-use Rattle.periodic_laws.specs.teg_net.Nets.{NetLists}
+use Rattle.teg_net.specs.declared.entries.Place.{Place}
+use Rattle.teg_net.specs.declared.entries.Transition.{Transition}
+use Rattle.teg_net.specs.Nets.{NetLists}
 use Rattle.teg_settle.specs.declared.reached.Part.{Part}
 
 -- whether transition t is marked

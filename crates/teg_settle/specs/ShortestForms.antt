@@ -1,6 +1,6 @@
 -- Working definitions of what the search for the shortest form finds.
 use Rattle.std.specs.Prelude.{ℕ}
-use Rattle.periodic_laws.specs.teg_net.Nets.{NetLists}
+use Rattle.teg_net.specs.Nets.{NetLists}
 use Rattle.teg_settle.specs.declared.releases.Releases.{Releases}
 use Rattle.teg_settle.specs.declared.search.Found.{Found}
 use Rattle.teg_settle.specs.ComparedRows.{AreRowsOf, IsReady, IsSeen}

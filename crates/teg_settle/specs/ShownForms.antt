@@ -1,7 +1,7 @@
 -- Settled forms by the rows of dates that show them.
 use Rattle.std.specs.Prelude.{ℕ, ℤ, ◌+◌, ◌≤◌, List, map}
 use Rattle.std.specs.List.{range_with_len}
-use Rattle.periodic_laws.specs.dioid.declared.dates.Date.{Date}
+use Rattle.dioid.specs.declared.dates.Date.{Date}
 use Rattle.periodic_laws.specs.settled_laws.SettledForms.{SettledForm}
 use Rattle.teg_dates.specs.DateTables.{TableDates, date_at}
 use Rattle.teg_settle.specs.declared.releases.Repetition.{Repetition}

@@ -1,7 +1,7 @@
 -- The slopes of a net's settled form (chapter 3).
 use Rattle.std.specs.Prelude.{ℕ, ◌<◌, length}
-use Rattle.periodic_laws.specs.dioid.declared.dates.Date.{Date}
-use Rattle.periodic_laws.specs.teg_net.Nets.{NetLists}
+use Rattle.dioid.specs.declared.dates.Date.{Date}
+use Rattle.teg_net.specs.Nets.{NetLists}
 use Rattle.periodic_laws.specs.teg_model.Datings.{IsLeastDating}
 use Rattle.periodic_laws.specs.settled_laws.SettledForms.{SettledForm, step_of_form, StandsFor}
 use Rattle.slope_laws.specs.Slopes.{HasSlope}

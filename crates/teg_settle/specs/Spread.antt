@@ -1,6 +1,6 @@
 -- Working definitions of a settled form of a part of a net, told of the whole net.
 use Rattle.std.specs.Prelude.{ℕ, pos, Bool, ◌<◌, ◌≡◌, if◌then◌else◌, List, length, replicate, slice_index}
-use Rattle.periodic_laws.specs.dioid.declared.dates.Date.TheVariants.{Early}
+use Rattle.dioid.specs.declared.dates.Date.TheVariants.{Early}
 use Rattle.periodic_laws.specs.settled_laws.SettledForms.{SettledForm, settled_length, row_of, step_of_form}
 use Rattle.teg_settle.specs.Reached.{is_marked}
 

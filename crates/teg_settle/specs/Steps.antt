@@ -1,8 +1,8 @@
 -- What rows of a net's least dating show of its settled form, without a row more.
 use Rattle.std.specs.Prelude.{ℕ, ℤ, ◌+◌, ◌≤◌, ◌≡◌, length}
-use Rattle.periodic_laws.specs.dioid.declared.dates.Date.{Date}
-use Rattle.periodic_laws.specs.teg_net.Limits.{most_place_tokens}
-use Rattle.periodic_laws.specs.teg_net.Nets.{NetLists}
+use Rattle.dioid.specs.declared.dates.Date.{Date}
+use Rattle.teg_net.specs.Limits.{most_place_tokens}
+use Rattle.teg_net.specs.Nets.{NetLists}
 use Rattle.periodic_laws.specs.teg_model.Datings.{IsLeastDating}
 use Rattle.periodic_laws.specs.settled_laws.SettledForms.{RepeatsAfter}
 use Rattle.periodic_laws.specs.RepeatNumbers.{repeats_past, repeats_in}

@@ -1,6 +1,6 @@
 -- Settled forms in memory, of which several transitions may share a row and a step.
 use Rattle.std.specs.Prelude.{ℕ, ℤ, pos, ◌<◌, ◌≡◌, List, [], All, length, map, slice_index_or}
-use Rattle.periodic_laws.specs.dioid.declared.dates.Date.{Date}
+use Rattle.dioid.specs.declared.dates.Date.{Date}
 use Rattle.periodic_laws.specs.settled_laws.SettledForms.{SettledForm}
 use Rattle.teg_settle.specs.KeptForms.{IsFormKept}
 

@@ -1,11 +1,11 @@
 -- The times of walks from the first firing of an input (chapter 2).
 use Rattle.std.specs.Prelude.{ℕ, pos, ◌<◌, ◌≤◌, ◌≡◌, ◌⊎◌, List, length}
-use Rattle.periodic_laws.specs.dioid.declared.dates.Date.{Date}
-use Rattle.periodic_laws.specs.dioid.declared.dates.Date.TheVariants.{Early, At}
-use Rattle.periodic_laws.specs.dioid.Dates.{IsAtMostDate}
-use Rattle.periodic_laws.specs.teg_net.declared.walks.Step.{Step}
-use Rattle.periodic_laws.specs.teg_net.Nets.{NetLists}
-use Rattle.periodic_laws.specs.teg_net.Walks.{Walks, walk_time}
+use Rattle.dioid.specs.declared.dates.Date.{Date}
+use Rattle.dioid.specs.declared.dates.Date.TheVariants.{Early, At}
+use Rattle.dioid.specs.Dates.{IsAtMostDate}
+use Rattle.teg_net.specs.declared.walks.Step.{Step}
+use Rattle.teg_net.specs.Nets.{NetLists}
+use Rattle.teg_net.specs.Walks.{Walks, walk_time}
 use Rattle.periodic_laws.specs.settled_laws.SettledForms.{SettledForm, IsShortestForm, SettlesPast}
 
 -- d is the greatest time of a walk from the first firing of the input to firing k of transition t, Early where there is none

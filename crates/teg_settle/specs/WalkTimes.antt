@@ -1,7 +1,7 @@
 -- That the times of walks from an input settle, in one way.
 use Rattle.std.specs.Prelude.{ℕ, ◌<◌, ◌≡◌}
-use Rattle.periodic_laws.specs.teg_net.Nets.{NetLists, IsNet, IsInput}
-use Rattle.periodic_laws.specs.teg_net.Circuits.{IsLive}
+use Rattle.teg_net.specs.Nets.{NetLists, IsNet, IsInput}
+use Rattle.teg_net.specs.Circuits.{IsLive}
 use Rattle.periodic_laws.specs.settled_laws.SettledForms.{SettledForm, settled_length}
 use Rattle.teg_settle.specs.Transfers.{IsTransferOf, TransferSettlesPast}
 

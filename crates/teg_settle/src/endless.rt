@@ -1,7 +1,7 @@
 //! The search for the settled form without a limit.
 ghost use Rattle.std.specs.Prelude.{◌≡◌, ◌≤◌, ℕ, IfOk};
 ghost use Rattle.periodic_laws.specs.settled_laws.SettledForms.{IsSettledFormOf};
-ghost use Rattle.teg_dates.specs.teg_check.Ranks.{IsRanking};
+ghost use Rattle.teg_check.specs.Ranks.{IsRanking};
 ghost use Rattle.teg_settle.specs.Endless.{HasFormBy};
 ghost use Rattle.teg_settle.specs.InitialReleases.{AreWaits, wait_of};
 ghost use Rattle.teg_settle.specs.ShortestForms.{IsFound};
@@ -13,10 +13,10 @@ use crate::search::{Found, dates_of, form_of, grow, ready_tokens, seen};
 use crate::settled::Settled;
 use crate::shown::SettledDates;
 use periodic_laws::least_datings_repeat;
-use periodic_laws::teg_net::{Net, OutOfMemory};
 use std::alloc::Global;
-use teg_dates::teg_check::Live;
+use teg_check::Live;
 use teg_dates::{PlaceOrder, Rows};
+use teg_net::{Net, OutOfMemory};
 
 // Where more rows than this show no form, no further ones are made: the dates of so many fill more
 // than 47 bits of addresses tell apart.

@@ -1,9 +1,9 @@
 //! The settled form of the least dating of a net, and that of the times of walks from an input.
 ghost use Rattle.std.specs.Prelude.{◌+◌, ◌<◌, ◌≤◌, IfErr, IfOk, length, slice_index};
 ghost use Rattle.periodic_laws.specs.settled_laws.SettledForms.{IsSettledFormOf, NetSettlesPast, settled_length};
-ghost use Rattle.teg_dates.specs.teg_check.Ranks.{IsRanking};
-ghost use Rattle.periodic_laws.specs.teg_net.Nets.{IsInput};
-ghost use Rattle.periodic_laws.specs.teg_net.Circuits.{IsLive};
+ghost use Rattle.teg_check.specs.Ranks.{IsRanking};
+ghost use Rattle.teg_net.specs.Nets.{IsInput};
+ghost use Rattle.teg_net.specs.Circuits.{IsLive};
 ghost use Rattle.teg_settle.specs.Alone.{AloneSettlesPast, IsAloneForm};
 ghost use Rattle.teg_settle.specs.LimitRefusals.{IsRightSettleRefusal, greatest_limit};
 ghost use Rattle.teg_settle.specs.InitialReleases.{OnlyInputsWait};
@@ -18,9 +18,9 @@ use crate::releases::Releases;
 use crate::search::{Found, dates_of, form_of, ready_tokens, search};
 use crate::settled::Settled;
 use crate::shown::SettledDates;
-use periodic_laws::teg_net::{Net, OutOfMemory, TransitionId};
 use std::alloc::Global;
-use teg_dates::teg_check::{CheckRefusal, Live, check};
+use teg_check::{CheckRefusal, Live, check};
+use teg_net::{Net, OutOfMemory, TransitionId};
 
 // Rows that show the shortest form of the least dating of the net with these releases, if its length
 // is within the limit: rows of twice the limit and the tokens of a place show each form of such a

@@ -1,12 +1,12 @@
 //! The part of a net that the walks from an input reach: the transitions where such a walk ends, under
 //! new numbers, and the places between them. All else waits for nothing, and has no dates.
 ghost use Rattle.std.specs.Prelude.{◌≡◌, ◌<◌, ◌≤◌, length, All, IfOk, IsTrue};
-ghost use Rattle.periodic_laws.specs.teg_net.Limits.{most_transitions};
-ghost use Rattle.periodic_laws.specs.teg_net.Nets.{IsInput, IsNet};
+ghost use Rattle.teg_net.specs.Limits.{most_transitions};
+ghost use Rattle.teg_net.specs.Nets.{IsInput, IsNet};
 ghost use Rattle.teg_settle.specs.Reached.{IsReachClosed, AreThose, IsNumbering, IsPartFrom, ReachLeadsOn, begins_marked, is_marked, places_from, renumbered};
 
-use periodic_laws::teg_net::{DateList, Name, Net, OutOfMemory, Place, Transition, TransitionId};
 use std::alloc::{AllocError, Global};
+use teg_net::{DateList, Name, Net, OutOfMemory, Place, Transition, TransitionId};
 
 // The part of a net, whether each transition of the net is in it, and its new number.
 #[derive(Debug, Drop)]

@@ -1,6 +1,6 @@
 //! Why there is no settled form to answer.
-use periodic_laws::teg_net::OutOfMemory;
 use std::alloc::AllocError;
+use teg_net::OutOfMemory;
 use thiserror::Error;
 
 /// Why a call answers no settled form.

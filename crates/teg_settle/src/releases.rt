@@ -1,15 +1,15 @@
 //! What firings wait for beside the tokens of earlier firings: the net's own initial tokens and input
 //! lists, or one input alone.
 ghost use Rattle.std.specs.Prelude.{◌≡◌, ◌<◌, ◌≤◌, ◌^◌, IfOk};
-ghost use Rattle.periodic_laws.specs.teg_net.Limits.{greatest_firing_number, most_input_dates, greatest_every};
-ghost use Rattle.periodic_laws.specs.teg_net.Nets.{IsNet};
+ghost use Rattle.teg_net.specs.Limits.{greatest_firing_number, most_input_dates, greatest_every};
+ghost use Rattle.teg_net.specs.Nets.{IsNet};
 ghost use Rattle.periodic_laws.specs.teg_model.DateBounds.{IsDateWithin};
 ghost use Rattle.teg_settle.specs.InitialReleases.{AreWaits, HasSpan, date_of_list, list_number, release_by, wait_by_role, wait_from, wait_in, wait_of};
 
-use periodic_laws::dioid::Date;
-use periodic_laws::teg_net::{Net, PlaceId, Role, TransitionId};
+use dioid::Date;
 use std::alloc::{AllocError, Global};
 use teg_dates::Source;
+use teg_net::{Net, PlaceId, Role, TransitionId};
 
 // What the firings of a transition wait for beside tokens.
 #[derive(Clone, Copy, Debug, Drop)]

@@ -1,7 +1,7 @@
 //! The growing search for the shortest form: rows are made until they show one.
 ghost use Rattle.std.specs.Prelude.{◌≡◌, ◌+◌, ◌-◌, ◌<◌, ◌≤◌, All, IfOk, IfSome, MatchOption, MatchResult, ℕ};
-ghost use Rattle.periodic_laws.specs.teg_net.Nets.{IsNet};
-ghost use Rattle.teg_dates.specs.teg_check.Ranks.{IsRanking};
+ghost use Rattle.teg_net.specs.Nets.{IsNet};
+ghost use Rattle.teg_check.specs.Ranks.{IsRanking};
 ghost use Rattle.periodic_laws.specs.settled_laws.SettledForms.{settled_length};
 ghost use Rattle.teg_dates.specs.PlaceOrder.{OrdersPlaces};
 ghost use Rattle.teg_settle.specs.InitialReleases.{OnlyInputsWait};
@@ -14,10 +14,10 @@ use crate::settled::Settled;
 use crate::shown::SettledDates;
 use crate::window::{are_released_alike, is_rising, moved_past};
 use crate::witness::{Witness, Witnesses, witness_against};
-use periodic_laws::teg_net::{Net, OutOfMemory};
 use std::alloc::Global;
-use teg_dates::teg_check::Live;
+use teg_check::Live;
 use teg_dates::{PlaceOrder, Rows};
+use teg_net::{Net, OutOfMemory};
 
 // Rows of dates, and past which of their numbers they go on in each period.
 #[derive(Debug, Drop)]

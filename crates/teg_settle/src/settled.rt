@@ -1,8 +1,8 @@
 //! A settled form in memory.
 ghost use Rattle.std.specs.Prelude.{ℕ, ◌≡◌, ◌<◌, ◌≤◌, ◌+◌, ◌-◌, ◌*◌, ◌/◌, ◌+ℤ◌, ◌*ℤ◌, FitsSigned, IfOk, IsTrue, pos, length, map, slice_index, slice_index_or, [], if◌then◌else◌};
 ghost use Rattle.std.specs.Int.{w128};
-ghost use Rattle.periodic_laws.specs.teg_net.Limits.{greatest_firing_number, most_transitions};
-ghost use Rattle.periodic_laws.specs.dioid.declared.dates.Date.{Date};
+ghost use Rattle.teg_net.specs.Limits.{greatest_firing_number, most_transitions};
+ghost use Rattle.dioid.specs.declared.dates.Date.{Date};
 ghost use Rattle.periodic_laws.specs.settled_laws.SettledForms.{row_of, step_of_form, settled_date};
 ghost use Rattle.teg_settle.specs.Copies.{AreShownDates, IsFormOf};
 ghost use Rattle.teg_settle.specs.KeptForms.{IsFormKept};
@@ -13,11 +13,11 @@ ghost use Rattle.teg_settle.specs.ComparedRows.{IsToldBy};
 use crate::reached::is_marked;
 use crate::releases::Repetition;
 use crate::shown::steps_of;
-use periodic_laws::dioid::Date;
-use periodic_laws::teg_net::{Net, TransitionId};
+use dioid::Date;
 use std::alloc::{AllocError, Global};
 use std::marker::Model;
 use teg_dates::Rows;
+use teg_net::{Net, TransitionId};
 
 /// A settled form (chapter 3): a number, a period of at least 1, and for each transition of a net the
 /// dates of the numbers from 1 to number plus period, and a step. Past the number each date is that of

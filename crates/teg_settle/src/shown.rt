@@ -1,7 +1,7 @@
 //! A settled form by the rows of dates that show it.
 ghost use Rattle.std.specs.Prelude.{ℕ, ◌≡◌, ◌<◌, ◌≤◌, ◌+◌, IfOk, length, pos, slice_index_or};
-ghost use Rattle.periodic_laws.specs.teg_net.Limits.{greatest_firing_number};
-ghost use Rattle.periodic_laws.specs.teg_net.Nets.{IsNet};
+ghost use Rattle.teg_net.specs.Limits.{greatest_firing_number};
+ghost use Rattle.teg_net.specs.Nets.{IsNet};
 ghost use Rattle.periodic_laws.specs.settled_laws.SettledForms.{settled_date, row_date, settled_length, step_of_form};
 ghost use Rattle.teg_settle.specs.Copies.{IsFormOf};
 ghost use Rattle.teg_settle.specs.KeptForms.{IsFormKept};
@@ -10,11 +10,11 @@ ghost use Rattle.teg_settle.specs.ComparedRows.{IsToldBy, AreComparedRows, read_
 use crate::releases::Repetition;
 use crate::settled::{back_from, moved};
 use crate::window::step_in;
-use periodic_laws::dioid::Date;
-use periodic_laws::teg_net::{Net, TransitionId};
+use dioid::Date;
 use std::alloc::{AllocError, Global};
 use std::marker::Model;
 use teg_dates::Rows;
+use teg_net::{Net, TransitionId};
 
 /// A settled form (chapter 3), for callers that ask for some of its dates: the rows of the search are
 /// kept as they are, and no other table is made. Contracts see the same form as of a

@@ -1,15 +1,15 @@
 //! Whether rows of dates show that the dates go on by a fixed step in each period.
 ghost use Rattle.std.specs.Prelude.{◌≡◌, ◌+◌, ◌<◌, ◌≤◌, ◌^◌, All, Decides, length};
-ghost use Rattle.periodic_laws.specs.dioid.Dates.{move};
+ghost use Rattle.dioid.specs.Dates.{move};
 ghost use Rattle.periodic_laws.specs.settled_laws.DateDifferences.{between};
 ghost use Rattle.periodic_laws.specs.teg_model.DateBounds.{IsDateWithin};
 ghost use Rattle.teg_settle.specs.InitialReleases.{release_by};
 ghost use Rattle.teg_settle.specs.ComparedRows.{AreReleasedAlike, GoesOnBy, IsMovedAt, IsMovedPast, IsRisingPlace, AreComparedRows, most_window, read_step};
 
 use crate::releases::Releases;
-use periodic_laws::dioid::Date;
-use periodic_laws::teg_net::{Net, Place, TransitionId};
+use dioid::Date;
 use teg_dates::Rows;
+use teg_net::{Net, Place, TransitionId};
 
 // The step from one date to the other, 0 where one of them is no number.
 fn step_between(early: Date, late: Date) -> i128

@@ -6,8 +6,8 @@ ghost use Rattle.teg_settle.specs.Witnesses.{IsRefutedPast, Refutes};
 
 use crate::releases::Releases;
 use crate::window::{is_step, moved_past, rises_along, step_in};
-use periodic_laws::teg_net::{Net, TransitionId};
 use teg_dates::Rows;
+use teg_net::{Net, TransitionId};
 
 // Why a period was refuted.
 #[derive(Clone, Copy, Debug, Drop)]

@@ -5,13 +5,13 @@ use Rattle.std.proofs.lemmas.Int.{ints}
 use Rattle.std.proofs.lemmas.Bool.{cases_lt}
 use Rattle.std.proofs.lemmas.List.{length-append, get_or_append_left, get_or-append-add}
 use Rattle.std.proofs.lemmas.List.Elements.{All-tail}
-use Rattle.teg_text.specs.teg_net.declared.entries.PlaceId.{PlaceId}
-use Rattle.teg_text.specs.teg_net.Nets.{NetLists, IsNet, IsPlaceOf}
-use Rattle.teg_text.specs.teg_net.Ratios.{Fraction}
-use Rattle.teg_text.specs.teg_net.Circuits.{no_place, place_at, from_of, IsPathBetween}
-use Rattle.teg_text.specs.teg_net.Parts.{to_of}
-use Rattle.teg_text.specs.teg_net.ReducedTimes.{reduced_time_of_place}
-use Rattle.teg_text.proofs.teg_net_proofs.PathLaws.{no_id}
+use Rattle.teg_net.specs.declared.entries.PlaceId.{PlaceId}
+use Rattle.teg_net.specs.Nets.{NetLists, IsNet, IsPlaceOf}
+use Rattle.teg_net.specs.Ratios.{Fraction}
+use Rattle.teg_net.specs.Circuits.{no_place, place_at, from_of, IsPathBetween}
+use Rattle.teg_net.specs.Parts.{to_of}
+use Rattle.teg_net.specs.ReducedTimes.{reduced_time_of_place}
+use Rattle.teg_net.proofs.PathLaws.{no_id}
 use Rattle.teg_sizing.specs.declared.rounds.ValueCell.{ValueCell}
 use Rattle.teg_sizing.specs.ValueRounds.{IsTarget, reduced_time_of_path, Avoids, greatest_reduced_time, value_told, by_at, IsAtLeast, AreValuesWithin, IsTakenBy, IsRoundAfter, round_at, AreRounds}
 use Rattle.teg_sizing.proofs.Values.{same_some, at_least_some, at_least_less, at_least_is, weight_within, value_cons, value_none, told_or_not}

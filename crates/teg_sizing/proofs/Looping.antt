@@ -9,13 +9,13 @@ use Rattle.std.proofs.lemmas.List.Folds.{Any-from_list_any}
 use Rattle.std.proofs.lemmas.List.Elements.{All-append, All-tail}
 use Rattle.std.proofs.lemmas.Map.Made.{IsDistinct-from_AllPairs}
 use Rattle.std.proofs.lemmas.Map.Steps.{length-le_from_distinct_below}
-use Rattle.teg_text.specs.teg_net.declared.entries.PlaceId.{PlaceId}
-use Rattle.teg_text.specs.teg_net.Nets.{NetLists, IsNet}
-use Rattle.teg_text.specs.teg_net.Ratios.{Fraction}
-use Rattle.teg_text.specs.teg_net.Circuits.{no_place, place_at, from_of, IsPathBetween, IsCircuit}
-use Rattle.teg_text.specs.teg_net.Parts.{to_of}
-use Rattle.teg_text.specs.teg_net.ReducedTimes.{reduced_time_of_place}
-use Rattle.teg_text.proofs.teg_net_proofs.PathLaws.{IsPathBetween-append, IsPathBetween-in_range}
+use Rattle.teg_net.specs.declared.entries.PlaceId.{PlaceId}
+use Rattle.teg_net.specs.Nets.{NetLists, IsNet}
+use Rattle.teg_net.specs.Ratios.{Fraction}
+use Rattle.teg_net.specs.Circuits.{no_place, place_at, from_of, IsPathBetween, IsCircuit}
+use Rattle.teg_net.specs.Parts.{to_of}
+use Rattle.teg_net.specs.ReducedTimes.{reduced_time_of_place}
+use Rattle.teg_net.proofs.PathLaws.{IsPathBetween-append, IsPathBetween-in_range}
 use Rattle.teg_loops.proofs.Stops.{met, to_met, from_met, met_at}
 use Rattle.teg_sizing.specs.declared.rounds.ValueCell.{ValueCell}
 use Rattle.teg_sizing.specs.ValueRounds.{reduced_time_of_path, Avoids, value_told, by_at, IsAtLeast, IsRoundAfter, IsTakenBy, round_at, AreRounds}

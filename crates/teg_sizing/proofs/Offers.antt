@@ -4,12 +4,12 @@ use Rattle.std.specs.Prelude.{◌≤ℤ◌}
 use Rattle.std.proofs.lemmas.Int.{ints}
 use Rattle.std.proofs.lemmas.Bool.{cases_lt, cases_eq}
 use Rattle.std.proofs.lemmas.List.{length-append, length-set, get_or_append_left, get_or-append-add, get_or_past, get_or_read, get_or-set_same, get_or-set_other}
-use Rattle.teg_text.specs.teg_net.declared.entries.PlaceId.{PlaceId}
-use Rattle.teg_text.specs.teg_net.declared.entries.Place.{Place}
-use Rattle.teg_text.specs.teg_net.Nets.{NetLists, IsNet}
-use Rattle.teg_text.specs.teg_net.Ratios.{Fraction}
-use Rattle.teg_text.specs.teg_net.Circuits.{no_place, place_at}
-use Rattle.teg_text.specs.teg_net.Parts.{to_of}
+use Rattle.teg_net.specs.declared.entries.PlaceId.{PlaceId}
+use Rattle.teg_net.specs.declared.entries.Place.{Place}
+use Rattle.teg_net.specs.Nets.{NetLists, IsNet}
+use Rattle.teg_net.specs.Ratios.{Fraction}
+use Rattle.teg_net.specs.Circuits.{no_place, place_at}
+use Rattle.teg_net.specs.Parts.{to_of}
 use Rattle.teg_sizing.specs.declared.rounds.ValueCell.{ValueCell}
 use Rattle.teg_sizing.specs.ValueRounds.{no_cell, value_told, by_at, IsAtLeast, IsOffered, AreFresh, IsTakenBy, IsRoundUpTo}
 use Rattle.teg_sizing.proofs.Values.{same_some, none_some, at_least_is, at_least_less, between_them}

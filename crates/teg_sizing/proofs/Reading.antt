@@ -1,9 +1,9 @@
 -- An answer is read back from its text.
 use Rattle.std.proofs.Common.{ℕ, ◌≡◌, List, [], ◌∷◌, map, codes, drop, Option, Some, None, refl, ap, ◌∙◌}
 use Rattle.std.specs.Prelude.{if◌then◌else◌}
-use Rattle.teg_text.specs.teg_net.declared.entries.PlaceId.{PlaceId}
-use Rattle.teg_text.specs.teg_net.Nets.{NetLists, IsNet}
-use Rattle.teg_text.specs.teg_net.Ratios.{Fraction}
+use Rattle.teg_net.specs.declared.entries.PlaceId.{PlaceId}
+use Rattle.teg_net.specs.Nets.{NetLists, IsNet}
+use Rattle.teg_net.specs.Ratios.{Fraction}
 use Rattle.teg_text.specs.WordsOfNames.{name_of_place, place_named, ratio_of_word}
 use Rattle.teg_text.specs.ValueWords.{ratio_word}
 use Rattle.teg_text.specs.WordReading.{line_at, word, stands_at, number_in, label_in}
@@ -11,7 +11,7 @@ use Rattle.teg_text.proofs.Back.{word64_back, ratio_is_word, label_back}
 use Rattle.teg_text.proofs.NamesRead.{circuits, place_back, place_is_word, ratio_back}
 use Rattle.teg_text.proofs.Telling.{IsReadFrom, same_told}
 use Rattle.teg_text.proofs.Words.{decimal_is_word, label_is_word}
-use Rattle.teg_text.proofs.teg_net_proofs.PathLaws.{IsPathBetween-in_range}
+use Rattle.teg_net.proofs.PathLaws.{IsPathBetween-in_range}
 use Rattle.teg_sizing.specs.declared.sizing.Sizing.{Sizing}
 use Rattle.teg_sizing.specs.declared.sizing.Sizing.TheVariants.{Enough, Impossible}
 use Rattle.teg_sizing.specs.Sizings.{IsSizing}

@@ -6,13 +6,13 @@ use Rattle.std.proofs.lemmas.Bool.{cases_eq}
 use Rattle.std.proofs.lemmas.Int.{ints}
 use Rattle.std.proofs.lemmas.List.{length-append, get_or-append-add}
 use Rattle.std.proofs.lemmas.List.Elements.{All-append}
-use Rattle.teg_text.specs.teg_net.declared.entries.PlaceId.{PlaceId}
-use Rattle.teg_text.specs.teg_net.Nets.{NetLists, IsNet, IsPlaceOf}
-use Rattle.teg_text.specs.teg_net.Ratios.{Fraction}
-use Rattle.teg_text.specs.teg_net.Circuits.{no_place, place_at, from_of, IsPathBetween, IsCircuit, time_of, tokens_of}
-use Rattle.teg_text.specs.teg_net.Parts.{to_of}
-use Rattle.teg_text.specs.teg_net.ReducedTimes.{reduced_time_of_place}
-use Rattle.teg_text.proofs.teg_net_proofs.Turning.{turned_circuit}
+use Rattle.teg_net.specs.declared.entries.PlaceId.{PlaceId}
+use Rattle.teg_net.specs.Nets.{NetLists, IsNet, IsPlaceOf}
+use Rattle.teg_net.specs.Ratios.{Fraction}
+use Rattle.teg_net.specs.Circuits.{no_place, place_at, from_of, IsPathBetween, IsCircuit, time_of, tokens_of}
+use Rattle.teg_net.specs.Parts.{to_of}
+use Rattle.teg_net.specs.ReducedTimes.{reduced_time_of_place}
+use Rattle.teg_net.proofs.Turning.{turned_circuit}
 use Rattle.teg_loops.specs.Loops.{EndsBelow, HasLoop, IsStraight}
 use Rattle.teg_loops.proofs.Straight.{loop_or_apart, apart_straight, loop_short}
 use Rattle.teg_loops.proofs.Taking.{rest_leads, rest_shorter}

@@ -3,13 +3,13 @@ use Rattle.std.proofs.Common.{ℕ, ℤ, zero, suc, ◌+◌, ◌-◌, ◌<◌, �
 use Rattle.std.proofs.lemmas.Int.{ints}
 use Rattle.std.proofs.lemmas.List.{length-append, append_assoc, reverse-append, get_or_read}
 use Rattle.std.proofs.lemmas.List.Elements.{All-append}
-use Rattle.teg_text.specs.teg_net.declared.entries.PlaceId.{PlaceId}
-use Rattle.teg_text.specs.teg_net.Nets.{NetLists}
-use Rattle.teg_text.specs.teg_net.Ratios.{Fraction}
-use Rattle.teg_text.specs.teg_net.Circuits.{place_at, from_of, IsPathBetween}
-use Rattle.teg_text.specs.teg_net.Parts.{to_of}
-use Rattle.teg_text.specs.teg_net.ReducedTimes.{reduced_time_of_place}
-use Rattle.teg_text.proofs.teg_net_proofs.PathLaws.{IsPathBetween-append}
+use Rattle.teg_net.specs.declared.entries.PlaceId.{PlaceId}
+use Rattle.teg_net.specs.Nets.{NetLists}
+use Rattle.teg_net.specs.Ratios.{Fraction}
+use Rattle.teg_net.specs.Circuits.{place_at, from_of, IsPathBetween}
+use Rattle.teg_net.specs.Parts.{to_of}
+use Rattle.teg_net.specs.ReducedTimes.{reduced_time_of_place}
+use Rattle.teg_net.proofs.PathLaws.{IsPathBetween-append}
 use Rattle.teg_sizing.specs.declared.rounds.ValueCell.{ValueCell}
 use Rattle.teg_sizing.specs.ValueRounds.{reduced_time_of_path, Avoids, value_told, by_at, IsAtLeast, IsTakenBy, IsRoundAfter, round_at, AreRounds}
 use Rattle.teg_sizing.specs.TracedPaths.{AreOfNet, by_place, trace_of}

@@ -7,15 +7,15 @@ use Rattle.std.proofs.lemmas.Bool.{cases_eq}
 use Rattle.std.proofs.lemmas.List.{length-append, get_or_append_left, get_or-append_right}
 use Rattle.std.proofs.lemmas.List.Sums.{sum_by-append, sum_by-cons}
 use Rattle.std.proofs.Math.Nat.{mul-le-mul_right}
-use Rattle.teg_text.specs.teg_net.declared.entries.PlaceId.{PlaceId}
-use Rattle.teg_text.specs.teg_net.declared.entries.Place.{Place}
-use Rattle.teg_text.specs.teg_net.Limits.{greatest_hold, most_place_tokens, greatest_target_time, most_target_tokens}
-use Rattle.teg_text.specs.teg_net.Nets.{NetLists}
-use Rattle.teg_text.specs.teg_net.Ratios.{Fraction}
-use Rattle.teg_text.specs.teg_net.Circuits.{place_at, time_of, tokens_of}
-use Rattle.teg_text.specs.teg_net.ReducedTimes.{reduced_time_of_place}
+use Rattle.teg_net.specs.declared.entries.PlaceId.{PlaceId}
+use Rattle.teg_net.specs.declared.entries.Place.{Place}
+use Rattle.teg_net.specs.Limits.{greatest_hold, most_place_tokens, greatest_target_time, most_target_tokens}
+use Rattle.teg_net.specs.Nets.{NetLists}
+use Rattle.teg_net.specs.Ratios.{Fraction}
+use Rattle.teg_net.specs.Circuits.{place_at, time_of, tokens_of}
+use Rattle.teg_net.specs.ReducedTimes.{reduced_time_of_place}
 use Rattle.teg_sizing.specs.ValueRounds.{IsTarget, reduced_time_of_path, Avoids, greatest_reduced_time, most_value, IsAtLeast}
-use Rattle.teg_text.proofs.teg_net_proofs.Reading.{same_id}
+use Rattle.teg_net.proofs.Reading.{same_id}
 
 -- ---- reading
 

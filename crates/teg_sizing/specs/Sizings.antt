@@ -1,9 +1,9 @@
 -- How many further tokens of a place are enough for a target ratio (chapters 2 and 3).
 use Rattle.std.specs.Prelude.{ℕ, ◌+◌, ◌-◌, ◌*◌, ◌<◌, ◌≤◌, ◌≡◌, ◌⊎◌, List, Some, None, Contains}
-use Rattle.teg_text.specs.teg_net.declared.entries.PlaceId.{PlaceId}
-use Rattle.teg_text.specs.teg_net.Nets.{NetLists}
-use Rattle.teg_text.specs.teg_net.Ratios.{Fraction}
-use Rattle.teg_text.specs.teg_net.Circuits.{IsCircuit, IsTurned, BeginsLowest, time_of, tokens_of}
+use Rattle.teg_net.specs.declared.entries.PlaceId.{PlaceId}
+use Rattle.teg_net.specs.Nets.{NetLists}
+use Rattle.teg_net.specs.Ratios.{Fraction}
+use Rattle.teg_net.specs.Circuits.{IsCircuit, IsTurned, BeginsLowest, time_of, tokens_of}
 use Rattle.teg_sizing.specs.declared.sizing.Sizing.{Sizing}
 use Rattle.teg_sizing.specs.declared.sizing.Sizing.TheVariants.{Enough, Impossible}
 

@@ -1,10 +1,10 @@
 -- Working definitions of circuits above a target ratio, and of the best of those that pass a place.
 use Rattle.std.specs.Prelude.{ℕ, ℤ, pos, ◌+◌, ◌≤ℤ◌, ◌<◌, ◌≤◌, ◌≡◌, ◌≢◌, List, length, Some, None, Contains}
-use Rattle.teg_text.specs.teg_net.declared.entries.PlaceId.{PlaceId}
-use Rattle.teg_text.specs.teg_net.Nets.{NetLists}
-use Rattle.teg_text.specs.teg_net.Ratios.{Fraction}
-use Rattle.teg_text.specs.teg_net.Circuits.{IsCircuit}
-use Rattle.teg_text.specs.teg_net.Parts.{to_of}
+use Rattle.teg_net.specs.declared.entries.PlaceId.{PlaceId}
+use Rattle.teg_net.specs.Nets.{NetLists}
+use Rattle.teg_net.specs.Ratios.{Fraction}
+use Rattle.teg_net.specs.Circuits.{IsCircuit}
+use Rattle.teg_net.specs.Parts.{to_of}
 use Rattle.teg_sizing.specs.declared.rounds.ValueCell.{ValueCell}
 use Rattle.teg_sizing.specs.ValueRounds.{reduced_time_of_path, Avoids, most_value, value_told, by_at}
 use Rattle.teg_sizing.specs.TracedPaths.{AreOfNet, HaveToldAll}

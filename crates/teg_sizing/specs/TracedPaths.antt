@@ -1,10 +1,10 @@
 -- Working definitions of the path that rounds tell, and of the first circuit that a path closes.
 use Rattle.std.specs.Prelude.{ℕ, zero, suc, ◌+◌, ◌-◌, ◌<◌, ◌≤◌, ◌≡◌, ◌≢◌, List, [], ◌∷◌, ◌++◌, length, take, drop, Option, Some, None, slice_index_or}
-use Rattle.teg_text.specs.teg_net.declared.entries.PlaceId.{PlaceId}
-use Rattle.teg_text.specs.teg_net.Nets.{NetLists}
-use Rattle.teg_text.specs.teg_net.Circuits.{from_of, IsCircuit}
+use Rattle.teg_net.specs.declared.entries.PlaceId.{PlaceId}
+use Rattle.teg_net.specs.Nets.{NetLists}
+use Rattle.teg_net.specs.Circuits.{from_of, IsCircuit}
 use Rattle.teg_sizing.specs.declared.rounds.ValueCell.{ValueCell}
-use Rattle.teg_text.specs.teg_net.Ratios.{Fraction}
+use Rattle.teg_net.specs.Ratios.{Fraction}
 use Rattle.teg_sizing.specs.ValueRounds.{by_at, round_at, AreRounds}
 
 -- each round tells of the net's transitions, by its places

@@ -1,13 +1,13 @@
 -- The value of paths against a target ratio, and the rounds in which the greatest values are found (chapter 3).
 use Rattle.std.specs.Prelude.{ℕ, ℤ, pos, ◌+◌, ◌*◌, ◌+ℤ◌, ◌-ℤ◌, ◌≤ℤ◌, ◌<◌, ◌≤◌, ◌≡◌, ◌≢◌, List, [], length, All, Option, Some, None, slice_index_or}
-use Rattle.teg_text.specs.teg_net.declared.entries.PlaceId.{PlaceId}
-use Rattle.teg_text.specs.teg_net.declared.entries.Place.{Place}
-use Rattle.teg_text.specs.teg_net.Nets.{NetLists}
-use Rattle.teg_text.specs.teg_net.Ratios.{Fraction}
-use Rattle.teg_text.specs.teg_net.Circuits.{place_at, time_of, tokens_of}
-use Rattle.teg_text.specs.teg_net.Parts.{to_of}
-use Rattle.teg_text.specs.teg_net.ReducedTimes.{reduced_time_of_place}
-use Rattle.teg_text.specs.teg_net.Limits.{greatest_target_time, most_target_tokens}
+use Rattle.teg_net.specs.declared.entries.PlaceId.{PlaceId}
+use Rattle.teg_net.specs.declared.entries.Place.{Place}
+use Rattle.teg_net.specs.Nets.{NetLists}
+use Rattle.teg_net.specs.Ratios.{Fraction}
+use Rattle.teg_net.specs.Circuits.{place_at, time_of, tokens_of}
+use Rattle.teg_net.specs.Parts.{to_of}
+use Rattle.teg_net.specs.ReducedTimes.{reduced_time_of_place}
+use Rattle.teg_net.specs.Limits.{greatest_target_time, most_target_tokens}
 use Rattle.teg_sizing.specs.declared.rounds.ValueCell.{ValueCell}
 
 -- a target keeps its limits

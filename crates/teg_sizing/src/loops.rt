@@ -1,11 +1,11 @@
 //! A circuit that stands in a path with more places than there are transitions.
 ghost use Rattle.std.specs.Prelude.{◌<◌, length, IfOk, IfNone, IfSome};
-ghost use Rattle.teg_text.specs.teg_net.Nets.{IsNet};
-ghost use Rattle.teg_text.specs.teg_net.Circuits.{IsPath};
+ghost use Rattle.teg_net.specs.Nets.{IsNet};
+ghost use Rattle.teg_net.specs.Circuits.{IsPath};
 ghost use Rattle.teg_sizing.specs.TracedPaths.{IsLeftBefore, IsFirstLoop, NoneLeaves};
 
 use std::alloc::{AllocError, Global};
-use teg_text::teg_net::{Net, PlaceId};
+use teg_net::{Net, PlaceId};
 
 // The position of a place before this one that leaves the same transition.
 fn left_before(net: &Net, places: &[PlaceId], position: usize) -> Option<usize>

@@ -1,16 +1,16 @@
 //! The greatest values of paths, round by round (the algorithm of Bellman and Ford): the paths of a
 //! round have at most one place more than those of the round before.
 ghost use Rattle.std.specs.Prelude.{◌+◌, ◌≡◌, ◌≢◌, ◌≤◌, ◌<◌, length, IfOk, IfNone, IfSome, IsTrue, false, Some, None};
-ghost use Rattle.teg_text.specs.teg_net.Limits.{greatest_hold, most_place_tokens};
-ghost use Rattle.teg_text.specs.teg_net.Nets.{IsNet};
-ghost use Rattle.teg_text.specs.teg_net.ReducedTimes.{reduced_time_of_place};
+ghost use Rattle.teg_net.specs.Limits.{greatest_hold, most_place_tokens};
+ghost use Rattle.teg_net.specs.Nets.{IsNet};
+ghost use Rattle.teg_net.specs.ReducedTimes.{reduced_time_of_place};
 ghost use Rattle.teg_sizing.specs.TracedPaths.{HaveToldAll, last_round};
 ghost use Rattle.teg_sizing.specs.Surpluses.{IsToldMore, NoneIsBetter};
 ghost use Rattle.teg_sizing.specs.ValueRounds.{IsTarget, value_told, most_value, AreValuesWithin, IsAtLeast, IsOffered, AreFresh, IsRoundAfter, AreRounds};
 
 use std::alloc::{AllocError, Global};
 use std::marker::Model;
-use teg_text::teg_net::{Net, Place, PlaceId, Ratio};
+use teg_net::{Net, Place, PlaceId, Ratio};
 
 // What is told of a transition: the greatest value of the paths that end there, none where there
 // is none; and their last place, where they are not those of the round before.

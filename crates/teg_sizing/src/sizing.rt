@@ -1,6 +1,6 @@
 //! The fewest further tokens of a place.
 ghost use Rattle.std.specs.Prelude.{◌<◌, length, IfOk};
-ghost use Rattle.teg_text.specs.teg_net.Circuits.{IsCircuit};
+ghost use Rattle.teg_net.specs.Circuits.{IsCircuit};
 ghost use Rattle.teg_check.specs.Ranks.{IsRanking};
 ghost use Rattle.teg_sizing.specs.ValueRounds.{IsTarget};
 ghost use Rattle.teg_sizing.specs.Surpluses.{NoneIsAbove, IsBestThrough};
@@ -9,7 +9,7 @@ ghost use Rattle.teg_sizing.specs.Sizings.{IsSizing, IsTurnedLowest};
 use crate::surpluses::{Through, above_apart, best_through};
 use std::alloc::Global;
 use teg_check::Live;
-use teg_text::teg_net::{Circuit, Net, OutOfMemory, PlaceId, Ratio};
+use teg_net::{Circuit, Net, OutOfMemory, PlaceId, Ratio};
 
 /// How many more tokens a place needs, so that no circuit has a greater ratio than a target.
 #[derive(Debug, Drop)]

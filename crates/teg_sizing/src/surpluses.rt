@@ -1,6 +1,6 @@
 //! Circuits above the target: those that avoid the place, and the best of those that pass it.
 ghost use Rattle.std.specs.Prelude.{◌<◌, length, IfOk, IfNone, IfSome, Some};
-ghost use Rattle.teg_text.specs.teg_net.Nets.{IsNet};
+ghost use Rattle.teg_net.specs.Nets.{IsNet};
 ghost use Rattle.teg_sizing.specs.TracedPaths.{last_round};
 ghost use Rattle.teg_sizing.specs.ValueRounds.{IsTarget};
 ghost use Rattle.teg_sizing.specs.Surpluses.{NoneIsAbove, IsAboveApart, StartsEverywhere, StartsFrom, IsToldMore, AreRoundsApart, AreRoundsBack, NonePasses, IsBestThrough};
@@ -9,7 +9,7 @@ use crate::loops::first_loop;
 use crate::rounds::{ValueCell, ValueRound, better_at, last_cells, rounds, weight};
 use crate::tracing::trace;
 use std::alloc::{AllocError, Global};
-use teg_text::teg_net::{Net, PlaceId, Ratio, TransitionId};
+use teg_net::{Net, PlaceId, Ratio, TransitionId};
 
 // The circuit of greatest value among those that pass a place, and that value.
 #[derive(Debug, Drop)]

@@ -9,7 +9,7 @@ ghost use Rattle.teg_sizing.specs.SizingTexts.{TextsOfSizingsDiffer, enough_line
 
 use crate::sizing::Sizing;
 use std::alloc::{AllocError, Global};
-use teg_text::teg_net::{Net, OutOfMemory, PlaceId, Ratio};
+use teg_net::{Net, OutOfMemory, PlaceId, Ratio};
 use teg_text::{push_circuit, push_label};
 
 // Appends the line of a number that is enough.

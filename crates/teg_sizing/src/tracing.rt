@@ -1,12 +1,12 @@
 //! The path that the rounds tell of a transition.
 ghost use Rattle.std.specs.Prelude.{◌≡◌, ◌<◌, length, IfOk, IfSome};
-ghost use Rattle.teg_text.specs.teg_net.Circuits.{from_of};
+ghost use Rattle.teg_net.specs.Circuits.{from_of};
 ghost use Rattle.teg_sizing.specs.ValueRounds.{by_at, round_at};
 ghost use Rattle.teg_sizing.specs.TracedPaths.{AreOfNet, trace_of};
 
 use crate::rounds::ValueRound;
 use std::alloc::{AllocError, Global};
-use teg_text::teg_net::{Net, PlaceId};
+use teg_net::{Net, PlaceId};
 
 // The place by which the round of this number came to the transition, if it is by one.
 fn place_by(net: &Net, rounds: &[ValueRound], number: usize, at: usize) -> Option<PlaceId>

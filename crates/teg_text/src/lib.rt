@@ -17,5 +17,4 @@ mod writing;
 pub use faults::row_fault;
 pub use laws::{lines_are_read, names_are_read, words_are_read};
 pub use names::{push_circuit, push_places, push_settled};
-pub use teg_net;
 pub use writing::{push_date, push_dates, push_label};

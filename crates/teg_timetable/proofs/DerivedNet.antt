@@ -8,12 +8,12 @@ use Rattle.delay_laws.specs.declared.table.Timetable.{Timetable}
 use Rattle.delay_laws.specs.PlannedTimetables.{IsPastDelays}
 use Rattle.delay_laws.specs.Delays.{IsReleaseAt}
 use Rattle.delay_laws.specs.ReleaseNets.{release_place}
-use Rattle.teg_settle.specs.teg_net.declared.entries.InputList.{InputList}
-use Rattle.teg_settle.specs.teg_net.declared.entries.Place.{Place}
-use Rattle.teg_settle.specs.teg_net.declared.entries.Role.TheVariants.{Internal, Input}
-use Rattle.teg_settle.specs.teg_net.declared.entries.Transition.{Transition}
-use Rattle.teg_settle.specs.teg_net.Circuits.{no_place}
-use Rattle.teg_settle.specs.teg_net.Nets.{EndsOrGoesOn, IsInput, IsInputOf, IsNet, IsPlaceOf, NetLists}
+use Rattle.teg_net.specs.declared.entries.InputList.{InputList}
+use Rattle.teg_net.specs.declared.entries.Place.{Place}
+use Rattle.teg_net.specs.declared.entries.Role.TheVariants.{Internal, Input}
+use Rattle.teg_net.specs.declared.entries.Transition.{Transition}
+use Rattle.teg_net.specs.Circuits.{no_place}
+use Rattle.teg_net.specs.Nets.{EndsOrGoesOn, IsInput, IsInputOf, IsNet, IsPlaceOf, NetLists}
 use Rattle.teg_timetable.specs.Working.{AreBuilt, ArePlannedReleases, IsDerivedList, IsDerivedTransition, IsNetMade, IsNumberName}
 use Rattle.teg_timetable.proofs.Releasing.{releases_rise}
 

@@ -4,13 +4,13 @@ use Rattle.std.specs.Prelude.{nat_le}
 use Rattle.std.specs.Str.Parse.{digits_value}
 use Rattle.std.proofs.lemmas.Bool.{cases_Bool}
 use Rattle.std.proofs.lemmas.Bool.Decides.{nat_tests}
-use Rattle.teg_due.specs.csv_records.NumberFields.{is_number}
-use Rattle.teg_due.specs.csv_records.Records.{records_of}
-use Rattle.teg_due.proofs.csv_records_proofs.RowLaws.{differ_in_one, each_row, rows_once}
+use Rattle.csv_records.specs.NumberFields.{is_number}
+use Rattle.csv_records.specs.Records.{records_of}
+use Rattle.csv_records.proofs.RowLaws.{differ_in_one, each_row, rows_once}
 use Rattle.delay_laws.specs.PlannedTimetables.{greatest_departure, greatest_delayed_number, greatest_delay}
 use Rattle.teg_due.specs.RowNames.{number_named}
 use Rattle.teg_due.proofs.DueRules.{named_in}
-use Rattle.teg_settle.specs.teg_net.Nets.{NetLists}
+use Rattle.teg_net.specs.Nets.{NetLists}
 use Rattle.teg_timetable.specs.declared.entries.TableEntry.{TableEntry}
 use Rattle.teg_timetable.specs.declared.entries.TableEntry.TheVariants.{Departure, Late}
 use Rattle.teg_timetable.specs.declared.refusals.TableRefusal.{TableRefusal}

@@ -11,10 +11,10 @@ use Rattle.delay_laws.specs.SettlingLaws.{AreSettledDelays}
 use Rattle.delay_laws.proofs.Keeping.{circuit_within, circuits_keep_delays, delays_die_out}
 use Rattle.delay_laws.proofs.PassedOn.{greatest_delays_are_passed_on}
 use Rattle.teg_settle.specs.teg_model.LiveRanks.{HasEndsInRange}
-use Rattle.teg_settle.specs.teg_net.declared.entries.PlaceId.{PlaceId}
-use Rattle.teg_settle.specs.teg_net.Circuits.{from_of, BeginsLowest, IsCircuit, IsLive, IsTurned}
-use Rattle.teg_settle.specs.teg_net.Nets.{IsNet, NetLists}
-use Rattle.teg_settle.specs.teg_net.Parts.{to_of}
+use Rattle.teg_net.specs.declared.entries.PlaceId.{PlaceId}
+use Rattle.teg_net.specs.Circuits.{from_of, BeginsLowest, IsCircuit, IsLive, IsTurned}
+use Rattle.teg_net.specs.Nets.{IsNet, NetLists}
+use Rattle.teg_net.specs.Parts.{to_of}
 use Rattle.teg_timetable.specs.Spreads.{LeftDelays, delay_left}
 use Rattle.teg_timetable.specs.Working.{AreBuilt, AreFeeders, AreGood, FeedersGoBack, FeedsAt, IsFeeder, IsTop}
 

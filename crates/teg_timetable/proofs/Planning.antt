@@ -2,7 +2,7 @@
 use Rattle.std.proofs.Common.{ℕ, ◌+◌, ◌-◌, ◌*◌, ◌<◌, ◌≤◌, ◌≡◌, length, get_or, ap, arith}
 use Rattle.delay_laws.specs.declared.table.Timetable.{Timetable}
 use Rattle.delay_laws.specs.PlannedTimetables.{IsWorkableAt, first_planned}
-use Rattle.teg_settle.specs.teg_net.declared.entries.Place.{Place}
+use Rattle.teg_net.specs.declared.entries.Place.{Place}
 
 -- a ready date that is later than its departure is planned does not fit
 pub not_ready : (period : ℕ) (t : Timetable) (p : Place) (k : ℕ) → k < length p.ready → length p.ready ≤ p.tokens → first_planned t p.to.index + period * k < get_or p.ready k 0

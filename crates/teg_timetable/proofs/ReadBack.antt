@@ -5,7 +5,7 @@ use Rattle.std.specs.Fmt.{decimal}
 use Rattle.std.specs.List.{list_all}
 use Rattle.std.proofs.lemmas.Bool.{and_from}
 use Rattle.std.proofs.lemmas.List.Elements.{All-head, All-tail}
-use Rattle.teg_settle.specs.teg_net.Nets.{NetLists, IsNet}
+use Rattle.teg_net.specs.Nets.{NetLists, IsNet}
 use Rattle.teg_text.specs.Lines.{is_word, is_line, are_lines}
 use Rattle.teg_text.specs.WordsOfNames.{place_named, transition_in}
 use Rattle.teg_text.specs.WordReading.{lines_in, line_at, word, stands_at, number_in}

@@ -2,13 +2,13 @@
 use Rattle.std.proofs.Common.{ℕ, zero, suc, ◌<◌, ◌≤◌, ◌+◌, ◌&&◌, ◌≡◌, ◌≢◌, List, [], ◌∷◌, ◌++◌, Bool, true, false, cond, length, Option, Some, None, Result, Ok, Err, refl, subst, arith}
 use Rattle.std.specs.Prelude.{nat_le}
 use Rattle.std.specs.Str.Parse.{digits_value}
-use Rattle.teg_due.specs.csv_records.NumberFields.{is_number}
-use Rattle.teg_due.specs.csv_records.Records.{records_of}
-use Rattle.teg_due.specs.csv_records.RowsOfRecords.{and_then, with_read_row}
-use Rattle.teg_due.proofs.csv_records_proofs.RowLaws.{rows_refused}
+use Rattle.csv_records.specs.NumberFields.{is_number}
+use Rattle.csv_records.specs.Records.{records_of}
+use Rattle.csv_records.specs.RowsOfRecords.{and_then, with_read_row}
+use Rattle.csv_records.proofs.RowLaws.{rows_refused}
 use Rattle.delay_laws.specs.PlannedTimetables.{greatest_departure}
 use Rattle.teg_due.specs.RowNames.{number_named}
-use Rattle.teg_settle.specs.teg_net.Nets.{NetLists}
+use Rattle.teg_net.specs.Nets.{NetLists}
 use Rattle.teg_timetable.specs.declared.entries.TableEntry.{TableEntry}
 use Rattle.teg_timetable.specs.declared.entries.TableEntry.TheVariants.{Departure, Late}
 use Rattle.teg_timetable.specs.declared.refusals.TableRefusal.{TableRefusal}

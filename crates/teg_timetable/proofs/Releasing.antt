@@ -12,7 +12,7 @@ use Rattle.delay_laws.specs.declared.table.Timetable.{Timetable}
 use Rattle.delay_laws.specs.PlannedTimetables.{delay_given, delay_in, planned, greatest_delay}
 use Rattle.delay_laws.specs.Delays.{IsReleaseAt}
 use Rattle.delay_laws.proofs.Releases.{release_rises}
-use Rattle.teg_settle.specs.teg_net.Limits.{greatest_input_date}
+use Rattle.teg_net.specs.Limits.{greatest_input_date}
 use Rattle.teg_timetable.specs.Departures.{or_second}
 use Rattle.teg_timetable.specs.Working.{ArePlannedReleases, IsSmall, given_in}
 

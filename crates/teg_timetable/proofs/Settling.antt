@@ -9,9 +9,9 @@ use Rattle.delay_laws.specs.SettlingLaws.{AreSettledDelays, TellsDelays}
 use Rattle.delay_laws.proofs.Dated.{delays_left_are_within}
 use Rattle.delay_laws.proofs.Steps.{forms_tell_delays}
 use Rattle.teg_settle.specs.settled_laws.SettledForms.{SettledForm, settled_length}
-use Rattle.teg_settle.specs.teg_net.Nets.{IsNet, NetLists}
-use Rattle.teg_settle.specs.teg_net.Limits.{most_rows}
-use Rattle.teg_settle.proofs.teg_net_proofs.PathLaws.{IsPathBetween-in_range}
+use Rattle.teg_net.specs.Nets.{IsNet, NetLists}
+use Rattle.teg_net.specs.Limits.{most_rows}
+use Rattle.teg_net.proofs.PathLaws.{IsPathBetween-in_range}
 use Rattle.teg_timetable.specs.declared.refusals.DelayRefusal.{DelayRefusal}
 use Rattle.teg_timetable.specs.declared.refusals.DelayRefusal.TheVariants.{TooLarge, Unworkable, TooLong, OutOfMemory}
 use Rattle.teg_timetable.specs.DelayAnswers.{DelaysExceedLimit, IsOutcomeIn, IsNetTooLarge, IsSettlingRefusal, IsRightOutcome, IsSpread, IsLengthWithinLimit}

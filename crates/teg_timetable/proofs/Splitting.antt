@@ -4,10 +4,10 @@ use Rattle.std.proofs.lemmas.Bool.{cases_Bool, cases_eq}
 use Rattle.std.proofs.lemmas.List.{length-append, take_more}
 use Rattle.std.proofs.lemmas.List.Elements.{All-append, All-cons, All-head, All-tail}
 use Rattle.std.proofs.lemmas.List.Kept.{AllPairs-cons}
-use Rattle.teg_due.specs.csv_records.RowsOfRecords.{and_then, with_read_row}
+use Rattle.csv_records.specs.RowsOfRecords.{and_then, with_read_row}
 use Rattle.delay_laws.specs.declared.table.Delay.{Delay}
 use Rattle.delay_laws.specs.PlannedTimetables.{IsDelayOf, greatest_departure}
-use Rattle.teg_settle.specs.teg_net.Nets.{NetLists}
+use Rattle.teg_net.specs.Nets.{NetLists}
 use Rattle.teg_timetable.specs.declared.entries.TableEntry.{TableEntry}
 use Rattle.teg_timetable.specs.declared.entries.TableEntry.TheVariants.{Departure, Late}
 use Rattle.teg_timetable.specs.declared.refusals.TableRefusal.{TableRefusal}

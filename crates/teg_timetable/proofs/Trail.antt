@@ -7,11 +7,11 @@ use Rattle.std.proofs.lemmas.List.{length-set, get_or-set_same, get_or-set_other
 use Rattle.std.proofs.lemmas.List.Elements.{All-cons, All-take}
 use Rattle.std.proofs.lemmas.List.Kept.{AllPairs-cons}
 use Rattle.delay_laws.specs.declared.table.Timetable.{Timetable}
-use Rattle.teg_settle.specs.teg_net.declared.entries.PlaceId.{PlaceId}
-use Rattle.teg_settle.specs.teg_net.Nets.{NetLists}
-use Rattle.teg_settle.specs.teg_net.Circuits.{from_of, IsPathBetween, IsCircuit}
-use Rattle.teg_settle.specs.teg_net.Parts.{to_of}
-use Rattle.teg_settle.proofs.teg_net_proofs.PathLaws.{IsPathBetween-split}
+use Rattle.teg_net.specs.declared.entries.PlaceId.{PlaceId}
+use Rattle.teg_net.specs.Nets.{NetLists}
+use Rattle.teg_net.specs.Circuits.{from_of, IsPathBetween, IsCircuit}
+use Rattle.teg_net.specs.Parts.{to_of}
+use Rattle.teg_net.proofs.PathLaws.{IsPathBetween-split}
 use Rattle.delay_laws.specs.DelayOutcomes.{HasNoSpare}
 use Rattle.teg_timetable.specs.Working.{AreGood, IsFeeder}
 

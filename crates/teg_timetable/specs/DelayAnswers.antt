@@ -5,8 +5,8 @@ use Rattle.delay_laws.specs.PlannedTimetables.{IsWorkable, IsWorkableAt, greates
 use Rattle.delay_laws.specs.Delays.{AreDelaysLeft, IsFormOfDelays, DelaysSettlePast}
 use Rattle.delay_laws.specs.DelayOutcomes.{IsRecovered, KeepsDelays}
 use Rattle.teg_settle.specs.settled_laws.SettledForms.{NetSettlesPast, settled_length}
-use Rattle.teg_settle.specs.teg_net.Circuits.{place_at, AreInRange}
-use Rattle.teg_settle.specs.teg_net.Nets.{NetLists}
+use Rattle.teg_net.specs.Circuits.{place_at, AreInRange}
+use Rattle.teg_net.specs.Nets.{NetLists}
 use Rattle.teg_timetable.specs.declared.refusals.DelayRefusal.{DelayRefusal}
 use Rattle.teg_timetable.specs.declared.refusals.DelayRefusal.TheVariants.{TooLarge, Unworkable, TooLong, OutOfMemory}
 use Rattle.teg_timetable.specs.Spreads.{Spread, OutcomeTold, RecoveredTold, KeptTold, delay_by_spread}

@@ -3,12 +3,12 @@ use Rattle.std.specs.Prelude.{ℕ, Bool, false, ◌==◌, ◌&&◌, List, [], �
 use Rattle.std.specs.List.{list_any}
 use Rattle.std.specs.Str.{bytes_eq}
 use Rattle.std.specs.Str.Parse.{digits_value}
-use Rattle.teg_due.specs.csv_records.NumberFields.{is_number}
-use Rattle.teg_due.specs.csv_records.Records.{records_of}
-use Rattle.teg_due.specs.csv_records.RowsOfRecords.{rows_of}
+use Rattle.csv_records.specs.NumberFields.{is_number}
+use Rattle.csv_records.specs.Records.{records_of}
+use Rattle.csv_records.specs.RowsOfRecords.{rows_of}
 use Rattle.delay_laws.specs.PlannedTimetables.{greatest_departure, greatest_delayed_number, greatest_delay}
 use Rattle.teg_due.specs.RowNames.{number_named}
-use Rattle.teg_settle.specs.teg_net.Nets.{NetLists}
+use Rattle.teg_net.specs.Nets.{NetLists}
 use Rattle.teg_timetable.specs.declared.entries.TableEntry.{TableEntry}
 use Rattle.teg_timetable.specs.declared.entries.TableEntry.TheVariants.{Departure, Late}
 use Rattle.teg_timetable.specs.declared.refusals.TableRefusal.{TableRefusal}

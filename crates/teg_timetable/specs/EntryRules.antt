@@ -1,7 +1,7 @@
 -- Working definitions of the rules that the entries of a timetable's file keep.
 use Rattle.std.specs.Prelude.{◌<◌, ◌≤◌, ◌≢◌, ◌⊎◌, List, length, All, AllPairs}
 use Rattle.delay_laws.specs.PlannedTimetables.{IsDelayOf, greatest_departure}
-use Rattle.teg_settle.specs.teg_net.Nets.{NetLists}
+use Rattle.teg_net.specs.Nets.{NetLists}
 use Rattle.teg_timetable.specs.declared.entries.TableEntry.{TableEntry}
 use Rattle.teg_timetable.specs.declared.entries.TableEntry.TheVariants.{Departure, Late}
 use Rattle.teg_timetable.specs.Entries.{transition_in_entry, departure_number}

@@ -1,13 +1,13 @@
 -- How the delays of a timetable spread: what is told of it (chapters 2 and 3).
 use Rattle.std.specs.Prelude.{ℕ, pos, ◌+◌, ◌-◌, ◌*◌, ◌<◌, ◌≤◌, ◌≡◌, List, length, slice_index}
-use Rattle.teg_settle.specs.dioid.declared.dates.Date.TheVariants.{At}
+use Rattle.dioid.specs.declared.dates.Date.TheVariants.{At}
 use Rattle.delay_laws.specs.declared.table.DelayOutcome.{DelayOutcome}
 use Rattle.delay_laws.specs.declared.table.DelayOutcome.TheVariants.{Recovered, Kept}
 use Rattle.delay_laws.specs.SettlingLaws.{natural_of_date}
 use Rattle.delay_laws.specs.PlannedTimetables.{greatest_delay, greatest_departure}
 use Rattle.teg_settle.specs.settled_laws.SettledForms.{SettledForm, settled_length, settled_date}
-use Rattle.teg_settle.specs.teg_net.declared.entries.PlaceId.{PlaceId}
-use Rattle.teg_settle.specs.teg_net.Limits.{greatest_firing_number, most_rows}
+use Rattle.teg_net.specs.declared.entries.PlaceId.{PlaceId}
+use Rattle.teg_net.specs.Limits.{greatest_firing_number, most_rows}
 
 -- the greatest period of a timetable
 abbrev pub greatest_period : ℕ

@@ -1,7 +1,7 @@
 -- Working definitions of what is kept while a timetable's file is read.
 use Rattle.std.specs.Prelude.{◌≡◌, List, length}
-use Rattle.teg_due.specs.csv_records.Seen.{SeenNumbers, TellsSeen}
-use Rattle.teg_settle.specs.teg_net.Nets.{NetLists}
+use Rattle.csv_records.specs.Seen.{SeenNumbers, TellsSeen}
+use Rattle.teg_net.specs.Nets.{NetLists}
 use Rattle.teg_timetable.specs.declared.entries.TableEntry.{TableEntry}
 use Rattle.teg_timetable.specs.Entries.{has_entry}
 

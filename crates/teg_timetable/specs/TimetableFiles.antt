@@ -1,9 +1,9 @@
 -- The timetable that a file says: a first departure of each transition, and delays.
 use Rattle.std.specs.Prelude.{ℕ, zero, suc, ◌==◌, ◌<◌, List, [], ◌∷◌, length, Option, Some, None, Result, Ok, Err, if◌then◌else◌, ⊤}
-use Rattle.teg_due.specs.csv_records.RowsOfRecords.{and_then, with_read_row}
+use Rattle.csv_records.specs.RowsOfRecords.{and_then, with_read_row}
 use Rattle.delay_laws.specs.declared.table.Delay.{Delay}
 use Rattle.delay_laws.specs.declared.table.Timetable.{Timetable}
-use Rattle.teg_settle.specs.teg_net.Nets.{NetLists}
+use Rattle.teg_net.specs.Nets.{NetLists}
 use Rattle.teg_timetable.specs.declared.entries.TableEntry.{TableEntry}
 use Rattle.teg_timetable.specs.declared.entries.TableEntry.TheVariants.{Departure, Late}
 use Rattle.teg_timetable.specs.declared.refusals.TableRefusal.{TableRefusal}

@@ -9,16 +9,16 @@ use Rattle.delay_laws.specs.PlannedTimetables.{greatest_delay, greatest_delayed_
 use Rattle.delay_laws.specs.Delays.{IsReleaseAt}
 use Rattle.delay_laws.specs.DelayOutcomes.{HasDelayPast, HasNoSpare}
 use Rattle.delay_laws.specs.ReleaseNets.{IsReleaseList, release_place}
-use Rattle.teg_settle.specs.teg_net.declared.entries.InputList.{InputList}
-use Rattle.teg_settle.specs.teg_net.declared.entries.Place.{Place}
-use Rattle.teg_settle.specs.teg_net.declared.entries.PlaceId.{PlaceId}
-use Rattle.teg_settle.specs.teg_net.declared.entries.Role.TheVariants.{Internal, Input}
-use Rattle.teg_settle.specs.teg_net.declared.entries.Transition.{Transition}
-use Rattle.teg_settle.specs.teg_net.Circuits.{place_at, from_of}
-use Rattle.teg_settle.specs.teg_net.Limits.{greatest_input_date}
-use Rattle.teg_settle.specs.teg_net.Names.{is_name}
-use Rattle.teg_settle.specs.teg_net.Nets.{NetLists}
-use Rattle.teg_settle.specs.teg_net.Parts.{to_of}
+use Rattle.teg_net.specs.declared.entries.InputList.{InputList}
+use Rattle.teg_net.specs.declared.entries.Place.{Place}
+use Rattle.teg_net.specs.declared.entries.PlaceId.{PlaceId}
+use Rattle.teg_net.specs.declared.entries.Role.TheVariants.{Internal, Input}
+use Rattle.teg_net.specs.declared.entries.Transition.{Transition}
+use Rattle.teg_net.specs.Circuits.{place_at, from_of}
+use Rattle.teg_net.specs.Limits.{greatest_input_date}
+use Rattle.teg_net.specs.Names.{is_name}
+use Rattle.teg_net.specs.Nets.{NetLists}
+use Rattle.teg_net.specs.Parts.{to_of}
 use Rattle.teg_timetable.specs.Spreads.{LeftDelays, delay_left}
 
 -- a list of so many entries, of which the one at k is of its kind

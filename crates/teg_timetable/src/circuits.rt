@@ -2,14 +2,14 @@
 ghost use Rattle.std.specs.Prelude.{◌≡◌, ◌≢◌, ◌≤◌, ◌<◌, true, false, length, None, Some, IfOk, slice_index, slice_index_or};
 ghost use Rattle.delay_laws.specs.DelayOutcomes.{HasNoSpare};
 ghost use Rattle.delay_laws.specs.PlannedTimetables.{IsTableOf};
-ghost use Rattle.teg_settle.specs.teg_net.Circuits.{from_of, IsCircuit, BeginsLowest};
-ghost use Rattle.teg_settle.specs.teg_net.Parts.{to_of};
+ghost use Rattle.teg_net.specs.Circuits.{from_of, IsCircuit, BeginsLowest};
+ghost use Rattle.teg_net.specs.Parts.{to_of};
 ghost use Rattle.teg_timetable.specs.Spreads.{greatest_period};
 ghost use Rattle.teg_timetable.specs.Working.{AreFeeders, AreGood, FeedersGoBack, FeedsAt};
 
 use delay_laws::Timetable;
 use std::alloc::{AllocError, Global};
-use teg_settle::teg_net::{Circuit, Net, PlaceId};
+use teg_net::{Circuit, Net, PlaceId};
 
 // Whether the plan leaves the place just the time that it takes.
 fn has_no_spare(net: &Net, period: u64, table: &Timetable, id: PlaceId) -> bool

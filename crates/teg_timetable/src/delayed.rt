@@ -2,13 +2,13 @@
 ghost use Rattle.std.specs.Prelude.{◌≡◌, ◌≤◌, ◌<◌, length};
 ghost use Rattle.delay_laws.specs.PlannedTimetables.{greatest_delay};
 ghost use Rattle.teg_settle.specs.settled_laws.SettledForms.{settled_length};
-ghost use Rattle.teg_settle.specs.teg_net.Limits.{greatest_firing_number, most_rows};
+ghost use Rattle.teg_net.specs.Limits.{greatest_firing_number, most_rows};
 ghost use Rattle.teg_timetable.specs.Spreads.{delay_by_spread, outcome_told};
 
 use crate::left::Left;
 use delay_laws::DelayOutcome;
 use std::marker::Model;
-use teg_settle::teg_net::TransitionId;
+use teg_net::TransitionId;
 
 /// How the delays of a timetable spread: past a number the delayed dates and the releases go on in a
 /// period; the delay that is left at each departure; and what becomes of the delays. Contracts see it

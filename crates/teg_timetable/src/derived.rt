@@ -3,14 +3,14 @@
 ghost use Rattle.std.specs.Prelude.{◌≡◌, ◌≤◌, ◌<◌, ◌+◌, length, IfOk};
 ghost use Rattle.delay_laws.specs.ReleaseNets.{IsReleaseNet};
 ghost use Rattle.delay_laws.specs.PlannedTimetables.{first_planned, greatest_departure, IsTableOf};
-ghost use Rattle.teg_settle.specs.teg_net.Nets.{IsNet, lists_of};
+ghost use Rattle.teg_net.specs.Nets.{IsNet, lists_of};
 ghost use Rattle.teg_timetable.specs.Spreads.{greatest_period};
 ghost use Rattle.teg_timetable.specs.Working.{AreBuilt, AreDelaysSmall, IsDerivedList, IsDerivedPlace, IsDerivedTransition, IsNetMade, IsNumberName};
 
 use crate::releases::{number_past, releases};
 use delay_laws::Timetable;
 use std::alloc::{AllocError, Global};
-use teg_settle::teg_net::{
+use teg_net::{
     Again, DateList, InputList, Name, Net, OutOfMemory, Place, Role, Transition, TransitionId,
 };
 

@@ -3,7 +3,7 @@ ghost use Rattle.std.specs.Prelude.{◌≡◌};
 ghost use Rattle.teg_timetable.specs.Entries.{departure_number, transition_in_entry};
 
 use delay_laws::Delay;
-use teg_settle::teg_net::TransitionId;
+use teg_net::TransitionId;
 
 // A row: the first departure of a transition, in the user's unit, or a delay.
 #[derive(Clone, Copy, Debug, PartialEq, Eq)]

@@ -1,12 +1,12 @@
 //! The greatest delays that stay, and the last delay that is left before.
 ghost use Rattle.std.specs.Prelude.{ℕ, ◌≡◌, ◌≤◌, ◌<◌, ◌⊎◌, true, false, length, All, IfOk, slice_index};
-ghost use Rattle.teg_settle.specs.teg_net.Limits.{greatest_firing_number};
+ghost use Rattle.teg_net.specs.Limits.{greatest_firing_number};
 ghost use Rattle.teg_timetable.specs.Spreads.{delay_left};
 ghost use Rattle.teg_timetable.specs.Working.{AreBuilt, IsTop};
 
 use crate::left::Left;
 use std::alloc::{AllocError, Global};
-use teg_settle::teg_net::TransitionId;
+use teg_net::TransitionId;
 
 // The greatest delay of the transition in the period past the number from which dates go on.
 fn top(left: &Left, transition: TransitionId) -> u64

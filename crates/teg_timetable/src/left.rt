@@ -2,13 +2,13 @@
 ghost use Rattle.std.specs.Prelude.{◌≡◌, ◌≤◌, ◌<◌, length};
 ghost use Rattle.delay_laws.specs.PlannedTimetables.{greatest_delay};
 ghost use Rattle.teg_settle.specs.settled_laws.SettledForms.{settled_length};
-ghost use Rattle.teg_settle.specs.teg_net.Limits.{greatest_firing_number, most_rows};
+ghost use Rattle.teg_net.specs.Limits.{greatest_firing_number, most_rows};
 ghost use Rattle.teg_timetable.specs.Spreads.{AreLeftDelays, delay_left};
 
+use dioid::Date;
 use std::marker::Model;
+use teg_net::TransitionId;
 use teg_settle::SettledDates;
-use teg_settle::dioid::Date;
-use teg_settle::teg_net::TransitionId;
 
 // A plan, by its first departures and its period, and a settled form whose first rows are the delayed
 // dates of its transitions. No call takes memory.

@@ -2,8 +2,8 @@
 ghost use Rattle.std.specs.Prelude.{◌≡◌, ◌≤◌, length, IfOk};
 ghost use Rattle.delay_laws.specs.SettlingLaws.{AreSettledDelays};
 ghost use Rattle.delay_laws.specs.PlannedTimetables.{IsTableOf, IsWorkable};
-ghost use Rattle.teg_settle.specs.teg_net.Circuits.{IsLive};
-ghost use Rattle.teg_settle.specs.teg_net.Nets.{IsNet};
+ghost use Rattle.teg_net.specs.Circuits.{IsLive};
+ghost use Rattle.teg_net.specs.Nets.{IsNet};
 ghost use Rattle.teg_timetable.specs.DelayAnswers.{IsRightOutcome};
 ghost use Rattle.teg_timetable.specs.Spreads.{greatest_period, delay_left, outcome_told};
 
@@ -12,7 +12,7 @@ use crate::late::{highest, last_late, tops};
 use crate::left::Left;
 use delay_laws::{DelayOutcome, Timetable};
 use std::alloc::Global;
-use teg_settle::teg_net::{Net, OutOfMemory};
+use teg_net::{Net, OutOfMemory};
 
 // What becomes of the delays of a timetable that the net can keep.
 pub(crate) fn outcome(

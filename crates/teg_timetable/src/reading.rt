@@ -1,22 +1,22 @@
 //! The entries that the rows of a timetable's file give, or the first fault.
 ghost use Rattle.std.specs.Prelude.{◌≡◌, ◌≢◌, ◌≤◌, Ok, Err, true, false, length, IfOk, IfErr};
 ghost use Rattle.std.specs.Str.Parse.{digits_value};
-ghost use Rattle.teg_due.specs.csv_records.NumberFields.{is_number};
-ghost use Rattle.teg_due.specs.csv_records.Records.{most_file_bytes};
+ghost use Rattle.csv_records.specs.NumberFields.{is_number};
+ghost use Rattle.csv_records.specs.Records.{most_file_bytes};
 ghost use Rattle.delay_laws.specs.PlannedTimetables.{greatest_delayed_number};
 ghost use Rattle.teg_timetable.specs.Entries.{delay_row, departure_row, entries_of, departure_number, transition_in_entry};
 ghost use Rattle.teg_timetable.specs.EntryRules.{AreEntriesOf};
 
 use crate::entries::TableEntry;
 use crate::refusals::TableRefusal;
-use delay_laws::Delay;
-use std::alloc::Global;
-use teg_due::csv_records::{
+use csv_records::{
     ByteRecord, GREATEST_SEEN_NUMBER, RowFile, Seen, ThreeFields, TwoFields, is_number,
     number_up_to, read_rows, three_fields, two_fields,
 };
+use delay_laws::Delay;
+use std::alloc::Global;
 use teg_due::transition_named;
-use teg_settle::teg_net::{NameOrder, Net, TransitionId};
+use teg_net::{NameOrder, Net, TransitionId};
 
 // The greatest first departure.
 const GREATEST_DEPARTURE: u64 = 1_000_000_000;

@@ -4,7 +4,7 @@ ghost use Rattle.teg_timetable.specs.declared.refusals.DelayRefusal.TheVariants.
 ghost use Rattle.teg_timetable.specs.declared.refusals.TableRefusal.TheVariants.{OutOfMemory as NoTableMemory};
 
 use std::alloc::AllocError;
-use teg_settle::teg_net::{OutOfMemory, PlaceId, TransitionId};
+use teg_net::{OutOfMemory, PlaceId, TransitionId};
 
 /// Why a file is no timetable of a net: its first faulty row, and the first of its faults in this
 /// order; or, where no row is faulty, a transition without a first departure.
@@ -63,10 +63,10 @@ impl From<OutOfMemory> for TableRefusal {
     }
 }
 
-impl From<teg_due::csv_records::OutOfMemory> for TableRefusal {
+impl From<csv_records::OutOfMemory> for TableRefusal {
     ghost from_gives = { λ _ e. e ≡ NoTableMemory };
 
-    fn from(_error: teg_due::csv_records::OutOfMemory) -> TableRefusal {
+    fn from(_error: csv_records::OutOfMemory) -> TableRefusal {
         TableRefusal::OutOfMemory
     }
 }

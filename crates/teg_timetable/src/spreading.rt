@@ -3,9 +3,9 @@ ghost use Rattle.std.specs.Prelude.{◌≡◌, ◌≤◌, ◌+◌, length, Some,
 ghost use Rattle.delay_laws.specs.PlannedTimetables.{IsTableOf, IsWorkable};
 ghost use Rattle.delay_laws.specs.Delays.{IsFormOfDelays};
 ghost use Rattle.teg_settle.specs.settled_laws.SettledForms.{IsSettledFormOf, settled_length};
-ghost use Rattle.teg_settle.specs.teg_check.Ranks.{IsRanking};
-ghost use Rattle.teg_settle.specs.teg_net.Circuits.{IsLive};
-ghost use Rattle.teg_settle.specs.teg_net.Nets.{IsNet};
+ghost use Rattle.teg_check.specs.Ranks.{IsRanking};
+ghost use Rattle.teg_net.specs.Circuits.{IsLive};
+ghost use Rattle.teg_net.specs.Nets.{IsNet};
 ghost use Rattle.teg_settle.specs.LimitRefusals.{greatest_limit};
 ghost use Rattle.teg_timetable.specs.DelayAnswers.{DelaysExceedLimit, IsDelayRefusal, IsOutcomeIn, IsSettlingRefusal, IsSpread, IsLengthWithinLimit};
 ghost use Rattle.teg_timetable.specs.Spreads.{greatest_period};
@@ -18,8 +18,8 @@ use crate::refusals::DelayRefusal;
 use crate::workable::first_unworkable;
 use delay_laws::Timetable;
 use std::alloc::Global;
-use teg_settle::teg_check::{CheckRefusal, Live, check};
-use teg_settle::teg_net::{Net, OutOfMemory};
+use teg_check::{CheckRefusal, Live, check};
+use teg_net::{Net, OutOfMemory};
 use teg_settle::{SettleRefusal, SettledDates, settle_dates, settle_dates_within};
 
 // The ranks of a live net.

@@ -1,8 +1,8 @@
 //! Timetables as files say them.
 ghost use Rattle.std.specs.Prelude.{ℕ, ◌≡◌, ◌≢◌, ◌≤◌, ◌<◌, ◌∷◌, [], length, None, Ok, Err, IfOk, IfErr, slice_index_or};
-ghost use Rattle.teg_due.specs.csv_records.Records.{most_file_bytes};
+ghost use Rattle.csv_records.specs.Records.{most_file_bytes};
 ghost use Rattle.delay_laws.specs.PlannedTimetables.{IsTableOf};
-ghost use Rattle.teg_settle.specs.teg_net.Limits.{most_transitions};
+ghost use Rattle.teg_net.specs.Limits.{most_transitions};
 ghost use Rattle.teg_timetable.specs.Departures.{AreDepartures, or_second};
 ghost use Rattle.teg_timetable.specs.TimetableFiles.{IsTableRefusalIn, delays_of, departure_of, firsts_of, lists_of_table, timetable_of};
 
@@ -11,7 +11,7 @@ use crate::reading::read_entries;
 use crate::refusals::TableRefusal;
 use delay_laws::{Delay, Timetable};
 use std::alloc::{AllocError, Global};
-use teg_settle::teg_net::{Net, TransitionId};
+use teg_net::{Net, TransitionId};
 
 // Takes down the first departure that the entry gives, if its transition has none yet.
 fn take_down(cells: &mut Vec<Option<u64>>, entry: &TableEntry)

@@ -2,8 +2,8 @@
 ghost use Rattle.std.specs.Prelude.{ℕ, ◌≡◌, ◌++◌, ◌∷◌, ◌<◌, ◌≤◌, [], IfOk, codes, IfSome, length, string_bytes};
 ghost use Rattle.std.specs.Fmt.{decimal};
 ghost use Rattle.std.specs.List.{flat_map, range_with_len};
-ghost use Rattle.teg_settle.specs.teg_net.Circuits.{AreInRange};
-ghost use Rattle.teg_settle.specs.teg_net.Limits.{greatest_firing_number};
+ghost use Rattle.teg_net.specs.Circuits.{AreInRange};
+ghost use Rattle.teg_net.specs.Limits.{greatest_firing_number};
 ghost use Rattle.teg_text.specs.Lines.{line_then, written};
 ghost use Rattle.teg_text.specs.WordsOfNames.{name_of_transition};
 ghost use Rattle.teg_timetable.specs.DelayAnswers.{IsOutcomeIn, IsDelayRefusalIn};
@@ -15,7 +15,7 @@ use crate::delayed::Delayed;
 use crate::refusals::{DelayRefusal, TableRefusal};
 use delay_laws::DelayOutcome;
 use std::alloc::{AllocError, Global};
-use teg_settle::teg_net::{Circuit, Net, OutOfMemory, TransitionId};
+use teg_net::{Circuit, Net, OutOfMemory, TransitionId};
 use teg_text::{push_circuit, row_fault};
 
 // Appends the delays of a transition at the numbers from 1 to `count`, each behind a blank.

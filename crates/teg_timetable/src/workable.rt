@@ -1,12 +1,12 @@
 //! Whether the plan leaves each place the time that it takes.
 ghost use Rattle.std.specs.Prelude.{ℕ, ◌≡◌, ◌≤◌, ◌<◌, ◌+◌, ◌*◌, true, false, length, IfNone, IfSome, slice_index};
 ghost use Rattle.delay_laws.specs.PlannedTimetables.{IsTableOf, IsWorkable, IsWorkableAt, greatest_departure};
-ghost use Rattle.teg_settle.specs.teg_net.Nets.{IsPlaceOf};
+ghost use Rattle.teg_net.specs.Nets.{IsPlaceOf};
 ghost use Rattle.teg_timetable.specs.DelayAnswers.{IsFirstUnworkable};
 ghost use Rattle.teg_timetable.specs.Spreads.{greatest_period};
 
 use delay_laws::Timetable;
-use teg_settle::teg_net::{Net, Place, PlaceId};
+use teg_net::{Net, Place, PlaceId};
 
 // Whether the departures from `first` on, one in each period, are not before the ready dates.
 fn is_ready(period: u64, first: u64, ready: &[u64]) -> bool

@@ -1,7 +1,7 @@
 //! The workbench over a shelf and a sink in memory.
 use std::alloc::Global;
 use std::test::Fail;
-use teg_run::teg_outside::{MemoryShelf, MemorySink, Monitor};
+use teg_outside::{MemoryShelf, MemorySink, Monitor};
 use teg_run::{Status, workbench};
 
 /// A case: the words, what the files named `net` and `second` hold, how the call ends, and what it

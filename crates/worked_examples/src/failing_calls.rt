@@ -5,8 +5,8 @@ use crate::bench::{call, shelf_of, sink_of};
 use crate::nets::{DEAD_LOOP, LOOP};
 use std::alloc::Global;
 use std::test::Fail;
+use teg_outside::MemorySink;
 use teg_run::Status;
-use teg_run::teg_outside::MemorySink;
 
 const LOG: &str = "a,0\nb,3\na,5\n";
 

@@ -4,8 +4,8 @@ use crate::bench::{call, shelf_of, sink_of};
 use crate::nets::LOOP;
 use std::alloc::Global;
 use std::test::Fail;
+use teg_outside::{FiringCount, HighWater, Lateness, Monitor, NoLine};
 use teg_run::Status;
-use teg_run::teg_outside::{FiringCount, HighWater, Lateness, Monitor, NoLine};
 
 // A monitor of the mix.
 #[derive(Clone, Copy, Drop)]

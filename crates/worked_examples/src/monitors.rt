@@ -8,7 +8,7 @@ use std::alloc::Global;
 use std::cell::Cell;
 use std::rc::Rc;
 use std::test::Fail;
-use teg_run::teg_outside::{Firing, FiringCount, Monitor, OutOfMemory};
+use teg_outside::{Firing, FiringCount, Monitor, OutOfMemory};
 use teg_run::{Status, serve};
 
 // Adds to the shared count 1 when it is dropped, and 1,000 for each firing that it sees.

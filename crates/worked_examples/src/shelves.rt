@@ -1,10 +1,10 @@
 //! Real files, through the bound.
-ghost use Rattle.teg_run.specs.teg_outside.Shelves.{LongIsTooLarge, Reads, replied};
+ghost use Rattle.teg_outside.specs.Shelves.{LongIsTooLarge, Reads, replied};
 
 use std::alloc::Global;
 use std::fs;
 use std::test::Fail;
-use teg_run::teg_outside::{FileShelf, Shelf, ShelfFault};
+use teg_outside::{FileShelf, Shelf, ShelfFault};
 
 // A read through the bound alone: all that the trait says, and that a long file is too large by it.
 fn read_from<S: Shelf>(

@@ -1,6 +1,6 @@
 //! Writers of std as sinks, which are flushed after each write.
 use std::io::{Cursor, Result as Written, Write};
-use teg_run::teg_outside::{Sink, SinkFault, WriterSink};
+use teg_outside::{Sink, SinkFault, WriterSink};
 
 // A writer that takes all it is given, and counts its flushes.
 #[derive(Drop)]

@@ -1,6 +1,6 @@
 -- The laws of gains, from those of forms.
 use Rattle.std.proofs.Common.{ap}
-use Rattle.series_form.specs.dioid.DioidAxioms.{IsAtMost, IsClosed, DioidLaws, StarLaws, ResidualLaws}
+use Rattle.dioid.specs.DioidAxioms.{IsAtMost, IsClosed, DioidLaws, StarLaws, ResidualLaws}
 use Rattle.series_laws.specs.SeriesForms.{Form}
 use Rattle.series_laws.proofs.DioidOfForms.{forms_closed, form_laws, form_star_laws, form_residual_laws}
 use Rattle.series_ops.specs.Gains.{gain_of, IsCanonicalGain, gain_zero, gain_one, gain_sum, gain_product, gain_star, gain_left, gain_meet}

@@ -1,9 +1,9 @@
 use Rattle.std.proofs.Common.{◌+◌, ◌<◌, ℕ, pos, zero, suc, arith, List, [], ◌∷◌, get_or}
 use Rattle.std.proofs.lemmas.Int.{ints}
-use Rattle.teg_calc.specs.dioid.declared.dates.Date.{Date}
-use Rattle.teg_calc.specs.dioid.declared.dates.Date.TheVariants.{Early, At}
-use Rattle.teg_calc.specs.dioid.DateOrder.{Le}
-use Rattle.teg_calc.proofs.series_form_proofs.Listed.{list_rises}
+use Rattle.dioid.specs.declared.dates.Date.{Date}
+use Rattle.dioid.specs.declared.dates.Date.TheVariants.{Early, At}
+use Rattle.dioid.specs.DateOrder.{Le}
+use Rattle.series_form.proofs.Listed.{list_rises}
 use Rattle.series_examples.proofs.forms.a_list_of_a_function.Goals as goal
 
 abbrev even : List Date

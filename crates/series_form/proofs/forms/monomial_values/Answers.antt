@@ -1,7 +1,7 @@
 use Rattle.std.proofs.Common.{◌≡◌, ◌∙◌, ◌+◌, ap, sym, ℤ, ℕ, to_z, of_z, arith}
 use Rattle.std.specs.Int.{w128}
 use Rattle.std.proofs.lemmas.Int.{to_z-of_z}
-use Rattle.series_laws.specs.dioid.declared.dates.Date.TheVariants.{Early, At}
+use Rattle.dioid.specs.declared.dates.Date.TheVariants.{Early, At}
 use Rattle.series_laws.specs.SeriesForms.{table, monomial_at}
 use Rattle.series_form.proofs.Finished.{table_push}
 use Rattle.series_laws.proofs.Shifts.{monomial_below, monomial_from}

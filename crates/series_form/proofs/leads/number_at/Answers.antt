@@ -2,7 +2,7 @@ use Rattle.std.proofs.Common.{◌≤◌, ◌+◌, ◌*◌, ℤ, arith, subst, sy
 use Rattle.std.specs.Int.{w128}
 use Rattle.std.specs.Int.RustNames.{unsigned_abs}
 use Rattle.std.proofs.lemmas.Int.{to_z-of_z}
-use Rattle.series_laws.specs.dioid.declared.dates.Date.{Date}
+use Rattle.dioid.specs.declared.dates.Date.{Date}
 use Rattle.series_form.specs.NumberBounds.{IsMagnitudeUpTo}
 use Rattle.series_form.specs.SeriesLimits.{greatest_value, greatest_moderate}
 use Rattle.series_form.proofs.Finished.{value_up_to, up_to_more}

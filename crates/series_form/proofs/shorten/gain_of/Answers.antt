@@ -1,8 +1,8 @@
 use Rattle.std.proofs.Common.{◌≡◌, ap, sym, ◌∙◌, subst, arith, ◌+◌, ◌-◌, ◌<◌, ◌≤◌, ◌-ℤ◌, ℕ, ℤ, List, length, get_or, FitsSigned, to_z, of_z}
 use Rattle.std.specs.Int.{w128}
 use Rattle.std.proofs.lemmas.Int.{to_z-of_z}
-use Rattle.series_laws.specs.dioid.declared.dates.Date.{Date}
-use Rattle.series_laws.specs.dioid.declared.dates.Date.TheVariants.{Early}
+use Rattle.dioid.specs.declared.dates.Date.{Date}
+use Rattle.dioid.specs.declared.dates.Date.TheVariants.{Early}
 use Rattle.series_laws.specs.SeriesForms.{form_with, gap}
 use Rattle.series_laws.proofs.FormValues.{value_in}
 use Rattle.series_form.proofs.FirstPart.{V}

@@ -1,7 +1,7 @@
 use Rattle.std.proofs.Common.{◌≡◌, ap, sym, ◌∙◌, subst, arith, ℤ, ℕ, to_z, of_z, ◌+◌, ◌-◌}
 use Rattle.std.specs.Int.{w128}
 use Rattle.std.proofs.lemmas.Int.{to_z-of_z}
-use Rattle.series_laws.specs.dioid.declared.dates.Date.{Date}
+use Rattle.dioid.specs.declared.dates.Date.{Date}
 use Rattle.series_laws.specs.Periodic.{Repeats, Rising}
 use Rattle.series_laws.specs.SeriesForms.{form_with, gap, least_period_of, first_holding}
 use Rattle.series_laws.proofs.FormValues.{value_repeats}

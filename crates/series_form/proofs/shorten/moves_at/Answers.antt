@@ -1,9 +1,9 @@
 use Rattle.std.proofs.Common.{◌≡◌, ap, sym, ◌∙◌, arith, ◌+◌, ◌-◌, ◌-ℤ◌, ℤ, get_or, to_z, of_z}
 use Rattle.std.specs.Int.{w128}
 use Rattle.std.proofs.lemmas.Int.{to_z-of_z}
-use Rattle.series_laws.specs.dioid.declared.dates.Date.{Date}
-use Rattle.series_laws.specs.dioid.declared.dates.Date.TheVariants.{Early}
-use Rattle.series_laws.specs.dioid.Dates.{move}
+use Rattle.dioid.specs.declared.dates.Date.{Date}
+use Rattle.dioid.specs.declared.dates.Date.TheVariants.{Early}
+use Rattle.dioid.specs.Dates.{move}
 use Rattle.series_laws.specs.SeriesForms.{form_with, date_eqb}
 use Rattle.series_laws.proofs.FormValues.{value_in}
 use Rattle.series_form.proofs.FirstPart.{V}

@@ -2,7 +2,7 @@ use Rattle.std.proofs.Common.{ap, sym, ◌∙◌, ℤ, ◌+ℤ◌, to_z, of_z, p
 use Rattle.std.specs.Int.{w128}
 use Rattle.std.proofs.lemmas.Int.{to_z-of_z}
 use Rattle.series_form.proofs.DateNumbers.{times_product, mul_fits, add_fits, step_of, sum_of, within_of}
-use Rattle.series_laws.specs.dioid.declared.dates.Date.TheVariants.{At}
+use Rattle.dioid.specs.declared.dates.Date.TheVariants.{At}
 use Rattle.series_form.proofs.values.later_by.Goals as goal
 
 pub overflow_mul-result : goal.overflow_mul-result

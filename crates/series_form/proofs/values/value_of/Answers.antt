@@ -1,5 +1,5 @@
 use Rattle.std.proofs.Common.{get_or}
-use Rattle.series_laws.specs.dioid.declared.dates.Date.TheVariants.{Early}
+use Rattle.dioid.specs.declared.dates.Date.TheVariants.{Early}
 use Rattle.series_form.proofs.DateNumbers.{moderate_date_within}
 use Rattle.series_form.proofs.values.value_of.Goals as goal
 

@@ -1,6 +1,6 @@
 use Rattle.std.proofs.Common.{◌∙◌, ap}
-use Rattle.series_form.specs.dioid.Dates.{later_of}
-use Rattle.series_form.specs.dioid.declared.dates.Date.{Date}
+use Rattle.dioid.specs.Dates.{later_of}
+use Rattle.dioid.specs.declared.dates.Date.{Date}
 use Rattle.series_ops.specs.ListFunctions.{value_listed}
 use Rattle.series_ops.specs.Splits.{greatest_from, split_of}
 use Rattle.series_ops.proofs.BegunLaws.{begun_window}

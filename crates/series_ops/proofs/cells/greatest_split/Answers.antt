@@ -1,7 +1,7 @@
 use Rattle.std.proofs.Common.{◌≤◌, ◌+◌, ◌<◌, ◌∙◌, ℤ, List, ap, sym, subst, arith, length, map}
 use Rattle.std.specs.Int.{w64}
 use Rattle.std.proofs.lemmas.Int.{to_z-of_z}
-use Rattle.series_form.specs.dioid.declared.dates.Date.{Date}
+use Rattle.dioid.specs.declared.dates.Date.{Date}
 use Rattle.series_ops.specs.Cells.{date_of_far_cell, date_of_short_cell, AreShort, AreShortOf}
 use Rattle.series_ops.specs.ListFunctions.{value_listed}
 use Rattle.series_ops.specs.Splits.{greatest_from, split_of}

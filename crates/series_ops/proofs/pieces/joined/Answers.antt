@@ -1,5 +1,5 @@
 use Rattle.std.proofs.Common.{◌∙◌, ap}
-use Rattle.series_form.specs.dioid.Dates.{later_of}
+use Rattle.dioid.specs.Dates.{later_of}
 use Rattle.series_form.proofs.Finished.{table_push}
 use Rattle.series_ops.specs.ListFunctions.{value_listed}
 use Rattle.series_ops.specs.Pieces.{joined_at}

@@ -1,5 +1,5 @@
 use Rattle.std.proofs.Common.{◌≡◌, ◌∙◌, List, ap, sym, subst, arith, length}
-use Rattle.series_form.specs.dioid.declared.dates.Date.{Date}
+use Rattle.dioid.specs.declared.dates.Date.{Date}
 use Rattle.series_laws.specs.SeriesForms.{table}
 use Rattle.series_form.specs.SeriesLimits.{greatest_listed, greatest_value_ahead}
 use Rattle.series_ops.specs.ListFunctions.{value_listed, AreUpTo}

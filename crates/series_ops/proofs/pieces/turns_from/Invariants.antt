@@ -1,5 +1,5 @@
 use Rattle.std.proofs.Common.{◌≡◌, ◌<◌, ◌+◌, ℕ}
-use Rattle.series_form.specs.dioid.Dates.{move}
+use Rattle.dioid.specs.Dates.{move}
 use Rattle.series_ops.specs.ListFunctions.{value_listed}
 use Rattle.series_ops.proofs.pieces.turns_from.Given as goal
 

@@ -1,5 +1,5 @@
 use Rattle.std.proofs.Common.{◌≡◌, refl, ◌∙◌, ap, arith, length, List}
-use Rattle.series_form.specs.dioid.declared.dates.Date.{Date}
+use Rattle.dioid.specs.declared.dates.Date.{Date}
 use Rattle.series_laws.specs.SeriesForms.{size_of, value_at}
 use Rattle.series_form.proofs.Finished.{table_push}
 use Rattle.series_laws.specs.Product.{product_at}

@@ -1,6 +1,6 @@
 use Rattle.std.proofs.Common.{◌≡◌, refl, ◌≤◌, ◌-◌, ◌∙◌, ap, sym, arith, List, length, to_z, of_z}
 use Rattle.std.specs.Int.{w128}
-use Rattle.series_form.specs.dioid.declared.dates.Date.{Date}
+use Rattle.dioid.specs.declared.dates.Date.{Date}
 use Rattle.series_laws.specs.SeriesForms.{Form, form_with, size_of, repeat_start, table}
 use Rattle.series_laws.proofs.FormValues.{table_length}
 use Rattle.series_form.proofs.Finished.{table_push}

@@ -1,6 +1,6 @@
 use Rattle.std.proofs.Common.{◌≡◌, ◌≤◌, ◌∙◌, ℕ, List, ap, sym, subst, arith, length}
 use Rattle.std.specs.Prelude.{IfOk}
-use Rattle.series_form.specs.dioid.declared.dates.Date.{Date}
+use Rattle.dioid.specs.declared.dates.Date.{Date}
 use Rattle.series_laws.specs.SeriesForms.{value_at, table}
 use Rattle.series_laws.specs.Product.{product_at}
 use Rattle.series_laws.proofs.FormValues.{table_length}

@@ -3,7 +3,7 @@ use Rattle.std.specs.Int.{w128}
 use Rattle.std.specs.Int.RustNames.{unsigned_abs}
 use Rattle.std.proofs.lemmas.Int.{to_z-of_z}
 use Rattle.std.proofs.lemmas.List.{length-append}
-use Rattle.series_form.specs.dioid.declared.dates.Date.{Date}
+use Rattle.dioid.specs.declared.dates.Date.{Date}
 use Rattle.series_form.specs.SeriesLimits.{greatest_value, greatest_listed}
 use Rattle.series_ops.specs.ListFunctions.{AreUpTo, star_left_listed}
 use Rattle.series_ops.proofs.LeftParts.{star_pushed, star_left_up_to}

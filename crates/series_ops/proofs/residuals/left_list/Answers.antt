@@ -1,5 +1,5 @@
 use Rattle.std.proofs.Common.{◌≡◌, ◌∙◌, ap, sym, subst, arith, List, length}
-use Rattle.series_form.specs.dioid.declared.dates.Date.{Date}
+use Rattle.dioid.specs.declared.dates.Date.{Date}
 use Rattle.series_laws.specs.SeriesForms.{table}
 use Rattle.series_laws.proofs.FormValues.{table_length}
 use Rattle.series_form.proofs.Finished.{table_push}

@@ -1,7 +1,7 @@
 use Rattle.std.proofs.Common.{◌≡◌, ◌-◌, ◌∙◌, ℕ, ap, sym, subst, arith, length}
 use Rattle.std.specs.Prelude.{min, suc}
-use Rattle.series_form.specs.dioid.Dates.{later_of}
-use Rattle.series_form.specs.dioid.declared.dates.Date.{Date}
+use Rattle.dioid.specs.Dates.{later_of}
+use Rattle.dioid.specs.declared.dates.Date.{Date}
 use Rattle.series_form.specs.NumberBounds.{IsMagnitudeUpTo}
 use Rattle.series_form.proofs.PointwiseTables.{later_up_to}
 use Rattle.series_ops.specs.Cells.{far, conjugate_of}

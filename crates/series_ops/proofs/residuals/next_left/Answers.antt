@@ -1,8 +1,8 @@
 use Rattle.std.proofs.Common.{◌≡◌, ◌-◌, ◌∙◌, ◌-ℤ◌, ℕ, ℤ, pos, ap, sym, subst, arith, List, length, get_or, map}
 use Rattle.std.proofs.lemmas.List.{length-map}
-use Rattle.series_form.specs.dioid.Dates.{date_left}
-use Rattle.series_form.specs.dioid.declared.dates.Date.{Date}
-use Rattle.series_form.specs.dioid.declared.dates.Date.TheVariants.{Early, At}
+use Rattle.dioid.specs.Dates.{date_left}
+use Rattle.dioid.specs.declared.dates.Date.{Date}
+use Rattle.dioid.specs.declared.dates.Date.TheVariants.{Early, At}
 use Rattle.series_laws.specs.SeriesForms.{size_of, repeat_start}
 use Rattle.series_ops.specs.Cells.{conjugate_of, conjugates_reversed}
 use Rattle.series_ops.specs.ListFunctions.{AreEarlyTo, left_listed}

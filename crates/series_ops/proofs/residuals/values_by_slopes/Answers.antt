@@ -1,6 +1,6 @@
 use Rattle.std.proofs.Common.{◌≡◌, ◌∙◌, ℕ, sym, subst}
 use Rattle.std.specs.Prelude.{IfOk}
-use Rattle.series_form.specs.dioid.declared.dates.Date.{Date}
+use Rattle.dioid.specs.declared.dates.Date.{Date}
 use Rattle.series_laws.specs.SeriesForms.{table}
 use Rattle.series_ops.proofs.LeftValues.{few_offsets, late_left, steep_left, gentle_left}
 use Rattle.series_ops.proofs.residuals.values_by_slopes.Goals as goal

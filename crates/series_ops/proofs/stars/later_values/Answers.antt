@@ -1,5 +1,5 @@
 use Rattle.std.proofs.Common.{◌≡◌, ◌∙◌, ◌+◌, suc, ap, sym, subst, arith}
-use Rattle.series_form.specs.dioid.declared.dates.Date.{Date}
+use Rattle.dioid.specs.declared.dates.Date.{Date}
 use Rattle.series_laws.specs.SeriesForms.{value_at}
 use Rattle.series_form.specs.NumberBounds.{IsMagnitudeUpTo}
 use Rattle.series_form.specs.SeriesLimits.{greatest_listed, greatest_value_ahead}

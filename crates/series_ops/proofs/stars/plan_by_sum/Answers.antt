@@ -1,5 +1,5 @@
 use Rattle.std.proofs.Common.{◌∙◌, List, ap, sym, subst}
-use Rattle.series_form.specs.dioid.declared.dates.Date.{Date}
+use Rattle.dioid.specs.declared.dates.Date.{Date}
 use Rattle.series_form.specs.SeriesAnswers.{IsBeginning}
 use Rattle.series_form.specs.Shapes.{IsCanonicalPart}
 use Rattle.series_laws.specs.ProductNeeds.{at_least, own_plan}

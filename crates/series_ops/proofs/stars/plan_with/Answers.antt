@@ -1,5 +1,5 @@
 use Rattle.std.proofs.Common.{◌≡◌, ◌∙◌, ◌+◌, ℕ, ap, sym, subst}
-use Rattle.series_form.specs.dioid.declared.dates.Date.{Date}
+use Rattle.dioid.specs.declared.dates.Date.{Date}
 use Rattle.series_laws.specs.Pointwise.{sum_at}
 use Rattle.series_laws.specs.SeriesForms.{Form, value_at, HasValues}
 use Rattle.series_form.specs.NumberBounds.{IsMagnitudeUpTo}

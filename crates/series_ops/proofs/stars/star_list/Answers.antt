@@ -1,7 +1,7 @@
 use Rattle.std.proofs.Common.{◌≡◌, ℕ, refl, ◌≤◌, ◌+◌, ◌∙◌, ap, sym, subst, arith, suc, pos, List, [], ◌∷◌, ◌++◌, length}
-use Rattle.series_form.specs.dioid.Dates.{later_of}
-use Rattle.series_form.specs.dioid.declared.dates.Date.{Date}
-use Rattle.series_form.specs.dioid.declared.dates.Date.TheVariants.{At}
+use Rattle.dioid.specs.Dates.{later_of}
+use Rattle.dioid.specs.declared.dates.Date.{Date}
+use Rattle.dioid.specs.declared.dates.Date.TheVariants.{At}
 use Rattle.series_laws.specs.SeriesForms.{Form, form_with, size_of, repeat_start, table, value_at}
 use Rattle.series_laws.proofs.FormValues.{table_length}
 use Rattle.series_form.specs.NumberBounds.{IsMagnitudeUpTo}

@@ -1,6 +1,6 @@
 use Rattle.std.proofs.Common.{◌≡◌, ◌<◌, ◌-◌, ◌∙◌, ℕ, List, ap, sym, subst, arith, length, get_or, take}
-use Rattle.series_form.specs.dioid.declared.dates.Date.{Date}
-use Rattle.series_form.specs.dioid.declared.dates.Date.TheVariants.{Early}
+use Rattle.dioid.specs.declared.dates.Date.{Date}
+use Rattle.dioid.specs.declared.dates.Date.TheVariants.{Early}
 use Rattle.series_laws.specs.SeriesForms.{value_at}
 use Rattle.series_form.specs.SeriesAnswers.{IsBeginning, IsShortestSeries, form_before}
 use Rattle.series_ops.specs.ListFunctions.{all_but_last, last_value}

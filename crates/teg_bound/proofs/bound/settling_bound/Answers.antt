@@ -1,6 +1,6 @@
 use Rattle.std.proofs.Common.{sym, ◌∙◌, arith}
 use Rattle.std.proofs.lemmas.Bool.{iff_false}
-use Rattle.teg_cycle.proofs.teg_check_proofs.Liveness.{ranking_is_live}
+use Rattle.teg_check.proofs.Liveness.{ranking_is_live}
 use Rattle.teg_bound.proofs.Causes.{no_places, alone, ready_at_zero}
 use Rattle.teg_bound.proofs.Inputs.{input_is_some}
 use Rattle.teg_bound.proofs.Keeping.{keeps}

@@ -1,5 +1,5 @@
 use Rattle.std.proofs.Common.{ℕ, ◌≡◌, List, length, subst, arith}
-use Rattle.bound_laws.specs.teg_net.declared.entries.Place.{Place}
+use Rattle.teg_net.specs.declared.entries.Place.{Place}
 use Rattle.teg_bound.proofs.Greatest.{IsMostUpTo, at_some}
 use Rattle.teg_bound.proofs.readings.greatest_hold.Goals as goal
 

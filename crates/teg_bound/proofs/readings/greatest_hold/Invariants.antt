@@ -1,4 +1,4 @@
-use Rattle.bound_laws.specs.teg_net.declared.entries.Place.{Place}
+use Rattle.teg_net.specs.declared.entries.Place.{Place}
 use Rattle.teg_bound.proofs.Greatest.{IsMostUpTo}
 use Rattle.teg_bound.proofs.readings.greatest_hold.Given as goal
 

@@ -1,6 +1,6 @@
 use Rattle.std.proofs.Common.{ℤ, ◌+◌, ◌∙◌, subst, arith}
 use Rattle.series_ops.specs.series_laws.SeriesForms.{HasValues, monomial_at}
-use Rattle.series_ops.specs.series_form.SeriesAnswers.{AnswersOf}
+use Rattle.series_form.specs.SeriesAnswers.{AnswersOf}
 use Rattle.teg_calc.proofs.SignedNumbers.{same_number}
 use Rattle.teg_calc.proofs.evaluation.monomial.Goals as goal
 

@@ -1,6 +1,6 @@
 use Rattle.std.proofs.Common.{rules, ◌≡◌, ℕ, List, Err, subst, inl, inr}
-use Rattle.teg_report.specs.teg_calc.ParseAnswers.{IsParsed, IsParseOf}
-use Rattle.teg_report.specs.teg_calc.ExpressionTrees.{tree_of_expression}
+use Rattle.teg_calc.specs.ParseAnswers.{IsParsed, IsParseOf}
+use Rattle.teg_calc.specs.ExpressionTrees.{tree_of_expression}
 use Rattle.teg_commands.proofs.Telling.{tells_weaker}
 use Rattle.teg_commands.proofs.calc.tell_calc.Goals as goal
 

@@ -1,9 +1,9 @@
 use Rattle.std.proofs.Common.{List, Some, refl, ap, sym, ◌∙◌}
 use Rattle.std.specs.Global.{Vec}
-use Rattle.teg_report.specs.teg_net.declared.rounds.Round.{Round}
+use Rattle.teg_net.specs.declared.rounds.Round.{Round}
 use Rattle.teg_report.specs.AnswerMeanings.{runs_lists}
 use Rattle.teg_report.specs.RoundLines.{RoundLists}
-use Rattle.teg_report.specs.teg_cycle.LastRounds.{rounds_of_runs}
+use Rattle.teg_cycle.specs.LastRounds.{rounds_of_runs}
 use Rattle.teg_commands.specs.CommandTexts.{cycle_text}
 use Rattle.teg_commands.proofs.CycleTold.{lists_of, runs_told}
 use Rattle.teg_commands.proofs.cycle.tell_rounds.Goals as goal

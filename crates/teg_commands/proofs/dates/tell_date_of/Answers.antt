@@ -1,6 +1,6 @@
 use Rattle.std.proofs.Common.{◌≡◌, length, refl, inl, ap, ◌∙◌}
-use Rattle.teg_report.specs.settled_laws.SettledForms.{settled_date}
-use Rattle.teg_report.specs.teg_net.Nets.{NetLists}
+use Rattle.settled_laws.specs.SettledForms.{settled_date}
+use Rattle.teg_net.specs.Nets.{NetLists}
 use Rattle.teg_commands.specs.CommandTexts.{date_text}
 use Rattle.teg_commands.proofs.dates.tell_date_of.Goals as goal
 

@@ -1,5 +1,5 @@
 use Rattle.std.proofs.Common.{inl, ap, ◌∙◌}
-use Rattle.teg_report.specs.teg_net.Nets.{NetLists}
+use Rattle.teg_net.specs.Nets.{NetLists}
 use Rattle.teg_commands.specs.Forever.{forever_text}
 use Rattle.teg_commands.proofs.forever.tell_endless.Goals as goal
 

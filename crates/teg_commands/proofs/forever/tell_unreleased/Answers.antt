@@ -1,6 +1,6 @@
 use Rattle.std.proofs.Common.{sym, subst}
 use Rattle.teg_forever.specs.EndlessTexts.{IsRefusalIn}
-use Rattle.teg_report.specs.teg_net.Nets.{NetLists}
+use Rattle.teg_net.specs.Nets.{NetLists}
 use Rattle.teg_commands.proofs.Released.{refusal_in}
 use Rattle.teg_commands.proofs.forever.tell_unreleased.Goals as goal
 

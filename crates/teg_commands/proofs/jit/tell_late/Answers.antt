@@ -1,6 +1,6 @@
 use Rattle.std.proofs.Common.{rules, ◌≢◌, ap, ◌∙◌, refl, subst}
-use Rattle.teg_report.specs.teg_jit.declared.answers.JitRefusal.TheVariants.{OutOfMemory}
-use Rattle.teg_report.specs.teg_net.Nets.{IsNet, NetLists}
+use Rattle.teg_jit.specs.declared.answers.JitRefusal.TheVariants.{OutOfMemory}
+use Rattle.teg_net.specs.Nets.{IsNet, NetLists}
 use Rattle.teg_commands.specs.CommandTexts.{late_text}
 use Rattle.teg_commands.proofs.Planned.{none_meet}
 use Rattle.teg_commands.proofs.jit.tell_late.Goals as goal

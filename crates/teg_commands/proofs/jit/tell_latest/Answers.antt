@@ -1,6 +1,6 @@
 use Rattle.std.proofs.Common.{ap, ◌∙◌, inl, refl, subst}
-use Rattle.teg_report.specs.teg_jit.Plans.{KeepsSizes}
-use Rattle.teg_report.specs.teg_net.Nets.{IsNet, NetLists}
+use Rattle.teg_jit.specs.Plans.{KeepsSizes}
+use Rattle.teg_net.specs.Nets.{IsNet, NetLists}
 use Rattle.teg_commands.specs.CommandTexts.{jit_text}
 use Rattle.teg_commands.proofs.Planned.{plan_of}
 use Rattle.teg_commands.proofs.jit.tell_latest.Goals as goal

@@ -1,5 +1,5 @@
 use Rattle.std.proofs.Common.{refl, subst}
-use Rattle.teg_report.specs.teg_net.Nets.{NetLists}
+use Rattle.teg_net.specs.Nets.{NetLists}
 use Rattle.teg_commands.specs.Migrate.{IsWrittenNet}
 use Rattle.teg_commands.proofs.migrate.tell_migrate.Goals as goal
 

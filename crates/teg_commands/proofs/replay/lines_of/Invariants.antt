@@ -1,5 +1,5 @@
 use Rattle.std.proofs.Common.{◌≡◌, [], All, map, take, string_bytes}
-use Rattle.teg_report.specs.teg_outside.Monitors.{IsOneLine}
+use Rattle.teg_outside.specs.Monitors.{IsOneLine}
 use Rattle.teg_commands.proofs.replay.lines_of.Given as goal
 
 abbrev pub invariant-loop-monitor : goal.invariant-loop-monitor

@@ -1,5 +1,5 @@
 use Rattle.std.proofs.Common.{sym, ◌∙◌}
-use Rattle.teg_report.specs.teg_net.GreatestRatios.{HasNoCircuit, IsAnyPlace}
+use Rattle.teg_net.specs.GreatestRatios.{HasNoCircuit, IsAnyPlace}
 use Rattle.teg_commands.specs.Slack.{IsBestRatio}
 use Rattle.teg_commands.proofs.BestRatios.{named_none, named_best, none_is, some_is}
 use Rattle.teg_commands.proofs.slack.best_ratio.Goals as goal

@@ -1,5 +1,5 @@
 use Rattle.std.proofs.Common.{inl, refl, ap, ◌∙◌}
-use Rattle.teg_report.specs.teg_net.Nets.{NetLists}
+use Rattle.teg_net.specs.Nets.{NetLists}
 use Rattle.teg_commands.specs.CommandTexts.{slack_text}
 use Rattle.teg_commands.proofs.slack.tell_slacks.Goals as goal
 

@@ -1,6 +1,6 @@
 use Rattle.std.proofs.Common.{◌≡◌, Ok, inr, subst}
 use Rattle.teg_timetable.specs.delay_laws.PlannedTimetables.{IsTableOf}
-use Rattle.teg_report.specs.teg_net.Nets.{NetLists}
+use Rattle.teg_net.specs.Nets.{NetLists}
 use Rattle.teg_timetable.specs.TimetableFiles.{lists_of_table, timetable_of}
 use Rattle.teg_commands.proofs.Telling.{tells_weaker}
 use Rattle.teg_commands.proofs.timetable.tell_timetable.Goals as goal

@@ -1,7 +1,7 @@
 use Rattle.std.proofs.Common.{rules, ◌≡◌, ◌<◌, ◌++◌, ◌∷◌, [], List, length, map, ap, ◌∙◌, subst}
 use Rattle.std.proofs.lemmas.List.{map-append}
-use Rattle.teg_report.specs.teg_net.declared.entries.Role.TheVariants.{Input}
-use Rattle.teg_report.specs.teg_net.declared.entries.TransitionId.{TransitionId}
+use Rattle.teg_net.specs.declared.entries.Role.TheVariants.{Input}
+use Rattle.teg_net.specs.declared.entries.TransitionId.{TransitionId}
 use Rattle.teg_report.specs.AnswerMeanings.{times_from}
 use Rattle.teg_commands.specs.Transfer.{those_of_role}
 use Rattle.teg_commands.proofs.Transferred.{one_input_more, those_are_inputs}

@@ -1,5 +1,5 @@
 use Rattle.std.proofs.Common.{ap, ◌∙◌, refl, subst}
-use Rattle.teg_report.specs.teg_settle.LimitRefusals.{IsRightSettleRefusal}
+use Rattle.teg_settle.specs.LimitRefusals.{IsRightSettleRefusal}
 use Rattle.teg_commands.specs.CommandTexts.{too_long_text}
 use Rattle.teg_commands.specs.Transfer.{TimesSettlePast}
 use Rattle.teg_commands.proofs.transfer.tell_too_long.Goals as goal

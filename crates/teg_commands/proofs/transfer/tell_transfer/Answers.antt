@@ -1,5 +1,5 @@
 use Rattle.std.proofs.Common.{List, map, ap, ◌∙◌, inl, refl}
-use Rattle.teg_report.specs.teg_net.Nets.{NetLists}
+use Rattle.teg_net.specs.Nets.{NetLists}
 use Rattle.teg_report.specs.declared.answer.TransferFrom.{TransferFrom}
 use Rattle.teg_report.specs.AnswerMeanings.{times_from}
 use Rattle.teg_commands.specs.CommandTexts.{transfer_text}

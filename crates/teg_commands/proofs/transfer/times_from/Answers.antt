@@ -1,6 +1,6 @@
 use Rattle.std.proofs.Common.{◌<◌, ℕ, List, All, length, sym, subst}
-use Rattle.teg_report.specs.teg_net.declared.entries.Role.TheVariants.{Output}
-use Rattle.teg_report.specs.teg_net.declared.entries.TransitionId.{TransitionId}
+use Rattle.teg_net.specs.declared.entries.Role.TheVariants.{Output}
+use Rattle.teg_net.specs.declared.entries.TransitionId.{TransitionId}
 use Rattle.teg_commands.proofs.Transferred.{those_within}
 use Rattle.teg_commands.proofs.transfer.times_from.Goals as goal
 

@@ -1,6 +1,6 @@
 use Rattle.std.proofs.Common.{subst}
-use Rattle.teg_report.specs.teg_net.GreatestRatios.{HasNoCircuit, IsAnyPlace}
-use Rattle.teg_report.specs.teg_net.Nets.{NetLists}
+use Rattle.teg_net.specs.GreatestRatios.{HasNoCircuit, IsAnyPlace}
+use Rattle.teg_net.specs.Nets.{NetLists}
 use Rattle.teg_commands.proofs.TrialLaws.{trial_has_circuit}
 use Rattle.teg_commands.proofs.trial.tell_answer.Goals as goal
 

@@ -1,6 +1,6 @@
 use Rattle.std.proofs.Common.{List, length, ap, ◌∙◌, arith}
-use Rattle.teg_report.specs.teg_net.declared.entries.Place.{Place}
-use Rattle.teg_report.specs.teg_net.Nets.{NetLists}
+use Rattle.teg_net.specs.declared.entries.Place.{Place}
+use Rattle.teg_net.specs.Nets.{NetLists}
 use Rattle.trial_net.proofs.TrialNets.{width}
 use Rattle.teg_commands.proofs.TrialLaws.{trial_said}
 use Rattle.teg_commands.proofs.trial.tell_line.Goals as goal

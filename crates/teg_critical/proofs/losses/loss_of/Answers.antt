@@ -1,8 +1,8 @@
 use Rattle.std.proofs.Common.{◌≡◌, refl, sym, ◌∙◌}
-use Rattle.teg_cycle.specs.teg_net.declared.entries.Place.{Place}
-use Rattle.teg_cycle.specs.teg_net.declared.answers.PartAnswer.TheVariants.{Best}
+use Rattle.teg_net.specs.declared.entries.Place.{Place}
+use Rattle.teg_net.specs.declared.answers.PartAnswer.TheVariants.{Best}
 use Rattle.teg_critical.specs.Losses.{answer_of_part}
-use Rattle.teg_cycle.proofs.teg_net_proofs.Reading.{read_place}
+use Rattle.teg_net.proofs.Reading.{read_place}
 use Rattle.teg_critical.proofs.LossFacts.{read_part, can_lose_by, is_loss}
 use Rattle.teg_critical.proofs.losses.loss_of.Goals as goal
 

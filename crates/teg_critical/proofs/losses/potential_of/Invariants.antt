@@ -1,5 +1,5 @@
 use Rattle.std.proofs.Common.{◌≡◌, drop}
-use Rattle.teg_cycle.specs.teg_net.Certificates.{potential_at}
+use Rattle.teg_net.specs.Certificates.{potential_at}
 use Rattle.teg_critical.proofs.losses.potential_of.Given as goal
 
 abbrev pub invariant-loop-potential : goal.invariant-loop-potential

@@ -1,10 +1,10 @@
 use Rattle.std.proofs.Common.{List, [], ◌≡◌, ◌<◌, ◌≤◌, None, length, get_or, ap, arith}
 use Rattle.std.proofs.lemmas.List.{get_or_default, get_or_read}
-use Rattle.teg_cycle.specs.teg_net.declared.entries.PlaceId.{PlaceId}
-use Rattle.teg_cycle.specs.teg_net.declared.entries.Transition.{Transition}
-use Rattle.teg_cycle.specs.teg_net.Nets.{IsPlaceOf}
-use Rattle.teg_cycle.specs.teg_net.Circuits.{no_place, place_at}
-use Rattle.teg_cycle.proofs.teg_net_proofs.Reading.{read_place}
+use Rattle.teg_net.specs.declared.entries.PlaceId.{PlaceId}
+use Rattle.teg_net.specs.declared.entries.Transition.{Transition}
+use Rattle.teg_net.specs.Nets.{IsPlaceOf}
+use Rattle.teg_net.specs.Circuits.{no_place, place_at}
+use Rattle.teg_net.proofs.Reading.{read_place}
 use Rattle.teg_critical.proofs.Stepping.{all_begin, all_place, all_skip, all_end}
 use Rattle.teg_critical.proofs.searches.all_steps.Goals as goal
 use Rattle.teg_critical.proofs.searches.all_steps.Goals.{in-Some+in_ok-push, in_default}

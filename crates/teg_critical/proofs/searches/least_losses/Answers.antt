@@ -3,13 +3,13 @@ use Rattle.std.specs.Prelude.{IsPermutation}
 use Rattle.std.specs.BinaryHeap.{heap_items, heap_len, IsHeap, IsUpperBound}
 use Rattle.std.specs.declared.cmp.Reverse.{Reverse}
 use Rattle.std.proofs.lemmas.List.{get_or_default, get_or_read, take_all}
-use Rattle.teg_cycle.specs.teg_net.Nets.{NetLists, IsNet, IsPlaceOf}
-use Rattle.teg_cycle.specs.teg_net.Circuits.{no_place, place_at}
+use Rattle.teg_net.specs.Nets.{NetLists, IsNet, IsPlaceOf}
+use Rattle.teg_net.specs.Circuits.{no_place, place_at}
 use Rattle.teg_critical.specs.declared.losses.Loss.{Loss}
 use Rattle.teg_critical.specs.declared.searches.LossStep.{LossStep}
 use Rattle.teg_critical.specs.Losses.{most_loss}
 use Rattle.teg_critical.specs.LeastLosses.{AreStepsFrom, AreSettled, IsRelaxed, AreQueued, is_settled, nearest_first}
-use Rattle.teg_cycle.proofs.teg_net_proofs.Reading.{written_back}
+use Rattle.teg_net.proofs.Reading.{written_back}
 use Rattle.teg_critical.proofs.Stepping.{own_steps}
 use Rattle.teg_critical.proofs.Settling.{settles, one_settled}
 use Rattle.teg_critical.proofs.Searching.{searched, settled_back}

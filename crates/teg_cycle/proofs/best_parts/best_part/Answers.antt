@@ -1,8 +1,8 @@
 use Rattle.std.proofs.Common.{◌≡◌, ◌<◌, length, get_or, sym, ap, ◌∙◌}
 use Rattle.std.proofs.lemmas.Bool.{iff_false}
 use Rattle.std.proofs.lemmas.List.{get_or_read}
-use Rattle.teg_howard.specs.teg_net.declared.answers.PartAnswer.TheVariants.{NoCircuit}
-use Rattle.teg_howard.specs.teg_net.GreatestRatios.{ratio_in}
+use Rattle.teg_net.specs.declared.answers.PartAnswer.TheVariants.{NoCircuit}
+use Rattle.teg_net.specs.GreatestRatios.{ratio_in}
 use Rattle.teg_cycle.proofs.FirstBest.{part_skip, part_keep, part_take}
 use Rattle.teg_cycle.proofs.best_parts.best_part.Goals as goal
 use Rattle.teg_cycle.proofs.best_parts.best_part.Goals.{in-Best+then-is_above, in-Best+else-is_above, in_default}

@@ -1,4 +1,4 @@
-use Rattle.teg_howard.proofs.teg_net_proofs.PathLaws.{IsPathBetween-in_range}
+use Rattle.teg_net.proofs.PathLaws.{IsPathBetween-in_range}
 use Rattle.teg_cycle.proofs.Short.{circuit_sums}
 use Rattle.teg_cycle.proofs.certificate.attains.Goals as goal
 

@@ -1,5 +1,5 @@
 use Rattle.std.proofs.Common.{subst}
-use Rattle.teg_howard.specs.teg_net.GreatestRatios.{IsFirstGreatest}
+use Rattle.teg_net.specs.GreatestRatios.{IsFirstGreatest}
 use Rattle.teg_cycle.proofs.FirstBest.{one_first}
 use Rattle.teg_cycle.proofs.certificate.is_first_best.Goals as goal
 

@@ -1,8 +1,8 @@
 use Rattle.std.proofs.Common.{◌≡◌, ◌≤◌, get_or, refl}
 use Rattle.std.proofs.lemmas.List.{get_or_read}
-use Rattle.teg_howard.specs.teg_net.declared.entries.PlaceId.{PlaceId}
-use Rattle.teg_howard.specs.teg_net.Circuits.{no_place, place_at, from_of}
-use Rattle.teg_howard.specs.teg_net.Parts.{to_of}
+use Rattle.teg_net.specs.declared.entries.PlaceId.{PlaceId}
+use Rattle.teg_net.specs.Circuits.{no_place, place_at, from_of}
+use Rattle.teg_net.specs.Parts.{to_of}
 use Rattle.teg_cycle.proofs.Deciding.{one_more, each_place_of}
 use Rattle.teg_cycle.proofs.certificate.never_fall.Goals as goal
 

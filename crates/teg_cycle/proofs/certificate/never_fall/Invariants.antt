@@ -1,6 +1,6 @@
 use Rattle.std.proofs.Common.{ℕ, ◌<◌, ◌≤◌, get_or}
-use Rattle.teg_howard.specs.teg_net.Circuits.{from_of}
-use Rattle.teg_howard.specs.teg_net.Parts.{to_of}
+use Rattle.teg_net.specs.Circuits.{from_of}
+use Rattle.teg_net.specs.Parts.{to_of}
 use Rattle.teg_cycle.proofs.certificate.never_fall.Given as goal
 
 abbrev pub invariant-loop-place : goal.invariant-loop-place

@@ -1,8 +1,8 @@
 use Rattle.std.proofs.Common.{◌≡◌, ◌<◌, true, false, length, get_or, refl, arith}
 use Rattle.std.proofs.lemmas.Bool.{false≢true, iff_false}
 use Rattle.std.proofs.lemmas.List.{get_or_read}
-use Rattle.teg_howard.specs.teg_net.declared.answers.PartAnswer.TheVariants.{NoCircuit}
-use Rattle.teg_howard.specs.teg_net.Certificates.{IsPartCertificate}
+use Rattle.teg_net.specs.declared.answers.PartAnswer.TheVariants.{NoCircuit}
+use Rattle.teg_net.specs.Certificates.{IsPartCertificate}
 use Rattle.teg_cycle.proofs.Deciding.{one_more}
 use Rattle.teg_cycle.proofs.certificate.parts_fit.Goals as goal
 

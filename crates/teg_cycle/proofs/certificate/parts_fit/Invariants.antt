@@ -1,6 +1,6 @@
 use Rattle.std.proofs.Common.{ℕ, ◌<◌, get_or}
-use Rattle.teg_howard.specs.teg_net.declared.answers.PartAnswer.TheVariants.{NoCircuit}
-use Rattle.teg_howard.specs.teg_net.Certificates.{IsPartCertificate}
+use Rattle.teg_net.specs.declared.answers.PartAnswer.TheVariants.{NoCircuit}
+use Rattle.teg_net.specs.Certificates.{IsPartCertificate}
 use Rattle.teg_cycle.proofs.certificate.parts_fit.Given as goal
 
 abbrev pub invariant-loop-index : goal.invariant-loop-index

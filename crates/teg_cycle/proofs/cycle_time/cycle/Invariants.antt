@@ -1,7 +1,7 @@
 use Rattle.std.proofs.Common.{◌≡◌, ℕ, ◌<◌, length, get_or}
-use Rattle.teg_howard.specs.teg_net.declared.answers.PartAnswer.TheVariants.{NoCircuit}
-use Rattle.teg_howard.specs.teg_net.PartAnswers.{ArePartAnswers}
-use Rattle.teg_howard.specs.teg_net.Certificates.{IsPartCertificate}
+use Rattle.teg_net.specs.declared.answers.PartAnswer.TheVariants.{NoCircuit}
+use Rattle.teg_net.specs.PartAnswers.{ArePartAnswers}
+use Rattle.teg_net.specs.Certificates.{IsPartCertificate}
 use Rattle.teg_cycle.specs.LastRounds.{AreLastOfRuns}
 use Rattle.teg_cycle.proofs.cycle_time.cycle.Given as goal
 

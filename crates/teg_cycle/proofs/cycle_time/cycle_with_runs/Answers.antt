@@ -1,8 +1,8 @@
 use Rattle.std.proofs.Common.{◌≡◌, ◌++◌, ◌∷◌, [], length, sym, subst, arith}
 use Rattle.std.specs.Option.{option_map}
 use Rattle.std.proofs.lemmas.List.{length_push}
-use Rattle.teg_howard.specs.teg_net.PartAnswers.{IsPartAnswer}
-use Rattle.teg_howard.specs.teg_net.Certificates.{IsPartCertificate}
+use Rattle.teg_net.specs.PartAnswers.{IsPartAnswer}
+use Rattle.teg_net.specs.Certificates.{IsPartCertificate}
 use Rattle.teg_cycle.specs.LastRounds.{IsRunOf, AreRunsFrom, rounds_of_runs}
 use Rattle.teg_cycle.proofs.Telling.{each_push}
 use Rattle.teg_cycle.proofs.Gathering.{one_more}

@@ -1,6 +1,6 @@
-use Rattle.teg_howard.proofs.teg_check_proofs.Liveness.{ranking_is_live}
-use Rattle.teg_howard.specs.teg_net.declared.answers.CycleAnswer.{CycleAnswer}
-use Rattle.teg_howard.specs.teg_net.GreatestRatios.{IsFirstGreatest}
+use Rattle.teg_check.proofs.Liveness.{ranking_is_live}
+use Rattle.teg_net.specs.declared.answers.CycleAnswer.{CycleAnswer}
+use Rattle.teg_net.specs.GreatestRatios.{IsFirstGreatest}
 use Rattle.teg_cycle.proofs.Telling.{have_tokens}
 use Rattle.teg_cycle.proofs.Certified.{tell_of_nets}
 use Rattle.teg_cycle.proofs.Gathering.{certified}

@@ -1,7 +1,7 @@
 use Rattle.std.proofs.Common.{◌≡◌, true, false, refl, arith}
 use Rattle.std.proofs.lemmas.Bool.{false≢true, iff_false}
-use Rattle.teg_howard.specs.teg_net.Parts.{IsPlaceOfPart}
-use Rattle.teg_howard.proofs.teg_net_proofs.PathLaws.{no_id}
+use Rattle.teg_net.specs.Parts.{IsPlaceOfPart}
+use Rattle.teg_net.proofs.PathLaws.{no_id}
 use Rattle.teg_cycle.proofs.Deciding.{next_more}
 use Rattle.teg_cycle.proofs.inner_places.all_inner.Goals as goal
 

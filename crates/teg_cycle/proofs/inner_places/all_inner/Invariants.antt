@@ -1,6 +1,6 @@
 use Rattle.std.proofs.Common.{ℕ, ◌<◌, get_or}
-use Rattle.teg_howard.specs.teg_net.declared.entries.PlaceId.{PlaceId}
-use Rattle.teg_howard.specs.teg_net.Parts.{IsPlaceOfPart}
+use Rattle.teg_net.specs.declared.entries.PlaceId.{PlaceId}
+use Rattle.teg_net.specs.Parts.{IsPlaceOfPart}
 use Rattle.teg_cycle.proofs.inner_places.all_inner.Given as goal
 
 abbrev pub invariant-loop-id : goal.invariant-loop-id

@@ -1,5 +1,5 @@
 use Rattle.std.proofs.Common.{ℕ, ◌<◌}
-use Rattle.teg_howard.specs.teg_net.Parts.{IsPlaceOfPart}
+use Rattle.teg_net.specs.Parts.{IsPlaceOfPart}
 use Rattle.teg_cycle.proofs.inner_places.has_no_place.Given as goal
 
 abbrev pub invariant-loop-place : goal.invariant-loop-place

@@ -1,7 +1,7 @@
 use Rattle.std.proofs.Common.{◌≡◌, ◌<◌, length, arith}
 use Rattle.std.proofs.lemmas.List.{get_or_read}
-use Rattle.teg_howard.specs.teg_net.Circuits.{no_place, place_at, from_of}
-use Rattle.teg_howard.specs.teg_net.Parts.{IsMember, to_of}
+use Rattle.teg_net.specs.Circuits.{no_place, place_at, from_of}
+use Rattle.teg_net.specs.Parts.{IsMember, to_of}
 use Rattle.teg_cycle.proofs.inner_places.is_place_of_part.Goals as goal
 
 pub returns : goal.returns

@@ -1,9 +1,9 @@
 use Rattle.std.proofs.Common.{◌≡◌, ◌<◌, ◌≤◌, true, false, length, refl, arith}
 use Rattle.std.proofs.lemmas.Bool.{false≢true, iff_false}
 use Rattle.std.proofs.lemmas.List.{get_or_read}
-use Rattle.teg_howard.specs.teg_net.declared.entries.PlaceId.{PlaceId}
-use Rattle.teg_howard.specs.teg_net.Circuits.{no_place, place_at, from_of}
-use Rattle.teg_howard.specs.teg_net.Parts.{IsMember, to_of}
+use Rattle.teg_net.specs.declared.entries.PlaceId.{PlaceId}
+use Rattle.teg_net.specs.Circuits.{no_place, place_at, from_of}
+use Rattle.teg_net.specs.Parts.{IsMember, to_of}
 use Rattle.teg_cycle.specs.Checks.{KeepsPotential}
 use Rattle.teg_cycle.proofs.Deciding.{one_more}
 use Rattle.teg_cycle.proofs.potentials.all_keep_potentials.Goals as goal

@@ -1,5 +1,5 @@
 use Rattle.std.proofs.Common.{ℕ, ◌<◌}
-use Rattle.teg_howard.specs.teg_net.Circuits.{place_at}
+use Rattle.teg_net.specs.Circuits.{place_at}
 use Rattle.teg_cycle.specs.Checks.{KeepsPotential}
 use Rattle.teg_cycle.proofs.potentials.all_keep_potentials.Given as goal
 

@@ -1,6 +1,6 @@
 use Rattle.std.proofs.Common.{◌≡◌, true, false, refl, arith}
 use Rattle.std.proofs.lemmas.Bool.{false≢true, iff_false}
-use Rattle.teg_howard.specs.teg_net.Parts.{IsMember}
+use Rattle.teg_net.specs.Parts.{IsMember}
 use Rattle.teg_cycle.specs.Checks.{HasPotentialTold}
 use Rattle.teg_cycle.proofs.Deciding.{one_more}
 use Rattle.teg_cycle.proofs.potentials.all_members.Goals as goal

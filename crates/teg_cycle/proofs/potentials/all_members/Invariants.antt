@@ -1,5 +1,5 @@
 use Rattle.std.proofs.Common.{ℕ, ◌<◌}
-use Rattle.teg_howard.specs.teg_net.Parts.{IsMember}
+use Rattle.teg_net.specs.Parts.{IsMember}
 use Rattle.teg_cycle.specs.Checks.{HasPotentialTold}
 use Rattle.teg_cycle.proofs.potentials.all_members.Given as goal
 

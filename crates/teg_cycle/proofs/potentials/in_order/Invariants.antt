@@ -1,5 +1,5 @@
 use Rattle.std.proofs.Common.{ℕ, ◌<◌, get_or}
-use Rattle.teg_howard.specs.teg_net.declared.answers.Potential.{Potential}
+use Rattle.teg_net.specs.declared.answers.Potential.{Potential}
 use Rattle.teg_cycle.proofs.potentials.in_order.Given as goal
 
 -- the potentials before the next one stand in order

@@ -1,7 +1,7 @@
 use Rattle.std.proofs.Common.{◌≡◌, true, false, refl, arith}
 use Rattle.std.proofs.lemmas.Bool.{false≢true, iff_false}
-use Rattle.teg_howard.specs.teg_net.Parts.{IsMember}
-use Rattle.teg_howard.specs.teg_net.declared.answers.Potential.{Potential}
+use Rattle.teg_net.specs.Parts.{IsMember}
+use Rattle.teg_net.specs.declared.answers.Potential.{Potential}
 use Rattle.teg_cycle.proofs.Deciding.{none_told, next_more}
 use Rattle.teg_cycle.proofs.potentials.only_members.Goals as goal
 

@@ -1,6 +1,6 @@
 use Rattle.std.proofs.Common.{ℕ, ◌<◌, get_or}
-use Rattle.teg_howard.specs.teg_net.declared.answers.Potential.{Potential}
-use Rattle.teg_howard.specs.teg_net.Parts.{IsMember}
+use Rattle.teg_net.specs.declared.answers.Potential.{Potential}
+use Rattle.teg_net.specs.Parts.{IsMember}
 use Rattle.teg_cycle.proofs.potentials.only_members.Given as goal
 
 abbrev pub invariant-loop-told : goal.invariant-loop-told

@@ -1,6 +1,6 @@
 use Rattle.std.proofs.Common.{arith}
-use Rattle.teg_form.specs.teg_net.Nets.{IsNet}
-use Rattle.teg_form.specs.teg_model.Datings.{listed_releases, system_of}
+use Rattle.teg_net.specs.Nets.{IsNet}
+use Rattle.teg_model.specs.Datings.{listed_releases, system_of}
 use Rattle.teg_dates.proofs.Earliest.{earliest, earliest_is_least, earliest_of_net, net_keeps_bounds, walks_of_table}
 use Rattle.teg_dates.proofs.first.first_dates.Goals as goal
 

@@ -1,5 +1,5 @@
 use Rattle.std.proofs.Common.{◌≡◌}
-use Rattle.teg_form.specs.teg_model.Datings.{listed_releases, system_of}
+use Rattle.teg_model.specs.Datings.{listed_releases, system_of}
 use Rattle.teg_dates.specs.KeptRows.{IsRows, AreLeastRows}
 use Rattle.teg_dates.proofs.first.first_dates.Given as goal
 

@@ -1,7 +1,7 @@
 use Rattle.std.proofs.Common.{◌≤◌, ◌<◌, ℕ, get_or}
 use Rattle.std.specs.Prelude.{All}
-use Rattle.teg_form.specs.teg_net.Circuits.{no_place}
-use Rattle.teg_form.specs.teg_net.Limits.{most_place_tokens}
+use Rattle.teg_net.specs.Circuits.{no_place}
+use Rattle.teg_net.specs.Limits.{most_place_tokens}
 use Rattle.teg_dates.proofs.next.most_tokens_of.Given as goal
 
 abbrev pub invariant-loop-place : goal.invariant-loop-place

@@ -1,5 +1,5 @@
 use Rattle.std.proofs.Common.{◌∙◌, arith}
-use Rattle.teg_form.specs.teg_model.Datings.{listed_releases, system_of}
+use Rattle.teg_model.specs.Datings.{listed_releases, system_of}
 use Rattle.teg_dates.proofs.Earliest.{earliest, earliest_is_least, earliest_of_net}
 use Rattle.teg_dates.proofs.next.next_row.Goals as goal
 

@@ -1,7 +1,7 @@
 use Rattle.std.proofs.Common.{◌≡◌, ◌∙◌, length, get_or, arith, rules}
 use Rattle.std.proofs.lemmas.List.{get_or_read}
 use Rattle.std.proofs.lemmas.List.Sorted.{All-permutation, Contains-permutation, IsNonDecreasingBy-from_sort_by_key}
-use Rattle.teg_form.specs.teg_net.Circuits.{no_place}
+use Rattle.teg_net.specs.Circuits.{no_place}
 use Rattle.teg_dates.specs.PlaceOrder.{IsRankedPlace, turn_at}
 use Rattle.teg_dates.proofs.Sorting.{order_more}
 use Rattle.teg_dates.proofs.order.by_turn.Goals as goal

@@ -1,15 +1,15 @@
 use Rattle.std.proofs.Common.{ℕ, ◌-◌, ◌<◌, ◌≤◌, ◌≡◌, List, length, map, get_or, refl, sym, ap, ◌∙◌, arith}
 use Rattle.std.proofs.lemmas.List.{get_or_default, length-map, map-set}
-use Rattle.teg_form.specs.dioid.declared.dates.Date.{Date}
-use Rattle.teg_form.specs.dioid.declared.dates.Date.TheVariants.{Early}
-use Rattle.teg_form.specs.teg_net.declared.entries.Place.{Place}
-use Rattle.teg_form.specs.teg_net.Nets.{NetLists, IsNet, IsPlaceOf}
-use Rattle.teg_form.specs.teg_net.Circuits.{place_at, no_place}
-use Rattle.teg_form.specs.teg_model.Systems.{System, available_in, IsLeastIn}
-use Rattle.teg_form.specs.teg_model.Datings.{system_with}
-use Rattle.teg_form.proofs.teg_model_proofs.Tokens.{available_same}
-use Rattle.teg_form.specs.teg_check.Ranks.{IsRanking}
-use Rattle.teg_form.proofs.teg_model_proofs.DateFunctions.{Dating, InitialDates}
+use Rattle.dioid.specs.declared.dates.Date.{Date}
+use Rattle.dioid.specs.declared.dates.Date.TheVariants.{Early}
+use Rattle.teg_net.specs.declared.entries.Place.{Place}
+use Rattle.teg_net.specs.Nets.{NetLists, IsNet, IsPlaceOf}
+use Rattle.teg_net.specs.Circuits.{place_at, no_place}
+use Rattle.teg_model.specs.Systems.{System, available_in, IsLeastIn}
+use Rattle.teg_model.specs.Datings.{system_with}
+use Rattle.teg_model.proofs.Tokens.{available_same}
+use Rattle.teg_check.specs.Ranks.{IsRanking}
+use Rattle.teg_model.proofs.DateFunctions.{Dating, InitialDates}
 use Rattle.teg_dates.specs.declared.order.OrderedPlace.{OrderedPlace}
 use Rattle.teg_dates.specs.PlaceOrder.{IsRankedPlace, IsPlaceOrder}
 use Rattle.teg_dates.specs.Passes.{seen_at, KeptRows, AreLeastRowsBack, ReachesBack}

@@ -1,7 +1,7 @@
 use Rattle.std.proofs.Common.{map}
-use Rattle.teg_form.specs.teg_model.Systems.{IsLeastIn}
-use Rattle.teg_form.specs.teg_model.Datings.{system_with}
-use Rattle.teg_form.proofs.teg_model_proofs.DateFunctions.{Dating}
+use Rattle.teg_model.specs.Systems.{IsLeastIn}
+use Rattle.teg_model.specs.Datings.{system_with}
+use Rattle.teg_model.proofs.DateFunctions.{Dating}
 use Rattle.teg_dates.proofs.Filling.{FilledTo}
 use Rattle.teg_dates.proofs.passes.raise_row.Given as goal
 

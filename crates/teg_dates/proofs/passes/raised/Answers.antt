@@ -1,7 +1,7 @@
 use Rattle.std.proofs.Common.{map, get_or, ap, sym, ◌∙◌, arith}
-use Rattle.teg_form.specs.dioid.declared.dates.Date.TheVariants.{Early}
-use Rattle.teg_form.specs.dioid.Dates.{delayed, later_of}
-use Rattle.teg_form.specs.teg_net.Circuits.{no_place}
+use Rattle.dioid.specs.declared.dates.Date.TheVariants.{Early}
+use Rattle.dioid.specs.Dates.{delayed, later_of}
+use Rattle.teg_net.specs.Circuits.{no_place}
 use Rattle.teg_dates.proofs.Bounded.{initial_within}
 use Rattle.teg_dates.proofs.Raising.{turn_in, held_read, taken_here, within_here, taken_before, within_before, taken_first}
 use Rattle.teg_dates.proofs.passes.raised.Goals as goal

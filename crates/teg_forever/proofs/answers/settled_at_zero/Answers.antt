@@ -1,5 +1,5 @@
 use Rattle.std.proofs.Common.{subst}
-use Rattle.forever_laws.specs.teg_net.Nets.{NetLists}
+use Rattle.teg_net.specs.Nets.{NetLists}
 use Rattle.forever_laws.specs.settled_laws.SettledForms.{IsSettledFormOf}
 use Rattle.teg_forever.proofs.LateTurns.{climbing, zero_form}
 use Rattle.teg_forever.proofs.answers.settled_at_zero.Goals as goal

@@ -2,11 +2,11 @@ use Rattle.std.proofs.Common.{◌≡◌, ◌≤◌, ◌∙◌, ℕ, pos, List, m
 use Rattle.std.specs.Int.{w128}
 use Rattle.std.proofs.lemmas.Int.{to_z_pos}
 use Rattle.std.proofs.lemmas.List.{length-map}
-use Rattle.forever_laws.specs.dioid.declared.dates.Date.{Date}
-use Rattle.forever_laws.specs.dioid.declared.dates.Date.TheVariants.{At}
+use Rattle.dioid.specs.declared.dates.Date.{Date}
+use Rattle.dioid.specs.declared.dates.Date.TheVariants.{At}
 use Rattle.forever_laws.specs.series_laws.SeriesForms.{Form, form_with, value_at}
 use Rattle.forever_laws.specs.series_laws.Periodic.{Rising}
-use Rattle.forever_laws.specs.teg_net.Limits.{greatest_input_date}
+use Rattle.teg_net.specs.Limits.{greatest_input_date}
 use Rattle.forever_laws.specs.SeriesColumns.{listed_dates}
 use Rattle.forever_laws.specs.declared.rows.EndlessRow.{EndlessRow}
 use Rattle.teg_forever.proofs.Series.{due_made, due_fits}

@@ -1,8 +1,8 @@
 use Rattle.std.proofs.Common.{◌≡◌, ◌∙◌, ℤ, ℕ, List, sym, ap, subst, length, to_z, of_z}
 use Rattle.std.specs.Int.{w128}
 use Rattle.std.proofs.lemmas.Int.{to_z-of_z}
-use Rattle.forever_laws.specs.dioid.declared.dates.Date.{Date}
-use Rattle.forever_laws.specs.series_form.SeriesAnswers.{AnswersOf}
+use Rattle.dioid.specs.declared.dates.Date.{Date}
+use Rattle.series_form.specs.SeriesAnswers.{AnswersOf}
 use Rattle.forever_laws.specs.series_laws.SeriesForms.{Form, HasValues, form_with, value_at}
 use Rattle.forever_laws.specs.series_laws.Periodic.{Rising}
 use Rattle.forever_laws.specs.settled_laws.SettledForms.{row_of, step_of_form}

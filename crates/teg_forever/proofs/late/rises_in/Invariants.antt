@@ -1,5 +1,5 @@
 use Rattle.std.proofs.Common.{ℕ, ◌≡◌, ◌<◌, ◌+◌, pos}
-use Rattle.forever_laws.specs.dioid.Dates.{move}
+use Rattle.dioid.specs.Dates.{move}
 use Rattle.forever_laws.specs.settled_laws.SettledForms.{settled_date}
 use Rattle.teg_forever.proofs.late.rises_in.Given as goal
 

@@ -3,7 +3,7 @@ use Rattle.std.specs.Prelude.{nat_le}
 use Rattle.std.specs.List.{list_all}
 use Rattle.std.specs.Str.Parse.{digits_value}
 use Rattle.teg_due.specs.csv.Records.{fields_of}
-use Rattle.forever_laws.specs.teg_net.Limits.{greatest_input_date}
+use Rattle.teg_net.specs.Limits.{greatest_input_date}
 use Rattle.teg_forever.specs.EndlessFiles.{dates_of_fields}
 use Rattle.teg_forever.proofs.numbers.dates_of.Given as goal
 

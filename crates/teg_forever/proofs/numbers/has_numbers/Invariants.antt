@@ -1,7 +1,7 @@
 use Rattle.std.proofs.Common.{◌≡◌, drop}
 use Rattle.std.specs.List.{list_all}
 use Rattle.teg_due.specs.csv.Records.{fields_of}
-use Rattle.teg_due.specs.csv_records.NumberFields.{is_number}
+use Rattle.csv_records.specs.NumberFields.{is_number}
 use Rattle.teg_forever.proofs.numbers.has_numbers.Given as goal
 
 abbrev pub invariant-loop-index : goal.invariant-loop-index

@@ -1,6 +1,6 @@
 use Rattle.std.proofs.Common.{sym}
 use Rattle.std.proofs.lemmas.List.{get_or-map}
-use Rattle.forever_laws.specs.teg_net.declared.entries.TransitionId.{TransitionId}
+use Rattle.teg_net.specs.declared.entries.TransitionId.{TransitionId}
 use Rattle.teg_forever.proofs.texts.input_at.Goals as goal
 
 pub returns-clause-value : goal.returns-clause-value

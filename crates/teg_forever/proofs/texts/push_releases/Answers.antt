@@ -1,6 +1,6 @@
 use Rattle.std.proofs.Common.{◌≡◌, ◌<◌, ◌≤◌, ◌++◌, [], ◌∙◌, ℕ, List, All, length, map, get_or, refl, subst, ap, arith, string_bytes}
 use Rattle.std.proofs.lemmas.List.{length-map, take_all}
-use Rattle.forever_laws.specs.teg_net.declared.entries.TransitionId.{TransitionId}
+use Rattle.teg_net.specs.declared.entries.TransitionId.{TransitionId}
 use Rattle.teg_text.specs.Lines.{line_then}
 use Rattle.teg_text.proofs.Listing.{all_items}
 use Rattle.teg_forever.specs.declared.releases.Release.{Release}

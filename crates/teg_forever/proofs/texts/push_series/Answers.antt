@@ -3,7 +3,7 @@ use Rattle.std.specs.Int.{w128}
 use Rattle.std.proofs.lemmas.Int.{to_z-of_z}
 use Rattle.std.specs.Fmt.{signed_decimal}
 use Rattle.std.specs.List.{flat_map}
-use Rattle.forever_laws.specs.dioid.declared.dates.Date.{Date}
+use Rattle.dioid.specs.declared.dates.Date.{Date}
 use Rattle.teg_text.specs.ValueWords.{date_word}
 use Rattle.teg_text.proofs.Joining.{line_goes_on}
 use Rattle.teg_forever.proofs.Written.{told_on}

@@ -1,6 +1,6 @@
 use Rattle.std.proofs.Common.{◌<◌, ◌≡◌, length, get_or, subst, ◌∙◌, ap}
 use Rattle.std.proofs.lemmas.List.{get_or_default}
-use Rattle.forever_laws.specs.teg_net.Circuits.{no_place}
+use Rattle.teg_net.specs.Circuits.{no_place}
 use Rattle.teg_forever.specs.Twins.{IsTwinPlace}
 use Rattle.teg_forever.proofs.twins.has_twin_place.Goals as goal
 

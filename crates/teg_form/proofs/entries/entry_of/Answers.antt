@@ -1,5 +1,5 @@
 use Rattle.std.proofs.Common.{◌≡◌, sym, ◌∙◌}
-use Rattle.teg_model.specs.teg_net.Circuits.{place_at}
+use Rattle.teg_net.specs.Circuits.{place_at}
 use Rattle.teg_form.proofs.StarEntries.{time_from, none_from, read_place}
 use Rattle.teg_form.proofs.entries.entry_of.Goals as goal
 

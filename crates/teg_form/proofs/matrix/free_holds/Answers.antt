@@ -2,12 +2,12 @@ use Rattle.std.proofs.Common.{ℕ, ℤ, pos, FitsSigned, unsigned_abs, to_z, of_
 use Rattle.std.specs.Int.{w128}
 use Rattle.std.proofs.lemmas.Int.{fits_signed_from_abs}
 use Rattle.std.proofs.lemmas.List.{get_or_read}
-use Rattle.teg_model.specs.dioid.declared.dates.Date.{Date}
-use Rattle.teg_model.specs.dioid.declared.dates.Date.TheVariants.{Early, At}
-use Rattle.teg_model.specs.dioid.Dates.{later_of}
-use Rattle.teg_model.specs.teg_net.declared.entries.Place.{Place}
-use Rattle.teg_model.specs.teg_net.Nets.{NetLists, IsNet, IsPlaceOf}
-use Rattle.teg_model.specs.teg_net.Circuits.{no_place}
+use Rattle.dioid.specs.declared.dates.Date.{Date}
+use Rattle.dioid.specs.declared.dates.Date.TheVariants.{Early, At}
+use Rattle.dioid.specs.Dates.{later_of}
+use Rattle.teg_net.specs.declared.entries.Place.{Place}
+use Rattle.teg_net.specs.Nets.{NetLists, IsNet, IsPlaceOf}
+use Rattle.teg_net.specs.Circuits.{no_place}
 use Rattle.teg_form.specs.Times.{cell}
 use Rattle.teg_form.proofs.Cells.{cell_in}
 use Rattle.teg_form.proofs.Holds.{HoldsUpTo, holds_same, holds_more}

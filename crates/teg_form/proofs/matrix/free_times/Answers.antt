@@ -1,10 +1,10 @@
 use Rattle.std.proofs.Common.{◌≡◌, refl, length}
-use Rattle.teg_model.specs.dioid.contracts.max_plus.DateDioid.TheImpl.{ghosts as dates}
-use Rattle.teg_model.specs.dioid.contracts.max_plus.DateKleene.TheImpl.{ghosts as stars}
+use Rattle.dioid.specs.contracts.max_plus.DateDioid.TheImpl.{ghosts as dates}
+use Rattle.dioid.specs.contracts.max_plus.DateKleene.TheImpl.{ghosts as stars}
 use Rattle.dioid_matrix.specs.Tables.{table_of}
 use Rattle.dioid_matrix.specs.Turns.{IsStar, StarRefused}
 use Rattle.dioid_matrix.specs.declared.refusals.MatrixRefused.TheVariants.{Range}
-use Rattle.teg_model.specs.teg_net.Nets.{NetLists}
+use Rattle.teg_net.specs.Nets.{NetLists}
 use Rattle.teg_form.proofs.Recursion.{AreOfDates}
 use Rattle.teg_form.proofs.StarIs.{free_times_are, range_never}
 use Rattle.teg_form.proofs.matrix.free_times.Goals as goal

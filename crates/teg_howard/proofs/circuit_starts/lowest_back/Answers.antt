@@ -1,5 +1,5 @@
 use Rattle.std.proofs.Common.{◌<◌, arith}
-use Rattle.teg_check.specs.teg_net.Circuits.{from_of}
+use Rattle.teg_net.specs.Circuits.{from_of}
 use Rattle.teg_howard.specs.FoundCircuits.{policy_of}
 use Rattle.teg_howard.proofs.Back.{on_back}
 use Rattle.teg_howard.proofs.Passing.{lowering_more, lowering_done, leads_next}

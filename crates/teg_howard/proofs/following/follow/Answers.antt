@@ -6,7 +6,7 @@ use lib.ListN.{replicate}
 use Rattle.std.proofs.lemmas.Int.{to_z-of_z}
 use mir.Val.{SFits}
 use mir.Syntax.{w128}
-use Rattle.teg_check.specs.teg_net.Circuits.{from_of}
+use Rattle.teg_net.specs.Circuits.{from_of}
 use Rattle.teg_howard.specs.Policies.{offer_of}
 use Rattle.teg_howard.specs.FoundCircuits.{policy_of, value_held, potentials}
 use Rattle.teg_howard.specs.Following.{Followed}

@@ -1,7 +1,7 @@
 use Rattle.std.proofs.Common.{◌≡◌, ◌<◌, None, length, get_or, refl, arith}
 use Rattle.std.proofs.lemmas.List.{get_or_read, get_or_default}
-use Rattle.teg_check.specs.teg_net.Circuits.{no_place, from_of}
-use Rattle.teg_check.specs.teg_net.Parts.{IsMember}
+use Rattle.teg_net.specs.Circuits.{no_place, from_of}
+use Rattle.teg_net.specs.Parts.{IsMember}
 use Rattle.teg_howard.specs.Policies.{first_id}
 use Rattle.teg_howard.specs.FoundCircuits.{policy_of}
 use Rattle.teg_howard.proofs.Spreading.{linked_skip, linked_more}

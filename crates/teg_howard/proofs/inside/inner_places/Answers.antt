@@ -1,9 +1,9 @@
 use Rattle.std.proofs.Common.{◌≡◌, ◌<◌, length}
 use Rattle.std.proofs.lemmas.Bool.{iff_false}
 use Rattle.std.proofs.lemmas.List.{get_or_read}
-use Rattle.teg_check.specs.teg_net.declared.entries.PlaceId.{PlaceId}
-use Rattle.teg_check.specs.teg_net.Circuits.{no_place, place_at, from_of}
-use Rattle.teg_check.specs.teg_net.Parts.{IsMember, to_of}
+use Rattle.teg_net.specs.declared.entries.PlaceId.{PlaceId}
+use Rattle.teg_net.specs.Circuits.{no_place, place_at, from_of}
+use Rattle.teg_net.specs.Parts.{IsMember, to_of}
 use Rattle.teg_howard.proofs.InnerPlaces.{places_none, places_more, places_skip, places_all}
 use Rattle.teg_howard.proofs.inside.inner_places.Goals.{then-is_inside+in_ok-push, else-is_inside}
 use Rattle.teg_howard.proofs.inside.inner_places.Goals as goal

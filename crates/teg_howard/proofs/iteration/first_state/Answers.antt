@@ -1,6 +1,6 @@
 use Rattle.std.proofs.Common.{true, ◌≡◌, length, ◌∙◌, rules}
 use lib.ListN.{replicate}
-use Rattle.teg_check.specs.teg_net.Parts.{to_of}
+use Rattle.teg_net.specs.Parts.{to_of}
 use Rattle.teg_howard.specs.Policies.{step_back}
 use Rattle.teg_howard.specs.FoundCircuits.{policy_of, IsBestFound}
 use Rattle.teg_parts.proofs.Marks.{IfOk_then}

@@ -3,7 +3,7 @@ use Rattle.teg_howard.specs.RoundStates.{IsNextRoundState, IsLastRound}
 use Rattle.teg_howard.specs.PolicyRuns.{IsAnswerOf}
 use Rattle.teg_howard.proofs.Runs.{run_one, run_more, run_all, last_answers, last_keeps, last_pushed}
 use Rattle.teg_howard.proofs.Ending.{falls}
-use Rattle.teg_check.proofs.teg_net_proofs.Reading.{written_back}
+use Rattle.teg_net.proofs.Reading.{written_back}
 use Rattle.teg_howard.proofs.iteration.last_answer.Goals as goal
 
 pub rounds-init : goal.rounds-init

@@ -1,5 +1,5 @@
 use Rattle.std.proofs.Common.{List, ◌++◌, ◌∷◌, []}
-use Rattle.teg_check.specs.teg_net.declared.rounds.Round.{Round}
+use Rattle.teg_net.specs.declared.rounds.Round.{Round}
 use Rattle.teg_howard.specs.PolicyRounds.{IsRunTo}
 use Rattle.teg_howard.specs.RoundStates.{IsRoundState}
 use Rattle.teg_howard.proofs.Ending.{left_of}

@@ -4,7 +4,7 @@ use Rattle.teg_howard.specs.PolicyRuns.{IsAnswerOf}
 use Rattle.teg_howard.proofs.Runs.{run_more, run_all, rise_more, last_answers, last_keeps, last_pushed}
 use Rattle.teg_howard.proofs.Rising.{rise_by_case}
 use Rattle.teg_howard.proofs.Ending.{falls}
-use Rattle.teg_check.proofs.teg_net_proofs.Reading.{written_back}
+use Rattle.teg_net.proofs.Reading.{written_back}
 use Rattle.teg_howard.proofs.iteration.policy_run.Goals as goal
 
 pub rounds-smaller : goal.rounds-smaller

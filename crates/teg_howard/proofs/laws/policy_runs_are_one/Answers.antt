@@ -1,10 +1,10 @@
 use Rattle.std.proofs.Common.{ℕ, ◌≡◌, List, [], ◌∷◌, length, get_or, ap, arith}
 use Rattle.std.specs.Prelude.{ℤ}
-use Rattle.teg_check.specs.teg_net.declared.rounds.Round.{Round}
-use Rattle.teg_check.specs.teg_net.Nets.{NetLists, IsNet}
-use Rattle.teg_check.specs.teg_net.Circuits.{IsLive}
+use Rattle.teg_net.specs.declared.rounds.Round.{Round}
+use Rattle.teg_net.specs.Nets.{NetLists, IsNet}
+use Rattle.teg_net.specs.Circuits.{IsLive}
 use Rattle.teg_howard.specs.Policies.{Policy}
-use Rattle.teg_check.specs.teg_net.Parts.{ListsMembers}
+use Rattle.teg_net.specs.Parts.{ListsMembers}
 use Rattle.teg_howard.specs.PolicyRounds.{chosen_for, IsPolicyRun}
 use Rattle.teg_howard.specs.OnePolicyRun.{AreSameRounds}
 use Rattle.teg_howard.proofs.Listing.{same_choices}

@@ -4,10 +4,10 @@ use Rattle.std.proofs.lemmas.List.{get_or_read}
 use Rattle.std.proofs.lemmas.Int.{to_z-of_z}
 use mir.Val.{SFits, to_z, of_z}
 use mir.Syntax.{w128}
-use Rattle.teg_check.specs.teg_net.declared.entries.Place.{Place}
-use Rattle.teg_check.specs.teg_net.Circuits.{no_place, place_at, from_of}
-use Rattle.teg_check.specs.teg_net.ReducedTimes.{reduced_time, IsMagnitudeWithin}
-use Rattle.teg_check.specs.teg_net.Limits.{greatest_scaled_potential}
+use Rattle.teg_net.specs.declared.entries.Place.{Place}
+use Rattle.teg_net.specs.Circuits.{no_place, place_at, from_of}
+use Rattle.teg_net.specs.ReducedTimes.{reduced_time, IsMagnitudeWithin}
+use Rattle.teg_net.specs.Limits.{greatest_scaled_potential}
 use Rattle.teg_howard.specs.FoundCircuits.{value_held, value_or_zero}
 use Rattle.teg_howard.proofs.Values.{fits_within, some_of}
 use Rattle.teg_howard.proofs.offers.offer_from.Goals as goal

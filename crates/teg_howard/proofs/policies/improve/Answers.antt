@@ -5,9 +5,9 @@ use Rattle.std.proofs.lemmas.Int.{ints, to_z-of_z}
 use Rattle.std.proofs.lemmas.List.{get_or_default}
 use mir.Val.{SFits}
 use mir.Syntax.{w128}
-use Rattle.teg_check.specs.teg_net.declared.entries.PlaceId.{PlaceId}
-use Rattle.teg_check.specs.teg_net.Circuits.{from_of}
-use Rattle.teg_check.specs.teg_net.Parts.{IsPlaceOfPart, to_of}
+use Rattle.teg_net.specs.declared.entries.PlaceId.{PlaceId}
+use Rattle.teg_net.specs.Circuits.{from_of}
+use Rattle.teg_net.specs.Parts.{IsPlaceOfPart, to_of}
 use Rattle.teg_howard.specs.Policies.{first_id, offer_of}
 use Rattle.teg_howard.specs.FoundCircuits.{policy_of, IsBar, potentials}
 use Rattle.teg_howard.proofs.InnerPlaces.{number_at, none_first, none_between, rises_at, past_all}

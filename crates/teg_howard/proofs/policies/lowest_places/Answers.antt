@@ -1,8 +1,8 @@
 use Rattle.std.proofs.Common.{◌≡◌, ◌<◌, ◌+◌, ◌-◌, length, subst, refl, arith}
 use Rattle.std.proofs.lemmas.List.{get_or_read}
-use Rattle.teg_check.specs.teg_net.declared.entries.PlaceId.{PlaceId}
-use Rattle.teg_check.specs.teg_net.Circuits.{no_place, place_at, from_of}
-use Rattle.teg_check.specs.teg_net.Parts.{IsMember, IsPlaceOfPart, to_of}
+use Rattle.teg_net.specs.declared.entries.PlaceId.{PlaceId}
+use Rattle.teg_net.specs.Circuits.{no_place, place_at, from_of}
+use Rattle.teg_net.specs.Parts.{IsMember, IsPlaceOfPart, to_of}
 use Rattle.teg_howard.proofs.Lowest.{LowestFrom, lowest_taken}
 use Rattle.teg_howard.proofs.policies.lowest_places.Goals as goal
 

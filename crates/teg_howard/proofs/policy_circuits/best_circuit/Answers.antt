@@ -1,14 +1,14 @@
 use Rattle.std.proofs.Common.{ℕ, List, Option, Some, None, ◌≡◌, ◌<◌, ◌≤◌, Bool, false, length, get_or, sym, ◌∙◌, arith}
 use Rattle.std.proofs.lemmas.List.{get_or_read}
 use Rattle.std.specs.Prelude.{IfSome, IfNone}
-use Rattle.teg_check.specs.teg_net.declared.entries.PlaceId.{PlaceId}
+use Rattle.teg_net.specs.declared.entries.PlaceId.{PlaceId}
 use Rattle.std.proofs.lemmas.Bool.{iff_false}
 use Rattle.teg_howard.specs.declared.policy_circuits.FoundCircuit.{FoundCircuit}
-use Rattle.teg_check.specs.teg_net.Parts.{IsMember}
+use Rattle.teg_net.specs.Parts.{IsMember}
 use Rattle.teg_howard.specs.Policies.{IsPolicy, IsPolicyCircuit, Policy}
 use Rattle.teg_howard.specs.FoundCircuits.{policy_of, IsFoundAt, IsBestFound}
-use Rattle.teg_check.specs.teg_net.Nets.{NetLists, IsNet}
-use Rattle.teg_check.specs.teg_net.Circuits.{IsLive}
+use Rattle.teg_net.specs.Nets.{NetLists, IsNet}
+use Rattle.teg_net.specs.Circuits.{IsLive}
 use Rattle.teg_howard.proofs.Best.{Passes, BestTo, best_skip, skip_unmarked, skip_none, skip_other, best_stay, best_take, best_all, none_all, found_circuit}
 use Rattle.teg_howard.proofs.policy_circuits.best_circuit.Goals.{then-index+in_ok-circuit+in-Some+then-passes+then-is_greater, then-index+in_ok-circuit+in-Some+else-passes, else-passes-via-then-passes+else-is_greater, else-passes-via-else-passes, then-index+in_ok-circuit+in_default, else-index}
 use Rattle.teg_howard.proofs.policy_circuits.best_circuit.Goals as goal

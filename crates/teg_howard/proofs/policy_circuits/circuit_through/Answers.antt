@@ -1,7 +1,7 @@
 use Rattle.std.proofs.Common.{ℕ, List, ◌<◌, ◌+◌, ◌^◌, length, ap, ◌∙◌, arith, reverse, refl}
-use Rattle.teg_check.specs.teg_net.Nets.{NetLists, IsNet, IsPlaceOf}
-use Rattle.teg_check.specs.teg_net.declared.entries.PlaceId.{PlaceId}
-use Rattle.teg_check.specs.teg_net.Circuits.{place_at, no_place}
+use Rattle.teg_net.specs.Nets.{NetLists, IsNet, IsPlaceOf}
+use Rattle.teg_net.specs.declared.entries.PlaceId.{PlaceId}
+use Rattle.teg_net.specs.Circuits.{place_at, no_place}
 use Rattle.teg_howard.specs.FoundCircuits.{policy_of, IsOnPolicy}
 use Rattle.teg_howard.proofs.Back.{on_back}
 use Rattle.teg_howard.proofs.Walks.{Walked, walked_more, walked_round, walked_below, trail_sums}

@@ -1,7 +1,7 @@
 use Rattle.std.proofs.Common.{ℕ, ◌<◌, ◌≤◌, ◌≡◌, get_or, ap, ◌∙◌, subst, sym, arith, ⊎_elim}
 use Rattle.std.proofs.lemmas.Bool.{cases_lt, iff_false}
 use Rattle.std.proofs.lemmas.List.{get_or_default}
-use Rattle.teg_check.specs.teg_net.declared.entries.PlaceId.{PlaceId}
+use Rattle.teg_net.specs.declared.entries.PlaceId.{PlaceId}
 use Rattle.teg_howard.specs.Policies.{first_id}
 use Rattle.teg_howard.specs.FoundCircuits.{LeadsOn, IsJoin}
 use Rattle.teg_howard.proofs.settling.next_join.Goals as goal

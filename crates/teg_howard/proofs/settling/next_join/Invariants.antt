@@ -1,5 +1,5 @@
 use Rattle.std.proofs.Common.{ℕ, ◌<◌, get_or}
-use Rattle.teg_check.specs.teg_net.declared.entries.PlaceId.{PlaceId}
+use Rattle.teg_net.specs.declared.entries.PlaceId.{PlaceId}
 use Rattle.teg_howard.specs.FoundCircuits.{IsJoin}
 use Rattle.teg_howard.proofs.settling.next_join.Given as goal
 

@@ -3,7 +3,7 @@ use Rattle.std.proofs.lemmas.Int.{to_z-of_z}
 use mir.Val.{SFits, to_z, of_z}
 use mir.Syntax.{w128}
 use Rattle.std.proofs.Common.{◌++◌, ◌∷◌, [], ◌≡◌, ◌+◌, ap, subst, rules}
-use Rattle.teg_check.specs.teg_net.Parts.{IsMember}
+use Rattle.teg_net.specs.Parts.{IsMember}
 use Rattle.teg_howard.specs.FoundCircuits.{policy_of, value_or_zero, value_held}
 use Rattle.teg_howard.proofs.Choices.{Listed, listed_more, listed_skip}
 use Rattle.teg_howard.proofs.settling.round_of.Goals.{then-parts-member+in_ok-push, else-parts-member}

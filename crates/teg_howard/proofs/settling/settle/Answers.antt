@@ -4,9 +4,9 @@ use Rattle.std.proofs.lemmas.List.Elements.{All-set}
 use Rattle.std.proofs.lemmas.Int.{to_z-of_z}
 use mir.Val.{SFits}
 use mir.Syntax.{w128}
-use Rattle.teg_check.specs.teg_net.Circuits.{no_place, from_of}
-use Rattle.teg_check.specs.teg_net.Parts.{to_of}
-use Rattle.teg_check.specs.teg_net.PartAnswers.{first_transition_of}
+use Rattle.teg_net.specs.Circuits.{no_place, from_of}
+use Rattle.teg_net.specs.Parts.{to_of}
+use Rattle.teg_net.specs.PartAnswers.{first_transition_of}
 use Rattle.teg_howard.specs.Policies.{first_id, offer_of}
 use Rattle.teg_howard.specs.FoundCircuits.{policy_of, potentials, IsNextJoin}
 use Rattle.teg_howard.specs.Following.{Followed}

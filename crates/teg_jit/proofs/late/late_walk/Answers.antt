@@ -1,5 +1,5 @@
 use Rattle.std.proofs.Common.{[], ◌∷◌}
-use Rattle.teg_dates.specs.teg_net.ReadyDates.{start_date}
+use Rattle.teg_net.specs.ReadyDates.{start_date}
 use Rattle.due_laws.specs.LatestDates.{IsLateWalk}
 use Rattle.teg_due.specs.declared.rows.DueRow.{DueRow}
 use Rattle.teg_jit.specs.DueDates.{due_in, NamesFiring}

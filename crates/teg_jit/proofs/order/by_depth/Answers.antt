@@ -1,7 +1,7 @@
 use Rattle.std.proofs.Common.{◌≡◌, get_or, arith, rules}
 use Rattle.std.proofs.lemmas.List.{get_or_read}
 use Rattle.std.proofs.lemmas.List.Sorted.{All-permutation, Contains-permutation, IsNonDecreasingBy-from_sort_by_key}
-use Rattle.teg_dates.specs.teg_net.Circuits.{no_place}
+use Rattle.teg_net.specs.Circuits.{no_place}
 use Rattle.teg_jit.specs.BackwardOrder.{IsDepth, depth_at}
 use Rattle.teg_jit.proofs.Sorting.{order_more}
 use Rattle.teg_jit.proofs.order.by_depth.Goals as goal

@@ -1,4 +1,4 @@
-use Rattle.teg_dates.proofs.teg_check_proofs.Liveness.{ranking_is_live}
+use Rattle.teg_check.proofs.Liveness.{ranking_is_live}
 use Rattle.teg_jit.specs.DueDates.{due_in}
 use Rattle.teg_jit.proofs.Tight.{plan_is}
 use Rattle.teg_jit.proofs.planning.plan_for.Goals as goal

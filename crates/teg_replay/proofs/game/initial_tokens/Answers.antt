@@ -1,7 +1,7 @@
 use Rattle.std.proofs.Common.{◌≡◌, ◌<◌, ◌≤◌, ◌^◌, [], length, get_or, arith}
 use Rattle.std.proofs.lemmas.List.{get_or_read}
 use Rattle.std.proofs.lemmas.List.Sums.{sum_by_more_le}
-use Rattle.teg_due.specs.teg_net.Circuits.{no_place}
+use Rattle.teg_net.specs.Circuits.{no_place}
 use Rattle.run_laws.specs.Earliest.{tokens_in, tokens_after}
 use Rattle.run_laws.proofs.Counting.{tokens_few}
 use Rattle.teg_replay.proofs.game.initial_tokens.Goals as goal

@@ -1,6 +1,6 @@
 use Rattle.std.proofs.Common.{◌∙◌, ap}
-use Rattle.teg_due.specs.teg_net.Inputs.{date_by_list}
-use Rattle.teg_due.proofs.teg_net_proofs.InputDates.{found_rules}
+use Rattle.teg_net.specs.Inputs.{date_by_list}
+use Rattle.teg_net.proofs.InputDates.{found_rules}
 use Rattle.teg_replay.proofs.waits.release_date.Goals as goal
 
 pub date-requires-clause-again : goal.date-requires-clause-again

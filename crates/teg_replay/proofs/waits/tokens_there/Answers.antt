@@ -1,6 +1,6 @@
 use Rattle.std.proofs.Common.{get_or, sym, ◌∙◌, arith}
 use Rattle.std.proofs.lemmas.List.{get_or_default}
-use Rattle.teg_due.specs.teg_net.declared.entries.PlaceId.{PlaceId}
+use Rattle.teg_net.specs.declared.entries.PlaceId.{PlaceId}
 use Rattle.teg_replay.proofs.Latest.{no_id, latest_more, latest_is, latest_by, late_at}
 use Rattle.teg_replay.proofs.waits.tokens_there.Goals as goal
 

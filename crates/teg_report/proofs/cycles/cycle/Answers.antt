@@ -1,11 +1,11 @@
 use Rattle.std.proofs.Common.{rules, ◌≡◌, ◌++◌, List, ℕ, Option, Some, None, refl, append-nil, map, ap, sym, ◌∙◌, string_bytes}
 use Rattle.std.specs.Option.{option_copied, option_map}
-use Rattle.teg_settle.specs.teg_net.declared.answers.PartAnswer.{PartAnswer}
+use Rattle.teg_net.specs.declared.answers.PartAnswer.{PartAnswer}
 use Rattle.teg_report.specs.Cycles.{cycle_lines}
 use Rattle.teg_report.specs.AnswerMeanings.{cycle_lists, part_lists, runs_lists}
 use Rattle.teg_report.specs.RoundLines.{RoundLists, runs_from, runs_lines, told_runs}
-use Rattle.teg_calc.specs.teg_text.Lines.{written}
-use Rattle.teg_calc.proofs.teg_text_proofs.Joining.{written_append}
+use Rattle.teg_text.specs.Lines.{written}
+use Rattle.teg_text.proofs.Joining.{written_append}
 use Rattle.teg_report.proofs.cycles.cycle.Goals.{in-Some+in_ok-push_runs-in-Some, in-None}
 use Rattle.teg_report.proofs.cycles.cycle.Goals as goal
 

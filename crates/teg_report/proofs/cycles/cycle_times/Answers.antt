@@ -3,9 +3,9 @@ use Rattle.std.proofs.lemmas.List.{get_or-map, length-map}
 use Rattle.std.specs.List.{flat_map, range_with_len}
 use Rattle.teg_report.specs.Cycles.{ToldPart, NoCircuitIn, IsPartTold, best_lines, best_of, members_from, told_part_at, part_lines}
 use Rattle.teg_report.specs.AnswerMeanings.{cycle_lists, part_lists}
-use Rattle.teg_calc.specs.teg_text.Lines.{written}
-use Rattle.teg_calc.proofs.teg_text_proofs.Joining.{written_append, written_flat_map}
-use Rattle.teg_calc.proofs.teg_text_proofs.Listing.{more_after}
+use Rattle.teg_text.specs.Lines.{written}
+use Rattle.teg_text.proofs.Joining.{written_append, written_flat_map}
+use Rattle.teg_text.proofs.Listing.{more_after}
 use Rattle.teg_report.proofs.cycles.cycle_times.Goals as goal
 
 pub push_part-requires-clause-part : goal.push_part-requires-clause-part

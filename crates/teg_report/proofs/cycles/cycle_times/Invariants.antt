@@ -2,7 +2,7 @@ use Rattle.std.proofs.Common.{◌≡◌, ◌++◌, string_bytes}
 use Rattle.std.specs.List.{flat_map, range_with_len}
 use Rattle.teg_report.specs.Cycles.{part_lines, told_part_at}
 use Rattle.teg_report.specs.AnswerMeanings.{cycle_lists}
-use Rattle.teg_calc.specs.teg_text.Lines.{written}
+use Rattle.teg_text.specs.Lines.{written}
 use Rattle.teg_report.proofs.cycles.cycle_times.Given as goal
 
 abbrev pub invariant-loop-number : goal.invariant-loop-number

@@ -1,10 +1,10 @@
 use Rattle.std.proofs.Common.{[], ◌++◌, List, ℕ, take, eq-eqb, ne_eqb, ap, sym, ◌∙◌, string_bytes, arith}
 use Rattle.std.proofs.lemmas.List.{flat_map_more, take_all}
 use Rattle.std.specs.List.{flat_map}
-use Rattle.teg_settle.specs.teg_net.declared.entries.TransitionId.{TransitionId}
+use Rattle.teg_net.specs.declared.entries.TransitionId.{TransitionId}
 use Rattle.teg_report.specs.Cycles.{member_line, members_from}
-use Rattle.teg_calc.specs.teg_text.Lines.{line_then}
-use Rattle.teg_calc.proofs.teg_text_proofs.Joining.{lines_end}
+use Rattle.teg_text.specs.Lines.{line_then}
+use Rattle.teg_text.proofs.Joining.{lines_end}
 use Rattle.teg_report.proofs.Members.{one_more, no_more}
 use Rattle.teg_report.proofs.cycles.push_members.Goals.{then-part_of-index+in_ok-push_member, else-part_of-index}
 use Rattle.teg_report.proofs.cycles.push_members.Goals as goal

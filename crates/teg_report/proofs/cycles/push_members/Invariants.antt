@@ -1,7 +1,7 @@
 use Rattle.std.proofs.Common.{◌≡◌, ◌++◌, [], take, string_bytes}
 use Rattle.std.specs.List.{flat_map}
 use Rattle.teg_report.specs.Cycles.{member_line, members_from}
-use Rattle.teg_calc.specs.teg_text.Lines.{line_then}
+use Rattle.teg_text.specs.Lines.{line_then}
 use Rattle.teg_report.proofs.cycles.push_members.Given as goal
 
 abbrev pub invariant-loop-index : goal.invariant-loop-index

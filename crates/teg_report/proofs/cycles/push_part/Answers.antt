@@ -1,9 +1,9 @@
 use Rattle.std.proofs.Common.{[], ◌∷◌, ◌++◌, List, ℕ, map, ap, ◌∙◌, string_bytes}
-use Rattle.teg_settle.specs.teg_net.declared.answers.Potential.{Potential}
+use Rattle.teg_net.specs.declared.answers.Potential.{Potential}
 use Rattle.teg_report.specs.Cycles.{potential_line, ratio_line}
-use Rattle.teg_calc.specs.teg_text.Lines.{line_then, written}
-use Rattle.teg_calc.proofs.teg_text_proofs.Joining.{two_then}
-use Rattle.teg_calc.specs.teg_text.WordsOfNames.{circuit_line}
+use Rattle.teg_text.specs.Lines.{line_then, written}
+use Rattle.teg_text.proofs.Joining.{two_then}
+use Rattle.teg_text.specs.WordsOfNames.{circuit_line}
 use Rattle.teg_report.proofs.cycles.push_part.Goals as goal
 
 pub returns-in_ok-push_each-in-Best : goal.returns-in_ok-push_each-in-Best

@@ -1,6 +1,6 @@
 use Rattle.std.proofs.Common.{◌≡◌, ◌++◌, [], take, string_bytes}
 use Rattle.std.specs.List.{flat_map}
-use Rattle.teg_calc.specs.teg_text.Lines.{line_then, phrase}
+use Rattle.teg_text.specs.Lines.{line_then, phrase}
 use Rattle.teg_report.proofs.file_rows.push_lines.Given as goal
 
 abbrev pub invariant-loop-line : goal.invariant-loop-line

@@ -1,10 +1,10 @@
 use Rattle.std.proofs.Common.{rules, ◌≡◌, ◌++◌, List, ℕ, codes, map, ap, sym, ◌∙◌, string_bytes}
 use Rattle.std.specs.Option.{option_copied}
 use Rattle.teg_report.specs.FileRows.{failure_words}
-use Rattle.teg_calc.specs.teg_text.Faults.{row_line}
+use Rattle.teg_text.specs.Faults.{row_line}
 use Rattle.teg_report.specs.Reports.{names_from}
-use Rattle.teg_calc.specs.teg_text.Lines.{phrase, written}
-use Rattle.teg_calc.proofs.teg_text_proofs.Joining.{line_append}
+use Rattle.teg_text.specs.Lines.{phrase, written}
+use Rattle.teg_text.proofs.Joining.{line_append}
 use Rattle.teg_report.proofs.file_rows.refused.Goals as goal
 
 pub returns-clause-text : goal.returns-clause-text

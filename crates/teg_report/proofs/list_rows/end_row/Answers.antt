@@ -1,7 +1,7 @@
 use Rattle.std.proofs.Common.{◌-◌, ◌<◌, ◌∷◌, ◌++◌, length, drop, map, get_or, sym, ap, ◌∙◌, arith}
 use Rattle.std.proofs.lemmas.List.{drop_all, length-map}
-use Rattle.teg_settle.specs.dioid.declared.dates.Date.TheVariants.{Early}
-use Rattle.teg_calc.specs.teg_text.ValueWords.{date_word}
+use Rattle.dioid.specs.declared.dates.Date.TheVariants.{Early}
+use Rattle.teg_text.specs.ValueWords.{date_word}
 use Rattle.teg_report.proofs.Endings.{none_behind, one_before, date_of_cell}
 use Rattle.teg_report.proofs.list_rows.end_row.Goals as goal
 

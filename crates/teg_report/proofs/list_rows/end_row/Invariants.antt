@@ -1,6 +1,6 @@
 use Rattle.std.proofs.Common.{◌≡◌, ◌≤◌, ◌+◌, ◌-◌, ◌*◌, [], length, drop, map}
-use Rattle.teg_calc.specs.teg_text.Lines.{further_then}
-use Rattle.teg_calc.specs.teg_text.ValueWords.{date_word}
+use Rattle.teg_text.specs.Lines.{further_then}
+use Rattle.teg_text.specs.ValueWords.{date_word}
 use Rattle.teg_report.proofs.list_rows.end_row.Given as goal
 
 -- the last dates stand before the line feed

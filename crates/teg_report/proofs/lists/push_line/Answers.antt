@@ -1,13 +1,13 @@
 use Rattle.std.proofs.Common.{subst, ◌≡◌, [], ◌∷◌, ◌++◌, List, ℕ, map, ap, ◌∙◌, append_assoc, string_bytes, arith}
 use Rattle.std.specs.Fmt.{decimal}
 use Rattle.std.specs.List.{range_with_len}
-use Rattle.teg_settle.specs.dioid.declared.dates.Date.{Date}
-use Rattle.teg_settle.specs.teg_dates.DateTables.{date_at}
+use Rattle.dioid.specs.declared.dates.Date.{Date}
+use Rattle.teg_dates.specs.DateTables.{date_at}
 use Rattle.teg_report.specs.DateLists.{dated_firing}
-use Rattle.teg_calc.specs.teg_text.Lines.{further_then}
-use Rattle.teg_calc.specs.teg_text.ValueWords.{IsDate, date_word}
-use Rattle.teg_calc.proofs.teg_text_proofs.Joining.{line_ends}
-use Rattle.teg_calc.proofs.teg_text_proofs.Listing.{all_below, more_after}
+use Rattle.teg_text.specs.Lines.{further_then}
+use Rattle.teg_text.specs.ValueWords.{IsDate, date_word}
+use Rattle.teg_text.proofs.Joining.{line_ends}
+use Rattle.teg_text.proofs.Listing.{all_below, more_after}
 use Rattle.teg_report.proofs.lists.push_line.Goals as goal
 
 pub loop-index-preserved : goal.loop-index-preserved

@@ -1,6 +1,6 @@
 use Rattle.std.proofs.Common.{◌+◌, ℕ, drop, get_or, refl, ap, sym, subst, length, ◌∙◌, string_bytes, arith}
-use Rattle.teg_settle.specs.teg_net.declared.entries.TransitionId.{TransitionId}
-use Rattle.teg_settle.specs.teg_net.declared.walks.Step.TheVariants.{By}
+use Rattle.teg_net.specs.declared.entries.TransitionId.{TransitionId}
+use Rattle.teg_net.specs.declared.walks.Step.TheVariants.{By}
 use Rattle.teg_report.specs.PlanLines.{step_number}
 use Rattle.teg_report.proofs.PlansWritten.{IsLeft, left_at, left_more, left_none, next_step, path_small}
 use Rattle.teg_report.proofs.plans.end_steps.Goals as goal

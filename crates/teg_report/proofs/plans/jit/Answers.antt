@@ -2,9 +2,9 @@ use Rattle.std.proofs.Common.{rules, ◌≡◌, ◌+◌, ◌<◌, [], ◌++◌, 
 use Rattle.std.specs.List.{flat_map, range_with_len}
 use Rattle.teg_jit.specs.Plans.{latest_at}
 use Rattle.teg_report.specs.PlanLines.{IsLatestKept, numbers_line, planned_lines}
-use Rattle.teg_calc.specs.teg_text.Lines.{line_then, written}
-use Rattle.teg_calc.proofs.teg_text_proofs.Joining.{line_append, written_flat_map}
-use Rattle.teg_calc.proofs.teg_text_proofs.Listing.{all_below, more_after}
+use Rattle.teg_text.specs.Lines.{line_then, written}
+use Rattle.teg_text.proofs.Joining.{line_append, written_flat_map}
+use Rattle.teg_text.proofs.Listing.{all_below, more_after}
 use Rattle.teg_report.proofs.plans.jit.Goals as goal
 
 pub loop-index-preserved : goal.loop-index-preserved

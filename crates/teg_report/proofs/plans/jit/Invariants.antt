@@ -2,7 +2,7 @@ use Rattle.std.proofs.Common.{ℕ, ◌+◌, ◌<◌, ◌≡◌, ◌++◌, string
 use Rattle.std.specs.List.{flat_map, range_with_len}
 use Rattle.teg_jit.specs.Plans.{latest_at}
 use Rattle.teg_report.specs.PlanLines.{IsLatestKept, planned_lines}
-use Rattle.teg_calc.specs.teg_text.Lines.{written}
+use Rattle.teg_text.specs.Lines.{written}
 use Rattle.teg_report.proofs.plans.jit.Given as goal
 
 abbrev pub invariant-loop-index : goal.invariant-loop-index

@@ -1,6 +1,6 @@
 use Rattle.std.proofs.Common.{rules, ◌≡◌, [], ◌++◌, List, ℕ, ap, ◌∙◌, string_bytes}
 use Rattle.teg_report.specs.PlanLines.{late_line, path_line, start_lines}
-use Rattle.teg_calc.specs.teg_text.Lines.{line_then, written}
+use Rattle.teg_text.specs.Lines.{line_then, written}
 use Rattle.teg_report.proofs.PlansWritten.{between}
 use Rattle.teg_report.proofs.plans.late.Goals as goal
 

@@ -3,9 +3,9 @@ use Rattle.std.specs.List.{range_with_len}
 use Rattle.teg_jit.specs.declared.answers.LatestDate.{LatestDate}
 use Rattle.teg_jit.specs.Plans.{latest_at}
 use Rattle.teg_report.specs.PlanLines.{IsLatestKept, latest_line, planned_line}
-use Rattle.teg_calc.specs.teg_text.Lines.{line_then}
-use Rattle.teg_calc.proofs.teg_text_proofs.Joining.{lines_end}
-use Rattle.teg_calc.proofs.teg_text_proofs.Listing.{all_below, more_after}
+use Rattle.teg_text.specs.Lines.{line_then}
+use Rattle.teg_text.proofs.Joining.{lines_end}
+use Rattle.teg_text.proofs.Listing.{all_below, more_after}
 use Rattle.teg_report.proofs.plans.push_transition.Goals as goal
 
 pub loop-number-preserved : goal.loop-number-preserved

@@ -2,7 +2,7 @@ use Rattle.std.proofs.Common.{ℕ, ◌+◌, ◌<◌, ◌≡◌, ◌++◌, [], st
 use Rattle.std.specs.List.{flat_map, range_with_len}
 use Rattle.teg_jit.specs.Plans.{latest_at}
 use Rattle.teg_report.specs.PlanLines.{IsLatestKept, planned_line}
-use Rattle.teg_calc.specs.teg_text.Lines.{line_then}
+use Rattle.teg_text.specs.Lines.{line_then}
 use Rattle.teg_report.proofs.plans.push_transition.Given as goal
 
 abbrev pub invariant-loop-number : goal.invariant-loop-number

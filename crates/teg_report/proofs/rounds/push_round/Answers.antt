@@ -1,9 +1,9 @@
 use Rattle.std.proofs.Common.{[], ◌∷◌, ◌++◌, List, ℕ, map, ap, ◌∙◌, string_bytes}
-use Rattle.teg_settle.specs.teg_net.declared.rounds.Choice.{Choice}
+use Rattle.teg_net.specs.declared.rounds.Choice.{Choice}
 use Rattle.teg_report.specs.RoundLines.{choice_line, turn_line}
-use Rattle.teg_calc.specs.teg_text.Lines.{line_then, written}
-use Rattle.teg_calc.proofs.teg_text_proofs.Joining.{two_then}
-use Rattle.teg_calc.specs.teg_text.WordsOfNames.{circuit_line}
+use Rattle.teg_text.specs.Lines.{line_then, written}
+use Rattle.teg_text.proofs.Joining.{two_then}
+use Rattle.teg_text.specs.WordsOfNames.{circuit_line}
 use Rattle.teg_report.proofs.rounds.push_round.Goals as goal
 
 pub returns-clause-text : goal.returns-clause-text

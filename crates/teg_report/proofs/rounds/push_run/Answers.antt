@@ -4,9 +4,9 @@ use Rattle.std.proofs.lemmas.List.Elements.{All-more}
 use Rattle.std.specs.List.{range_with_len}
 use Rattle.teg_report.specs.RoundLines.{IsRoundKept, RoundLists, IsRoundIn, no_round, round_lines}
 use Rattle.teg_report.specs.AnswerMeanings.{round_lists}
-use Rattle.teg_calc.specs.teg_text.Lines.{written}
-use Rattle.teg_calc.proofs.teg_text_proofs.Joining.{written_flat_map}
-use Rattle.teg_calc.proofs.teg_text_proofs.Listing.{more_after}
+use Rattle.teg_text.specs.Lines.{written}
+use Rattle.teg_text.proofs.Joining.{written_flat_map}
+use Rattle.teg_text.proofs.Listing.{more_after}
 use Rattle.teg_report.proofs.rounds.push_run.Goals as goal
 
 pub push_round-requires-clause-round : goal.push_round-requires-clause-round

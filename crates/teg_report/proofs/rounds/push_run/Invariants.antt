@@ -2,7 +2,7 @@ use Rattle.std.proofs.Common.{◌≡◌, ◌++◌, map, slice_index_or, take, st
 use Rattle.std.specs.List.{All, flat_map, range_with_len}
 use Rattle.teg_report.specs.RoundLines.{IsRoundKept, no_round, round_lines}
 use Rattle.teg_report.specs.AnswerMeanings.{round_lists}
-use Rattle.teg_calc.specs.teg_text.Lines.{written}
+use Rattle.teg_text.specs.Lines.{written}
 use Rattle.teg_report.proofs.rounds.push_run.Given as goal
 
 abbrev pub invariant-loop-turn : goal.invariant-loop-turn

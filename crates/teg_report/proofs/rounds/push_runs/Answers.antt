@@ -3,12 +3,12 @@ use Rattle.std.proofs.lemmas.List.{flat_map_more, get_or-map, length-map, take_a
 use Rattle.std.proofs.lemmas.List.Elements.{All-more}
 use Rattle.std.specs.Global.{Vec}
 use Rattle.std.specs.List.{flat_map}
-use Rattle.teg_settle.specs.teg_net.declared.rounds.Round.{Round}
+use Rattle.teg_net.specs.declared.rounds.Round.{Round}
 use Rattle.teg_report.specs.Cycles.{ToldPart, NoCircuitIn}
 use Rattle.teg_report.specs.RoundLines.{IsRunKept, RoundLists, Run, IsRunIn, circuits_in, run_lines, runs_from}
 use Rattle.teg_report.specs.AnswerMeanings.{part_lists, round_lists, runs_lists}
-use Rattle.teg_calc.specs.teg_text.Lines.{written}
-use Rattle.teg_calc.proofs.teg_text_proofs.Joining.{written_flat_map}
+use Rattle.teg_text.specs.Lines.{written}
+use Rattle.teg_text.proofs.Joining.{written_flat_map}
 use Rattle.teg_report.proofs.Runs.{best_at, circuits_more, next_list, no_run_more, one_run_more}
 use Rattle.teg_report.proofs.rounds.push_runs.Goals.{in-Best+in_ok-push_run-in-Best, in-NoCircuit}
 use Rattle.teg_report.proofs.rounds.push_runs.Goals as goal

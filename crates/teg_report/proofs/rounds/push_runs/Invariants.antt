@@ -2,7 +2,7 @@ use Rattle.std.proofs.Common.{◌≡◌, ◌++◌, map, take, string_bytes}
 use Rattle.std.specs.List.{All, flat_map}
 use Rattle.teg_report.specs.RoundLines.{IsRunKept, circuits_in, run_lines, runs_from}
 use Rattle.teg_report.specs.AnswerMeanings.{part_lists, runs_lists}
-use Rattle.teg_calc.specs.teg_text.Lines.{written}
+use Rattle.teg_text.specs.Lines.{written}
 use Rattle.teg_report.proofs.rounds.push_runs.Given as goal
 
 abbrev pub invariant-loop-number : goal.invariant-loop-number

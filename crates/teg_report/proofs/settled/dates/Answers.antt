@@ -3,11 +3,11 @@ use Rattle.std.proofs.lemmas.List.{get_or_default}
 use Rattle.std.specs.List.{range_with_len}
 use Rattle.teg_settle.specs.settled_laws.SettledForms.{row_of, step_of_form}
 use Rattle.teg_report.specs.SettledTexts.{settled_line}
-use Rattle.teg_calc.specs.teg_text.Lines.{line_then, written}
-use Rattle.teg_calc.specs.teg_text.WordsOfNames.{settled_words}
-use Rattle.teg_calc.specs.teg_text.ValueWords.{IsDate}
-use Rattle.teg_calc.proofs.teg_text_proofs.Joining.{line_append, lines_end}
-use Rattle.teg_calc.proofs.teg_text_proofs.Listing.{all_below, more_after}
+use Rattle.teg_text.specs.Lines.{line_then, written}
+use Rattle.teg_text.specs.WordsOfNames.{settled_words}
+use Rattle.teg_text.specs.ValueWords.{IsDate}
+use Rattle.teg_text.proofs.Joining.{line_append, lines_end}
+use Rattle.teg_text.proofs.Listing.{all_below, more_after}
 use Rattle.teg_report.proofs.settled.dates.Goals as goal
 
 pub loop-index-preserved : goal.loop-index-preserved

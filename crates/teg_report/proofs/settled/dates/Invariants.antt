@@ -2,8 +2,8 @@ use Rattle.std.proofs.Common.{ℕ, ◌<◌, ◌^◌, ◌≡◌, ◌++◌, [], Al
 use Rattle.std.specs.List.{flat_map, range_with_len}
 use Rattle.teg_settle.specs.settled_laws.SettledForms.{row_of, step_of_form}
 use Rattle.teg_report.specs.SettledTexts.{settled_line}
-use Rattle.teg_calc.specs.teg_text.Lines.{line_then}
-use Rattle.teg_calc.specs.teg_text.ValueWords.{IsDate}
+use Rattle.teg_text.specs.Lines.{line_then}
+use Rattle.teg_text.specs.ValueWords.{IsDate}
 use Rattle.teg_report.proofs.settled.dates.Given as goal
 
 abbrev pub invariant-loop-index : goal.invariant-loop-index

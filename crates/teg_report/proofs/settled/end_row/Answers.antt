@@ -1,7 +1,7 @@
 use Rattle.std.proofs.Common.{rules, ◌≡◌, [], ◌∷◌, ◌++◌, codes, string_bytes}
 use Rattle.std.specs.Fmt.{signed_decimal}
-use Rattle.teg_calc.specs.teg_text.ValueWords.{date_word}
-use Rattle.teg_calc.proofs.teg_text_proofs.Joining.{line_goes_on}
+use Rattle.teg_text.specs.ValueWords.{date_word}
+use Rattle.teg_text.proofs.Joining.{line_goes_on}
 use Rattle.teg_report.proofs.settled.end_row.Goals as goal
 
 pub returns-clause-text : goal.returns-clause-text

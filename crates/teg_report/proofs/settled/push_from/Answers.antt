@@ -5,8 +5,8 @@ use Rattle.std.proofs.lemmas.Simd.{map-map}
 use Rattle.teg_report.specs.declared.answer.TransferLine.{TransferLine}
 use Rattle.teg_report.specs.AnswerMeanings.{times_from, times_to}
 use Rattle.teg_report.specs.SettledTexts.{AreTimesToKept, TimesTo, from_line, to_line}
-use Rattle.teg_calc.specs.teg_text.Lines.{line_then, written}
-use Rattle.teg_calc.proofs.teg_text_proofs.Joining.{line_append}
+use Rattle.teg_text.specs.Lines.{line_then, written}
+use Rattle.teg_text.proofs.Joining.{line_append}
 use Rattle.teg_report.proofs.settled.push_from.Goals as goal
 
 pub push_each-requires : goal.push_each-requires

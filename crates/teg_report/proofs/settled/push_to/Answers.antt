@@ -1,8 +1,8 @@
 use Rattle.std.proofs.Common.{rules, ◌≡◌, [], ◌++◌, List, ℕ, codes, ap, ◌∙◌, append_assoc, string_bytes}
-use Rattle.teg_settle.specs.dioid.declared.dates.Date.{Date}
+use Rattle.dioid.specs.declared.dates.Date.{Date}
 use Rattle.teg_report.specs.SettledTexts.{row_words}
-use Rattle.teg_calc.specs.teg_text.Lines.{further_then}
-use Rattle.teg_calc.specs.teg_text.WordsOfNames.{name_of_transition}
+use Rattle.teg_text.specs.Lines.{further_then}
+use Rattle.teg_text.specs.WordsOfNames.{name_of_transition}
 use Rattle.teg_report.proofs.settled.push_to.Goals as goal
 
 pub returns-clause-text : goal.returns-clause-text

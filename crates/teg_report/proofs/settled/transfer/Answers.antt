@@ -3,9 +3,9 @@ use Rattle.std.specs.List.{flat_map}
 use Rattle.std.proofs.lemmas.List.{get_or-map, length-map, take_all}
 use Rattle.teg_report.specs.SettledTexts.{AreTimesKept, AreTimesIn, TimesFrom, from_lines, output_count, transfer_line}
 use Rattle.teg_report.specs.AnswerMeanings.{times_from}
-use Rattle.teg_calc.specs.teg_text.Lines.{line_then, written}
-use Rattle.teg_calc.proofs.teg_text_proofs.Joining.{line_append, written_flat_map}
-use Rattle.teg_calc.proofs.teg_text_proofs.Listing.{all_items, more_items}
+use Rattle.teg_text.specs.Lines.{line_then, written}
+use Rattle.teg_text.proofs.Joining.{line_append, written_flat_map}
+use Rattle.teg_text.proofs.Listing.{all_items, more_items}
 use Rattle.teg_report.proofs.settled.transfer.Goals as goal
 
 pub push_from-requires : goal.push_from-requires

@@ -2,7 +2,7 @@ use Rattle.std.proofs.Common.{◌≡◌, ◌++◌, All, map, take, string_bytes}
 use Rattle.std.specs.List.{flat_map}
 use Rattle.teg_report.specs.SettledTexts.{AreTimesKept, from_lines}
 use Rattle.teg_report.specs.AnswerMeanings.{times_from}
-use Rattle.teg_calc.specs.teg_text.Lines.{written}
+use Rattle.teg_text.specs.Lines.{written}
 use Rattle.teg_report.proofs.settled.transfer.Given as goal
 
 abbrev pub invariant-loop-from : goal.invariant-loop-from

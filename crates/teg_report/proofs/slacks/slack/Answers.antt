@@ -4,9 +4,9 @@ use Rattle.std.specs.List.{range_with_len}
 use Rattle.teg_critical.specs.declared.slacks.Slack.{Slack}
 use Rattle.teg_critical.specs.declared.slacks.Slack.TheVariants.{NoCircuit}
 use Rattle.teg_report.specs.SlackLines.{IsSlackKept, cycle_time_line, slack_line}
-use Rattle.teg_calc.specs.teg_text.Lines.{line_then, written}
-use Rattle.teg_calc.proofs.teg_text_proofs.Joining.{line_append, lines_end}
-use Rattle.teg_calc.proofs.teg_text_proofs.Listing.{all_below, more_after}
+use Rattle.teg_text.specs.Lines.{line_then, written}
+use Rattle.teg_text.proofs.Joining.{line_append, lines_end}
+use Rattle.teg_text.proofs.Listing.{all_below, more_after}
 use Rattle.teg_report.proofs.slacks.slack.Goals as goal
 
 pub loop-index-preserved : goal.loop-index-preserved

@@ -2,7 +2,7 @@ use Rattle.std.proofs.Common.{ℕ, ◌<◌, ◌≡◌, ◌++◌, [], slice_index
 use Rattle.std.specs.List.{flat_map, range_with_len}
 use Rattle.teg_critical.specs.declared.slacks.Slack.TheVariants.{NoCircuit}
 use Rattle.teg_report.specs.SlackLines.{IsSlackKept, slack_line}
-use Rattle.teg_calc.specs.teg_text.Lines.{line_then}
+use Rattle.teg_text.specs.Lines.{line_then}
 use Rattle.teg_report.proofs.slacks.slack.Given as goal
 
 abbrev pub invariant-loop-index : goal.invariant-loop-index

@@ -1,7 +1,7 @@
 use Rattle.std.proofs.Common.{rules, ◌≡◌, [], ◌++◌, List, ℕ, map, ap, ◌∙◌, string_bytes}
-use Rattle.teg_calc.specs.teg_text.Lines.{further_then}
-use Rattle.teg_calc.proofs.teg_text_proofs.Joining.{line_ends}
-use Rattle.teg_calc.specs.teg_text.WordsOfNames.{name_of_place}
+use Rattle.teg_text.specs.Lines.{further_then}
+use Rattle.teg_text.proofs.Joining.{line_ends}
+use Rattle.teg_text.specs.WordsOfNames.{name_of_place}
 use Rattle.teg_report.proofs.texts.token_free.Goals as goal
 
 pub returns : goal.returns

@@ -1,8 +1,8 @@
 use Rattle.std.proofs.Common.{[], ◌++◌, List, ℕ, refl, subst, sym, ap, ◌∙◌, string_bytes, arith}
 use Rattle.std.proofs.lemmas.List.{take_all}
-use Rattle.teg_calc.specs.teg_text.Lines.{line_then}
-use Rattle.teg_calc.proofs.teg_text_proofs.Joining.{lines_end}
-use Rattle.teg_calc.proofs.teg_text_proofs.Listing.{all_items, more_items}
+use Rattle.teg_text.specs.Lines.{line_then}
+use Rattle.teg_text.proofs.Joining.{lines_end}
+use Rattle.teg_text.proofs.Listing.{all_items, more_items}
 use Rattle.teg_report.proofs.told.push_each.Goals as goal
 
 pub push-requires : goal.push-requires

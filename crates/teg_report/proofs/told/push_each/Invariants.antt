@@ -1,6 +1,6 @@
 use Rattle.std.proofs.Common.{◌≡◌, ◌++◌, [], take, string_bytes}
 use Rattle.std.specs.List.{All, flat_map}
-use Rattle.teg_calc.specs.teg_text.Lines.{line_then}
+use Rattle.teg_text.specs.Lines.{line_then}
 use Rattle.teg_report.proofs.told.push_each.Given as goal
 
 abbrev pub invariant-loop-item : goal.invariant-loop-item

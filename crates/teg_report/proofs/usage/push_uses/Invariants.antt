@@ -1,6 +1,6 @@
 use Rattle.std.proofs.Common.{◌≡◌, ◌++◌, ◌∷◌, codes, length, map, string_bytes}
 use Rattle.teg_report.specs.ShortAnswers.{usage_from}
-use Rattle.teg_calc.specs.teg_text.Lines.{written}
+use Rattle.teg_text.specs.Lines.{written}
 use Rattle.teg_report.proofs.usage.push_uses.Given as goal
 
 abbrev pub invariant-loop-commands : goal.invariant-loop-commands

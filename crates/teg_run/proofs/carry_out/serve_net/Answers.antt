@@ -1,6 +1,6 @@
 use Rattle.std.proofs.Common.{[]}
-use Rattle.teg_commands.specs.teg_net.Nets.{NetLists}
-use Rattle.teg_commands.specs.teg_report.declared.answer.Which.TheVariants.{Net as NetFile}
+use Rattle.teg_net.specs.Nets.{NetLists}
+use Rattle.teg_report.specs.declared.answer.Which.TheVariants.{Net as NetFile}
 use Rattle.teg_run.specs.Endings.{Whole, Lost, ending_of}
 use Rattle.teg_run.specs.Openings.{OpensNet}
 use Rattle.teg_run.specs.Says.{SaysNet, SaysOutcome}

@@ -1,7 +1,7 @@
 use Rattle.std.proofs.Common.{◌≡◌, ◌++◌, ◌∙◌, ℕ, List, [], ◌∷◌, ap, map, refl, subst}
 use denote.Param.Object.{read_made}
 use Rattle.std.specs.Prelude.{string_bytes}
-use Rattle.teg_commands.specs.teg_outside.declared.monitor.Firing.{Firing}
+use Rattle.teg_outside.specs.declared.monitor.Firing.{Firing}
 use Rattle.teg_run.specs.Headline.{KeepsPromises}
 use Rattle.teg_run.proofs.watched.watched.Goals as goal
 use Rattle.teg_run.proofs.watched.watched.OwnLists as own

@@ -1,5 +1,5 @@
 use Rattle.std.proofs.Common.{◌≡◌, ◌≤◌, ◌-◌, length, take}
-use Rattle.teg_commands.specs.teg_outside.Sinks.{BytesGrow}
+use Rattle.teg_outside.specs.Sinks.{BytesGrow}
 use Rattle.teg_run.proofs.writing.write_all.Given as goal
 
 abbrev pub invariant-loop-written : goal.invariant-loop-written

@@ -1,4 +1,4 @@
-use Rattle.teg_dates.proofs.teg_check_proofs.Liveness.{ranking_is_live}
+use Rattle.teg_check.proofs.Liveness.{ranking_is_live}
 use Rattle.teg_settle.proofs.Reaching.{has_form}
 use Rattle.teg_settle.proofs.endless.found.Goals as goal
 

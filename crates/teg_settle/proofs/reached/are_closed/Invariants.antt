@@ -1,5 +1,5 @@
 use Rattle.std.proofs.Common.{ℕ, ◌<◌, IsTrue, length, get_or}
-use Rattle.periodic_laws.specs.teg_net.declared.entries.Place.{Place}
+use Rattle.teg_net.specs.declared.entries.Place.{Place}
 use Rattle.teg_settle.specs.Reached.{begins_marked, is_marked}
 use Rattle.teg_settle.proofs.reached.are_closed.Given as goal
 

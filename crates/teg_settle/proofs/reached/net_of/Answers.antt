@@ -1,5 +1,5 @@
 use Rattle.std.proofs.Common.{◌≡◌, [], rules}
-use Rattle.periodic_laws.specs.teg_net.Nets.{lists_of}
+use Rattle.teg_net.specs.Nets.{lists_of}
 use Rattle.teg_settle.proofs.Numbering.{all_within}
 use Rattle.teg_settle.proofs.ReachedPart.{part_is_net}
 use Rattle.teg_settle.proofs.reached.net_of.Goals as goal

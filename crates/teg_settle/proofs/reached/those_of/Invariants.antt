@@ -1,5 +1,5 @@
 use Rattle.std.proofs.Common.{ℕ, ◌≡◌, ◌<◌, length, get_or}
-use Rattle.periodic_laws.specs.teg_net.declared.entries.Transition.{Transition}
+use Rattle.teg_net.specs.declared.entries.Transition.{Transition}
 use Rattle.teg_settle.proofs.reached.those_of.Given as goal
 
 abbrev pub invariant-loop-number : goal.invariant-loop-number

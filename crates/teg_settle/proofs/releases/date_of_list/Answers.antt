@@ -1,11 +1,11 @@
 use Rattle.std.proofs.Common.{◌≡◌, ◌≤◌, ◌+◌, ◌*◌, ◌∙◌, Some, None, ap, sym, subst, arith}
 use Rattle.std.specs.Prelude.{slice_get, IfSome, pos}
 use Rattle.std.proofs.lemmas.Int.{ints}
-use Rattle.periodic_laws.specs.dioid.declared.dates.Date.TheVariants.{At}
-use Rattle.periodic_laws.specs.teg_net.Limits.{greatest_input_date}
-use Rattle.periodic_laws.specs.teg_net.Nets.{IsInputOf}
-use Rattle.periodic_laws.specs.teg_net.Inputs.{date_by_list, list_date}
-use Rattle.periodic_laws.proofs.teg_net_proofs.InputDates.{list_date-most}
+use Rattle.dioid.specs.declared.dates.Date.TheVariants.{At}
+use Rattle.teg_net.specs.Limits.{greatest_input_date}
+use Rattle.teg_net.specs.Nets.{IsInputOf}
+use Rattle.teg_net.specs.Inputs.{date_by_list, list_date}
+use Rattle.teg_net.proofs.InputDates.{list_date-most}
 use Rattle.periodic_laws.specs.teg_model.Datings.{as_date}
 use Rattle.teg_settle.proofs.Releasing.{got}
 use Rattle.teg_settle.proofs.releases.date_of_list.Goals as goal

@@ -1,6 +1,6 @@
 use Rattle.std.proofs.Common.{◌≡◌, Some, sym, subst}
 use Rattle.std.specs.Prelude.{slice_get}
-use Rattle.periodic_laws.specs.teg_net.Nets.{IsInputOf}
+use Rattle.teg_net.specs.Nets.{IsInputOf}
 use Rattle.teg_settle.proofs.Releasing.{got, span_list}
 use Rattle.teg_settle.proofs.releases.span_of_list.Goals as goal
 

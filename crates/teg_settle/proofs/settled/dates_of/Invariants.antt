@@ -1,5 +1,5 @@
 use Rattle.std.proofs.Common.{ℕ, ◌+◌, ◌-◌, ◌≡◌, ◌≤◌, ◌<◌, length, get_or}
-use Rattle.periodic_laws.specs.dioid.declared.dates.Date.TheVariants.{Early}
+use Rattle.dioid.specs.declared.dates.Date.TheVariants.{Early}
 use Rattle.teg_dates.specs.DateTables.{date_at}
 use Rattle.teg_settle.proofs.settled.dates_of.Given as goal
 

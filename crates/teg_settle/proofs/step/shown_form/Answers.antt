@@ -1,4 +1,4 @@
-use Rattle.teg_dates.proofs.teg_check_proofs.Liveness.{ranking_is_live}
+use Rattle.teg_check.proofs.Liveness.{ranking_is_live}
 use Rattle.teg_settle.proofs.Owning.{own_waits}
 use Rattle.teg_settle.proofs.Steps.{rows_of_own, enough_show, shown_by, none_shown}
 use Rattle.teg_settle.proofs.step.shown_form.Goals as goal

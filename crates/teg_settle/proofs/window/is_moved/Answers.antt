@@ -3,7 +3,7 @@ use Rattle.std.specs.Prelude.{FitsSigned}
 use Rattle.std.specs.Int.{w128}
 use Rattle.std.proofs.lemmas.Int.{to_z-of_z}
 use borrow.Author.Count.{below_more}
-use Rattle.periodic_laws.specs.dioid.Dates.{move}
+use Rattle.dioid.specs.Dates.{move}
 use Rattle.teg_dates.specs.DateTables.{date_at}
 use Rattle.teg_settle.specs.ComparedRows.{read_step}
 use Rattle.teg_settle.proofs.window.is_moved.Goals as goal

@@ -1,5 +1,5 @@
 use Rattle.std.proofs.Common.{ℕ, ◌≡◌, ◌+◌, ◌<◌}
-use Rattle.periodic_laws.specs.dioid.Dates.{move}
+use Rattle.dioid.specs.Dates.{move}
 use Rattle.teg_dates.specs.DateTables.{date_at}
 use Rattle.teg_settle.specs.ComparedRows.{read_step}
 use Rattle.teg_settle.proofs.window.is_moved.Given as goal

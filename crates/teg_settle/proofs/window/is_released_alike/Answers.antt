@@ -1,7 +1,7 @@
 use Rattle.std.proofs.Common.{◌≡◌, ◌<◌, ◌≤◌, refl, sym, ap, ◌∙◌, arith, ⊎_elim}
 use Rattle.std.proofs.lemmas.Bool.{cases_lt, false≢true}
 use Rattle.std.proofs.lemmas.Int.{to_z-of_z}
-use Rattle.periodic_laws.specs.dioid.Dates.{move}
+use Rattle.dioid.specs.Dates.{move}
 use Rattle.periodic_laws.proofs.settled_laws_proofs.Driven.{GoOn, goes_on_again}
 use Rattle.teg_settle.specs.InitialReleases.{release_by}
 use Rattle.teg_settle.proofs.window.is_released_alike.Goals as goal

@@ -1,5 +1,5 @@
 use Rattle.std.proofs.Common.{ℕ, ◌+◌, ◌-◌, ◌≤◌, ◌<◌, ◌≡◌}
-use Rattle.periodic_laws.specs.dioid.Dates.{move}
+use Rattle.dioid.specs.Dates.{move}
 use Rattle.teg_settle.specs.InitialReleases.{release_by}
 use Rattle.teg_settle.specs.ComparedRows.{most_window}
 use Rattle.teg_settle.proofs.window.is_released_alike.Given as goal

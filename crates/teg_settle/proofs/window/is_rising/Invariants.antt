@@ -1,5 +1,5 @@
 use Rattle.std.proofs.Common.{ℕ, ◌<◌, length, get_or}
-use Rattle.periodic_laws.specs.teg_net.declared.entries.Place.{Place}
+use Rattle.teg_net.specs.declared.entries.Place.{Place}
 use Rattle.teg_settle.specs.ComparedRows.{IsRisingPlace}
 use Rattle.teg_settle.proofs.window.is_rising.Given as goal
 

@@ -1,12 +1,12 @@
 use Rattle.std.proofs.Common.{ℕ, ◌≡◌, ◌<◌, ◌≤◌, List, length, get_or, sym, ap, ◌∙◌, arith, ⊎_elim}
 use Rattle.std.proofs.lemmas.Bool.{cases_lt}
-use Rattle.teg_text.specs.teg_net.declared.entries.PlaceId.{PlaceId}
-use Rattle.teg_text.specs.teg_net.declared.entries.Place.{Place}
-use Rattle.teg_text.specs.teg_net.Nets.{NetLists}
-use Rattle.teg_text.specs.teg_net.Circuits.{IsPath}
-use Rattle.teg_text.proofs.teg_net_proofs.PathLaws.{IsPath-in_range}
+use Rattle.teg_net.specs.declared.entries.PlaceId.{PlaceId}
+use Rattle.teg_net.specs.declared.entries.Place.{Place}
+use Rattle.teg_net.specs.Nets.{NetLists}
+use Rattle.teg_net.specs.Circuits.{IsPath}
+use Rattle.teg_net.proofs.PathLaws.{IsPath-in_range}
 use Rattle.teg_sizing.specs.TracedPaths.{no_id, transition_left_at}
-use Rattle.teg_text.proofs.teg_net_proofs.Reading.{read_place}
+use Rattle.teg_net.proofs.Reading.{read_place}
 use Rattle.teg_sizing.proofs.loops.left_before.Goals as goal
 
 in_net : (net : NetLists) (ps : List PlaceId) (own : List Place) (k : ℕ) → own ≡ net.places → IsPath net ps → k < length ps → (get_or ps k no_id).index < length own

@@ -1,5 +1,5 @@
 use Rattle.std.proofs.Common.{◌≡◌, Some, refl, rules}
-use Rattle.teg_text.specs.teg_net.ReducedTimes.{reduced_time_of_place}
+use Rattle.teg_net.specs.ReducedTimes.{reduced_time_of_place}
 use Rattle.teg_sizing.specs.ValueRounds.{value_told}
 use Rattle.teg_sizing.proofs.Values.{weight_within, sum_fits, sum_is}
 use Rattle.teg_sizing.proofs.rounds.offer.Goals as goal

@@ -1,10 +1,10 @@
 use Rattle.std.proofs.Common.{ℕ, ◌≡◌, ◌<◌, List, length, FitsSigned, ap, subst, arith, rules}
 use Rattle.std.specs.Int.{w128}
 use Rattle.std.proofs.lemmas.Int.{to_z-of_z}
-use Rattle.teg_text.specs.teg_net.declared.entries.PlaceId.{PlaceId}
-use Rattle.teg_text.specs.teg_net.declared.entries.Place.{Place}
+use Rattle.teg_net.specs.declared.entries.PlaceId.{PlaceId}
+use Rattle.teg_net.specs.declared.entries.Place.{Place}
 use Rattle.teg_sizing.specs.ValueRounds.{IsRoundUpTo}
-use Rattle.teg_text.proofs.teg_net_proofs.Reading.{read_place}
+use Rattle.teg_net.proofs.Reading.{read_place}
 use Rattle.teg_sizing.proofs.Offers.{taken_place, kept_place, no_place_taken}
 use Rattle.teg_sizing.proofs.rounds.round_after.Goals as goal
 use Rattle.teg_sizing.proofs.rounds.round_after.Goals.{in-Some+then-is_more, in-Some+else-is_more, in_default}

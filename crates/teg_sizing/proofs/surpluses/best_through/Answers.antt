@@ -1,17 +1,17 @@
 use Rattle.std.proofs.Common.{ℕ, ℤ, pos, ◌≡◌, ◌<◌, ◌≤◌, ◌+◌, ◌*◌, ◌-ℤ◌, List, Option, Some, None, length, get_or, sym, ap, ◌∙◌, arith}
 use Rattle.std.specs.Prelude.{◌≤ℤ◌}
 use Rattle.std.proofs.lemmas.Int.{ints}
-use Rattle.teg_text.specs.teg_net.declared.entries.PlaceId.{PlaceId}
-use Rattle.teg_text.specs.teg_net.declared.entries.Place.{Place}
-use Rattle.teg_text.specs.teg_net.Nets.{NetLists, IsNet}
-use Rattle.teg_text.specs.teg_net.Ratios.{Fraction}
-use Rattle.teg_text.specs.teg_net.Circuits.{no_place, place_at, from_of}
-use Rattle.teg_text.specs.teg_net.ReducedTimes.{reduced_time_of_place}
+use Rattle.teg_net.specs.declared.entries.PlaceId.{PlaceId}
+use Rattle.teg_net.specs.declared.entries.Place.{Place}
+use Rattle.teg_net.specs.Nets.{NetLists, IsNet}
+use Rattle.teg_net.specs.Ratios.{Fraction}
+use Rattle.teg_net.specs.Circuits.{no_place, place_at, from_of}
+use Rattle.teg_net.specs.ReducedTimes.{reduced_time_of_place}
 use Rattle.teg_sizing.specs.declared.rounds.ValueCell.{ValueCell}
 use Rattle.teg_sizing.specs.ValueRounds.{IsTarget, round_at, value_told, greatest_reduced_time, most_value, no_cell}
 use Rattle.teg_sizing.specs.TracedPaths.{trace_of, last_round}
 use Rattle.teg_sizing.specs.Surpluses.{AreRoundsBack}
-use Rattle.teg_text.proofs.teg_net_proofs.Reading.{read_place}
+use Rattle.teg_net.proofs.Reading.{read_place}
 use Rattle.teg_sizing.proofs.Values.{weight_within, sum_fits, sum_is}
 use Rattle.teg_sizing.proofs.Straightening.{none_passes, best_is}
 use Rattle.teg_sizing.proofs.surpluses.best_through.Goals as goal

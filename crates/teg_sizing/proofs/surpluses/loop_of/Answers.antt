@@ -1,7 +1,7 @@
 use Rattle.std.proofs.Common.{ℕ, ◌≡◌, ◌<◌, ◌-◌, List, length, sym, subst, ◌∙◌, arith}
-use Rattle.teg_text.specs.teg_net.declared.entries.PlaceId.{PlaceId}
-use Rattle.teg_text.specs.teg_net.Nets.{NetLists, IsNet}
-use Rattle.teg_text.specs.teg_net.Ratios.{Fraction}
+use Rattle.teg_net.specs.declared.entries.PlaceId.{PlaceId}
+use Rattle.teg_net.specs.Nets.{NetLists, IsNet}
+use Rattle.teg_net.specs.Ratios.{Fraction}
 use Rattle.teg_sizing.specs.declared.rounds.ValueCell.{ValueCell}
 use Rattle.teg_sizing.specs.TracedPaths.{trace_of, last_round}
 use Rattle.teg_sizing.specs.Surpluses.{IsToldMore, AreRoundsApart}

@@ -1,5 +1,5 @@
 use Rattle.std.proofs.Common.{ℕ, ◌≡◌, ◌+◌, List, length, ap, subst}
-use Rattle.teg_text.specs.teg_net.declared.entries.Transition.{Transition}
+use Rattle.teg_net.specs.declared.entries.Transition.{Transition}
 use Rattle.teg_sizing.specs.TracedPaths.{HaveToldAll}
 use Rattle.teg_sizing.specs.Surpluses.{StartsEverywhere}
 use Rattle.teg_sizing.proofs.Traces.{of_net}

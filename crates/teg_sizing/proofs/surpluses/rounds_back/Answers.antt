@@ -1,10 +1,10 @@
 use Rattle.std.proofs.Common.{ℕ, ◌≡◌, List, length, ap, subst}
-use Rattle.teg_text.specs.teg_net.declared.entries.Transition.{Transition}
-use Rattle.teg_text.specs.teg_net.declared.entries.Place.{Place}
-use Rattle.teg_text.specs.teg_net.Parts.{to_of}
+use Rattle.teg_net.specs.declared.entries.Transition.{Transition}
+use Rattle.teg_net.specs.declared.entries.Place.{Place}
+use Rattle.teg_net.specs.Parts.{to_of}
 use Rattle.teg_sizing.specs.TracedPaths.{HaveToldAll}
 use Rattle.teg_sizing.specs.Surpluses.{StartsFrom}
-use Rattle.teg_text.proofs.teg_net_proofs.Reading.{read_place}
+use Rattle.teg_net.proofs.Reading.{read_place}
 use Rattle.teg_sizing.proofs.Traces.{of_net}
 use Rattle.teg_sizing.proofs.surpluses.rounds_back.Goals as goal
 

@@ -1,6 +1,6 @@
 use Rattle.std.proofs.Common.{ℕ, List, Bool, ◌≡◌, ◌<◌, Option, Some, None, get_or, length, is_some, true, sym, subst, ◌∙◌, arith, not}
 use Rattle.std.proofs.lemmas.List.{get_or_read}
-use Rattle.teg_settle.specs.teg_net.Circuits.{from_of}
+use Rattle.teg_net.specs.Circuits.{from_of}
 use Rattle.teg_timetable.specs.Working.{IsFeeder}
 use Rattle.teg_timetable.proofs.Trail.{circuit_of_trail, trail_more}
 use Rattle.teg_timetable.proofs.circuits.fed_circuit.Goals as goal

@@ -1,6 +1,6 @@
 use Rattle.std.proofs.Common.{ℕ, ◌<◌, length, refl, subst}
-use Rattle.teg_settle.specs.teg_net.declared.entries.PlaceId.{PlaceId}
-use Rattle.teg_settle.specs.teg_net.Parts.{to_of}
+use Rattle.teg_net.specs.declared.entries.PlaceId.{PlaceId}
+use Rattle.teg_net.specs.Parts.{to_of}
 use Rattle.teg_timetable.proofs.Feeding.{feeders_same, feeders_set}
 use Rattle.teg_timetable.proofs.circuits.feeders.Goals as goal
 use Rattle.teg_timetable.proofs.circuits.feeders.Goals.{then-feeds, else-feeds}

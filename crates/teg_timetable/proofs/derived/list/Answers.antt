@@ -1,5 +1,5 @@
 use Rattle.std.proofs.Common.{◌+◌, Some, refl, sym, subst}
-use Rattle.teg_settle.specs.teg_net.declared.entries.InputList.{InputList}
+use Rattle.teg_net.specs.declared.entries.InputList.{InputList}
 use Rattle.teg_timetable.specs.Working.{ArePlannedReleases}
 use Rattle.teg_timetable.proofs.DerivedNet.{list_made}
 use Rattle.teg_timetable.proofs.derived.list.Goals as goal

@@ -1,4 +1,4 @@
-use Rattle.teg_settle.specs.teg_net.Nets.{lists_of}
+use Rattle.teg_net.specs.Nets.{lists_of}
 use Rattle.teg_timetable.proofs.DerivedNet.{made_rules}
 use Rattle.teg_timetable.proofs.derived.net_of.Goals as goal
 

@@ -1,5 +1,5 @@
 use Rattle.std.proofs.Common.{◌+◌, ◌<◌, length, ap, sym, subst, ⊎_elim, arith}
-use Rattle.teg_settle.proofs.teg_check_proofs.Liveness.{ranking_is_live}
+use Rattle.teg_check.proofs.Liveness.{ranking_is_live}
 use Rattle.teg_timetable.specs.DelayAnswers.{IsOutcomeIn, IsNetTooLarge, IsSpread}
 use Rattle.teg_timetable.specs.Spreads.{Spread, delay_left, outcome_told}
 use Rattle.teg_timetable.proofs.Settling.{outcome_in, settled_left, spread_is}

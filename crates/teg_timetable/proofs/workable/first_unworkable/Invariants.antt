@@ -1,6 +1,6 @@
 use Rattle.std.proofs.Common.{ℕ, ◌<◌, get_or}
 use Rattle.delay_laws.specs.PlannedTimetables.{IsWorkableAt}
-use Rattle.teg_settle.specs.teg_net.declared.entries.Place.{Place}
+use Rattle.teg_net.specs.declared.entries.Place.{Place}
 use Rattle.teg_timetable.proofs.workable.first_unworkable.Given as goal
 
 abbrev pub invariant-loop-index : goal.invariant-loop-index

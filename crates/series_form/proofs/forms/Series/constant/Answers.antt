@@ -1,5 +1,5 @@
 use Rattle.std.proofs.Common.{sym, ap, List, pos, subst}
-use Rattle.series_laws.specs.dioid.declared.dates.Date.{Date}
+use Rattle.dioid.specs.declared.dates.Date.{Date}
 use Rattle.series_laws.specs.SeriesForms.{form_with}
 use Rattle.series_form.specs.NumberBounds.{IsSeries}
 use Rattle.series_form.proofs.Finished.{constant_series}

@@ -1,7 +1,7 @@
 use Rattle.std.proofs.Common.{◌≡◌, ◌+◌, ℤ, subst, sym, to_z, of_z}
 use Rattle.std.specs.Int.{w128}
 use Rattle.std.proofs.lemmas.Int.{to_z-of_z}
-use Rattle.series_laws.specs.dioid.declared.dates.Date.TheVariants.{At}
+use Rattle.dioid.specs.declared.dates.Date.TheVariants.{At}
 use Rattle.series_laws.specs.SeriesForms.{value_at, monomial_at, table, HasValues}
 use Rattle.series_laws.specs.Needs.{plan}
 use Rattle.series_form.specs.SeriesAnswers.{form_before, IsShortestSeries, IsBeginning}

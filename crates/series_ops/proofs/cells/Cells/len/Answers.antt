@@ -1,5 +1,5 @@
 use Rattle.std.proofs.Common.{List, subst}
-use Rattle.series_form.specs.dioid.declared.dates.Date.{Date}
+use Rattle.dioid.specs.declared.dates.Date.{Date}
 use Rattle.series_form.specs.SeriesLimits.{greatest_listed}
 use Rattle.series_ops.specs.ListFunctions.{AreUpTo}
 use Rattle.series_ops.proofs.CellLaws.{cells_up_to}

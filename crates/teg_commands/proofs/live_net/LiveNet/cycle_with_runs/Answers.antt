@@ -1,5 +1,5 @@
 use Rattle.std.proofs.Common.{ℕ, List, sym, subst}
-use Rattle.teg_report.specs.teg_cycle.LastRounds.{AreRunsFrom, rounds_of_runs}
+use Rattle.teg_cycle.specs.LastRounds.{AreRunsFrom, rounds_of_runs}
 use Rattle.teg_commands.proofs.CycleTold.{cycle_answer}
 use Rattle.teg_commands.proofs.live_net.LiveNet.cycle_with_runs.Goals as goal
 

@@ -1,4 +1,4 @@
-use Rattle.teg_report.proofs.teg_check_proofs.Liveness.{ranking_is_live}
+use Rattle.teg_check.proofs.Liveness.{ranking_is_live}
 use Rattle.teg_commands.proofs.live_net.LiveNet.slacks.Goals as goal
 
 pub critical-requires-clause-live : goal.critical-requires-clause-live

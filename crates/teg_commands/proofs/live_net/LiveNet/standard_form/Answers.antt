@@ -1,5 +1,5 @@
 use Rattle.std.proofs.lemmas.Result.{IfOk-weaker}
-use Rattle.teg_report.specs.teg_form.StandardForms.{IsStandardFormOf}
+use Rattle.teg_form.specs.StandardForms.{IsStandardFormOf}
 use Rattle.teg_report.specs.FormLines.{HasEndsIn}
 use Rattle.teg_commands.proofs.Formed.{form_within}
 use Rattle.teg_commands.proofs.live_net.LiveNet.standard_form.Goals as goal

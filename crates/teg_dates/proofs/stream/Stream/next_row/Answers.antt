@@ -1,6 +1,6 @@
 use Rattle.std.proofs.Common.{◌+◌, sym, subst, ap, arith}
 use Rattle.std.proofs.lemmas.List.{map-id}
-use Rattle.teg_form.specs.teg_model.Datings.{listed_releases, system_of}
+use Rattle.teg_model.specs.Datings.{listed_releases, system_of}
 use Rattle.teg_dates.specs.Streams.{IsStreamOf}
 use Rattle.teg_dates.proofs.Earliest.{bounds_stay, net_keeps_bounds}
 use Rattle.teg_dates.proofs.Keeping.{next_goes_on}

@@ -1,6 +1,6 @@
 use Rattle.std.proofs.Common.{◌≡◌, Some, refl, arith}
-use Rattle.teg_dates.specs.teg_net.declared.walks.Step.TheVariants.{By as by_place, Next as to_next}
-use Rattle.teg_dates.specs.teg_net.Circuits.{place_at}
+use Rattle.teg_net.specs.declared.walks.Step.TheVariants.{By as by_place, Next as to_next}
+use Rattle.teg_net.specs.Circuits.{place_at}
 use Rattle.teg_jit.specs.Plans.{latest_at}
 use Rattle.teg_jit.specs.FirstSteps.{IsFirstStep}
 use Rattle.teg_jit.proofs.Passing.{read_place}

@@ -1,5 +1,5 @@
 use Rattle.std.proofs.Common.{ℕ, ◌≡◌, ◌^◌, [], length, get_or, arith, ap, ◌∙◌, refl}
-use Rattle.teg_due.specs.teg_net.Nets.{NetLists}
+use Rattle.teg_net.specs.Nets.{NetLists}
 use Rattle.run_laws.specs.declared.fired.Fired.{Fired}
 use Rattle.teg_replay.specs.Games.{GameState, IsGameOf}
 use Rattle.run_laws.specs.Runs.{IsLegalAfter, next_number}

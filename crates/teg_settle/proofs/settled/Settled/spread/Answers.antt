@@ -1,5 +1,5 @@
 use Rattle.std.proofs.Common.{◌≡◌, ◌+◌, length, replicate, rules}
-use Rattle.periodic_laws.specs.dioid.declared.dates.Date.TheVariants.{Early}
+use Rattle.dioid.specs.declared.dates.Date.TheVariants.{Early}
 use Rattle.teg_settle.proofs.Spreading.{spread_stored}
 use Rattle.teg_settle.proofs.settled.Settled.spread.Goals as goal
 
