@@ -1,8 +1,8 @@
 //! Periodic series: functions from shifts to dates that never fall and go on by a step from some
 //! shift on, kept as a list of values, a period and a step in the one canonical form. The contract
 //! of each operation is that of the functions: the result has their values at every shift, and the
-//! refusals come exactly where the need or a number is too great. Stands on `series_laws` for the
-//! definitions and their laws, and on `dioid`.
+//! refusals come exactly where the need or a number is too great. The crate stands
+//! on `series_laws` for the definitions and their laws, on `dioid` for dates, and on `thiserror`.
 //! Its examples stand in `series_examples`.
 #![tactic(auto)]
 

@@ -49,7 +49,7 @@ abbrev pub BeginsLowest : NetLists → List PlaceId → Type 0
 BeginsLowest net [] = ⊤
 BeginsLowest net (first ∷ ps) = All (λ p. from_of net first ≤ from_of net p) ps
 
--- qs has the places of ps in the same order, begun at another of them
+-- qs has the places of ps in the same order, begun at any of them
 abbrev pub IsTurned : List PlaceId → List PlaceId → Type 0
 IsTurned ps qs = (k : ℕ) × (k ≤ length ps) × (qs ≡ drop k ps ++ take k ps)
 

@@ -20,7 +20,7 @@ abbrev pub transitions_of : List Potential → List ℕ
 transitions_of vs = map (λ v. v.transition.index) vs
 
 -- the part's greatest ratio, a circuit that has it, told from its lowest numbered transition on, and for each member
--- the greatest sum of counts from there
+-- the greatest reduced time of the paths in the part that lead there from where the circuit begins
 pub record IsBestOfPart (net : NetLists) (part_of : List ℕ) (part : ℕ) (r : Fraction) (c : List PlaceId) (vs : List Potential) : Type 0 where
   pub greatest : IsGreatestRatio net (IsPlaceOfPart net part_of part) r
   pub terms : IsLowestTerms r
