@@ -161,7 +161,7 @@ def between_crates():
     rows = ["| Crate | Stands on | Its code names | It cites |", "|---|---|---|---|"]
     for crate, low in stands_on():
         code = "\n".join(path.read_text() for path in sorted((TOP / f"crates/{crate}/src").glob("**/*.rt")))
-        lists = re.findall(rf"^use {low}::(?:\{{([^}}]*)\}}|(\w+);)", code, re.M)
+        lists = re.findall(rf"^(?:pub )?use {low}::(?:\{{([^}}]*)\}}|(\w+);)", code, re.M)
         items = {it.strip().partition(" ")[0] for many, one in lists for it in (many or one).split(",")} - {""}
         specs = (path.read_text() for path in sorted((TOP / f"crates/{crate}/specs").glob("**/*.antt")))
         cited = set(re.findall(rf"use Rattle\.{low}\.specs\.([A-Z]\w*)\.", direct("\n".join([code, *specs]))))
