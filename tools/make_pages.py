@@ -112,7 +112,7 @@ def all_edits():
 def edits(names):
     """A table of these edits, by name; of all where none is named."""
     found = all_edits()
-    rows = ["| Edit | A wrong program would | Refused by |", "|---|---|---|"]
+    rows = ["| Edit | What goes wrong | Refused by |", "|---|---|---|"]
     for name in names or found:
         why, clause = found.get(name, ("", ""))
         clause = clause if "`" in clause or not clause else f"`{clause}`"

@@ -1,5 +1,5 @@
-//! The laws of the settling bound. Each is a function that does nothing when it runs: its contract is
-//! the law.
+//! The laws of the settling bound. Each is a function that does nothing when it runs: its contract
+//! is the law.
 ghost use Rattle.bound_laws.specs.PastTheBound.{DatesGoOnPastTheBound, FactorialsAreCommon, StepsAreWhole, StillNetsStayAtZero};
 ghost use Rattle.bound_laws.specs.Periods.{FormsKeepTheBound};
 
@@ -9,8 +9,8 @@ pub fn dates_go_on_past_the_bound()
     ensures { DatesGoOnPastTheBound }
 {}
 
-/// A common multiple of the tokens of all critical circuits is there, and each common multiple has a
-/// whole step.
+/// A common multiple of the tokens of critical circuits, one through each critical transition, is
+/// there, and each such multiple has a whole step.
 pub fn common_multiples_exist()
     ensures common { FactorialsAreCommon }
     ensures whole { StepsAreWhole }

@@ -3,9 +3,9 @@
 //! [`Records`] reads a text as the `csv` crate does: commas, quotes, any number of fields, no
 //! trimming, no header; empty lines are no records, and one byte order mark at the start is passed
 //! over. Contracts see the list of the records that are left. So the theory of `csv`'s machine is
-//! used here alone. [`read_rows`] reads a file of any kind of rows: the kind is a [`RowFile`], which
-//! gives the header, the row of a record and its faults, and may keep a [`Seen`] of what was read.
-//! The crate stands on `csv`. Its examples stand in `library_examples`.
+//! used here alone. [`read_rows`] reads a file of any kind of rows: the kind is a [`RowFile`],
+//! which gives the header, the row of a record and its faults, and may keep a [`Seen`] of what was
+//! read. The crate stands on `csv`. Its examples stand in `library_examples`.
 #![tactic(auto)]
 
 mod fields;

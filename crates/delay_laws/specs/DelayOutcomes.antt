@@ -27,7 +27,7 @@ pub record KeepsDelays (net : NetLists) (period : ℕ) (delay : ℕ → ℕ → 
 pub record HasNoSpare (net : NetLists) (period : ℕ) (t : Timetable) (p : PlaceId) : Type 0 where
   pub same : first_planned t (from_of net p) + (place_at net p).hold ≡ first_planned t (place_at net p).to.index + period * (place_at net p).tokens
 
--- in the period past `after` the transition has this delay once
+-- at some number in the period past `after` the transition has this delay
 pub record HasDelayPast (delay : ℕ → ℕ → ℕ) (after period most i : ℕ) : Type 0 where
   pub number : ℕ
   pub past : after < number

@@ -1,5 +1,5 @@
-//! The laws of the dates that a delayed timetable leads to. Each is a function that does nothing when
-//! it runs: its contract is the law.
+//! The laws of the dates that a delayed timetable leads to. Each is a function that does nothing
+//! when it runs: its contract is the law.
 ghost use Rattle.delay_laws.specs.DelayLaws.{DelayedDatingsAreOne, DelayedDatingsExist, DelaysAreWithin, EachDelayPasses, ReleasesFollowThePlan};
 ghost use Rattle.delay_laws.specs.SettlingLaws.{DelaysLeftAreWithin};
 

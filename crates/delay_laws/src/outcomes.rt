@@ -1,5 +1,5 @@
-//! The laws of what becomes of delays. Each is a function that does nothing when it runs: its contract
-//! is the law.
+//! The laws of what becomes of delays. Each is a function that does nothing when it runs: its
+//! contract is the law.
 ghost use Rattle.delay_laws.specs.OutcomeLaws.{CircuitsKeepDelays, DelaysDieOut, DelaysDieOutOrAreKept, GreatestDelaysArePassedOn, NoDelaysDieOutAndAreKept};
 
 /// Where the greatest delay of the period past some number is above 0, it comes to each transition
@@ -14,7 +14,8 @@ pub fn delays_die_out()
 {}
 
 /// A circuit of places without spare time, each of which leaves a transition with the same delay
-/// above 0, takes just the time of the plan, and its transitions are late at numbers past every bound.
+/// above 0, takes just the time of the plan, and its transitions are late at numbers past every
+/// bound.
 pub fn circuits_keep_delays()
     ensures { CircuitsKeepDelays }
 {}

@@ -1,5 +1,5 @@
-//! The laws of the settled forms of delayed timetables. Each is a function that does nothing when it
-//! runs: its contract is the law.
+//! The laws of the settled forms of delayed timetables. Each is a function that does nothing when
+//! it runs: its contract is the law.
 ghost use Rattle.delay_laws.specs.OneDelayForm.{DelaysLeftAreOne, FormsAreOfEach, FormsOfDelaysAreOne};
 ghost use Rattle.delay_laws.specs.SettlingLaws.{DelaysSettle, FormsTellDelays, ReleaseNetsAreLive, ReleaseNetsTellDelays, StepsAreThePlan};
 
@@ -14,7 +14,8 @@ pub fn delays_settle()
     periodic_datings_settle();
 }
 
-/// The settled form of a timetable and the delays left do not hang on which delayed dating is taken.
+/// The settled form of a timetable and the delays left do not hang on which delayed dating is
+/// taken.
 pub fn forms_of_delays_are_one()
     ensures each { FormsAreOfEach }
     ensures one { FormsOfDelaysAreOne }
@@ -23,9 +24,9 @@ pub fn forms_of_delays_are_one()
     shortest_forms_are_one();
 }
 
-/// A net in which each departure also waits for an input of its own, with the releases as its dates,
-/// is live where the net is, and the settled form of its least dating is that of the delayed dating
-/// and the releases together. So a search that settles nets settles timetables.
+/// A net in which each departure also waits for an input of its own, with the releases as its
+/// dates, is live where the net is, and the settled form of its least dating is that of the delayed
+/// dating and the releases together. So a search that settles nets settles timetables.
 pub fn release_nets_tell_delays()
     ensures live { ReleaseNetsAreLive }
     ensures tells { ReleaseNetsTellDelays }

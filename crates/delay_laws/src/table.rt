@@ -14,8 +14,8 @@ pub struct Delay {
     pub by: u64,
 }
 
-/// The first departure of each transition in order, in the user's unit, 0 to 10^9, and the delays in
-/// order of the rows. No two delays have the same transition and number.
+/// The first departure of each transition in order, in the user's unit, 0 to 10^9, and the delays
+/// in order of the rows. No two delays have the same transition and number.
 #[derive(Debug, Drop)]
 pub struct Timetable {
     pub firsts: Vec<u64>,

@@ -108,8 +108,8 @@ pub trait Kleene: Dioid {
     ghost star_laws: { StarLaws Self.is_element Self.sum Self.product star };
 }
 
-/// A dioid with residuals and meets: `left(a, b)` is the greatest `x` with `a x` at most `b`, and the
-/// meet of two elements is their greatest lower bound (section 4.4).
+/// A dioid with residuals and meets: `left(a, b)` is the greatest `x` with `a x` at most `b`, and
+/// the meet of two elements is their greatest lower bound (section 4.4).
 pub trait Residuated: Dioid {
     ghost use Rattle.dioid.specs.ElementAnswers.{Answers};
     ghost use Rattle.dioid.specs.DioidAxioms.{ResidualLaws};

@@ -53,8 +53,8 @@ impl Date {
         }
     }
 
-    /// The product of two dates: two numbers are added, `Early` with anything is `Early`, and `Never`
-    /// with a number or `Never` is `Never`. Takes no memory.
+    /// The product of two dates: two numbers are added, `Early` with anything is `Early`, and
+    /// `Never` with a number or `Never` is `Never`. Takes no memory.
     ///
     /// Refused exactly where both are numbers and their sum is no `i128`.
     pub fn add(self, other: Date) -> Result<Date, Misfit>
@@ -74,9 +74,9 @@ impl Date {
         }
     }
 
-    /// The greatest date whose product with `other` is at most `self`: of two numbers the difference,
-    /// `Never` where `other` is `Early`, `self` where only `other` is a number, and where `other` is
-    /// `Never`, `Never` for `Never` and `Early` for all else. Takes no memory.
+    /// The greatest date whose product with `other` is at most `self`: of two numbers the
+    /// difference, `Never` where `other` is `Early`, `self` where only `other` is a number, and
+    /// where `other` is `Never`, `Never` for `Never` and `Early` for all else. Takes no memory.
     ///
     /// Refused exactly where both are numbers and their difference is no `i128`.
     pub fn less(self, other: Date) -> Result<Date, Misfit>
@@ -98,7 +98,8 @@ impl Date {
     }
 }
 
-/// The law that dates are in one total order, the one that their sum gives. It does nothing when it runs.
+/// The law that dates are in one total order, the one that their sum gives. It does nothing when it
+/// runs.
 pub fn dates_are_ordered()
     ensures { IsOrderOfDates }
 {}

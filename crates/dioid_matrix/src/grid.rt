@@ -33,8 +33,8 @@ impl<D: Dioid> Matrix<D> {
     ghost use Rattle.dioid_matrix.specs.Sums.{AnswersSum};
     ghost use Rattle.dioid_matrix.specs.Tables.{AnswersNew, IsTable, entry_of};
 
-    /// The matrix with these sizes and entries, row after row. Both sizes are from 1 to 4,096. Takes no
-    /// memory.
+    /// The matrix with these sizes and entries, row after row. Both sizes are from 1 to 4,096.
+    /// Takes no memory.
     ///
     /// `Count` exactly where the list has not `rows x columns` entries, and no other refusal.
     pub fn new(rows: usize, columns: usize, entries: Vec<D>) -> Result<Matrix<D>, MatrixRefused>
@@ -87,8 +87,8 @@ impl<D: Dioid> Matrix<D> {
 
     /// The sum, entry by entry, of two matrices of equal sizes.
     ///
-    /// `Range`, with step 0, exactly at the first entry by rows whose sum does not fit. `OutOfMemory`
-    /// comes only where no memory is found.
+    /// `Range`, with step 0, exactly at the first entry by rows whose sum does not fit.
+    /// `OutOfMemory` comes only where no memory is found.
     pub fn plus(&self, alloc: Global, other: &Matrix<D>) -> Result<Matrix<D>, MatrixRefused>
         requires rows { self.now.rows ≡ other.now.rows }
         requires columns { self.now.columns ≡ other.now.columns }
@@ -113,10 +113,10 @@ impl<D: Dioid> Matrix<D> {
 
     /// The product of two matrices.
     ///
-    /// `Shape` exactly where the left's columns are not as many as the right's rows. `Range` names the
-    /// first entry by rows that does not fit, and as step the first middle index at which the product,
-    /// or its sum with the sum of the products before it, does not fit. `OutOfMemory` comes only where
-    /// no memory is found.
+    /// `Shape` exactly where the left's columns are not as many as the right's rows. `Range` names
+    /// the first entry by rows that does not fit, and as step the first middle index at which the
+    /// product, or its sum with the sum of the products before it, does not fit. `OutOfMemory`
+    /// comes only where no memory is found.
     pub fn times(&self, alloc: Global, other: &Matrix<D>) -> Result<Matrix<D>, MatrixRefused>
         ensures answer { AnswersProduct D.Dioid self.now other.now result }
         ensures table { IfOk result (IsTable D.Dioid) }
@@ -150,14 +150,14 @@ impl<D: Kleene> Matrix<D> {
     ghost use Rattle.dioid_matrix.specs.Tables.{IsTable};
     ghost use Rattle.dioid_matrix.specs.Turns.{AnswersSolve, AnswersStar};
 
-    /// The star of a square matrix, whose product with each column `b` is the least solution of
-    /// `x = self x + b` (chapter 4). By Kleene's recursion, in n^3 sums and products: step `k` adds the
-    /// ways through `k`, by the star of the pivot, and a last step adds one on the diagonal.
+    /// The star of a square matrix, whose product with each column `b` is the least solution of `x
+    /// = self x + b` (chapter 4). By Kleene's recursion, in n^3 sums and products: step `k` adds
+    /// the ways through `k`, by the star of the pivot, and a last step adds one on the diagonal.
     ///
     /// `Shape`, with the columns and then the rows, exactly where the matrix is not square. `Range`
-    /// exactly where an operation of the recursion does not fit; it names the first such step, counted
-    /// from 1, in it the first row and in that the first column. `OutOfMemory` comes only where no
-    /// memory is found.
+    /// exactly where an operation of the recursion does not fit; it names the first such step,
+    /// counted from 1, in it the first row and in that the first column. `OutOfMemory` comes only
+    /// where no memory is found.
     pub fn star(&self, alloc: Global) -> Result<Matrix<D>, MatrixRefused>
         ensures answer { AnswersStar D.Dioid D.Kleene.own self.now result }
         ensures table { IfOk result (IsTable D.Dioid) }
@@ -179,8 +179,8 @@ impl<D: Kleene> Matrix<D> {
 
     /// The least solution of `x = self x + right`: the star by `right`.
     ///
-    /// Its refusals are those of `star`, then those of `times` of the star by `right`; so `OutOfMemory`
-    /// comes only where no memory is found.
+    /// Its refusals are those of `star`, then those of `times` of the star by `right`; so
+    /// `OutOfMemory` comes only where no memory is found.
     pub fn solve_least(&self, alloc: Global, right: &Matrix<D>) -> Result<Matrix<D>, MatrixRefused>
         ensures answer { AnswersSolve D.Dioid D.Kleene.own self.now right.now result }
         ensures table { IfOk result (IsTable D.Dioid) }
@@ -202,10 +202,10 @@ impl<D: Residuated> Matrix<D> {
     /// The greatest `x` with `self x` at most `other`, entry by entry the meet over the rows of the
     /// residuals (section 4.4).
     ///
-    /// `Shape`, with the left's rows and then the right's, exactly where these are not as many. `Range`
-    /// names the first entry of `x` by rows that does not fit, and as step the first row of the operands
-    /// whose residual, or its meet with the meet of those before it, does not fit. `OutOfMemory` comes
-    /// only where no memory is found.
+    /// `Shape`, with the left's rows and then the right's, exactly where these are not as many.
+    /// `Range` names the first entry of `x` by rows that does not fit, and as step the first row of
+    /// the operands whose residual, or its meet with the meet of those before it, does not fit.
+    /// `OutOfMemory` comes only where no memory is found.
     pub fn left_residual(
         &self,
         alloc: Global,

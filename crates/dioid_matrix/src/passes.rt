@@ -1,5 +1,6 @@
-//! Kleene's recursion on the entries of a square matrix, one pivot after another. Each step makes the
-//! star of its pivot and the pivot's row of loops once, so that the whole takes n^3 sums and products.
+//! Kleene's recursion on the entries of a square matrix, one pivot after another. Each step makes
+//! the star of its pivot and the pivot's row of loops once, so that the whole takes n^3 sums and
+//! products.
 ghost use Rattle.std.specs.Prelude.{◌≡◌, cond, IsTrue, IfOk, ◌≤◌, ◌<◌, ◌+◌, ◌*◌, ◌^◌, length};
 ghost use Rattle.dioid.specs.ElementAnswers.{Answers};
 ghost use Rattle.dioid_matrix.specs.EntryLists.{AnswersList, AreLoops, IsAfterPass, PassRefused, IsAfterLastPass, LastRefused};

@@ -12,8 +12,8 @@ pub enum MatrixRefused {
         /// The length of the list.
         given: usize,
     },
-    /// Sizes that do not go together. A product keeps the left's columns and the right's rows, a star
-    /// the columns and the rows, a residual the left's rows and the right's rows.
+    /// Sizes that do not go together. A product keeps the left's columns and the right's rows, a
+    /// star the columns and the rows, a residual the left's rows and the right's rows.
     #[error("{left_columns} and {right_rows} do not go together")]
     Shape {
         /// The first of the two sizes.
@@ -24,8 +24,8 @@ pub enum MatrixRefused {
     /// The first operation that does not fit, by the rows of the result.
     #[error("step {step} at row {row} and column {column} is out of range")]
     Range {
-        /// In a sum 0, in a product the middle index, in a residual the row of the operands, in a star
-        /// the step of the recursion, from 1 to the size and one more.
+        /// In a sum 0, in a product the middle index, in a residual the row of the operands, in a
+        /// star the step of the recursion, from 1 to the size and one more.
         step: usize,
         /// The row of the result.
         row: usize,

@@ -20,8 +20,8 @@ fn meet_left<D: Residuated>(alloc: Global, before: &D, left: &D, right: &D) -> R
     before.meet(alloc, &residual)
 }
 
-// The entry of a residual: the meet of the rows' residuals in column `column` of the left, which has
-// `middle` columns, and column `other` of the right, which has `columns`.
+// The entry of a residual: the meet of the rows' residuals in column `column` of the left, which
+// has `middle` columns, and column `other` of the right, which has `columns`.
 pub(crate) fn residue<D: Residuated>(
     alloc: Global,
     left: &[D],

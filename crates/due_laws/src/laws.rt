@@ -1,8 +1,9 @@
-//! The laws of due dates. Each is a function that does nothing when it runs: its contract is the law.
+//! The laws of due dates. Each is a function that does nothing when it runs: its contract is the
+//! law.
 ghost use Rattle.due_laws.specs.LatestInputs.{FreeWhereNoWalkLeads, LatestDatesAreLatestInputs, ZeroInputsMeet};
 
-/// In a live net where inputs at 0 meet the due dates, the latest dates at the inputs are the latest
-/// inputs that meet them (chapter 5).
+/// In a live net where inputs at 0 meet the due dates, the latest dates at the inputs are the
+/// latest inputs that meet them (chapter 5).
 pub fn latest_dates_are_latest_inputs()
     ensures { LatestDatesAreLatestInputs }
 {}

@@ -1,5 +1,5 @@
-//! The laws of endless due dates. Each is a function that does nothing when it runs: its contract is
-//! the law.
+//! The laws of endless due dates. Each is a function that does nothing when it runs: its contract
+//! is the law.
 ghost use Rattle.forever_laws.specs.ColumnLaws.{ColumnsAreOne, ColumnsExist, RowsFitAlike, TransfersHaveOneLength};
 ghost use Rattle.forever_laws.specs.EndlessDues.{DueSeriesFit, DuesAreSeries, FreeAtEachNumber, EndlessLateExcludesMeet, LateIsSoon, LateNumbersHaveLeast, LatestAtInputsAreLatest, LatestDatesFromZero, EndlessMeetOrLate, ResidualsAreFreeOrNumbers, ResidualsAreLatestDates, RowsGoOn, StepsAreFromZero, TransfersAreSeries, TurnsTellLate, WalkSeriesFit, ZeroInputsAreNoLists, ZeroMeetsWhereNoneLate};
 
@@ -29,10 +29,10 @@ pub fn rows_go_on()
     ensures { RowsGoOn }
 {}
 
-/// What a table of dates tells of all late numbers of a row: up to a turn past the number from which
-/// the dates of its transition and the due dates repeat together they are looked up, past that what a
-/// turn adds tells them. A turn is of the transition's own dates; those of other transitions may take
-/// longer to repeat.
+/// What a table of dates tells of all late numbers of a row: up to a turn past the number from
+/// which the dates of its transition and the due dates repeat together they are looked up, past
+/// that what a turn adds tells them. A turn is of the transition's own dates; those of other
+/// transitions may take longer to repeat.
 ///
 /// The step of each transition is a number from 0 on.
 pub fn turns_tell_late()
@@ -50,21 +50,22 @@ pub fn late_is_soon()
     ensures { LateIsSoon }
 {}
 
-/// In a live net inputs at 0 meet endless due dates, or some row is the first with a late number, and
-/// not both.
+/// In a live net inputs at 0 meet endless due dates, or some row is the first with a late number,
+/// and not both.
 pub fn meet_or_late()
     ensures one { EndlessMeetOrLate }
     ensures not_both { EndlessLateExcludesMeet }
 {}
 
-/// In a live net where inputs at 0 meet the due dates, the latest dates at the inputs are the latest
-/// inputs that meet them (chapter 5).
+/// In a live net where inputs at 0 meet the due dates, the latest dates at the inputs are the
+/// latest inputs that meet them (chapter 5).
 pub fn latest_at_inputs_are_latest()
     ensures { LatestAtInputsAreLatest }
 {}
 
-/// The latest dates of a transition under endless due dates are the meet over the rows of the
-/// residuals of their due series by the series of its walk times (chapter 5).
+/// In a live net where inputs at 0 meet endless due dates of at least one row, the latest dates of
+/// a transition are the meet over the rows of the residuals of their due series by the series of
+/// its walk times (chapter 5).
 ///
 /// They are all never, where no walk leads to a due firing, or all numbers from 0 on.
 pub fn residuals_are_latest_dates()
@@ -90,16 +91,16 @@ pub fn forms_are_series()
 {}
 
 /// There is one such series each, so whether the residual of a row fits, and its meet with the meet
-/// of those before it, does not depend on a choice; nor does the length of the shortest settled form
-/// of the walk times.
+/// of those before it, does not depend on a choice; nor does the length of the shortest settled
+/// form of the walk times.
 pub fn columns_are_one()
     ensures columns { ColumnsAreOne }
     ensures fit { RowsFitAlike }
     ensures length { TransfersHaveOneLength }
 {}
 
-/// Due dates have a series of at most 20,000 values, with numbers of a magnitude up to 10^18; so have
-/// walk times in a live net where their settled form is of at most 20,000 numbers.
+/// Due dates have a series of at most 20,000 values, with numbers of a magnitude up to 10^18; so
+/// have walk times in a live net where their settled form is of at most 20,000 numbers.
 pub fn series_fit()
     ensures dues { DueSeriesFit }
     ensures walks { WalkSeriesFit }

@@ -14,9 +14,9 @@ fn gain_stars_are_least()
 }
 
 /// The least dating of a live net is the least solution of a linear system over gains: an entry is
-/// the sum of the monomials of the places between two transitions, zero where there is none, and the
-/// right side holds the initial tokens with their ready dates and the input lists, which end or go on
-/// (chapter 5).
+/// the sum of the monomials of the places between two transitions, zero where there is none, and
+/// the right side holds the initial tokens with their ready dates and the input lists, which end or
+/// go on (chapter 5).
 pub fn least_datings_solve()
     ensures { LeastDatingsSolve }
 {
@@ -39,16 +39,16 @@ pub fn least_datings_repeat()
     gain_stars_are_least();
 }
 
-/// Dates that never fall and repeat, each transition in a period of its own, have a shortest settled
-/// form.
+/// Dates that never fall and repeat, each transition in a period of its own, have a shortest
+/// settled form.
 pub fn periodic_datings_settle()
     ensures { PeriodicDatingsSettle }
 {}
 
 /// In a live net, with any dates of initial tokens, the least dates never fall and repeat where the
-/// releases do: of walks from the first firing of an input, with no initial tokens and releases at 0
-/// there, as of a timetable with a release at every transition. So they have a shortest settled form
-/// (chapter 3).
+/// releases do: of walks from the first firing of an input, with no initial tokens and releases at
+/// 0 there, as of a timetable with a release at every transition. So they have a shortest settled
+/// form (chapter 3).
 pub fn systems_settle()
     ensures periodic { LeastInArePeriodic }
     ensures settles { SystemsSettle }

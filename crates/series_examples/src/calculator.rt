@@ -117,7 +117,8 @@ fn texts_with_their_answers(rt: HostRuntime) {
     assert!(rt; first_other(rt.alloc(), &REFUSED) == REFUSED.len());
 }
 
-// Two texts each that mean one series. Those of the first need as much as may be, 20,000 or nearly so.
+// Two texts each that mean one series. Those of the first need as much as may be, 20,000 or nearly
+// so.
 const EQUAL: [(&str, &str); 6] = [
     ("g19999d7+g0d5", "g0d5+g19999d7"),
     ("star(g139d139)+g540d0.star(g140d140)", "star(g139d139)"),

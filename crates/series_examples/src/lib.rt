@@ -1,7 +1,7 @@
-//! Examples of periodic series: a canonical form, gains through the bounds, and the calculator, whose
-//! texts mean sums, products, stars and residuals, also at the limits. The crate has tests alone: they
-//! show what no contract says, that memory is found. It stands on `dioid`, `series_form`, `series_ops`
-//! and `teg_calc`.
+//! Examples of periodic series: a canonical form, gains through the bounds, and the calculator,
+//! whose texts mean sums, products, stars and residuals, also at the limits. The crate has tests
+//! alone: they show what no contract says, that memory is found. It stands on `dioid`,
+//! `series_form`, `series_ops` and `teg_calc`.
 #![tactic(auto)]
 
 #[cfg(test)]

@@ -51,10 +51,10 @@ impl Series {
     ghost use Rattle.series_form.specs.NumberBounds.{IsSmallDate, IsSeries};
     ghost use Rattle.series_form.specs.SeriesAnswers.{AnswersOf, IsConstant};
 
-    /// The series that is Early below `shift` and `date` from there on; the shift and the magnitude of
-    /// the date are below 10^19. Its need is `shift + 1`: TooLong above 20,000, and where not, TooGreat
-    /// for a date of a magnitude above 10^18. `OutOfMemory` comes only where no memory is found.
-    /// (Chapter 5.)
+    /// The series that is Early below `shift` and `date` from there on; the shift and the magnitude
+    /// of the date are below 10^19. Its need is `shift + 1`: TooLong above 20,000, and where not,
+    /// TooGreat for a date of a magnitude above 10^18. `OutOfMemory` comes only where no memory is
+    /// found. (Chapter 5.)
     pub fn monomial(alloc: Global, shift: u64, date: i128) -> Result<Series, SeriesRefused>
         requires shift { shift < 10000000000000000000 }
         requires date { unsigned_abs date < 10000000000000000000 }
@@ -72,10 +72,11 @@ impl Series {
     }
 
     /// The series of the function that a list gives: its values, of which the last `period`, one or
-    /// more, go on by `step`, with numbers of any size. It may not fall. Where the last period is Never
-    /// or Early throughout, the step is of no account. Its need is the length: TooLong above 20,000,
-    /// also for a longer list than the canonical one; where not, TooGreat for a number of the canonical
-    /// form of a magnitude above 10^18. `OutOfMemory` comes only where no memory is found. (Chapter 5.)
+    /// more, go on by `step`, with numbers of any size. It may not fall. Where the last period is
+    /// Never or Early throughout, the step is of no account. Its need is the length: TooLong above
+    /// 20,000, also for a longer list than the canonical one; where not, TooGreat for a number of
+    /// the canonical form of a magnitude above 10^18. `OutOfMemory` comes only where no memory is
+    /// found. (Chapter 5.)
     pub fn from_list(
         alloc: Global,
         values: &[Date],
@@ -99,8 +100,8 @@ impl Series {
         }
     }
 
-    /// The series with the one value everywhere; a number has a magnitude of at most 10^18. Refuses for
-    /// want of memory alone.
+    /// The series with the one value everywhere; a number has a magnitude of at most 10^18. Refuses
+    /// for want of memory alone.
     pub fn constant(alloc: Global, date: Date) -> Result<Series, SeriesRefused>
         requires { IsSmallDate date }
         ensures { IsConstant date result }
@@ -115,8 +116,8 @@ impl Series {
         }
     }
 
-    /// The values at the shifts 0, 1, .., of which the last `period` values go on by `step`. It takes
-    /// no memory.
+    /// The values at the shifts 0, 1, .., of which the last `period` values go on by `step`. It
+    /// takes no memory.
     pub fn values(&self) -> &[Date]
         ensures value { result.now ≡ self.now.values }
         ensures series { IsSeries self.now }

@@ -1,9 +1,10 @@
-//! The greatest lead of a series over one of a greater slope, without a walk over the common period.
+//! The greatest lead of a series over one of a greater slope, without a walk over the common
+//! period.
 //!
 //! From where both repeat the first gains on the second in each common period, so the greatest lead
-//! on one is the greatest of all. The leads at a place and whole periods of the first past it differ
-//! by the second's values and by the steps of the first: back along a cycle of such places the
-//! greatest of them is known from the place after it. Twice round each cycle meets all of them.
+//! on one is the greatest of all. The leads at a place and whole periods of the first past it
+//! differ by the second's values and by the steps of the first: back along a cycle of such places
+//! the greatest of them is known from the place after it. Twice round each cycle meets all of them.
 ghost use Rattle.std.specs.Prelude.{◌≡◌, ◌≤◌, ◌<◌, ◌+◌, ◌-◌, ◌*◌, ◌/◌, ◌%◌, ◌-ℤ◌, ◌≤ℤ◌, ◌<ℤ◌, pos, cond, ltb};
 ghost use Rattle.std.specs.Int.{int_max};
 ghost use Rattle.std.specs.Int.RustNames.{unsigned_abs};
@@ -167,8 +168,8 @@ fn first_lead(first: &Series, second: &Series) -> i128
     gap_of(first.at(shift), second.at(shift))
 }
 
-// The greatest lead of the second series over the first, of the greater slope, on the common period.
-// The work is of the order of the two periods.
+// The greatest lead of the second series over the first, of the greater slope, on the common
+// period. The work is of the order of the two periods.
 pub(crate) fn greatest_lead(first: &Series, second: &Series) -> i128
     requires numbers { AreNumberSeries first.now second.now }
     requires gain { pos 0 <ℤ (rise_of first.now second.now -ℤ fall_of first.now second.now) }

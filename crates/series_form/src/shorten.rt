@@ -241,8 +241,8 @@ pub(crate) fn finish(
 
 /// The series of a function that is known by its first values, of which the last `turn` are a
 /// period, and by `next`, the value after them: the canonical form, or TooGreat with its first
-/// number of a magnitude above 10^18, values in order of shift and the step last. For the operations
-/// of the crates above.
+/// number of a magnitude above 10^18, values in order of shift and the step last. For the
+/// operations of the crates above.
 pub fn shortest(values: Vec<Date>, turn: usize, next: Date) -> Result<Series, SeriesRefused>
     requires { IsBeginning values.items turn next }
     ensures { IsShortestSeries (value_at (form_before values.items turn next)) result }

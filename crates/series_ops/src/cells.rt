@@ -1,5 +1,6 @@
-//! Lists of dates as numbers, so that the greatest of many sums is found by additions and comparisons
-//! of numbers alone: a number far below all others stands for Early, one far above for Never.
+//! Lists of dates as numbers, so that the greatest of many sums is found by additions and
+//! comparisons of numbers alone: a number far below all others stands for Early, one far above for
+//! Never.
 ghost use Rattle.std.specs.Prelude.{◌≡◌, ◌≤◌, ◌<◌, ◌+◌, ◌-◌, ◌++◌, ◌∷◌, [], length, map, IfOk};
 ghost use Rattle.std.specs.Int.{int_max};
 ghost use Rattle.series_laws.specs.SeriesForms.{table};

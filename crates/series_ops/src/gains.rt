@@ -9,8 +9,8 @@ use std::alloc::Global;
 /// A series as an element of a dioid with stars and residuals (chapter 5).
 ///
 /// In the unbounded model it is a canonical form with a list of any length and numbers of any size.
-/// Zero is Early everywhere, one is 0 everywhere. Operands fit exactly where the operation on series
-/// answers neither TooLong nor TooGreat.
+/// Zero is Early everywhere, one is 0 everywhere. Operands fit exactly where the operation on
+/// series answers neither TooLong nor TooGreat.
 #[derive(Drop)]
 pub struct Gain {
     pub series: Series,

@@ -1,8 +1,8 @@
-//! Products, residuals and stars of periodic series, and the series as a dioid. The contract of each
-//! operation is that of the functions: the result has, at every shift, the value that the book's
-//! definition gives, and the refusals come exactly where the need or a number is too great. The crate
-//! stands on `series_laws` for the definitions and their laws, on `series_form` for series, and on
-//! `dioid` for dates.
+//! Products, residuals and stars of periodic series, and the series as a dioid. The contract of
+//! each operation is that of the functions: the result has, at every shift, the value that the
+//! book's definition gives, and the refusals come exactly where the need or a number is too great.
+//! The crate stands on `series_laws` for the definitions and their laws, on `series_form` for
+//! series, and on `dioid` for dates.
 //! Its examples stand in `series_examples`.
 #![tactic(auto)]
 

@@ -150,9 +150,9 @@ struct Known {
 }
 
 // The least residual at a shift, over the places of the first list: below `from` of the one list,
-// from there on of the other, both conjugated and in reverse. A residual is the conjugate of the sum
-// with the conjugate, so that it is found by a greatest sum. The places below `begun`, where the
-// first list is still Early, bound nothing, and are passed over.
+// from there on of the other, both conjugated and in reverse. A residual is the conjugate of the
+// sum with the conjugate, so that it is found by a greatest sum. The places below `begun`, where
+// the first list is still Early, bound nothing, and are passed over.
 fn left_value(
     first: &Cells,
     begun: usize,
@@ -246,7 +246,8 @@ fn known_sums(
 }
 
 // The first values of the residual where the offsets decide, from the first values of the second
-// series and their residual by the star of the first series' period, both conjugated and in reverse.
+// series and their residual by the star of the first series' period, both conjugated and in
+// reverse.
 fn left_list(
     alloc: Global,
     first: &Series,

@@ -8,8 +8,8 @@ pub fn nevers_come_from_ended_lists()
 {}
 
 /// In a live net, where the dates of one transition repeat past some number, the last of them are
-/// `Never` exactly where an input whose list ends reaches it, and otherwise its step over the period
-/// is the slope of the transition (chapter 3).
+/// `Never` exactly where an input whose list ends reaches it, and otherwise its step over the
+/// period is the slope of the transition (chapter 3).
 pub fn forms_have_slopes()
     ensures { FormsHaveSlopes }
 {}

@@ -56,8 +56,8 @@ impl Exits {
         None
     }
 
-    // The first transition without a rank all of whose places without tokens lead to ranked ones. The
-    // places that do are passed over for good.
+    // The first transition without a rank all of whose places without tokens lead to ranked ones.
+    // The places that do are passed over for good.
     pub(crate) fn first_sink(&mut self, net: &Net, ranked: &[bool]) -> Option<usize>
         requires count { length ranked.now ≡ length net.now.transitions }
         requires exits { AreExitsLeft net.now ranked.now self.old.last.items self.old.before.items }

@@ -2,8 +2,8 @@
 //!
 //! [`check`] gives ranks that rise strictly along each place without tokens exactly where the net
 //! is live, and otherwise names a circuit without tokens. A [`Live`] is seen by contracts as its
-//! list of ranks; it stands for a net where `IsRanking` ties the two, which is what calls above ask.
-//! The crate stands on `teg_net` alone.
+//! list of ranks; it stands for a net where `IsRanking` ties the two, which is what calls above
+//! ask. The crate stands on `teg_net` alone.
 //! Its examples stand in `worked_examples`.
 #![tactic(auto)]
 

@@ -96,8 +96,9 @@ fn tell_no_transition(alloc: Global, word: &str) -> Result<Outcome, OutOfMemory>
     Ok(Outcome { verdict, text })
 }
 
-/// The date of one firing of a live net, by the name of its transition and its number; or that no transition has the name, or that the settled form is longer than the limit,
-/// where one is given. It takes the time of the search for that form.
+/// The date of one firing of a live net, by the name of its transition and its number; or that no
+/// transition has the name, or that the settled form is longer than the limit, where one is given.
+/// It takes the time of the search for that form.
 pub fn tell_date(
     alloc: Global,
     net: &LiveNet,

@@ -82,10 +82,11 @@ fn tell_endless(alloc: Global, net: &LiveNet, rows: &[EndlessRow]) -> Result<Out
     }
 }
 
-/// The latest inputs of a live net by which the dates of a file of due dates without end are met, as
-/// a series for each input; or the first row that comes late whatever the inputs are, with its least
-/// late number; or the first input whose series are too long; or the first faulty row of the file. It
-/// takes the time of the search for the settled forms of the dates and of the times from each input.
+/// The latest inputs of a live net by which the dates of a file of due dates without end are met,
+/// as a series for each input; or the first row that comes late whatever the inputs are, with its
+/// least late number; or the first input whose series are too long; or the first faulty row of the
+/// file. It takes the time of the search for the settled forms of the dates and of the times from
+/// each input.
 pub fn tell_forever(alloc: Global, net: &LiveNet, bytes: &[u8]) -> Result<Outcome, OutOfMemory>
     requires { length bytes.now ≤ most_file_bytes }
     ensures { Tells (SaysForever net.now bytes.now) (outcome_of result) }

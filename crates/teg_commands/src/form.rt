@@ -8,7 +8,8 @@ use std::alloc::Global;
 use teg_net::OutOfMemory;
 use teg_report::{Answer, report};
 
-/// The standard form of a live net. It takes time of order n^3 + n p for n transitions and p places.
+/// The standard form of a live net. It takes time of order n^3 + n p for n transitions and p
+/// places.
 pub fn tell_form(alloc: Global, net: &LiveNet) -> Result<Outcome, OutOfMemory>
     ensures { Tells (SaysForm net.now) (outcome_of result) }
 {

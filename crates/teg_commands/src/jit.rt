@@ -78,10 +78,10 @@ fn tell_latest(alloc: Global, net: &LiveNet, due: &Due) -> Result<Outcome, OutOf
     }
 }
 
-/// The latest inputs of a live net by which the due dates of a due file are met, with the latest date
-/// of each firing; or the first row that comes late whatever the inputs are; or the first faulty row
-/// of the file. It takes time of order `N (n + p)` for numbers up to N, n transitions and p places, and
-/// `r log r` for r rows.
+/// The latest inputs of a live net by which the due dates of a due file are met, with the latest
+/// date of each firing; or the first row that comes late whatever the inputs are; or the first
+/// faulty row of the file. It takes time of order `N (n + p)` for numbers up to N, n transitions
+/// and p places, and `r log r` for r rows.
 pub fn tell_jit(alloc: Global, net: &LiveNet, bytes: &[u8]) -> Result<Outcome, OutOfMemory>
     requires { length bytes.now ≤ most_file_bytes }
     ensures { Tells (SaysJit net.now bytes.now) (outcome_of result) }

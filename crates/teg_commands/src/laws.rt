@@ -1,5 +1,6 @@
-//! The laws of what is told: of a net without a circuit, of the rounds behind the cycle times, and of
-//! files that give no bytes. Each is a function that does nothing when it runs: its contract is the law.
+//! The laws of what is told: of a net without a circuit, of the rounds behind the cycle times, and
+//! of files that give no bytes. Each is a function that does nothing when it runs: its contract is
+//! the law.
 ghost use Rattle.teg_commands.specs.SpecialCases.{NoCircuitIsTold, RoundsFollowTimes, UnreadFilesAreTold};
 
 use teg_howard::policy_runs_are_one;

@@ -170,8 +170,8 @@ impl LiveNet {
         settling_bound(&self.net, &self.live, parts, answer)
     }
 
-    /// The shortest settled form of the greatest times of walks from the first firing of an input, if it
-    /// is within the limit.
+    /// The shortest settled form of the greatest times of walks from the first firing of an input,
+    /// if it is within the limit.
     pub fn transfer(
         &self,
         alloc: Global,
@@ -218,7 +218,8 @@ impl LiveNet {
         forever(alloc, &self.net, &self.live, rows)
     }
 
-    /// The fewest further tokens of a place with which no circuit has a greater ratio than the target.
+    /// The fewest further tokens of a place with which no circuit has a greater ratio than the
+    /// target.
     pub fn sizing(
         &self,
         alloc: Global,
@@ -272,8 +273,8 @@ impl LiveNet {
         Ok(answer)
     }
 
-    /// The cycle times of the net and of these parts of it, and of each part with a circuit the rounds
-    /// of policy iteration that end in its answer.
+    /// The cycle times of the net and of these parts of it, and of each part with a circuit the
+    /// rounds of policy iteration that end in its answer.
     pub fn cycle_with_runs(
         &self,
         alloc: Global,

@@ -151,10 +151,10 @@ fn tell_run(
 }
 
 /// How the log of a recorded run is replayed on a live net: how many firings it has, or its first
-/// faulty row, or the first row that the net does not allow. After a replay the line of each monitor
-/// follows. The monitors come back: they were shown just the accepted firings, in order, each once,
-/// those of some first rows where no memory was found. It takes time of the order of the log and, for
-/// each row, of the places into its transition.
+/// faulty row, or the first row that the net does not allow. After a replay the line of each
+/// monitor follows. The monitors come back: they were shown just the accepted firings, in order,
+/// each once, those of some first rows where no memory was found. It takes time of the order of the
+/// log and, for each row, of the places into its transition.
 pub fn tell_replay(
     alloc: Global,
     net: &LiveNet,

@@ -36,8 +36,8 @@ fn tell_no_place(alloc: Global, word: &str) -> Result<Outcome, OutOfMemory>
 }
 
 /// The fewest further tokens of the place of this name with which no circuit of a live net has a
-/// greater ratio than the target, told in lowest terms, with a circuit that shows it; or that no place
-/// has the name. It takes time of order n p for n transitions and p places.
+/// greater ratio than the target, told in lowest terms, with a circuit that shows it; or that no
+/// place has the name. It takes time of order n p for n transitions and p places.
 pub fn tell_size(
     alloc: Global,
     net: &LiveNet,

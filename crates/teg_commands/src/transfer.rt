@@ -136,8 +136,8 @@ fn tell_too_long(
 }
 
 /// The greatest times of walks from the first firing of each input of a live net to the firings of
-/// each output, as the shortest settled form over all transitions; or that such a form is longer than
-/// the limit. It takes the time of the search for a form for each input.
+/// each output, as the shortest settled form over all transitions; or that such a form is longer
+/// than the limit. It takes the time of the search for a form for each input.
 pub fn tell_transfer(alloc: Global, net: &LiveNet, limit: Limit) -> Result<Outcome, OutOfMemory>
     ensures { Tells (SaysTransfer limit net.now) (outcome_of result) }
 {

@@ -125,8 +125,8 @@ fn tell_net(alloc: Global, machines: u32, net: &LiveNet) -> Result<Outcome, OutO
     tell_answer(alloc, machines, net, &answer)
 }
 
-/// The cycle time of the line of so many machines, how many of its places are critical, and the date
-/// of the 1,000th firing of its last machine.
+/// The cycle time of the line of so many machines, how many of its places are critical, and the
+/// date of the 1,000th firing of its last machine.
 pub fn tell_trial(alloc: Global, machines: Machines) -> Result<Outcome, OutOfMemory>
     ensures { Tells (SaysTrial machines) (outcome_of result) }
 {

@@ -1,6 +1,6 @@
-//! The least that the paths from one transition lose back to the starts of the places that end there
-//! (Dijkstra's algorithm): of the transitions that are not settled the nearest is settled, and its
-//! steps are taken, until all these starts are settled.
+//! The least that the paths from one transition lose back to the starts of the places that end
+//! there (Dijkstra's algorithm): of the transitions that are not settled the nearest is settled,
+//! and its steps are taken, until all these starts are settled.
 ghost use Rattle.std.specs.Prelude.{◌≡◌, ◌≤◌, ◌<◌, ◌+◌, ◌*◌, ◌++◌, ◌∷◌, [], ℕ, length, replicate, take, All, IfOk, IfNone, IfSome, IsTrue, None, Some, false, is_ok, if◌then◌else◌};
 ghost use Rattle.std.specs.BinaryHeap.{heap_items, heap_len};
 ghost use Rattle.teg_net.specs.Limits.{most_transitions};

@@ -180,8 +180,8 @@ fn lists_fit(net: &Net, part_of: &[u32], answers: &[PartAnswer], best: Option<u3
 /// has the number of a part, numbers never fall along a place, each part's answer is certified, and
 /// `best` is the first part of greatest ratio.
 ///
-/// A part that is `NoCircuit` has no place with both ends in it. In any other part the ratio a/b has
-/// time and tokens of at most 10^12, the circuit is one in the part that has the ratio, the
+/// A part that is `NoCircuit` has no place with both ends in it. In any other part the ratio a/b
+/// has time and tokens of at most 10^12, the circuit is one in the part that has the ratio, the
 /// potentials are those of the members in order, each of magnitude at most 10^18, and each place of
 /// the part with holding time h and m tokens lifts the potential of its start by b h - a m to no
 /// more than the potential of its end.

@@ -120,11 +120,12 @@ fn gathered(
 ///
 /// Parts and order are those of `parts`. A part is `NoCircuit` exactly where no circuit lies in it.
 /// Otherwise it has its greatest ratio, in the user's unit for a token, a circuit that has it, told
-/// from its lowest numbered transition on, and for each member the greatest reduced time of the paths
-/// in the part that lead there from where the circuit begins: a place with holding time h and m tokens
-/// has the reduced time b h - a m at the ratio a/b. It is the last round of the part's policy run.
-/// `best` is the first part of greatest ratio, none exactly where the net has no circuit. The answer
-/// is a certificate. Values stand for the net. It answers `OutOfMemory` only where no memory is found.
+/// from its lowest numbered transition on, and for each member the greatest reduced time of the
+/// paths in the part that lead there from where the circuit begins: a place with holding time h and
+/// m tokens has the reduced time b h - a m at the ratio a/b. It is the last round of the part's
+/// policy run. `best` is the first part of greatest ratio, none exactly where the net has no
+/// circuit. The answer is a certificate. Values stand for the net. It answers `OutOfMemory` only
+/// where no memory is found.
 pub fn cycle(
     alloc: Global,
     net: &Net,

@@ -1,5 +1,5 @@
-//! What a certificate shows, and what potentials bound, as laws. Each is a function that does nothing
-//! when it runs: its contract is the law.
+//! What a certificate shows, and what potentials bound, as laws. Each is a function that does
+//! nothing when it runs: its contract is the law.
 ghost use Rattle.teg_cycle.specs.CertifiedNets.{CertificatesTellOfNets, CertificatesTellOfParts, PotentialsBoundRatios};
 
 /// In a live net, where an answer is a certificate, the ratio of the best part is the greatest over
@@ -10,8 +10,8 @@ pub fn certificates_tell()
     ensures parts { CertificatesTellOfParts }
 {}
 
-/// Potentials that no place of a part exceeds at a ratio bound the ratio of each circuit in the part
-/// (chapter 3).
+/// Potentials that no place of a part exceeds at a ratio bound the ratio of each circuit in the
+/// part (chapter 3).
 pub fn potentials_bound_ratios()
     ensures { PotentialsBoundRatios }
 {}

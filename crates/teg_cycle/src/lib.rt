@@ -1,12 +1,12 @@
 //! The cycle time of a timed event graph: the greatest ratio of holding time to tokens over all its
 //! circuits, and over those of each part (chapters 2 and 3).
 //!
-//! [`cycle`] gives an answer that is a certificate (`IsCertificate`), and [`cycle_with_runs`] the rounds
-//! of policy iteration with it. [`check_cycle`] decides whether any answer is one, and what a
-//! certificate shows is a law ([`certificates_tell`]), so a reader may distrust policy iteration and
-//! still believe an answer. [`best_ratio`] reads the ratio of the net off an answer. The crate stands on
-//! `teg_howard` for the greatest ratio of a part, on `teg_parts` for parts, on `teg_check` for ranks,
-//! and on `teg_net` for nets.
+//! [`cycle`] gives an answer that is a certificate (`IsCertificate`), and [`cycle_with_runs`] the
+//! rounds of policy iteration with it. [`check_cycle`] decides whether any answer is one, and what
+//! a certificate shows is a law ([`certificates_tell`]), so a reader may distrust policy iteration
+//! and still believe an answer. [`best_ratio`] reads the ratio of the net off an answer. The crate
+//! stands on `teg_howard` for the greatest ratio of a part, on `teg_parts` for parts, on
+//! `teg_check` for ranks, and on `teg_net` for nets.
 //! Its examples stand in `worked_examples`.
 #![tactic(auto)]
 

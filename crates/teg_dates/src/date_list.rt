@@ -42,8 +42,8 @@ fn long_date(cell: u64) -> Date
     }
 }
 
-// Dates one after another: in eight bytes each, and from the first that does not fit on as they are.
-// Contracts see the list of them.
+// Dates one after another: in eight bytes each, and from the first that does not fit on as they
+// are. Contracts see the list of them.
 #[derive(Debug, Drop)]
 pub(crate) struct PackedDates {
     short: Vec<u64>,

@@ -11,12 +11,12 @@ use std::alloc::Global;
 use teg_check::Live;
 use teg_net::{Net, OutOfMemory};
 
-/// The least dates of numbers 1 to `count` of each transition of a live net, with its ready dates and
-/// its input lists (chapter 2): no firing can come earlier, and each comes when its last token is
-/// there, an initial one from its ready date on, and, for an input, its date. `Early` does not come;
-/// `Never` is the date of a firing that waits for one past the end of a list. `count` is at most
-/// 10,000. It takes time of order `count (n + p)` for n transitions and p places. `OutOfMemory` comes
-/// only where no memory is found.
+/// The least dates of numbers 1 to `count` of each transition of a live net, with its ready dates
+/// and its input lists (chapter 2): no firing can come earlier, and each comes when its last token
+/// is there, an initial one from its ready date on, and, for an input, its date. `Early` does not
+/// come; `Never` is the date of a firing that waits for one past the end of a list. `count` is at
+/// most 10,000. It takes time of order `count (n + p)` for n transitions and p places.
+/// `OutOfMemory` comes only where no memory is found.
 pub fn first_dates(alloc: Global, net: &Net, live: &Live, count: u32) -> Result<Table, OutOfMemory>
     requires stands { IsRanking net.now live.now }
     requires few { count ≤ most_numbers }

@@ -14,11 +14,11 @@ use std::marker::Model;
 use teg_check::Live;
 use teg_net::{Net, OutOfMemory};
 
-/// The rows of the least dating of a live net up to number 10,000, with its ready dates and its input
-/// lists (chapter 2), one number after another. Up to there each date is a number of eight bytes, or
-/// `Never`, and so this is faster than a [`Stream`](crate::Stream), which goes on further. All room is
-/// made at the start. Contracts see the order in which it goes over the places, and the rows that it
-/// keeps.
+/// The rows of the least dating of a live net up to number 10,000, with its ready dates and its
+/// input lists (chapter 2), one number after another. Up to there each date is a number of eight
+/// bytes, or `Never`, and so this is faster than a [`Stream`](crate::Stream), which goes on
+/// further. All room is made at the start. Contracts see the order in which it goes over the
+/// places, and the rows that it keeps.
 #[derive(Drop)]
 pub struct FirstRows {
     order: PlaceOrder,
@@ -34,8 +34,8 @@ impl Model for FirstRows {
 }
 
 impl FirstRows {
-    /// Before the first row of the net with these ranks. `OutOfMemory` comes only where no memory is
-    /// found. It takes time of order `p log p` for p places.
+    /// Before the first row of the net with these ranks. `OutOfMemory` comes only where no memory
+    /// is found. It takes time of order `p log p` for p places.
     pub fn new(alloc: Global, net: &Net, live: &Live) -> Result<FirstRows, OutOfMemory>
         requires stands { IsRanking net.now live.now }
         ensures stands { IfOk result (AreFirstRowsOf net.now) }
@@ -57,10 +57,10 @@ impl FirstRows {
     }
 
     /// Writes the next row: the dates of the firings of number `number + 1` by the least dating of
-    /// the net, each as a cell of eight bytes, of which the greatest is `Never`: the date of a firing
-    /// that waits for one past the end of a list. The row has one cell for each transition, and fewer
-    /// than 10,000 rows were given. It takes no memory, and time of order `n + p` for n transitions
-    /// and p places.
+    /// the net, each as a cell of eight bytes, of which the greatest is `Never`: the date of a
+    /// firing that waits for one past the end of a list. The row has one cell for each transition,
+    /// and fewer than 10,000 rows were given. It takes no memory, and time of order `n + p` for n
+    /// transitions and p places.
     pub fn next_row(&mut self, net: &Net, row: &mut [u64])
         requires stands { AreFirstRowsOf net.now self.old }
         requires few { first_rows_given self.old < most_numbers }

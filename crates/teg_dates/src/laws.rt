@@ -1,5 +1,5 @@
-//! The law of the rows of a net. It is a function that does nothing when it runs: its contract is the
-//! law.
+//! The law of the rows of a net. It is a function that does nothing when it runs: its contract is
+//! the law.
 ghost use Rattle.teg_dates.specs.KeptRows.{NetsKeepBounds};
 
 /// The ready dates and the input lists of each net keep the bounds that

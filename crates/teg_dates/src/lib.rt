@@ -1,14 +1,14 @@
 //! The earliest dates of a timed event graph: those of the first firings of each transition.
 //!
-//! [`first_dates`] gives a [`Table`] whose dates are the least dating of the net (chapter 2), with its
-//! ready dates and its input lists, and with that the greatest start plus time of the walks that end
-//! at each firing. It stands on [`Rows`], which makes one row after another of the least dating of any
-//! system of a net: a [`Source`] gives the dates of its initial tokens and its releases, and those of
-//! the net itself keep what rows ask ([`nets_keep_bounds`]). A [`Stream`]
+//! [`first_dates`] gives a [`Table`] whose dates are the least dating of the net (chapter 2), with
+//! its ready dates and its input lists, and with that the greatest start plus time of the walks
+//! that end at each firing. It stands on [`Rows`], which makes one row after another of the least
+//! dating of any system of a net: a [`Source`] gives the dates of its initial tokens and its
+//! releases, and those of the net itself keep what rows ask ([`nets_keep_bounds`]). A [`Stream`]
 //! gives the rows of the net one after another and keeps only the last of them, and so do
 //! [`FirstRows`], up to number 10,000, in cells of eight bytes. The crate stands on `teg_net`, on
-//! `teg_check` for the ranks, on `teg_form` for the form that a stream is asked with, on `teg_model`
-//! for what a least dating is, on `circular_buffer`, and on `dioid` for dates.
+//! `teg_check` for the ranks, on `teg_form` for the form that a stream is asked with, on
+//! `teg_model` for what a least dating is, on `circular_buffer`, and on `dioid` for dates.
 //! Its examples stand in `library_examples`.
 #![tactic(auto)]
 

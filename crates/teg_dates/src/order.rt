@@ -8,8 +8,8 @@ use std::marker::Model;
 use teg_check::Live;
 use teg_net::{Net, OutOfMemory, Place, PlaceId, TransitionId};
 
-// What a pass reads of a place, and when the place has its turn. A pass goes over thousands of these
-// for each number, so they are small.
+// What a pass reads of a place, and when the place has its turn. A pass goes over thousands of
+// these for each number, so they are small.
 #[derive(Clone, Copy, Debug, Drop)]
 pub(crate) struct OrderedPlace {
     pub(crate) turn: u32,
@@ -20,9 +20,9 @@ pub(crate) struct OrderedPlace {
     pub(crate) hold: u32,
 }
 
-/// The places of a live net in the order of their turns: first those with tokens, which take dates of
-/// earlier numbers, then the others by the ranks of their downstream transitions. Contracts see it as
-/// a list; it stands for each net of which it orders all places (`OrdersPlaces`).
+/// The places of a live net in the order of their turns: first those with tokens, which take dates
+/// of earlier numbers, then the others by the ranks of their downstream transitions. Contracts see
+/// it as a list; it stands for each net of which it orders all places (`OrdersPlaces`).
 #[derive(Debug, Drop)]
 pub struct PlaceOrder {
     turns: Vec<OrderedPlace>,

@@ -1,6 +1,6 @@
-//! One number after another: the dates of a number begin as those of the number before, and one pass
-//! over the places in the order of their turns makes them the least. It stands on what is kept of the
-//! rows before, however that is kept, and on cells that hold the dates.
+//! One number after another: the dates of a number begin as those of the number before, and one
+//! pass over the places in the order of their turns makes them the least. It stands on what is kept
+//! of the rows before, however that is kept, and on cells that hold the dates.
 ghost use Rattle.std.specs.Prelude.{ℕ, ◌≡◌, ◌<◌, ◌≤◌, [], length, map, slice_index_or};
 ghost use Rattle.dioid.specs.declared.dates.Date.TheVariants.{Early};
 ghost use Rattle.dioid.specs.Dates.{later_of};
@@ -104,7 +104,8 @@ fn begin_row<C: DateCell, P: Past<C>, S: Source>(
     }
 }
 
-// Raises the dates of the number to the least, by one pass over the places in the order of their turns.
+// Raises the dates of the number to the least, by one pass over the places in the order of their
+// turns.
 fn raise_row<C: DateCell, P: Past<C>, S: Source>(
     net: &Net,
     order: &[OrderedPlace],

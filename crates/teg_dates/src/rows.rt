@@ -86,10 +86,10 @@ impl Rows {
         }
     }
 
-    /// The rows with one more, of the system that the source makes of the net (chapter 2): the rows are
-    /// those of its least dating, and stay so. `OutOfMemory` comes only where no memory is found; the
-    /// rows are then gone. It takes time of order `n + p` for n transitions and p places, and what
-    /// the source takes.
+    /// The rows with one more, of the system that the source makes of the net (chapter 2): the rows
+    /// are those of its least dating, and stay so. `OutOfMemory` comes only where no memory is
+    /// found; the rows are then gone. It takes time of order `n + p` for n transitions and p
+    /// places, and what the source takes.
     pub fn with_next<S: Source>(
         self,
         net: &Net,
@@ -129,7 +129,8 @@ impl Rows {
         self.count
     }
 
-    /// The date of the firing of this number, from 1 on, of a transition of the net. It takes no memory.
+    /// The date of the firing of this number, from 1 on, of a transition of the net. It takes no
+    /// memory.
     pub fn date(&self, transition: TransitionId, number: u64) -> Date
         requires transition { transition.index < self.now.width }
         requires first { 1 ≤ number }

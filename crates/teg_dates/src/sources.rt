@@ -8,8 +8,8 @@ ghost use Rattle.teg_net.specs.Limits.{greatest_firing_number};
 use dioid::Date;
 use teg_net::{Net, PlaceId, Role, TransitionId};
 
-/// A source of the dates that no earlier firing gives (chapter 2): with the places of a net it makes
-/// a system. No call takes memory.
+/// A source of the dates that no earlier firing gives (chapter 2): with the places of a net it
+/// makes a system. No call takes memory.
 pub trait Source {
     ghost use Rattle.std.specs.Prelude.{ℕ};
     ghost use Rattle.dioid.specs.declared.dates.Date.{Date};

@@ -16,9 +16,9 @@ use teg_check::{CheckRefusal, Live, check};
 use teg_form::Form;
 use teg_net::{Net, OutOfMemory};
 
-/// The rows of the least dating of a live net, with its ready dates and its input lists (chapter 2),
-/// one number after another. It keeps the last rows, as many as the greatest number of tokens of a
-/// place and at least one, in room that is made at the start, so the next row takes no memory.
+/// The rows of the least dating of a live net, with its ready dates and its input lists (chapter
+/// 2), one number after another. It keeps the last rows, as many as the greatest number of tokens
+/// of a place and at least one, in room that is made at the start, so the next row takes no memory.
 /// Contracts see the order in which it goes over the places, and the rows that it keeps.
 #[derive(Drop)]
 pub struct Stream {
@@ -50,11 +50,11 @@ impl Stream {
     /// A stream before the first row of the net that this form stands for. The net is live, as each
     /// net is that a form was made of.
     ///
-    /// The rows follow the places in the order of their turns, which is found here once. They do not
-    /// follow the entries of the form: these do not tell the ready dates of tokens, and where two
-    /// places join the same transitions, the one that takes less time may have the later token.
-    /// `OutOfMemory` comes only where no memory is found. It takes time of order `p log p + n p` for n
-    /// transitions and p places.
+    /// The rows follow the places in the order of their turns, which is found here once. They do
+    /// not follow the entries of the form: these do not tell the ready dates of tokens, and where
+    /// two places join the same transitions, the one that takes less time may have the later token.
+    /// `OutOfMemory` comes only where no memory is found. It takes time of order `p log p + n p`
+    /// for n transitions and p places.
     pub fn new(alloc: Global, net: &Net, form: &Form) -> Result<Stream, OutOfMemory>
         requires live { IsLive net.now }
         requires stands { IsStandardFormOf net.now form.now }
@@ -78,9 +78,9 @@ impl Stream {
     }
 
     /// Writes the next row: the dates of the firings of number `number + 1` by the least dating of
-    /// the net. `Early` does not come; `Never` is the date of a firing that waits for one past the end
-    /// of a list. The row has one cell for each transition, and fewer than 10^18 rows were given. It
-    /// takes no memory, and time of order `n + p` for n transitions and p places.
+    /// the net. `Early` does not come; `Never` is the date of a firing that waits for one past the
+    /// end of a list. The row has one cell for each transition, and fewer than 10^18 rows were
+    /// given. It takes no memory, and time of order `n + p` for n transitions and p places.
     pub fn next_row(&mut self, net: &Net, form: &Form, row: &mut [Date])
         requires form { IsStandardFormOf net.now form.now }
         requires stands { IsStreamOf net.now self.old }

@@ -43,7 +43,8 @@ impl Table {
         self.rows.count() as u32
     }
 
-    /// The date of the firing of this number, from 1 on, of a transition of the net. It takes no memory.
+    /// The date of the firing of this number, from 1 on, of a transition of the net. It takes no
+    /// memory.
     pub fn date(&self, transition: TransitionId, number: u64) -> Date
         requires transition { transition.index < self.now.width }
         requires number { 1 ≤ number }

@@ -8,13 +8,13 @@ use std::alloc::{AllocError, Global};
 use std::marker::Model;
 use teg_net::TransitionId;
 
-// How many rows more than are kept there is room for. Moving the columns every so many rows costs less
-// than it saves: what was moved is near when it is read.
+// How many rows more than are kept there is room for. Moving the columns every so many rows costs
+// less than it saves: what was moved is near when it is read.
 const ROOM_BESIDE: usize = 64;
 
-// The last rows of dates, at least as many as `reach`: each transition has a column of `room` cells,
-// and the next date stands at `at`. Where the columns are full, the last dates of each go to its
-// front, so that a date so many rows back always stands so many cells before.
+// The last rows of dates, at least as many as `reach`: each transition has a column of `room`
+// cells, and the next date stands at `at`. Where the columns are full, the last dates of each go to
+// its front, so that a date so many rows back always stands so many cells before.
 #[derive(Drop)]
 pub(crate) struct Window {
     width: usize,

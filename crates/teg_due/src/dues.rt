@@ -121,10 +121,11 @@ impl RowFile for DueFile<'_> {
 }
 
 /// The rows of a due file of at most 4,194,304 bytes, in order (rules of due files), or its first
-/// faulty row with the first of its faults in the order of [`DueRefusal`]: a record that has not three
-/// fields or whose second or third is no number; a name of no transition; an input; a firing that an
-/// earlier row has; a number that is not 1 to 10,000, or a date above 10^12. A first record
-/// `transition`, `number`, `date` is passed over. `OutOfMemory` comes only where no memory is found.
+/// faulty row with the first of its faults in the order of [`DueRefusal`]: a record that has not
+/// three fields or whose second or third is no number; a name of no transition; an input; a firing
+/// that an earlier row has; a number that is not 1 to 10,000, or a date above 10^12. A first record
+/// `transition`, `number`, `date` is passed over. `OutOfMemory` comes only where no memory is
+/// found.
 pub fn read_due(alloc: Global, net: &Net, bytes: &[u8]) -> Result<Due, DueRefusal>
     requires { length bytes.now ≤ most_file_bytes }
     ensures rows { IfOk result (λ due. due_of net.now bytes.now ≡ Ok due.rows.items) }

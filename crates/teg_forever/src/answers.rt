@@ -82,24 +82,25 @@ fn keep_dues(
 }
 
 /// The latest releases of the inputs of a live net, one for each input in order, with which no
-/// firing comes after a date at which it is due; the input lists of the net play no part. Or why they
-/// are not told, by the order of [`ForeverRefusal`]: the first row, and its least number, that comes
-/// late whatever the inputs are; or the first input, in order, whose walk times have no settled form
-/// of at most 20,000 numbers, or for which a residual or a meet over the rows does not fit.
-/// `OutOfMemory` comes only where no memory is found.
+/// firing comes after a date at which it is due; the input lists of the net play no part. Or why
+/// they are not told, by the order of [`ForeverRefusal`]: the first row, and its least number, that
+/// comes late whatever the inputs are; or the first input, in order, whose walk times have no
+/// settled form of at most 20,000 numbers, or for which a residual or a meet over the rows does not
+/// fit. `OutOfMemory` comes only where no memory is found.
 ///
-/// The order of the work, for n transitions and p places: first the least dating with all inputs at 0
-/// is settled; for a settling length l it takes rows of order l, each in time of order `n + p`. Each
-/// due row is held against it as far as the dates of its transition take to repeat with it, at most
-/// in time of order `1,000 l + 10,000`; the divisors of the net's period are tried for the period of
-/// the transition's own, each mostly for a few numbers. Then for each input the walk times are settled
-/// likewise; for a settling length k each due row takes a residual of at most 20,000 values, each in
-/// time of order k, less the numbers at which no walk arrives yet. Rows that ask the same dates take
-/// one residual for all inputs that reach their transitions alike, as long as the series that are kept
-/// for that have fewer than three million values, which take some 100 MB; then a row takes time of the
-/// order of its series. An input whose places have the ends, the holding times and the tokens of those
-/// of an input before it, in any order, takes no more than a copy of that one's release; inputs are
-/// compared for that in time of order `i p^2` at most for i inputs, mostly of order `i^2 p`.
+/// The order of the work, for n transitions and p places: first the least dating with all inputs at
+/// 0 is settled; for a settling length l it takes rows of order l, each in time of order `n + p`.
+/// Each due row is held against it as far as the dates of its transition take to repeat with it, at
+/// most in time of order `1,000 l + 10,000`; the divisors of the net's period are tried for the
+/// period of the transition's own, each mostly for a few numbers. Then for each input the walk
+/// times are settled likewise; for a settling length k each due row takes a residual of at most
+/// 20,000 values, each in time of order k, less the numbers at which no walk arrives yet. Rows that
+/// ask the same dates take one residual for all inputs that reach their transitions alike, as long
+/// as the series that are kept for that have fewer than three million values, which take some 100
+/// MB; then a row takes time of the order of its series. An input whose places have the ends, the
+/// holding times and the tokens of those of an input before it, in any order, takes no more than a
+/// copy of that one's release; inputs are compared for that in time of order `i p^2` at most for i
+/// inputs, mostly of order `i^2 p`.
 pub fn forever(
     alloc: Global,
     net: &Net,

@@ -14,7 +14,8 @@ use teg_net::Net;
 // The values of series that are kept, at most: 96 MB, and one pair more.
 const MOST_KEPT: usize = 3_000_000;
 
-// As how many values a pair counts beside those of its series, so that there are few to look through.
+// As how many values a pair counts beside those of its series, so that there are few to look
+// through.
 const PAIR: usize = 1_500;
 
 // The residual of the due series of a row by a walk series.
@@ -105,8 +106,8 @@ impl Divisions {
         &self.list[place].residual
     }
 
-    // The place of the residual of this due series by this walk series, where it is kept. The last are
-    // looked at first: rows of one input ask for them.
+    // The place of the residual of this due series by this walk series, where it is kept. The last
+    // are looked at first: rows of one input ask for them.
     fn place_of(&self, due: usize, walk: &Gain) -> Option<usize>
         ensures { IfSome result (IsDividedAt self.now.list.items due walk.now) }
     {
@@ -146,8 +147,8 @@ impl Divisions {
         Ok(self.list.len() - 1)
     }
 
-    // The place of the residual of the due series of the row at `due` by a walk series. `Range` comes
-    // exactly where it does not fit.
+    // The place of the residual of the due series of the row at `due` by a walk series. `Range`
+    // comes exactly where it does not fit.
     pub(crate) fn divide(
         &mut self,
         alloc: Global,

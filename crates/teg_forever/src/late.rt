@@ -33,7 +33,8 @@ struct Cycle {
     rise: u128,
 }
 
-// Past number `past` each turn of firings adds `rise` to the least dates and `fall` to the due dates.
+// Past number `past` each turn of firings adds `rise` to the least dates and `fall` to the due
+// dates.
 #[derive(Clone, Copy)]
 struct CommonPeriod {
     past: u64,
@@ -145,8 +146,8 @@ fn sooner(first: Soonest, next: Soonest) -> Soonest
     }
 }
 
-// Of the numbers past `past` up to `last`, of which none is late, that which is late after the fewest
-// turns.
+// Of the numbers past `past` up to `last`, of which none is late, that which is late after the
+// fewest turns.
 fn fewest_turns(settled: &Settled, row: &EndlessRow, past: u64, last: u64, gain: u128) -> Soonest
     requires climbing { IsClimbing settled.now row.now.transition.index }
     requires row { IsGoingRow row.now }
@@ -194,8 +195,8 @@ fn part_of(step: u128, period: u64, firings: u64) -> u128
     step / (period / firings) as u128
 }
 
-// A period of a transition's own past the settling number, no longer than that of the form, which all
-// transitions keep together.
+// A period of a transition's own past the settling number, no longer than that of the form, which
+// all transitions keep together.
 fn own_cycle(settled: &Settled, transition: TransitionId) -> Cycle
     requires climbing { IsClimbing settled.now transition.index }
     requires steps { GoesOnBySteps settled.now transition.index }
@@ -218,7 +219,8 @@ fn own_cycle(settled: &Settled, transition: TransitionId) -> Cycle
     }
 }
 
-// A number of cycles of so many firings, from 1 to `every`, that take a multiple of `every` firings.
+// A number of cycles of so many firings, from 1 to `every`, that take a multiple of `every`
+// firings.
 fn common_cycles(firings: u64, every: u64) -> u64
     requires some { 1 ≤ every }
     requires every { every ≤ 1000 }

@@ -123,11 +123,12 @@ impl RowFile for EndlessFile<'_> {
 }
 
 /// The rows of a file of due dates without end in order, or its first faulty row with the first of
-/// its faults in the order of [`EndlessRefusal`]: a record that has fewer than four fields or of which
-/// a later field than the first is no number; a name of no transition; an input; a transition that an
-/// earlier row has; a number of firings that is not 1 to 1,000, a gap or a date above 10^12, or more
-/// than 10,000 dates; dates that fall, within the list or past it. A first record `transition`,
-/// `every`, `gap`, `dates` is passed over. `OutOfMemory` comes only where no memory is found.
+/// its faults in the order of [`EndlessRefusal`]: a record that has fewer than four fields or of
+/// which a later field than the first is no number; a name of no transition; an input; a transition
+/// that an earlier row has; a number of firings that is not 1 to 1,000, a gap or a date above
+/// 10^12, or more than 10,000 dates; dates that fall, within the list or past it. A first record
+/// `transition`, `every`, `gap`, `dates` is passed over. `OutOfMemory` comes only where no memory
+/// is found.
 pub fn read_endless(
     alloc: Global,
     net: &Net,

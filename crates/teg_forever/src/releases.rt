@@ -26,14 +26,14 @@ pub enum ForeverRefusal {
         due: u128,
         least: u128,
     },
-    /// The shortest settled form of the greatest times of walks from the first firing of the input is
-    /// longer than 20,000.
+    /// The shortest settled form of the greatest times of walks from the first firing of the input
+    /// is longer than 20,000.
     TooLong {
         input: TransitionId,
     },
-    /// A residual of the due series by the walk series, or its meet with the meet of those before it,
-    /// is no series of at most 20,000 values and of numbers of a magnitude up to 10^18; `row` is the
-    /// first such row.
+    /// A residual of the due series by the walk series, or its meet with the meet of those before
+    /// it, is no series of at most 20,000 values and of numbers of a magnitude up to 10^18; `row`
+    /// is the first such row.
     TooWide {
         input: TransitionId,
         row: u32,

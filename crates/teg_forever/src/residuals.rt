@@ -30,8 +30,8 @@ fn refusal_at(why: Refused, input: TransitionId, row: &EndlessRow) -> ForeverRef
     }
 }
 
-// The meet over some rows, and whether it is known to stay where it meets the residual of the last of
-// them once more.
+// The meet over some rows, and whether it is known to stay where it meets the residual of the last
+// of them once more.
 #[derive(Drop)]
 struct Meet {
     gain: Gain,
@@ -177,8 +177,8 @@ fn next_meet(
     )
 }
 
-// The meet over the rows of the residuals of their due series by the walk series of an input, or the
-// first row that does not fit.
+// The meet over the rows of the residuals of their due series by the walk series of an input, or
+// the first row that does not fit.
 pub(crate) fn meet_of(
     alloc: Global,
     net: &Net,

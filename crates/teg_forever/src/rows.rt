@@ -16,11 +16,11 @@ pub enum EndlessRefusal {
     NotDue { row: u32 },
     /// An earlier row has the same transition.
     RepeatedDue { row: u32 },
-    /// The dates go on after a number of firings that is not 1 to 1,000, or the gap or a date is above
-    /// 10^12, or there are more than 10,000 dates.
+    /// The dates go on after a number of firings that is not 1 to 1,000, or the gap or a date is
+    /// above 10^12, or there are more than 10,000 dates.
     OutOfRange { row: u32 },
-    /// A date is less than the one before it, or there are fewer dates than firings after which they
-    /// go on, or the first date past the list is less than the last one listed.
+    /// A date is less than the one before it, or there are fewer dates than firings after which
+    /// they go on, or the first date past the list is less than the last one listed.
     Falls { row: u32 },
     /// No memory was found.
     OutOfMemory,

@@ -151,8 +151,8 @@ fn too_wide_text(
 }
 
 /// The text of why the releases are not told: the late firing with its due date and its least date,
-/// or the input, and the row where it is too wide at one. `OutOfMemory` comes only where no memory is
-/// found.
+/// or the input, and the row where it is too wide at one. `OutOfMemory` comes only where no memory
+/// is found.
 pub fn forever_refusal_text(
     alloc: Global,
     net: &Net,
@@ -204,8 +204,8 @@ fn fault_text(alloc: Global, refusal: &EndlessRefusal) -> Result<String, AllocEr
     }
 }
 
-/// The text of the first fault of a file of due dates without end. `OutOfMemory` comes only where no
-/// memory is found.
+/// The text of the first fault of a file of due dates without end. `OutOfMemory` comes only where
+/// no memory is found.
 pub fn endless_refusal_text(alloc: Global, refusal: &EndlessRefusal) -> Result<String, OutOfMemory>
     requires { refusal.now ≢ EndlessRefusal.OutOfMemory }
     ensures text { IfOk result (λ text. (net : NetLists) → string_bytes text
@@ -216,8 +216,8 @@ pub fn endless_refusal_text(alloc: Global, refusal: &EndlessRefusal) -> Result<S
 }
 
 /// The law that different answers about one net have different texts, together: that a file is too
-/// long or cannot be read, the faults of files, the releases, and their refusals. It does nothing when
-/// it runs.
+/// long or cannot be read, the faults of files, the releases, and their refusals. It does nothing
+/// when it runs.
 pub fn texts_of_endless_differ()
     ensures { TextsOfEndlessDiffer }
 {}

@@ -47,17 +47,17 @@ impl Model for Form {
 }
 
 impl Form {
-    /// For each pair of different transitions that a path without tokens joins, the greatest time of
-    /// one, sorted by `to`, then `from`. It takes no memory.
+    /// For each pair of different transitions that a path without tokens joins, the greatest time
+    /// of one, sorted by `to`, then `from`. It takes no memory.
     pub fn stars(&self) -> &[StarEntry]
         ensures { result.now ≡ self.now.stars }
     {
         &self.stars
     }
 
-    /// For each pair of transitions and number of tokens, at least 1, for which there is a path whose
-    /// first place has so many tokens and whose others have none, the greatest time of one, sorted by
-    /// `to`, `from`, `tokens`. It takes no memory.
+    /// For each pair of transitions and number of tokens, at least 1, for which there is a path
+    /// whose first place has so many tokens and whose others have none, the greatest time of one,
+    /// sorted by `to`, `from`, `tokens`. It takes no memory.
     pub fn entries(&self) -> &[Entry]
         ensures { result.now ≡ self.now.entries }
     {

@@ -1,5 +1,5 @@
-//! The matrix of the places without tokens, by upstream transition and then downstream, and its star:
-//! the greatest times of paths without tokens.
+//! The matrix of the places without tokens, by upstream transition and then downstream, and its
+//! star: the greatest times of paths without tokens.
 ghost use Rattle.std.specs.Prelude.{◌*◌, IfOk};
 ghost use Rattle.teg_check.specs.Ranks.{IsRanking};
 ghost use Rattle.teg_form.specs.Times.{AreFreeHolds, AreFreeTimes};

@@ -34,7 +34,8 @@ fn star_entry(net: &Net, times: &Matrix<Date>, to: usize, from: usize) -> Option
     }
 }
 
-// For each pair of different transitions that a path without tokens joins, the greatest time of one.
+// For each pair of different transitions that a path without tokens joins, the greatest time of
+// one.
 pub(crate) fn stars_of(
     alloc: Global,
     net: &Net,

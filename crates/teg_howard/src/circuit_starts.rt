@@ -56,7 +56,8 @@ fn is_own(first: Option<usize>, start: usize) -> bool
     }
 }
 
-// Follows the policy backwards from `start`, and gives where the walk ends if it was the first there.
+// Follows the policy backwards from `start`, and gives where the walk ends if it was the first
+// there.
 fn fresh_end(
     net: &Net,
     policy: &[PlaceId],

@@ -1,4 +1,5 @@
-//! Potentials along a policy: each member from which following backwards leads to the root gets its own.
+//! Potentials along a policy: each member from which following backwards leads to the root gets its
+//! own.
 ghost use Rattle.std.specs.Prelude.{◌≡◌, ◌<◌, ◌++◌, ℕ, length, All, IfOk, OnOk};
 ghost use Rattle.teg_howard.specs.FoundCircuits.{policy_of, IsFollower};
 ghost use Rattle.teg_howard.specs.Following.{AreFollowers, Followed, CanFollow, listed_member};

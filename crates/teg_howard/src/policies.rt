@@ -1,4 +1,5 @@
-//! Policies of a part: the first one, and the better one that the potentials give (policy improvement).
+//! Policies of a part: the first one, and the better one that the potentials give (policy
+//! improvement).
 ghost use Rattle.std.specs.Prelude.{◌≡◌, ◌≢◌, ◌<◌, ◌↔◌, ℕ, length, None, IsTrue, IfOk};
 ghost use Rattle.teg_parts.specs.Components.{IsMarked};
 ghost use Rattle.teg_howard.specs.InnerPlaces.{ListsPlaces};
@@ -46,7 +47,8 @@ fn bar_of(values: &[Option<i128>], greatest: &[i128], changed: &[bool], member: 
     }
 }
 
-// Gives each member that a place improves the lowest numbered place of greatest offer, and marks it.
+// Gives each member that a place improves the lowest numbered place of greatest offer, and marks
+// it.
 pub(crate) fn improve(
     alloc: Global,
     net: &Net,

@@ -21,8 +21,8 @@ pub(crate) struct FoundCircuit {
     pub(crate) tokens: u64,
 }
 
-// The policy's circuit that passes `start`, beginning there. None where there is no such circuit, or
-// it passes a lower numbered transition, from which it is found.
+// The policy's circuit that passes `start`, beginning there. None where there is no such circuit,
+// or it passes a lower numbered transition, from which it is found.
 fn circuit_through(
     alloc: Global,
     net: &Net,

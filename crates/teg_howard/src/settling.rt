@@ -1,4 +1,5 @@
-//! The potentials of a policy: every member is routed to the circuit, and gets its potential (value determination).
+//! The potentials of a policy: every member is routed to the circuit, and gets its potential (value
+//! determination).
 ghost use Rattle.std.specs.Prelude.{◌≡◌, ◌≢◌, ◌<◌, ◌≤◌, ◌↔◌, ℕ, length, IsTrue, IfOk, IfSome, IfNone, None};
 ghost use Rattle.teg_net.specs.Parts.{IsMember};
 ghost use Rattle.teg_net.specs.declared.entries.PlaceId.{PlaceId};

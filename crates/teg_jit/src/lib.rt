@@ -1,15 +1,16 @@
 //! Latest inputs of a timed event graph: the latest dates of firings that still meet every due date
 //! (chapter 5).
 //!
-//! [`latest_inputs`] answers a [`Plan`]: the latest date of each firing up to the greatest number that
-//! is due, each with the first step of a walk by which it is attained. At the inputs these are the
-//! latest inputs, whose input lists play no part. It answers `Late` exactly where inputs at 0 do not
-//! meet the due dates, with the first such row and a walk that shows it. [`latest`] is the same call
-//! for a caller that has the standard form, which it does not read. What latest dates and latest inputs
-//! are stands in `due_laws`, over walks and datings; what plans keep beside it is proved by functions
-//! that do nothing when they run. The crate stands on `teg_net`, on `teg_check` for ranks, on `teg_form`
-//! for the signature of `latest` alone, on `teg_dates` for the least dates, on `teg_due` for due lists,
-//! and on `due_laws`, `teg_model` and `dioid` for what the answers mean.
+//! [`latest_inputs`] answers a [`Plan`]: the latest date of each firing up to the greatest number
+//! that is due, each with the first step of a walk by which it is attained. At the inputs these are
+//! the latest inputs, whose input lists play no part. It answers `Late` exactly where inputs at 0
+//! do not meet the due dates, with the first such row and a walk that shows it. [`latest`] is the
+//! same call for a caller that has the standard form, which it does not read. What latest dates and
+//! latest inputs are stands in `due_laws`, over walks and datings; what plans keep beside it is
+//! proved by functions that do nothing when they run. The crate stands on `teg_net`, on `teg_check`
+//! for ranks, on `teg_form` for the signature of `latest` alone, on `teg_dates` for the least
+//! dates, on `teg_due` for due lists, and on `due_laws`, `teg_model` and `dioid` for what the
+//! answers mean.
 //! Its examples stand in `worked_examples`.
 #![tactic(auto)]
 

@@ -1,5 +1,5 @@
-//! One number after another, going back: the due dates are set, then each date of a number is lowered
-//! to that of the next number, and to what each place leaves of the date at its end.
+//! One number after another, going back: the due dates are set, then each date of a number is
+//! lowered to that of the next number, and to what each place leaves of the date at its end.
 ghost use Rattle.std.specs.Prelude.{◌≡◌, ◌+◌, ◌-◌, ◌*◌, ◌<◌, ◌≤◌, ℕ, List, length, All, IfOk, IfSome, slice_index_or, slice_set, Option};
 ghost use Rattle.teg_net.specs.Limits.{most_transitions};
 ghost use Rattle.teg_check.specs.Ranks.{IsRanking};

@@ -123,8 +123,9 @@ impl Plan {
         })
     }
 
-    /// The walk from a firing that is not free, by the first steps, up to a firing that is due: its due
-    /// date less its time is the latest date. `OutOfMemory` comes only where no memory is found.
+    /// The walk from a firing that is not free, by the first steps, up to a firing that is due: its
+    /// due date less its time is the latest date. `OutOfMemory` comes only where no memory is
+    /// found.
     pub fn walk(
         &self,
         alloc: Global,

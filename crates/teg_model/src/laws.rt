@@ -2,7 +2,8 @@
 //! contract is the law.
 ghost use Rattle.teg_model.specs.LeastDatings.{LeastDatesAreFromZero, LeastDatesAreWalks, LeastDatesAreWithin, LeastDatingsAreOne, LeastDatingsAreTight, LeastDatingsExist, LeastOfSystemsAreLeast, LiveNetsAreRanked, TightDatingsAreLeast};
 
-/// A live net has ranks: numbers of its transitions that rise along each place without tokens (chapter 2).
+/// A live net has ranks: numbers of its transitions that rise along each place without tokens
+/// (chapter 2).
 pub fn live_nets_are_ranked()
     ensures { LiveNetsAreRanked }
 {}
@@ -27,8 +28,8 @@ pub fn least_datings_are_tight()
     ensures least { TightDatingsAreLeast }
 {}
 
-/// In a live net each least date is the greatest start plus time of the walks that end at its firing,
-/// under any releases (chapter 2).
+/// In a live net each least date is the greatest start plus time of the walks that end at its
+/// firing, under any releases (chapter 2).
 pub fn least_dates_are_walks()
     ensures { LeastDatesAreWalks }
 {}

@@ -2,12 +2,13 @@
 //! definitions say which datings are feasible, which is the least, and what the dates of walks over
 //! firings are (chapter 2).
 //!
-//! Its laws: a system of places, with any dates of its initial tokens and any releases from outside,
-//! has exactly one least dating where ranks rise along its places without tokens; a feasible dating
-//! is the least just where it is tight; and each of its dates is the greatest start plus time of the
-//! walks that end there. A live net under releases of its inputs is the instance that most crates
-//! need. Each law is the contract of a function that does nothing when it runs. The crates above cite
-//! the definitions. The crate stands on `teg_net` for nets and walks and on `dioid` for dates.
+//! Its laws: a system of places, with any dates of its initial tokens and any releases from
+//! outside, has exactly one least dating where ranks rise along its places without tokens; a
+//! feasible dating is the least just where it is tight; and each of its dates is the greatest start
+//! plus time of the walks that end there. A live net under releases of its inputs is the instance
+//! that most crates need. Each law is the contract of a function that does nothing when it runs.
+//! The crates above cite the definitions. The crate stands on `teg_net` for nets and walks and on
+//! `dioid` for dates.
 #![tactic(auto)]
 
 mod laws;

@@ -21,7 +21,8 @@ fn ready_date(place: &Place, token: u64) -> u64
     }
 }
 
-// The ready date of the initial token that this firing takes from the place, and 0 where it takes none.
+// The ready date of the initial token that this firing takes from the place, and 0 where it takes
+// none.
 fn ready_for(place: &Place, transition: TransitionId, number: u64) -> u64
     requires { 1 ≤ number }
     ensures { result ≡ ready_for transition.index number place.now }
@@ -34,8 +35,8 @@ fn ready_for(place: &Place, transition: TransitionId, number: u64) -> u64
 }
 
 impl Net {
-    /// The date, in the user's unit, from which this initial token of the place is ready: token k is
-    /// the one that firing k of the downstream transition takes. It takes no memory.
+    /// The date, in the user's unit, from which this initial token of the place is ready: token k
+    /// is the one that firing k of the downstream transition takes. It takes no memory.
     pub fn ready(&self, place: PlaceId, token: u32) -> u64
         requires place { place.index < length self.now.places }
         requires first { 1 ≤ token }

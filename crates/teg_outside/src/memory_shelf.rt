@@ -73,8 +73,8 @@ fn find_file<'a>(files: &'a [(String, Vec<u8>)], name: &str) -> Option<&'a [u8]>
     None
 }
 
-// The bytes of the first file of that name, unless this call is one of those that fail, or the file is
-// longer than the limit.
+// The bytes of the first file of that name, unless this call is one of those that fail, or the file
+// is longer than the limit.
 fn find_within<'a>(
     files: &'a [(String, Vec<u8>)],
     failing: &[u64],

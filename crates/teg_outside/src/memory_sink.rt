@@ -36,9 +36,9 @@ impl Model for MemorySink {
 }
 
 impl MemorySink {
-    /// An empty sink with memory for `room` bytes, of which a call takes at most `most`, at least 1.
-    /// Its calls with the numbers in `failing` fail; calls with a piece that is not empty are numbered
-    /// from 1. OutOfMemory comes only where no memory is found.
+    /// An empty sink with memory for `room` bytes, of which a call takes at most `most`, at least
+    /// 1. Its calls with the numbers in `failing` fail; calls with a piece that is not empty are
+    /// numbered from 1. OutOfMemory comes only where no memory is found.
     pub fn new(
         alloc: Global,
         most: usize,
@@ -77,9 +77,9 @@ impl MemorySink {
 impl Sink for MemorySink {
     ghost state = { sink_told };
 
-    /// As many bytes as the piece has, one call takes and there is room for. Calls with a piece that
-    /// is not empty are numbered from 1: those whose number was given to fail answer Failed, and so
-    /// do those that find no room. No other call fails, and no memory is taken.
+    /// As many bytes as the piece has, one call takes and there is room for. Calls with a piece
+    /// that is not empty are numbered from 1: those whose number was given to fail answer Failed,
+    /// and so do those that find no room. No other call fails, and no memory is taken.
     fn write(&mut self, piece: &[u8]) -> Result<usize, SinkFault>
         ensures faults { (sink_told self.old).faults ≤ (sink_told self.new).faults }
         ensures answer { WriteAnswers (sink_told self.old) (sink_told self.new) piece.now result }

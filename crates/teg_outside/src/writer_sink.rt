@@ -26,8 +26,8 @@ impl<W: Write> WriterSink<W> {
     }
 }
 
-// How many bytes the writer took, at least one, once it is flushed; none where it failed, and then it
-// may still have taken a first part of the piece.
+// How many bytes the writer took, at least one, once it is flushed; none where it failed, and then
+// it may still have taken a first part of the piece.
 fn write_and_flush<W: Write>(inner: &mut W, piece: &[u8]) -> Option<usize>
     ensures within { IfSome result (λ n. (0 < n) × (n ≤ length piece.now)) }
     ensures taken { IfSome result (λ n. Appends (W.contents inner.old) (W.contents inner.new)
@@ -49,9 +49,9 @@ fn write_and_flush<W: Write>(inner: &mut W, piece: &[u8]) -> Option<usize>
 impl<W: Write> Sink for WriterSink<W> {
     ghost state = { λ s. record { bytes = None; faults = s.faults } };
 
-    /// What the writer took: where its bytes are known, these were appended. An error of the write or
-    /// of the flush, and a write that takes no byte of a piece that is not empty, answer Failed. That
-    /// raises the count by one, and the writer may have taken a first part of the piece.
+    /// What the writer took: where its bytes are known, these were appended. An error of the write
+    /// or of the flush, and a write that takes no byte of a piece that is not empty, answer Failed.
+    /// That raises the count by one, and the writer may have taken a first part of the piece.
     fn write(&mut self, piece: &[u8]) -> Result<usize, SinkFault>
         ensures faults { self.old.faults ≤ self.new.faults }
         ensures answer { WriteAnswers (record { bytes = None; faults = self.old.faults }) (record { bytes = None; faults = self.new.faults }) piece.now result }

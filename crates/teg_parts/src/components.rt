@@ -1,5 +1,5 @@
-//! The strong parts, each numbered by its lowest transition: what a search along the places from there
-//! reaches, and what one against them reaches.
+//! The strong parts, each numbered by its lowest transition: what a search along the places from
+//! there reaches, and what one against them reaches.
 ghost use Rattle.std.specs.Prelude.{◌≡◌, ◌<◌, length, IfOk, OnOk};
 ghost use Rattle.teg_net.specs.Nets.{IsNet};
 ghost use Rattle.teg_parts.specs.PlacesAlong.{ArePlacesAlong};

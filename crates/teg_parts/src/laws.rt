@@ -1,8 +1,9 @@
-//! The laws of circuits and parts. Each is a function that does nothing when it runs: its contract is
-//! the law.
+//! The laws of circuits and parts. Each is a function that does nothing when it runs: its contract
+//! is the law.
 ghost use Rattle.teg_parts.specs.CircuitsAndParts.{CircuitsLieInOnePart, PartsAreOne};
 
-/// Where numbers of transitions never fall along a place, each circuit lies in one part (chapter 2).
+/// Where numbers of transitions never fall along a place, each circuit lies in one part (chapter
+/// 2).
 pub fn circuits_lie_in_one_part()
     ensures { CircuitsLieInOnePart }
 {}

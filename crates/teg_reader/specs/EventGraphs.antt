@@ -1,4 +1,4 @@
--- The passes on the shape of the graph: a place joins one transition to one other, and enters no input.
+-- The passes on the shape of the graph: a place joins one transition to one, which may be itself, and enters no input.
 use Rattle.std.specs.Prelude.{ℕ, Bool, false, ◌==◌, ◌&&◌, if◌then◌else◌, List, [], ◌∷◌, length, Option, Some, None, bytes_eq, codes}
 use Rattle.std.specs.Option.{option_map_or}
 use Rattle.toml.specs.Data.{Data}

@@ -110,10 +110,10 @@ fn read_table(alloc: Global, table: Table) -> Result<Net, ReadRefusal>
 /// The net that the bytes of a file say: its entries in order, with their roles, ready dates and
 /// input lists. The hold of a place is that of its entry and the duration of its upstream
 /// transition, which files of the second version may have. The grammar is that of `toml`, which
-/// passes over one byte order mark at the start and reads no integer of more than 64 bits. A refusal
-/// tells the first fault: the passes stand in the order of the variants of [`ReadRefusal`], and each
-/// goes over the whole tree, the top first, then the transitions, the places and the input lists,
-/// each by position.
+/// passes over one byte order mark at the start and reads no integer of more than 64 bits. A
+/// refusal tells the first fault: the passes stand in the order of the variants of [`ReadRefusal`],
+/// and each goes over the whole tree, the top first, then the transitions, the places and the input
+/// lists, each by position.
 pub fn read_net(alloc: Global, bytes: &[u8]) -> Result<Net, ReadRefusal>
     ensures { AnswersAsMeant (document bytes.now) result }
 {

@@ -95,11 +95,11 @@ impl Game {
         })
     }
 
-    /// Fires the transition at the date, where this may follow the accepted firings: the tokens of the
-    /// places into it are there, the date is not before that of the last firing, and an input is
-    /// released. Otherwise the first of these that fails is told, and nothing changes, as where no
-    /// memory is found. The transition is one of the net, the date at most 10^18, and fewer than 2^40
-    /// firings were accepted. It takes time in proportion to the places into the transition.
+    /// Fires the transition at the date, where this may follow the accepted firings: the tokens of
+    /// the places into it are there, the date is not before that of the last firing, and an input
+    /// is released. Otherwise the first of these that fails is told, and nothing changes, as where
+    /// no memory is found. The transition is one of the net, the date at most 10^18, and fewer than
+    /// 2^40 firings were accepted. It takes time in proportion to the places into the transition.
     pub fn fire(
         &mut self,
         _alloc: Global,
@@ -119,7 +119,8 @@ impl Game {
 
         ensures least { IfOk result (λ firing. StandsToLeastDates net.now self.old.run firing) }
 
-        // why one is refused, which changes nothing; a legal one is refused for want of memory alone
+        // why one is refused, which changes nothing; a legal one is refused for want of memory
+        // alone
         ensures refused { IfErr result (λ why. IsRightFireRefusal net.now self.old.run (record { transition = transition; date = date }) why) }
         ensures failure { IfErr result (λ why. IsFailure why → IsLegalAfter net.now self.old.run (record { transition = transition; date = date }) → ⊥) }
         ensures unchanged { IfErr result (λ _. self.new ≡ self.old) }

@@ -73,7 +73,8 @@ impl History {
         Some(last.date)
     }
 
-    // Appends a firing. It makes all its growths first, so that it changes nothing where one is refused.
+    // Appends a firing. It makes all its growths first, so that it changes nothing where one is
+    // refused.
     pub(crate) fn push(&mut self, fired: Fired) -> Result<(), AllocError>
         requires { fired.transition.index < self.old.width }
         ensures { self.new ≡ (if is_ok result then record self.old

@@ -1,13 +1,13 @@
 //! The token game of a timed event graph, and the replay of a log of firings in it (chapter 2).
 //!
 //! Its one contract: a [`Game`] keeps a legal run; [`Game::fire`] accepts a firing exactly where it
-//! may follow that run, and otherwise tells the first way in which it fails; no accepted firing comes
-//! before its least date. [`replay`] fires the rows of a log up to the first refused one, and shows
-//! each accepted firing to each monitor, in order, once.
+//! may follow that run, and otherwise tells the first way in which it fails; in a live net no
+//! accepted firing comes before its least date. [`replay`] fires the rows of a log up to the first
+//! refused one, and shows each accepted firing to each monitor, in order, once.
 //!
 //! The crate stands on `run_laws` for runs and what holds of them, on `teg_net` for nets, on
-//! `teg_due` for the rows of a log, on `teg_outside` for monitors, and on `teg_model` and `dioid` for
-//! the least dating.
+//! `teg_due` for the rows of a log, on `teg_outside` for monitors, and on `teg_model` and `dioid`
+//! for the least dating.
 //! Its examples stand in `worked_examples`.
 #![tactic(auto)]
 

@@ -67,10 +67,10 @@ fn play_rows(
 }
 
 /// Fires the rows in order up to the first that is refused, and shows each accepted firing to every
-/// monitor, in order, once. It answers how many were accepted, and the refused row with the first way
-/// in which it fails. There are fewer than 2^40 rows, each of a transition of the net and with a date
-/// of at most 10^18. `OutOfMemory` comes only where no memory is found; the monitors have then seen
-/// the firings of some first rows.
+/// monitor, in order, once. It answers how many were accepted, and the refused row with the first
+/// way in which it fails. There are fewer than 2^40 rows, each of a transition of the net and with
+/// a date of at most 10^18. `OutOfMemory` comes only where no memory is found; the monitors have
+/// then seen the firings of some first rows.
 pub fn replay(
     alloc: Global,
     net: &Net,

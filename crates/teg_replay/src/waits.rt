@@ -1,4 +1,5 @@
-//! What a firing waits for: the tokens of the places into its transition, the firings before it, and a release.
+//! What a firing waits for: the tokens of the places into its transition, the firings before it,
+//! and a release.
 ghost use Rattle.std.specs.Prelude.{◌≡◌, ◌<◌, ◌≤◌, ◌+◌, ◌^◌, IfOk, IfErr, Some, length, ◌-◌};
 ghost use Rattle.teg_net.specs.Circuits.{place_at};
 ghost use Rattle.teg_net.specs.Inputs.{input_date};

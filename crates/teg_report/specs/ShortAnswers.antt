@@ -69,7 +69,7 @@ too_long_line limit = phrase (codes "too long: no settled form within") ++ decim
 abbrev pub date_line : List ℕ → ℕ → DateOf → List (List ℕ)
 date_line name number date = codes "date" ∷ name ∷ decimal number ∷ date_word date ∷ []
 
--- a file that is not the net, by its first word
+-- a file, by the first word of its name in texts
 abbrev pub file_in : List ℕ → Which
 file_in word = if bytes_eq word (codes "net") then NetFile else if bytes_eq word (codes "due") then DueFile else if bytes_eq word (codes "log") then LogFile else TimetableFile
 

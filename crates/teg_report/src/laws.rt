@@ -15,8 +15,8 @@ pub fn answers_are_read()
 {}
 
 /// The law of answers that are told by what is known of them: the size of a net, a circuit without
-/// tokens, cycle times that are a certificate with a best part, and a series. It does nothing when it
-/// runs.
+/// tokens, cycle times that are a certificate with a best part, and a series. It does nothing when
+/// it runs.
 pub fn answers_are_told()
     ensures sizes { SizesAreTold }
     ensures circuits { TokenFreeIsTold }

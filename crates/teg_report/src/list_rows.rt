@@ -11,8 +11,8 @@ use std::alloc::Global;
 use teg_dates::DateCell;
 use teg_net::{Net, OutOfMemory};
 
-/// The room that a row of so many dates needs in a block, in bytes: at most 41 for each date, 20 for
-/// its number, and 1 for the line feed.
+/// The room that a row of so many dates needs in a block, in bytes: at most 41 for each date, 20
+/// for its number, and 1 for the line feed.
 pub fn room_of_row(dates: usize) -> usize
     requires { dates ≤ 2 ^ 58 }
     ensures { result ≡ (dates + 1) * 41 }
@@ -92,9 +92,9 @@ fn end_row<C: DateCell>(line: &mut [u8], number: u64, row: &[C]) -> usize
     number_before(line, start, number)
 }
 
-/// Writes the line of a number into the block from there on: the number, the dates of its firings, a
-/// line feed. It answers where the line ends; `line` is room to make it in. It takes no memory, and
-/// time of the order of the line.
+/// Writes the line of a number into the block from there on: the number, the dates of its firings,
+/// a line feed. It answers where the line ends; `line` is room to make it in. It takes no memory,
+/// and time of the order of the line.
 #[tactic(auto, using(std::proofs::lemmas::Slice::overwrites))]
 pub fn put_row<C: DateCell>(
     block: &mut [u8],
@@ -138,8 +138,8 @@ pub fn list_row(alloc: Global, number: u64, row: &[Date]) -> Result<Vec<u8>, Out
     Ok(Vec::from_slice(alloc, &line[start..])?)
 }
 
-/// The head of a list and its rows, one after another, are the text of the list: of any dating whose
-/// rows they are.
+/// The head of a list and its rows, one after another, are the text of the list: of any dating
+/// whose rows they are.
 pub fn lists_are_joined()
     ensures { ListsAreJoined }
 {}

@@ -110,12 +110,12 @@ fn know_rules(net: Option<&Net>)
 ///
 /// The net is given wherever the text has a name that the answer does not hold itself: for `List`,
 /// `Form`, `Cycle`, `Dates`, `Date`, `Jit`, `Late`, `Slack`, `Transfer` (whose outputs are also
-/// counted by it) and `TokenFree`, and for `Refused` where a place is named. What the answer names is
-/// in the net: a table and a settled form have dates for each of its transitions, slacks are one for
-/// each of its places, and transitions, the ends of entries, the places of a circuit, and the
+/// counted by it) and `TokenFree`, and for `Refused` where a place is named. What the answer names
+/// is in the net: a table and a settled form have dates for each of its transitions, slacks are one
+/// for each of its places, and transitions, the ends of entries, the places of a circuit, and the
 /// transitions and places of a round are among its own. Rounds are a list for each part with a
-/// circuit, and none of these lists is empty. A line of a monitor has no line feed. A refusal is not
-/// want of memory.
+/// circuit, and none of these lists is empty. A line of a monitor has no line feed. A refusal is
+/// not want of memory.
 ///
 /// `OutOfMemory` comes only where no memory is found. It takes time of the order of the text.
 pub fn report(alloc: Global, net: Option<&Net>, answer: &Answer<'_>) -> Result<Vec<u8>, OutOfMemory>
@@ -126,7 +126,8 @@ pub fn report(alloc: Global, net: Option<&Net>, answer: &Answer<'_>) -> Result<V
     // The answer is told: the net keeps its rules, and its numbers have the bits of their types.
     ensures told { IfOk result (λ _. IsPlain (meant answer.now)
         → IsAnswerTold (option_copied net.entry) (meant answer.now)) }
-    // The answer is read back from its bytes, by the names of its net: so answers with the same bytes are one.
+    // The answer is read back from its bytes, by the names of its net: so answers with the same
+    // bytes are one.
     ensures read_back { IfOk result (λ text. IsPlain (meant answer.now) →
         IsReadFrom (option_copied net.entry) (meant answer.now) text.items) }
 {

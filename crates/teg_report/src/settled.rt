@@ -1,5 +1,5 @@
-//! The texts of settled forms: those of the dates of a net, and those of walks from its inputs to its
-//! outputs.
+//! The texts of settled forms: those of the dates of a net, and those of walks from its inputs to
+//! its outputs.
 ghost use Rattle.std.specs.Prelude.{◌≡◌, ◌++◌, ◌∷◌, ◌<◌, ◌^◌, [], All, IfOk, length, map, string_bytes};
 ghost use Rattle.std.specs.Int.RustNames.{unsigned_abs};
 ghost use Rattle.teg_settle.specs.settled_laws.SettledForms.{row_of, step_of_form};

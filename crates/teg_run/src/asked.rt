@@ -260,7 +260,8 @@ fn file_asked(alloc: Global, command: &str, rest: &[&str]) -> Result<Option<Requ
     }
 }
 
-// The request of a command that takes no option: of one on a net and nothing else, or of one of those.
+// The request of a command that takes no option: of one on a net and nothing else, or of one of
+// those.
 fn plain_asked(alloc: Global, command: &str, rest: &[&str]) -> Result<Option<Request>, OutOfMemory>
     ensures { IfOk result (λ request. request ≡ plain_asked command.now (texts rest.now)) }
 {
@@ -274,8 +275,8 @@ fn plain_asked(alloc: Global, command: &str, rest: &[&str]) -> Result<Option<Req
     }
 }
 
-// The request of a command with `--limit N` or `--limit none`, or without; of one that takes no limit
-// where none is given.
+// The request of a command with `--limit N` or `--limit none`, or without; of one that takes no
+// limit where none is given.
 fn limited_asked(
     alloc: Global,
     command: &str,

@@ -52,10 +52,11 @@ fn serve_words<S: Shelf, W: Sink>(
 
 /// Does what [`workbench`] does, and hands the monitors back.
 ///
-/// It keeps the same promises; and the monitors were shown just the firings that a `replay` accepts, in
-/// their order, each once, by the same reads that its text tells: those of some first rows where no
-/// memory was found for the text, and none for every other command. Where the files are told and no
-/// read failed, these are the firings that the told log of the told net accepts (`ShowsTold`).
+/// It keeps the same promises; and the monitors were shown just the firings that a `replay`
+/// accepts, in their order, each once, by the same reads that its text tells: those of some first
+/// rows where no memory was found for the text, and none for every other command. Where the files
+/// are told and no read failed, these are the firings that the told log of the told net accepts
+/// (`ShowsTold`).
 pub fn serve<S: Shelf, W: Sink>(
     alloc: Global,
     words: &[String],
@@ -99,9 +100,9 @@ pub fn serve<S: Shelf, W: Sink>(
 ///
 /// `words` are those after the name of the program. Each file is read at most once, with a limit of
 /// 4,194,304 bytes, and no name is read that the words do not give. The text of the answer is whole
-/// before its first byte is written, but for a list of dates: its rows are written as they are made,
-/// in room that is found before. So nothing is written where no memory is found. `monitors` see the
-/// firings of a replay; they are dropped when the call returns.
+/// before its first byte is written, but for a list of dates: its rows are written as they are
+/// made, in room that is found before. So nothing is written where no memory is found. `monitors`
+/// see the firings of a replay; they are dropped when the call returns.
 ///
 /// What it promises stands field by field in the record `KeepsPromises`, at the end of
 /// `specs/Headline.antt`.

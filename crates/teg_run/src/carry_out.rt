@@ -1,5 +1,5 @@
-//! How a request is carried out: its files are opened one after another, its command answers, and the
-//! answer is written.
+//! How a request is carried out: its files are opened one after another, its command answers, and
+//! the answer is written.
 ghost use Rattle.std.specs.Prelude.{[], ◌∷◌, map};
 ghost use Rattle.teg_run.specs.CallMeanings.{ended};
 ghost use Rattle.teg_run.specs.Openings.{OpensBytes, OpensNet};
@@ -86,8 +86,8 @@ fn answer_files<S: Shelf>(
     }
 }
 
-/// Carries out a request: finds its answer and writes it. The monitors come back: they were shown just
-/// the accepted firings of a log, and nothing for another command.
+/// Carries out a request: finds its answer and writes it. The monitors come back: they were shown
+/// just the accepted firings of a log, and nothing for another command.
 pub fn serve_request<S: Shelf, W: Sink>(
     alloc: Global,
     request: Request,

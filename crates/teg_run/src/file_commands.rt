@@ -25,8 +25,8 @@ pub fn second_of(command: &FileCommand) -> Which
     }
 }
 
-/// What the command comes to on a live net and the bytes of its second file, and the monitors, which
-/// were shown just the accepted firings of a log.
+/// What the command comes to on a live net and the bytes of its second file, and the monitors,
+/// which were shown just the accepted firings of a log.
 pub fn of_files(
     alloc: Global,
     command: FileCommand,

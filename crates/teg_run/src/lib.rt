@@ -1,16 +1,16 @@
 //! The whole workbench as one call: words in, the named files read, an answer written.
 //!
 //! The one contract is that of [`workbench`]: the promises of the record `KeepsPromises` in
-//! `specs/Headline.antt`, of one call as the record `Call` has it (the words, the monitors, the shelf
-//! and the sink before and after, the status). Its field `run` ties these in three parts: what the
-//! words ask for, what the reads gave and what answer they lead to, and how that answer was written.
-//! The other fields say what follows from it, one promise each. [`serve`] promises the same, hands the
-//! monitors back, and says what they were shown: by the replies of the shelf (`ShowsJust` in
-//! `specs/ShownFirings.antt`), and by the files, where they are told (`ShowsTold`).
+//! `specs/Headline.antt`, of one call as the record `Call` has it (the words, the monitors, the
+//! shelf and the sink before and after, the status). Its field `run` ties these in three parts:
+//! what the words ask for, what the reads gave and what answer they lead to, and how that answer
+//! was written. The other fields say what follows from it, one promise each. [`serve`] promises the
+//! same, hands the monitors back, and says what they were shown: by the replies of the shelf
+//! (`ShowsJust` in `specs/ShownFirings.antt`), and by the files, where they are told (`ShowsTold`).
 //! It stands on `teg_commands` for what each command comes to, on `teg_words`, `teg_reader` and
 //! `teg_check` for what is accepted, on `teg_net` and `teg_dates` for the rows of a list, on
-//! `teg_report` for the texts, on `teg_outside` for files and output, and on `trial_net` for the line
-//! of `trial`.
+//! `teg_report` for the texts, on `teg_outside` for files and output, and on `trial_net` for the
+//! line of `trial`.
 //! Its examples stand in `worked_examples`.
 #![tactic(auto)]
 

@@ -92,8 +92,8 @@ fn write_full<W: Sink>(out: &mut W, block: &[u8], filled: usize) -> Result<usize
     Ok(0)
 }
 
-// Writes the next row. It is kept apart from what is around it, so that the pass over the places has
-// the registers to itself.
+// Writes the next row. It is kept apart from what is around it, so that the pass over the places
+// has the registers to itself.
 #[inline(never)]
 fn next_row(net: &Net, rows: &mut FirstRows, row: &mut [u64])
     requires stands { AreFirstRowsOf net.now rows.old }
@@ -163,10 +163,10 @@ fn write_listing<W: Sink>(
     )
 }
 
-/// Writes the first dates of a live net, and tells how the call ends. All memory is found before the
-/// first byte is written, as much for every number of dates, and rows are gathered into pieces of at
-/// least 64 KiB but for the last. It takes time of order `count (n + p)` for n transitions and p
-/// places.
+/// Writes the first dates of a live net, and tells how the call ends. All memory is found before
+/// the first byte is written, as much for every number of dates, and rows are gathered into pieces
+/// of at least 64 KiB but for the last. It takes time of order `count (n + p)` for n transitions
+/// and p places.
 pub fn write_list<W: Sink>(alloc: Global, net: &LiveNet, count: u32, out: &mut W) -> Status
     requires { count ≤ most_numbers }
     ensures { WritesOutcome (SaysList count net.now) (W.state out.old) (W.state out.new) result }

@@ -53,8 +53,8 @@ pub enum FileCommand {
     Replay,
     /// The latest inputs that meet the due dates without end of a due file.
     Forever,
-    /// How the delays of a timetable spread that departs again after this period; by a settled form of
-    /// at most this length where there is a limit.
+    /// How the delays of a timetable spread that departs again after this period; by a settled form
+    /// of at most this length where there is a limit.
     Timetable {
         period: Period,
         limit: Option<Limit>,

@@ -59,8 +59,8 @@ fn judge_bytes(alloc: Global, which: Which, reply: Result<Vec<u8>, ShelfFault>) 
     }
 }
 
-/// The bytes of the file of that name, or the refusal of that file. What its rows say is the business
-/// of the command that reads it.
+/// The bytes of the file of that name, or the refusal of that file. What its rows say is the
+/// business of the command that reads it.
 pub fn open_bytes<S: Shelf>(
     alloc: Global,
     which: Which,

@@ -22,7 +22,8 @@ use teg_net::{Net, OutOfMemory};
 // than 47 bits of addresses tell apart.
 const MOST_ROWS: u64 = 20_000_000_000_000;
 
-// Rows that show the shortest form, where a form is known to be: they are doubled until they show one.
+// Rows that show the shortest form, where a form is known to be: they are doubled until they show
+// one.
 fn endless(
     alloc: Global,
     net: &Net,
@@ -67,10 +68,10 @@ fn found(alloc: Global, net: &Net, live: &Live, releases: &Releases) -> Result<F
 
 /// The shortest settled form of the least dates of a live net, with its ready dates and its input
 /// lists (chapter 3, cyclicity): the one of `settle_within`, whatever its length. Each live net has
-/// one, and so many rows as its lists tell show it ([`shown_form`](crate::shown_form)), so the search
-/// ends. `OutOfMemory` comes where no memory is found for the table of its lists, the order of its
-/// places, the rows or the form, and past 20,000,000,000,000 rows, which no memory holds. It takes the
-/// time and the memory of [`settle_within`](crate::settle_within) with no limit.
+/// one, and so many rows as its lists tell show it ([`shown_form`](crate::shown_form)), so the
+/// search ends. `OutOfMemory` comes where no memory is found for the table of its lists, the order
+/// of its places, the rows or the form, and past 20,000,000,000,000 rows, which no memory holds. It
+/// takes the time and the memory of [`settle_within`](crate::settle_within) with no limit.
 pub fn settle(alloc: Global, net: &Net, live: &Live) -> Result<Settled, OutOfMemory>
     requires stands { IsRanking net.now live.now }
     ensures form { IfOk result (IsSettledFormOf net.now) }
@@ -81,8 +82,8 @@ pub fn settle(alloc: Global, net: &Net, live: &Live) -> Result<Settled, OutOfMem
     form_of(alloc, net, &releases, &found)
 }
 
-/// The form of [`settle`], for callers that ask for some of its dates: it keeps the rows of the search
-/// and makes no other table of them.
+/// The form of [`settle`], for callers that ask for some of its dates: it keeps the rows of the
+/// search and makes no other table of them.
 pub fn settle_dates(alloc: Global, net: &Net, live: &Live) -> Result<SettledDates, OutOfMemory>
     requires stands { IsRanking net.now live.now }
     ensures form { IfOk result (IsSettledFormOf net.now) }

@@ -1,4 +1,5 @@
-//! The laws of walk times. Each is a function that does nothing when it runs: its contract is the law.
+//! The laws of walk times. Each is a function that does nothing when it runs: its contract is the
+//! law.
 ghost use Rattle.teg_settle.specs.WalkTimes.{TransferLimitsAreTold, TransfersAreOne, WalkTimesSettle};
 
 use periodic_laws::systems_settle;
@@ -11,8 +12,8 @@ pub fn walk_times_settle()
     systems_settle();
 }
 
-/// The greatest times of walks from an input have one shortest settled form, and it is longer than each
-/// limit that every form of them exceeds.
+/// The greatest times of walks from an input have one shortest settled form, and it is longer than
+/// each limit that every form of them exceeds.
 pub fn transfers_are_one()
     ensures one { TransfersAreOne }
     ensures limits { TransferLimitsAreTold }

@@ -22,9 +22,9 @@ use std::alloc::Global;
 use teg_check::{CheckRefusal, Live, check};
 use teg_net::{Net, OutOfMemory, TransitionId};
 
-// Rows that show the shortest form of the least dating of the net with these releases, if its length
-// is within the limit: rows of twice the limit and the tokens of a place show each form of such a
-// length.
+// Rows that show the shortest form of the least dating of the net with these releases, if its
+// length is within the limit: rows of twice the limit and the tokens of a place show each form of
+// such a length.
 fn found_within(
     alloc: Global,
     net: &Net,
@@ -101,12 +101,13 @@ fn dates_within(
 
 /// The shortest settled form of the least dates of a live net, with its ready dates and its input
 /// lists (chapter 3, cyclicity): its number and its period are both least, and its length, number
-/// plus period, is the settling length. `limit` is at most 200,000, and `TooLong` comes exactly where
-/// the settling length exceeds it. `OutOfMemory` comes only where no memory is found. For a settling
-/// length l, or a limit l below it, it makes rows of order l for all transitions, each in time of order
-/// `n + p` for n transitions and p places, and keeps them, eight bytes a date where dates are below
-/// 2^64 - 2. Of order l periods are tried: most are refuted by what refuted one before, and each
-/// other one takes time of at most the order of all these dates and of those of the input lists.
+/// plus period, is the settling length. `limit` is at most 200,000, and `TooLong` comes exactly
+/// where the settling length exceeds it. `OutOfMemory` comes only where no memory is found. For a
+/// settling length l, or a limit l below it, it makes rows of order l for all transitions, each in
+/// time of order `n + p` for n transitions and p places, and keeps them, eight bytes a date where
+/// dates are below 2^64 - 2. Of order l periods are tried: most are refuted by what refuted one
+/// before, and each other one takes time of at most the order of all these dates and of those of
+/// the input lists.
 pub fn settle_within(
     alloc: Global,
     net: &Net,
@@ -124,8 +125,8 @@ pub fn settle_within(
     within(alloc, net, live, &releases, limit)
 }
 
-/// The form of [`settle_within`], for callers that ask for some of its dates: it keeps the rows of the
-/// search, eight bytes a date where dates are below 2^64 - 2, and makes no other table of them.
+/// The form of [`settle_within`], for callers that ask for some of its dates: it keeps the rows of
+/// the search, eight bytes a date where dates are below 2^64 - 2, and makes no other table of them.
 pub fn settle_dates_within(
     alloc: Global,
     net: &Net,
@@ -199,12 +200,12 @@ fn settle_part(
 }
 
 /// The shortest settled form of the greatest times of walks from the first firing of this input to
-/// each firing of each transition (chapters 2 and 3); a firing to which no such walk leads has the date
-/// `Early`. Its number and its period are both least over all transitions. `limit` is at most 200,000,
-/// and `TooLong` comes exactly where the length of that form exceeds it. `OutOfMemory` comes only where
-/// no memory is found. It takes the time of [`settle_within`] for the transitions and the places that
-/// such walks come to alone: those that they do not reach are left out once, in time of order
-/// `n (n + p)` at most.
+/// each firing of each transition (chapters 2 and 3); a firing to which no such walk leads has the
+/// date `Early`. Its number and its period are both least over all transitions. `limit` is at most
+/// 200,000, and `TooLong` comes exactly where the length of that form exceeds it. `OutOfMemory`
+/// comes only where no memory is found. It takes the time of [`settle_within`] for the transitions
+/// and the places that such walks come to alone: those that they do not reach are left out once, in
+/// time of order `n (n + p)` at most.
 pub fn transfer(
     alloc: Global,
     net: &Net,

@@ -1,5 +1,5 @@
-//! The part of a net that the walks from an input reach: the transitions where such a walk ends, under
-//! new numbers, and the places between them. All else waits for nothing, and has no dates.
+//! The part of a net that the walks from an input reach: the transitions where such a walk ends,
+//! under new numbers, and the places between them. All else waits for nothing, and has no dates.
 ghost use Rattle.std.specs.Prelude.{◌≡◌, ◌<◌, ◌≤◌, length, All, IfOk, IsTrue};
 ghost use Rattle.teg_net.specs.Limits.{most_transitions};
 ghost use Rattle.teg_net.specs.Nets.{IsInput, IsNet};
@@ -81,7 +81,8 @@ fn all_marks(alloc: Global, net: &Net, input: TransitionId) -> Result<Vec<bool>,
     Ok(marks)
 }
 
-// Marks of the transitions that walks from the input reach: each pass marks one more, or they are closed.
+// Marks of the transitions that walks from the input reach: each pass marks one more, or they are
+// closed.
 fn marks_from(alloc: Global, net: &Net, input: TransitionId) -> Result<Vec<bool>, AllocError>
     requires { input.index < length net.now.transitions }
     ensures count { IfOk result (λ marks. length marks.items ≡ length net.now.transitions) }
@@ -211,8 +212,9 @@ fn net_of(alloc: Global, net: &Net, marks: &[bool], numbers: &Numbers) -> Result
     Ok(Net::new(transitions, places, Vec::new(alloc)))
 }
 
-// The part of the net that the walks from the input reach: the transitions where such a walk ends, and
-// the places that begin there. It takes time of order `n p` at most for n transitions and p places.
+// The part of the net that the walks from the input reach: the transitions where such a walk ends,
+// and the places that begin there. It takes time of order `n p` at most for n transitions and p
+// places.
 pub(crate) fn part_from(alloc: Global, net: &Net, input: TransitionId) -> Result<Part, OutOfMemory>
     requires { IsInput net.now input.index }
     ensures part { IfOk result (IsPartFrom net.now input.index) }

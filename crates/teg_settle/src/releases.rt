@@ -1,5 +1,5 @@
-//! What firings wait for beside the tokens of earlier firings: the net's own initial tokens and input
-//! lists, or one input alone.
+//! What firings wait for beside the tokens of earlier firings: the net's own initial tokens and
+//! input lists, or one input alone.
 ghost use Rattle.std.specs.Prelude.{◌≡◌, ◌<◌, ◌≤◌, ◌^◌, IfOk};
 ghost use Rattle.teg_net.specs.Limits.{greatest_firing_number, most_input_dates, greatest_every};
 ghost use Rattle.teg_net.specs.Nets.{IsNet};
@@ -38,8 +38,9 @@ pub struct Repetition {
     pub period: u64,
 }
 
-/// The ready dates and the input lists of a net, or one input alone. With the places of a net they make
-/// a system: each list is found once, and not for each firing. Contracts see them by `AreOwnReleases`.
+/// The ready dates and the input lists of a net, or one input alone. With the places of a net they
+/// make a system: each list is found once, and not for each firing. Contracts see them by
+/// `AreOwnReleases`.
 #[derive(Debug, Drop)]
 pub struct Releases {
     tokens: Tokens,

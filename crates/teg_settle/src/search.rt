@@ -29,8 +29,8 @@ pub(crate) struct Found {
 // The pairs of rows that are compared before the input lists are.
 const FIRST_PAIRS: u64 = 16;
 
-// The least number past which the dates go on in this period, if the rows are enough to see it. What
-// fails soonest is tested first: a few pairs of rows, then the lists, then all other pairs.
+// The least number past which the dates go on in this period, if the rows are enough to see it.
+// What fails soonest is tested first: a few pairs of rows, then the lists, then all other pairs.
 fn seen_from(net: &Net, releases: &Releases, rows: &Rows, most: u64, period: u64) -> Option<u64>
     requires { IsTrial net.now releases.now rows.now most period }
     ensures { MatchOption result (IsRefuted net.now releases.now most rows.now.count period)
@@ -85,8 +85,8 @@ fn known_against(
     witnesses.against(net, releases, rows, period, latest)
 }
 
-// The number from which this period is seen, or the witnesses with what refutes it. Those that there
-// are come first, then another firing of their transitions, and then the tests.
+// The number from which this period is seen, or the witnesses with what refutes it. Those that
+// there are come first, then another firing of their transitions, and then the tests.
 fn tried(
     net: &Net,
     releases: &Releases,
@@ -109,7 +109,8 @@ fn tried(
     }
 }
 
-// The least number and the least period by which the dates go on, if the rows are enough to see them.
+// The least number and the least period by which the dates go on, if the rows are enough to see
+// them.
 pub(crate) fn seen(net: &Net, releases: &Releases, rows: &Rows, most: u64) -> Option<Repetition>
     requires ready { IsReady net.now releases.now most }
     requires rows { AreRowsOf net.now releases.now rows.now }
@@ -179,8 +180,8 @@ pub(crate) fn ready_tokens(net: &Net, _live: &Live, releases: &Releases) -> u64
     most_tokens(net)
 }
 
-// The shortest form that at most `last` rows show: the rows are doubled until they show one, so that
-// it takes few more rows than the form needs.
+// The shortest form that at most `last` rows show: the rows are doubled until they show one, so
+// that it takes few more rows than the form needs.
 pub(crate) fn search(
     alloc: Global,
     net: &Net,

@@ -19,10 +19,10 @@ use std::marker::Model;
 use teg_dates::Rows;
 use teg_net::{Net, TransitionId};
 
-/// A settled form (chapter 3): a number, a period of at least 1, and for each transition of a net the
-/// dates of the numbers from 1 to number plus period, and a step. Past the number each date is that of
-/// a period before, moved by the step. Dates and steps are in the user's unit. Transitions without
-/// dates share one row. No call takes memory.
+/// A settled form (chapter 3): a number, a period of at least 1, and for each transition of a net
+/// the dates of the numbers from 1 to number plus period, and a step. Past the number each date is
+/// that of a period before, moved by the step. Dates and steps are in the user's unit. Transitions
+/// without dates share one row. No call takes memory.
 #[derive(Debug, Drop)]
 pub struct Settled {
     after: u64,
@@ -232,8 +232,8 @@ impl Settled {
         self.steps[self.own[transition.index as usize]]
     }
 
-    /// The date of the firing of this number, from 1 to 10^18, of this transition: one of its row, or
-    /// past the row that of some periods before, moved by as many steps.
+    /// The date of the firing of this number, from 1 to 10^18, of this transition: one of its row,
+    /// or past the row that of some periods before, moved by as many steps.
     pub fn date(&self, transition: TransitionId, number: u64) -> Date
         requires transition { transition.index < length self.now.rows }
         requires first { 1 ≤ number }

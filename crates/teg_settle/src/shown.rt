@@ -16,8 +16,8 @@ use std::marker::Model;
 use teg_dates::Rows;
 use teg_net::{Net, TransitionId};
 
-/// A settled form (chapter 3), for callers that ask for some of its dates: the rows of the search are
-/// kept as they are, and no other table is made. Contracts see the same form as of a
+/// A settled form (chapter 3), for callers that ask for some of its dates: the rows of the search
+/// are kept as they are, and no other table is made. Contracts see the same form as of a
 /// [`Settled`](crate::Settled). No call takes memory.
 #[derive(Debug, Drop)]
 pub struct SettledDates {
@@ -109,8 +109,8 @@ impl SettledDates {
         self.rows.date(transition, number)
     }
 
-    /// The date of the firing of this number, from 1 to 10^18, of this transition: one of the rows, or
-    /// past the first period that of some periods before, moved by as many steps.
+    /// The date of the firing of this number, from 1 to 10^18, of this transition: one of the rows,
+    /// or past the first period that of some periods before, moved by as many steps.
     pub fn date(&self, transition: TransitionId, number: u64) -> Date
         requires transition { transition.index < length self.now.rows }
         requires first { 1 ≤ number }

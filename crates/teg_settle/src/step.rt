@@ -14,8 +14,8 @@ use teg_check::Live;
 use teg_dates::Rows;
 use teg_net::{Net, OutOfMemory};
 
-/// The ready dates and the input lists of the net, each list found once. `OutOfMemory` comes only where
-/// no memory is found. It takes time of order `n l` for n transitions and l lists.
+/// The ready dates and the input lists of the net, each list found once. `OutOfMemory` comes only
+/// where no memory is found. It takes time of order `n l` for n transitions and l lists.
 pub fn own_releases(alloc: Global, net: &Net) -> Result<Releases, OutOfMemory>
     ensures { IfOk result (AreOwnReleases net.now) }
 {
@@ -23,12 +23,12 @@ pub fn own_releases(alloc: Global, net: &Net) -> Result<Releases, OutOfMemory>
     Ok(releases)
 }
 
-/// The number and the period of the shortest settled form of a live net, where these rows of its least
-/// dating show them: so many rows as two periods past the number and as a place may have tokens, 1,000,
-/// are enough, and the lists of the net tell a number of rows (`showing_rows`) that always show a form.
-/// There are at most 10^14 rows. It is the step of [`settle`](crate::settle), which makes rows until
-/// this finds a form. It takes no memory, and the time that the periods that are tried take, as in
-/// [`settle_within`](crate::settle_within).
+/// The number and the period of the shortest settled form of a live net, where these rows of its
+/// least dating show them: so many rows as two periods past the number and as a place may have
+/// tokens, 1,000, are enough, and the lists of the net tell a number of rows (`showing_rows`) that
+/// always show a form. There are at most 10^14 rows. It is the step of [`settle`](crate::settle),
+/// which makes rows until this finds a form. It takes no memory, and the time that the periods that
+/// are tried take, as in [`settle_within`](crate::settle_within).
 pub fn shown_form(net: &Net, _live: &Live, releases: &Releases, rows: &Rows) -> Option<Repetition>
     requires stands { IsRanking net.now _live.now }
     requires releases { AreOwnReleases net.now releases.now }

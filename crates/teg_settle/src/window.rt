@@ -95,7 +95,8 @@ fn is_moved(net: &Net, rows: &Rows, period: u64, number: u64) -> bool
     true
 }
 
-// The least number, from `least` on, past which the dates of the rows have moved so, found from the end.
+// The least number, from `least` on, past which the dates of the rows have moved so, found from the
+// end.
 pub(crate) fn moved_past(net: &Net, rows: &Rows, period: u64, least: u64) -> u64
     requires window { AreComparedRows net.now rows.now period }
     requires least { least + period ≤ rows.now.count }

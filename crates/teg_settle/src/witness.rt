@@ -1,5 +1,5 @@
-//! What refuted the last periods that were tried: it mostly refutes the next one too, so it is tested
-//! first.
+//! What refuted the last periods that were tried: it mostly refutes the next one too, so it is
+//! tested first.
 ghost use Rattle.std.specs.Prelude.{◌≡◌, ◌+◌, ◌<◌, ◌≤◌, All, IfSome, IsTrue};
 ghost use Rattle.teg_settle.specs.ComparedRows.{AreReleasedAlike, IsMovedPast, IsRisingPlace, AreComparedRows, most_window};
 ghost use Rattle.teg_settle.specs.Witnesses.{IsRefutedPast, Refutes};
@@ -259,7 +259,8 @@ fn last_release_apart(
     None
 }
 
-// The last release past `after` that does not move by its step, of the first transition that has one.
+// The last release past `after` that does not move by its step, of the first transition that has
+// one.
 fn release_apart(
     net: &Net,
     releases: &Releases,

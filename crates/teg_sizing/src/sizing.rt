@@ -69,8 +69,8 @@ fn sizing_by(net: &Net, target: Ratio, place: PlaceId, best: Through) -> Sizing
 /// `Enough` carries the least number that is enough. Where it is above 0, a circuit through the
 /// place is given for which one token less is not. `Impossible` comes exactly where no number is
 /// enough, with a circuit above the target that avoids the place or, where there is none, stands
-/// against a target of 0. `OutOfMemory` comes only where no memory is found. It takes time of order n p for n
-/// transitions and p places.
+/// against a target of 0. `OutOfMemory` comes only where no memory is found. It takes time of order
+/// n p for n transitions and p places.
 pub fn size(
     alloc: Global,
     net: &Net,

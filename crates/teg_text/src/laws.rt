@@ -16,8 +16,8 @@ pub fn words_are_read()
     ensures labels { LabelsAreRead }
 {}
 
-/// The law that transitions and places of a net are read back from their names. It does nothing when
-/// it runs.
+/// The law that transitions and places of a net are read back from their names. It does nothing
+/// when it runs.
 pub fn names_are_read()
     ensures transitions { TransitionsAreRead }
     ensures places { PlacesAreRead }

@@ -10,9 +10,9 @@ use delay_laws::DelayOutcome;
 use std::marker::Model;
 use teg_net::TransitionId;
 
-/// How the delays of a timetable spread: past a number the delayed dates and the releases go on in a
-/// period; the delay that is left at each departure; and what becomes of the delays. Contracts see it
-/// as a `Spread`. No call takes memory.
+/// How the delays of a timetable spread: past a number the delayed dates and the releases go on in
+/// a period; the delay that is left at each departure; and what becomes of the delays. Contracts
+/// see it as a `Spread`. No call takes memory.
 #[derive(Debug, Drop)]
 pub struct Delayed {
     left: Left,
@@ -58,8 +58,8 @@ impl Delayed {
         self.left.period()
     }
 
-    /// The delay that is left at the departure of this number, from 1 to 10^18, of this transition: at
-    /// most 50,000.
+    /// The delay that is left at the departure of this number, from 1 to 10^18, of this transition:
+    /// at most 50,000.
     pub fn delay(&self, transition: TransitionId, number: u64) -> u128
         requires transition { transition.index < length self.now.firsts }
         requires first { 1 ≤ number }

@@ -1,5 +1,5 @@
-//! The net by which a delayed timetable is settled: each departure also waits for an input of its own,
-//! whose list has the releases.
+//! The net by which a delayed timetable is settled: each departure also waits for an input of its
+//! own, whose list has the releases.
 ghost use Rattle.std.specs.Prelude.{◌≡◌, ◌≤◌, ◌<◌, ◌+◌, length, IfOk};
 ghost use Rattle.delay_laws.specs.ReleaseNets.{IsReleaseNet};
 ghost use Rattle.delay_laws.specs.PlannedTimetables.{first_planned, greatest_departure, IsTableOf};

@@ -10,8 +10,8 @@ use std::marker::Model;
 use teg_net::TransitionId;
 use teg_settle::SettledDates;
 
-// A plan, by its first departures and its period, and a settled form whose first rows are the delayed
-// dates of its transitions. No call takes memory.
+// A plan, by its first departures and its period, and a settled form whose first rows are the
+// delayed dates of its transitions. No call takes memory.
 #[derive(Debug, Drop)]
 pub(crate) struct Left {
     firsts: Vec<u64>,

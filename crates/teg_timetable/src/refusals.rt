@@ -10,7 +10,8 @@ use teg_net::{OutOfMemory, PlaceId, TransitionId};
 /// order; or, where no row is faulty, a transition without a first departure.
 #[derive(Clone, Copy, Debug, PartialEq, Eq)]
 pub enum TableRefusal {
-    /// The row has not two or three fields, or one from the second on is no number in decimal digits.
+    /// The row has not two or three fields, or one from the second on is no number in decimal
+    /// digits.
     BadRow { row: u32 },
     /// No transition of the net has its name.
     UnknownTransition { row: u32 },

@@ -1,4 +1,5 @@
-//! The releases of a transition: its planned departures with their delays, none before an earlier one.
+//! The releases of a transition: its planned departures with their delays, none before an earlier
+//! one.
 ghost use Rattle.std.specs.Prelude.{ℕ, ◌≡◌, ◌≤◌, ◌<◌, ◌+◌, ◌*◌, ◌∷◌, [], None, length, IfOk, slice_index_or};
 ghost use Rattle.delay_laws.specs.PlannedTimetables.{IsPastDelays, first_planned, greatest_departure};
 ghost use Rattle.teg_timetable.specs.Departures.{or_second};

@@ -114,12 +114,13 @@ fn left_by(
 /// dates allow. The net's input lists and the roles of its transitions play no part. Number and
 /// period are those of the shortest settled form of delayed dates and releases together. `TooLarge`
 /// comes exactly where the net has more than 200 transitions, or more than 4,000 transitions and
-/// places together; `Unworkable` exactly where the plan does not leave some place its time, with the
-/// lowest numbered such place; `TooLong` exactly where there is a limit, from 1 to 200,000, that
-/// the settling length exceeds. `OutOfMemory` comes only where no memory is found. For n transitions,
-/// p places, r delays and a settling length l it takes time of order `n r + (n + p) l`, and what the
-/// periods that are tried take beside the rows, as in [`settle_within`](teg_settle::settle_within); the
-/// rows are kept, eight bytes a date where dates are below 2^64 - 2.
+/// places together; `Unworkable` exactly where the plan does not leave some place its time, with
+/// the lowest numbered such place; `TooLong` exactly where there is a limit, from 1 to 200,000,
+/// that the settling length exceeds. `OutOfMemory` comes only where no memory is found. For n
+/// transitions, p places, r delays and a settling length l it takes time of order `n r + (n + p)
+/// l`, and what the periods that are tried take beside the rows, as in
+/// [`settle_within`](teg_settle::settle_within); the rows are kept, eight bytes a date where dates
+/// are below 2^64 - 2.
 pub fn spread(
     alloc: Global,
     net: &Net,

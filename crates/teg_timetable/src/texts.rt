@@ -119,8 +119,8 @@ fn push_outcome(text: &mut String, net: &Net, outcome: &DelayOutcome) -> Result<
     }
 }
 
-/// The text of how delays spread: a line of the number past which dates go on, and of the period; one
-/// that the delays are over after a number, or two of the circuit that keeps them; and for each
+/// The text of how delays spread: a line of the number past which dates go on, and of the period;
+/// one that the delays are over after a number, or two of the circuit that keeps them; and for each
 /// transition a line of its delays at the numbers up to the end of the first period. `OutOfMemory`
 /// comes only where no memory is found.
 pub fn spread_text(alloc: Global, net: &Net, delayed: &Delayed) -> Result<String, OutOfMemory>
@@ -160,8 +160,8 @@ fn table_text(alloc: Global, net: &Net, refusal: &TableRefusal) -> Result<String
     }
 }
 
-/// The text of why a file is no timetable. [`TableRefusal::OutOfMemory`] has no text: it is answered by
-/// `OutOfMemory`, which else comes only where no memory is found.
+/// The text of why a file is no timetable. [`TableRefusal::OutOfMemory`] has no text: it is
+/// answered by `OutOfMemory`, which else comes only where no memory is found.
 pub fn table_refusal_text(
     alloc: Global,
     net: &Net,
@@ -217,8 +217,8 @@ pub fn delay_refusal_text(
     Ok(delay_text(alloc, net, refusal)?)
 }
 
-/// The law that different answers and refusals about one net have different texts, those of a file that
-/// is too long or cannot be read among them. It does nothing when it runs.
+/// The law that different answers and refusals about one net have different texts, those of a file
+/// that is too long or cannot be read among them. It does nothing when it runs.
 pub fn texts_of_timetables_differ()
     ensures { TextsOfTimetablesDiffer }
 {}

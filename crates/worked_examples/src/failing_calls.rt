@@ -34,7 +34,8 @@ const READS: [(&[&str], u64, Status, &str); 5] = [
     ),
 ];
 
-// A text of each kind that is whole before its first byte is written: an answer, a refusal, a fault.
+// A text of each kind that is whole before its first byte is written: an answer, a refusal, a
+// fault.
 const WHOLE: [Whole<'static>; 3] = [
     (
         &["replay", "net", "second"],

@@ -1,8 +1,8 @@
-//! Worked examples: whole calls of `workbench` over a shelf and a sink in memory. Each command once,
-//! with an answer that was worked out by hand; reads and writes that fail, each in turn; monitors in
-//! any mix; files and writers of std; and commands at the limits. The crate has tests alone, since what it shows is what no
-//! contract says: that the texts are the ones that users read, and that memory is found.
-//! It stands on `teg_run` and `teg_outside`.
+//! Worked examples: whole calls of `workbench` over a shelf and a sink in memory. Each command,
+//! with answers that were worked out by hand; reads and writes that fail, each in turn; monitors in
+//! any mix; files and writers of std; and commands at the limits. The crate has tests alone, since
+//! what it shows is what no contract says: that the texts are the ones that users read, and that
+//! memory is found. It stands on `teg_run` and `teg_outside`.
 #![tactic(auto)]
 
 #[cfg(test)]

@@ -1,5 +1,6 @@
-//! Commands at the limits: 400 transitions, 4,000 places, 10,000 numbers, 4,194,304 bytes, 1,048,576
-//! rows. The form of so wide a net takes longer than a test may, so that of a narrower one is asked.
+//! Commands at the limits: 400 transitions, 4,000 places, 10,000 numbers, 4,194,304 bytes,
+//! 1,048,576 rows. The form of so wide a net takes longer than a test may, so that of a narrower
+//! one is asked.
 use crate::bench::{ending, sink_of};
 use crate::nets::LOOP;
 use std::alloc::Global;

@@ -1,6 +1,7 @@
 //! The nets of the worked examples.
 
-/// Two transitions in a loop: a place from a to b with hold 3, and one back with hold 2 and a token.
+/// Two transitions in a loop: a place from a to b with hold 3, and one back with hold 2 and a
+/// token.
 pub const LOOP: &str =
     "[[transition]]\nname = \"a\"\n\n[[transition]]\nname = \"b\"\n\n[[place]]\nname = \"ab\"\nfrom = \"a\"\nto = \"b\"\nhold = 3\n\n[[place]]\nname = \"ba\"\nfrom = \"b\"\nto = \"a\"\nhold = 2\ntokens = 1\n";
 
