@@ -1,6 +1,6 @@
 -- The loop of `best_circuit`: the best of the circuits that begin below i.
 use Rattle.std.proofs.Common.{ℕ, zero, suc, ◌+◌, ◌-◌, ◌*◌, ◌<◌, ◌≤◌, ◌≡◌, List, [], ◌∷◌, Bool, Option, Some, None, length, get_or, refl, sym, ap, subst, ◌∙◌, arith, ⊎_elim}
-use Rattle.std.specs.Prelude.{All, Any}
+use Rattle.std.specs.Prelude.{All, Any, ◌⊎◌}
 use Rattle.std.proofs.lemmas.Bool.{cases_lt}
 use Rattle.teg_net.specs.declared.entries.PlaceId.{PlaceId}
 use Rattle.teg_net.specs.Nets.{NetLists, IsNet}
@@ -11,7 +11,7 @@ use Rattle.teg_howard.specs.Policies.{Policy, IsPolicy, IsPolicyCircuit, step_ba
 use Rattle.teg_net.specs.PartAnswers.{first_transition_of}
 use Rattle.teg_net.specs.Limits.{greatest_circuit_time, most_circuit_tokens}
 use Rattle.teg_parts.specs.Components.{IsMarked}
-use Rattle.teg_howard.specs.FoundCircuits.{IsFoundAt, IsAbove, IsBestFound}
+use Rattle.teg_howard.specs.FoundCircuits.{IsFoundAt, IsAbove, IsBetterOf, IsBestFound}
 use Rattle.teg_howard.specs.CircuitStarts.{IsLowestOnCircuit, AreStarts}
 use Rattle.teg_howard.proofs.Back.{trail_inside, get_or-trail}
 use Rattle.teg_howard.proofs.Sums.{own_trail}
@@ -214,3 +214,16 @@ module _ (net : NetLists) (parts : List ℕ) (part : ℕ) (π : Policy) (marked 
   pub best_stay : (i : ℕ) (f : FoundCircuit) (best : Option FoundCircuit) → IsMember parts part i → IsFoundAt net π i f → BestTo net parts part π marked i best → (IsAbove f best → ⊥) → BestTo net parts part π marked (i + 1) best
   best_stay i f None h c b low = absurd (low tt)
   best_stay i f (Some best) h c b low = best_keep i f best h c b low
+
+  -- the better of the circuit from i and the best so far
+  pub best_of : (i : ℕ) (f : FoundCircuit) (best new : Option FoundCircuit) → IsMember parts part i → IsFoundAt net π i f → BestTo net parts part π marked i best → IsBetterOf net marked f best new → BestTo net parts part π marked (i + 1) new
+  best_of i f best new h c b is =
+      ⊎_elim
+      (λ (y : Passes net marked f.places.items × IsAbove f best × (new ≡ Some f)). rw y.2 (best_take i f best h c y.0 b y.1))
+      (λ (n : ((Passes net marked f.places.items → ⊥) ⊎ (IsAbove f best → ⊥)) × (new ≡ best)).
+      rw n.1
+      (⊎_elim
+      (λ (o : Passes net marked f.places.items → ⊥). best_skip i best b (skip_other i f h c o))
+      (λ (o : IsAbove f best → ⊥). best_stay i f best h c b o)
+      n.0))
+      is

@@ -12,6 +12,7 @@ pub mod Walks
 pub mod First
 pub mod Best
 pub mod Values
+pub mod NextJoins
 pub mod Passing
 pub mod Spreading
 pub mod Choices

@@ -44,12 +44,12 @@ module _ (net : NetLists) (parts : List ℕ) (part : ℕ) where
       → IsSettled net parts part policy routed r c st → IsRoundState net parts part routed st
   settled_stands policy routed r c st can out count h =
       let s : ℕ = first_transition_of net c in
-      let joins = h.routing.0 in
-      let routing = h.routing.1 in
+      let joins = h.members.routing.0 in
+      let routing = h.members.routing.1 in
       let kept = circuit_kept net parts part (policy_of policy) can.is_policy s joins (policy_of routed) routing c can.circuit refl in
       let ok = routed_is_policy net parts part (policy_of policy) can.is_policy s joins (policy_of routed) routing in
       let root : s ≡ first_transition_of net st.round.circuit.places.items = ap (first_transition_of net) (sym h.circuit) in
-      let outside = λ (t : ℕ) (o : IsMember parts part t → ⊥). h.outside t o ∙ out t o in
+      let outside = λ (t : ℕ) (o : IsMember parts part t → ⊥). h.members.outside t o ∙ out t o in
       record {
         members = h.made.lists;
         chosen_is = λ t.
@@ -60,23 +60,23 @@ module _ (net : NetLists) (parts : List ℕ) (part : ℕ) where
         potential_is = λ t.
             ⊎_elim
             (λ (m : IsMember parts part t). ap value_in (h.made.inside t m))
-            (λ (o : IsMember parts part t → ⊥). ap value_in (h.made.outside t o) ∙ sym (ap value_or_zero (h.only t o)))
+            (λ (o : IsMember parts part t → ⊥). ap value_in (h.made.outside t o) ∙ sym (ap value_or_zero (h.members.only t o)))
             (cases_member parts part t);
         is_policy = ok;
         circuit = subst (IsPolicyCircuit net parts part (policy_of routed)) (sym h.circuit) kept;
         lowest_first = subst (λ x. All (λ p. first_transition_of net x ≤ from_of net p) x) (sym h.circuit) can.lowest_first;
         ratio = subst (λ x. IsRatioOf (time_of net st.round.circuit.places.items) (tokens_of net st.round.circuit.places.items) x) (sym h.ratio) (subst (λ x. IsRatioOf (time_of net x) (tokens_of net x) r) (sym h.circuit) can.ratio);
         sums = subst (λ x. AreSums net parts part x.time x.tokens (policy_of routed) (first_transition_of net st.round.circuit.places.items) (potentials st.values.items)) (sym h.ratio)
-            (subst (λ x. AreSums net parts part r.time r.tokens (policy_of routed) x (potentials st.values.items)) root h.sums);
+            (subst (λ x. AreSums net parts part r.time r.tokens (policy_of routed) x (potentials st.values.items)) root h.members.sums);
         home = λ t m. subst (λ x. LeadsBack net (policy_of routed) t x) root (all_home net parts part (policy_of policy) can.is_policy s joins (policy_of routed) routing t m);
         small = subst IsCircuitRatio (sym h.ratio) can.small;
         count = count;
-        count_values = h.count;
-        in_range = h.in_range;
-        has = h.has;
-        within = h.within;
+        count_values = h.members.count;
+        in_range = h.members.in_range;
+        has = h.members.has;
+        within = h.members.within;
         outside = outside;
-        no_value = h.only;
+        no_value = h.members.only;
       }
 
   pub standing_round : (policy : List PlaceId) (st : RoundState) → IsRoundState net parts part policy st → IsRound net parts part st.round
@@ -117,9 +117,9 @@ module _ (net : NetLists) (parts : List ℕ) (part : ℕ) where
       record {
         best = subst (IsBestCircuit net parts part (policy_of policy) Kind) (sym h.circuit) best;
         routing = (
-          h.routing.0,
-          subst (λ x. IsRouting net parts part (policy_of policy) (first_transition_of net st.round.circuit.places.items) h.routing.0 x) f
-              (subst (λ x. IsRouting net parts part (policy_of policy) (first_transition_of net x) h.routing.0 (policy_of routed)) (sym h.circuit) h.routing.1),
+          h.members.routing.0,
+          subst (λ x. IsRouting net parts part (policy_of policy) (first_transition_of net st.round.circuit.places.items) h.members.routing.0 x) f
+              (subst (λ x. IsRouting net parts part (policy_of policy) (first_transition_of net x) h.members.routing.0 (policy_of routed)) (sym h.circuit) h.members.routing.1),
         );
       }
 
@@ -204,10 +204,10 @@ module _ (net : NetLists) (parts : List ℕ) (part : ℕ) where
           let c : List PlaceId = st.round.circuit.places.items in
           let v = potentials st.values.items in
           let w = potentials next.values.items in
-          let same = λ (u : ℕ) (m : IsMember parts part u). h.routing.1.kept u m (leads_back u m) in
+          let same = λ (u : ℕ) (m : IsMember parts part u). h.members.routing.1.kept u m (leads_back u m) in
           let sums : AreSums net parts part a b (policy_of better) (first_transition_of net c) w = record {
-            start = h.sums.start;
-            others = λ u m ne. subst (λ x. w u ≡ offer_of net a b w x) (same u m) (h.sums.others u m ne);
+            start = h.members.sums.start;
+            others = λ u m ne. subst (λ x. w u ≡ offer_of net a b w x) (same u m) (h.members.sums.others u m ne);
           } in
           let low = rises net parts part (policy_of policy) state.is_policy a b c state.circuit state.ratio.same v state.sums (policy_of better) up.improves state.home none_new w sums in
           let high = rises_more net parts part (policy_of policy) state.is_policy a b c state.circuit state.ratio.same v state.sums (policy_of better) up.improves state.home none_new w sums in

@@ -20,8 +20,8 @@ use Rattle.teg_net.specs.Parts.{IsMember, IsPlaceOfPart, Reaches, to_of}
 use Rattle.teg_howard.specs.Policies.{Policy, IsPolicy, step_back, LeadsBack, first_id, IsRouted, Joins, JoinsNext, IsRouting, AreSums, offer_of}
 use Rattle.teg_net.specs.ReducedTimes.{reduced_time, IsMagnitudeWithin}
 use Rattle.teg_net.specs.Limits.{greatest_scaled_potential, greatest_circuit_time, greatest_hold, most_circuit_tokens}
-use Rattle.teg_howard.specs.FoundCircuits.{policy_of, value_or_zero, value_held, potentials, IsCircuitRatio, IsFollower, IsJoin, IsNextJoin}
-use Rattle.teg_howard.specs.Following.{step_bound, filled, Valued, Followed}
+use Rattle.teg_howard.specs.FoundCircuits.{policy_of, value_or_zero, value_held, potentials, IsCircuitRatio, IsFollower, IsJoin, IsNextJoin, AreRouted}
+use Rattle.teg_howard.specs.Following.{step_bound, filled, HasRootAlone, Valued, Followed}
 use Rattle.teg_howard.proofs.Back.{back_add}
 
 pub cases_option : (o : Option ℤ) → (o ≡ None) ⊎ ((z : ℤ) × (o ≡ Some z))
@@ -314,22 +314,19 @@ held_within vs t h =
     (cases_option (value_held vs t))
 
 -- only the root has a value
-pub followed_start :
-    (net : NetLists) (parts : List ℕ) (part a b s : ℕ) (π : Policy) (vs : List (Option ℤ)) → IsMember parts part s → length vs ≡ length parts → ((t : ℕ) → value_held vs t ≡ None)
-    → Followed net parts part a b s π (set vs s (Some (pos 0)))
-followed_start net parts part a b s π vs m long none =
-    let s_in : s < length vs = let r = m.in_range in omega arith in
-    let here : value_held (set vs s (Some (pos 0))) s ≡ Some (pos 0) = get_or-set_same vs s (Some (pos 0)) None s_in in
-    let only = λ (t : ℕ) (z : ℤ) (e : value_held (set vs s (Some (pos 0))) t ≡ Some z).
-    let r : t ≡ s = ⊎_elim (λ (q : t ≡ s). q) (λ (q : t ≢ s). let o = get_or-set_other vs s t (Some (pos 0)) None q in let n = none t in cc) (cases_eq t s) in r in
+pub followed_start : (net : NetLists) (parts : List ℕ) (part a b s : ℕ) (π : Policy) (vs : List (Option ℤ)) → IsMember parts part s → HasRootAlone (length parts) s vs → Followed net parts part a b s π vs
+followed_start net parts part a b s π vs m h =
+    let only = λ (t : ℕ) (z : ℤ) (e : value_held vs t ≡ Some z).
+    let r : t ≡ s = ⊎_elim (λ (q : t ≡ s). q) (λ (q : t ≢ s). let n = h.others t q in cc) (cases_eq t s) in r in
     record {
       valued = record {
-        count = length-set vs s (Some (pos 0)) ∙ long;
-        start = here;
+        count = h.all;
+        start = h.start;
         members = λ t z e. subst (IsMember parts part) (sym (only t z e)) m;
         sums = λ t z e ne. absurd (ne (only t z e));
         small = λ t z e.
-            let w = ap (value_held (set vs s (Some (pos 0)))) (only t z e) in
+            let w = ap (value_held vs) (only t z e) in
+            let start = h.start in
             let zero_is : z ≡ pos 0 = cc in
             rw zero_is (record { low = omega (arith, ints); high = omega (arith, ints) });
       };
@@ -374,3 +371,22 @@ held_at net parts part a b s π vs h l t = held_within vs t (λ z e. all_within 
 
 pub only_members : (net : NetLists) (parts : List ℕ) (part a b s : ℕ) (π : Policy) (vs : List (Option ℤ)) → Valued net parts part a b s π vs → (t : ℕ) → (IsMember parts part t → ⊥) → value_held vs t ≡ None
 only_members net parts part a b s π vs h t out = ⊎_elim (λ (n : value_held vs t ≡ None). n) (λ (w : (z : ℤ) × (value_held vs t ≡ Some z)). absurd (out (h.members t w.0 w.1))) (cases_option (value_held vs t))
+
+-- where no place joins any more, all members are routed
+pub routed_all :
+    (net : NetLists) (parts : List ℕ) (part : ℕ) → IsNet net → AreStrong net parts → (s : ℕ) → IsMember parts part s → (policy ps : List PlaceId) (r : Fraction) (joins : List PlaceId) (vs : List (Option ℤ)) → All (λ p. p.index < length net.places) ps
+    → Routed net parts part r.time r.tokens s (policy_of policy) joins (policy_of ps) vs → ((p : PlaceId) → IsJoin net parts part vs p → ⊥) → AreRouted net parts part policy ps r s vs
+routed_all net parts part kept strong s m policy ps r joins vs in_range h none =
+    let all = all_valued net parts part kept strong vs s m (some_apart _ _ h.valued.start) none in
+    let few = kept.few_transitions in
+    let short : length vs ≤ 400 = omega (arith, h.valued.count, strong.count) in
+    record {
+      routing = (joins, routed_routing net parts part r.time r.tokens s (policy_of policy) joins (policy_of ps) vs h all);
+      sums = valued_sums net parts part r.time r.tokens s (policy_of ps) vs h.valued all;
+      outside = h.outside;
+      in_range = in_range;
+      count = h.valued.count;
+      has = all;
+      only = λ t out. only_members net parts part r.time r.tokens s (policy_of ps) vs h.valued t out;
+      within = λ t. held_within vs t (λ z e. all_within net parts part r.time r.tokens s (policy_of ps) vs h.valued short t z e);
+    }

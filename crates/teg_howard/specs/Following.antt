@@ -34,6 +34,12 @@ abbrev pub listed_member : Option ℕ → List ℕ
 listed_member None = []
 listed_member (Some t) = t ∷ []
 
+-- only the root has a value, 0
+pub record HasRootAlone (count root : ℕ) (vs : List (Option ℤ)) : Type 0 where
+  pub all : length vs ≡ count
+  pub start : value_held vs root ≡ Some (pos 0)
+  pub others : (t : ℕ) → t ≢ root → value_held vs t ≡ None
+
 -- what a place counts at most
 abbrev pub step_bound : ℕ
 step_bound = 400000000000000

@@ -1,5 +1,5 @@
 -- Working definitions of what the searches of a round find: policies as lists, and circuits with their sums.
-use Rattle.std.specs.Prelude.{ℕ, ℤ, pos, ◌*◌, ◌<◌, ◌≤◌, ◌≡◌, ◌≢◌, ⊤, List, length, All, AllPairs, Option, Some, None, Bool, slice_index_or}
+use Rattle.std.specs.Prelude.{ℕ, ℤ, pos, ◌*◌, ◌<◌, ◌≤◌, ◌≡◌, ◌≢◌, ◌⊎◌, ⊤, List, length, All, Any, AllPairs, Option, Some, None, Bool, slice_index_or}
 use Rattle.teg_net.specs.declared.entries.PlaceId.{PlaceId}
 use Rattle.teg_net.specs.Nets.{NetLists, IsNet}
 use Rattle.teg_net.specs.Circuits.{IsCircuit, time_of, tokens_of, from_of}
@@ -60,6 +60,11 @@ abbrev pub IsFoundSmall : Option FoundCircuit → Type 0
 IsFoundSmall None = ⊤
 IsFoundSmall (Some f) = (f.time ≤ greatest_circuit_time) × (f.tokens ≤ most_circuit_tokens)
 
+-- the circuit is taken where it passes a marked transition and is above the best so far, and else that best stays
+abbrev pub IsBetterOf : NetLists → List Bool → FoundCircuit → Option FoundCircuit → Option FoundCircuit → Type 0
+IsBetterOf net marked c best result =
+    (Any (λ p. IsMarked marked (to_of net p)) c.places.items × IsAbove c best × (result ≡ Some c)) ⊎ (((Any (λ p. IsMarked marked (to_of net p)) c.places.items → ⊥) ⊎ (IsAbove c best → ⊥)) × (result ≡ best))
+
 -- the best circuit, with its sums
 pub record IsBestFound (net : NetLists) (parts : List ℕ) (part : ℕ) (policy : Policy) (marked : List Bool) (f : FoundCircuit) : Type 0 where
   pub best : IsBestCircuit net parts part policy (IsMarked marked) f.places.items
@@ -87,13 +92,23 @@ pub record IsFollower (net : NetLists) (parts : List ℕ) (part : ℕ) (policy :
 abbrev pub LeadsOn : NetLists → List (Option ℤ) → PlaceId → Type 0
 LeadsOn net values p = (value_held values (from_of net p) ≢ None) × (value_held values (to_of net p) ≡ None)
 
+-- no place of the list below the rank leads from a transition with a value to one without
+abbrev pub NoneLeadsOn : NetLists → List (Option ℤ) → List PlaceId → ℕ → Type 0
+NoneLeadsOn net values ids n = (k : ℕ) → k < n → LeadsOn net values (slice_index_or ids k first_id) → ⊥
+
+-- the first place of the list that leads from a transition with a value to one without stands at the rank
+pub record IsFirstOn (net : NetLists) (values : List (Option ℤ)) (ids : List PlaceId) (rank : ℕ) : Type 0 where
+  pub in_list : rank < length ids
+  pub leads : LeadsOn net values (slice_index_or ids rank first_id)
+  pub none_before : NoneLeadsOn net values ids rank
+
 -- a place in the part from a transition with a value to one without
 pub record IsJoin (net : NetLists) (parts : List ℕ) (part : ℕ) (values : List (Option ℤ)) (p : PlaceId) : Type 0 where
   pub inside : IsPlaceOfPart net parts part p
   pub starts : value_held values (from_of net p) ≢ None
   pub without : value_held values (to_of net p) ≡ None
 
--- the lowest numbered of them
+-- the lowest numbered place in the part from a transition with a value to one without
 pub record IsNextJoin (net : NetLists) (parts : List ℕ) (part : ℕ) (values : List (Option ℤ)) (p : PlaceId) : Type 0 where
   pub join : IsJoin net parts part values p
   pub lowest : (q : PlaceId) → IsJoin net parts part values q → p.index ≤ q.index
@@ -127,23 +142,27 @@ pub record CanSettle (net : NetLists) (parts : List ℕ) (part : ℕ) (policy : 
   pub ratio : IsRatioOf (time_of net c) (tokens_of net c) r
   pub small : IsCircuitRatio r
 
+-- the potentials that a list of values gives
+abbrev pub potentials : List (Option ℤ) → ℕ → ℤ
+potentials values t = value_or_zero (value_held values t)
+
+-- all members routed to the root, with the potentials from it
+pub record AreRouted (net : NetLists) (parts : List ℕ) (part : ℕ) (policy routed : List PlaceId) (r : Fraction) (root : ℕ) (values : List (Option ℤ)) : Type 0 where
+  pub routing : (joins : List PlaceId) × IsRouting net parts part (policy_of policy) root joins (policy_of routed)
+  pub sums : AreSums net parts part r.time r.tokens (policy_of routed) root (potentials values)
+  pub outside : (t : ℕ) → (IsMember parts part t → ⊥) → policy_of routed t ≡ policy_of policy t
+  pub in_range : All (λ p. p.index < length net.places) routed
+  pub count : length values ≡ length parts
+  pub has : (t : ℕ) → IsMember parts part t → value_held values t ≢ None
+  pub only : (t : ℕ) → (IsMember parts part t → ⊥) → value_held values t ≡ None
+  pub within : (t : ℕ) → IsMagnitudeWithin greatest_scaled_potential (potentials values t)
+
 -- a round that stands: the policy routed to the circuit, with the potentials from it
 pub record IsSettled (net : NetLists) (parts : List ℕ) (part : ℕ) (policy routed : List PlaceId) (r : Fraction) (c : List PlaceId) (s : RoundState) : Type 0 where
   pub ratio : s.round.ratio ≡ r
   pub circuit : s.round.circuit.places.items ≡ c
-  pub routing : (joins : List PlaceId) × IsRouting net parts part (policy_of policy) (first_transition_of net c) joins (policy_of routed)
-  pub sums : AreSums net parts part r.time r.tokens (policy_of routed) (first_transition_of net c) (λ t. value_or_zero (value_held s.values.items t))
   pub made : IsRoundMade parts part (policy_of routed) s.values.items s.round
-  pub outside : (t : ℕ) → (IsMember parts part t → ⊥) → policy_of routed t ≡ policy_of policy t
-  pub in_range : All (λ p. p.index < length net.places) routed
-  pub count : length s.values.items ≡ length parts
-  pub has : (t : ℕ) → IsMember parts part t → value_held s.values.items t ≢ None
-  pub only : (t : ℕ) → (IsMember parts part t → ⊥) → value_held s.values.items t ≡ None
-  pub within : (t : ℕ) → IsMagnitudeWithin greatest_scaled_potential (value_or_zero (value_held s.values.items t))
-
--- the potentials that a list of values gives
-abbrev pub potentials : List (Option ℤ) → ℕ → ℤ
-potentials values t = value_or_zero (value_held values t)
+  pub members : AreRouted net parts part policy routed r (first_transition_of net c) s.values.items
 
 -- what an offer to the transition has to exceed: the greatest so far, and before that its potential
 abbrev pub IsBar : (ℕ → ℤ) → List ℤ → List Bool → ℕ → ℤ → Type 0

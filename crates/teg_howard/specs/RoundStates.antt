@@ -1,19 +1,22 @@
 -- Working definitions of what holds between two rounds.
-use Rattle.std.specs.Prelude.{ℕ, ◌*◌, ◌<◌, ◌≤◌, ◌≡◌, ◌≢◌, ◌⊎◌, ◌<ℤ◌, ◌≤ℤ◌, List, length, All, None}
+use Rattle.std.specs.Prelude.{ℕ, ◌*◌, ◌<◌, ◌≤◌, ◌≡◌, ◌≢◌, ◌⊎◌, ◌<ℤ◌, ◌≤ℤ◌, List, length, All, Bool, None}
 use Rattle.teg_net.specs.declared.entries.PlaceId.{PlaceId}
 use Rattle.teg_net.specs.Nets.{NetLists, IsNet}
 use Rattle.teg_net.specs.Circuits.{IsLive, time_of, tokens_of, from_of}
 use Rattle.teg_net.specs.declared.rounds.Round.{Round}
 use Rattle.teg_howard.specs.declared.settling.RoundState.{RoundState}
+use Rattle.teg_howard.specs.declared.iteration.Iteration.{Iteration}
+use Rattle.teg_parts.specs.Components.{IsMarked}
+use Rattle.teg_howard.specs.InnerPlaces.{AreInner}
 use Rattle.teg_parts.specs.Partitions.{AreStrong}
 use Rattle.teg_net.specs.Parts.{IsMember, IsPlaceOfPart}
 use Rattle.teg_howard.specs.Policies.{IsPolicy, IsPolicyCircuit, LeadsBack, AreSums, Improves, first_id}
 use Rattle.teg_net.specs.ReducedTimes.{IsMagnitudeWithin}
 use Rattle.teg_net.specs.PartAnswers.{first_transition_of}
-use Rattle.teg_howard.specs.PolicyRounds.{chosen, potential, FollowsRound}
-use Rattle.teg_net.specs.Ratios.{IsRatioOf}
+use Rattle.teg_howard.specs.PolicyRounds.{chosen, potential, IsFirstRound, FollowsRound}
+use Rattle.teg_net.specs.Ratios.{Fraction, IsRatioOf}
 use Rattle.teg_net.specs.Limits.{greatest_scaled_potential}
-use Rattle.teg_howard.specs.FoundCircuits.{policy_of, potentials, value_held, value_or_zero, IsCircuitRatio, ListsChoices}
+use Rattle.teg_howard.specs.FoundCircuits.{policy_of, potentials, value_held, value_or_zero, IsCircuitRatio, ListsChoices, CanSettle, IsSettled, IsBetterPolicy}
 
 -- a round stands on the policy that the list gives
 pub record IsRoundState (net : NetLists) (parts : List ℕ) (part : ℕ) (policy : List PlaceId) (st : RoundState) : Type 0 where
@@ -52,6 +55,24 @@ pub record HasCircuit (net : NetLists) (parts : List ℕ) (part : ℕ) : Type 0 
   pub parts_ : AreStrong net parts
   pub inner : (p : PlaceId) × IsPlaceOfPart net parts part p
 
+-- settling the policy on the ratio and the circuit gives such a round
+pub record SettlesTo (net : NetLists) (parts : List ℕ) (part : ℕ) (policy : List PlaceId) (r : Fraction) (c : List PlaceId) (Kind : List PlaceId → RoundState → Type 0) : Type 0 where
+  pub can : CanSettle net parts part policy r c
+  pub gives : (routed : List PlaceId) (st : RoundState) → length routed ≡ length policy → IsSettled net parts part policy routed r c st → Kind routed st
+
+-- the first round, from which the others follow
+pub record IsFirstState (net : NetLists) (parts : List ℕ) (part : ℕ) (policy : List PlaceId) (st : RoundState) : Type 0 where
+  pub standing : IsRoundState net parts part policy st
+  pub first : IsFirstRound net parts part st.round
+
+-- the policy is better than that of the round: some member is changed
+pub record IsImproved (net : NetLists) (parts : List ℕ) (part : ℕ) (st : RoundState) (better : List PlaceId) (changed : List Bool) : Type 0 where
+  pub policy : List PlaceId
+  pub standing : IsRoundState net parts part policy st
+  pub up : IsBetterPolicy net parts part st.round.ratio st.values.items policy better changed
+  pub count : length better ≡ length parts
+  pub some : (t : ℕ) × IsMarked changed t
+
 -- the next round, from one that stands
 pub record IsNextRoundState (net : NetLists) (parts : List ℕ) (part : ℕ) (policy : List PlaceId) (st next : RoundState) : Type 0 where
   pub standing : IsRoundState net parts part policy next
@@ -61,3 +82,20 @@ pub record IsNextRoundState (net : NetLists) (parts : List ℕ) (part : ℕ) (po
 -- no place improves
 abbrev pub IsLastRound : NetLists → List ℕ → ℕ → Round → Type 0
 IsLastRound net parts part r = (t : ℕ) (p : PlaceId) → Improves net parts part r.ratio.time r.ratio.tokens (potential r) t p → ⊥
+
+-- the rounds stand at one that stands
+pub record StandsAt (net : NetLists) (parts : List ℕ) (part : ℕ) (at : Iteration) : Type 0 where
+  pub inner : AreInner net parts part at.inner
+  pub standing : IsRoundState net parts part at.policy.items at.state
+
+-- they go on from the round before to the one that follows
+pub record GoesOn (net : NetLists) (parts : List ℕ) (part : ℕ) (old new : Iteration) (before : Round) : Type 0 where
+  pub before_is : before ≡ old.state.round
+  pub standing : StandsAt net parts part new
+  pub follows : FollowsRound net parts part old.state.round new.state.round
+  pub rises : Rises old.state.round new.state.round
+
+-- they stay, at the last round
+pub record StaysAtLast (net : NetLists) (parts : List ℕ) (part : ℕ) (old new : Iteration) : Type 0 where
+  pub same : new.state ≡ old.state
+  pub last : IsLastRound net parts part old.state.round

@@ -1,8 +1,8 @@
 //! Potentials along a policy: each member from which following backwards leads to the root gets its
 //! own.
-ghost use Rattle.std.specs.Prelude.{◌≡◌, ◌<◌, ◌++◌, ℕ, length, All, IfOk, OnOk};
+ghost use Rattle.std.specs.Prelude.{◌≡◌, ◌<◌, ◌++◌, ℕ, length, slice_index_or, All, IfOk, OnOk, None};
 ghost use Rattle.teg_howard.specs.FoundCircuits.{policy_of, IsFollower};
-ghost use Rattle.teg_howard.specs.Following.{AreFollowers, Followed, CanFollow, listed_member};
+ghost use Rattle.teg_howard.specs.Following.{AreFollowers, HasRootAlone, Followed, CanFollow, listed_member};
 
 use crate::offers::offer_from;
 use std::alloc::{AllocError, Global};
@@ -53,6 +53,34 @@ fn add(waiting: &mut Vec<usize>, member: Option<usize>) -> Result<(), AllocError
     Ok(())
 }
 
+// Puts the next lower follower beside the member, and the member's own highest, at the end of the
+// list.
+fn add_followers(
+    waiting: &mut Vec<usize>,
+    followers: &Followers,
+    member: usize,
+) -> Result<(), AllocError>
+    requires lower { member < length followers.now.lower.items }
+    requires highest { member < length followers.now.highest.items }
+    ensures { OnOk result (waiting.new.items ≡ (waiting.old.items ++ listed_member (slice_index_or
+        followers.now.lower.items member None)) ++ listed_member (slice_index_or
+        followers.now.highest.items member None)) }
+{
+    add(waiting, followers.lower[member])?;
+    add(waiting, followers.highest[member])?;
+    Ok(())
+}
+
+// 0 for the root, and no potential for the others.
+fn root_alone(alloc: Global, count: usize, root: usize) -> Result<Vec<Option<i128>>, AllocError>
+    requires { root < count }
+    ensures { IfOk result (λ values. HasRootAlone count root values.items) }
+{
+    let mut values = vec![in alloc; None; count]?;
+    values[root] = Some(0);
+    Ok(values)
+}
+
 // The potentials of the members from which following backwards leads to the root: 0 there, and
 // elsewhere what the policy's place offers.
 pub(crate) fn follow(
@@ -71,14 +99,12 @@ pub(crate) fn follow(
         (policy_of policy.now) values.items t → ⊥) }
 {
     let followers = link_followers(alloc, net, parts, part, policy, root)?;
-    let mut values = vec![in alloc; None; parts.len()]?;
-    values[root] = Some(0);
+    let mut values = root_alone(alloc, parts.len(), root)?;
     let mut waiting = Vec::new(alloc);
     add(&mut waiting, followers.highest[root])?;
     'follow: while let Some(member) = waiting.pop() {
         values[member] = Some(offer_from(net, ratio, &values, policy[member]));
-        add(&mut waiting, followers.lower[member])?;
-        add(&mut waiting, followers.highest[member])?;
+        add_followers(&mut waiting, &followers, member)?;
     }
     Ok(values)
 }

@@ -1,10 +1,20 @@
-//! Which places lie in a part.
+//! Which places lie in a part, and where in their list the first stands that leaves a transition.
 ghost use Rattle.std.specs.Prelude.{◌≡◌, ◌<◌, ◌↔◌, length, IsTrue, IfOk};
+ghost use Rattle.teg_net.specs.Circuits.{AreInRange};
 ghost use Rattle.teg_net.specs.Parts.{IsMember};
-ghost use Rattle.teg_howard.specs.InnerPlaces.{ListsPlaces};
+ghost use Rattle.teg_howard.specs.InnerPlaces.{ListsPlaces, AreFirstExits, AreInner};
 
+use crate::offers::start_of;
 use std::alloc::{AllocError, Global};
 use teg_net::{Net, Place, PlaceId};
+
+// The places of a part, in order of number, and for each transition the rank of the first of them
+// that leaves it.
+#[derive(Debug, Drop)]
+pub(crate) struct InnerPlaces {
+    pub(crate) ids: Vec<PlaceId>,
+    pub(crate) exits: Vec<usize>,
+}
 
 // Whether both ends of the place lie in the part.
 pub(crate) fn is_inside(parts: &[u32], part: u32, place: &Place) -> bool
@@ -17,7 +27,7 @@ pub(crate) fn is_inside(parts: &[u32], part: u32, place: &Place) -> bool
 }
 
 // The places of the part, in order of number.
-pub(crate) fn inner_places(
+fn list_places(
     alloc: Global,
     net: &Net,
     parts: &[u32],
@@ -35,4 +45,33 @@ pub(crate) fn inner_places(
         }
     }
     Ok(ids)
+}
+
+// For each transition the rank in the list of the first place that leaves it, and the length of the
+// list where none does.
+fn first_exits(alloc: Global, net: &Net, ids: &[PlaceId]) -> Result<Vec<usize>, AllocError>
+    requires { AreInRange net.now ids.now }
+    ensures { IfOk result (λ exits. AreFirstExits net.now ids.now exits.items) }
+{
+    let count = net.transitions().len();
+    let mut exits = vec![in alloc; ids.len(); count]?;
+    for rank in (0..ids.len()).rev() {
+        exits[start_of(net, ids[rank])] = rank;
+    }
+    Ok(exits)
+}
+
+// The places of the part, and where each transition is first left.
+pub(crate) fn inner_places(
+    alloc: Global,
+    net: &Net,
+    parts: &[u32],
+    part: u32,
+) -> Result<InnerPlaces, AllocError>
+    requires { length parts.now ≡ length net.now.transitions }
+    ensures { IfOk result (AreInner net.now parts.now part) }
+{
+    let ids = list_places(alloc, net, parts, part)?;
+    let exits = first_exits(alloc, net, &ids)?;
+    Ok(InnerPlaces { ids, exits })
 }

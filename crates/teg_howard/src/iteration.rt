@@ -4,15 +4,34 @@ ghost use Rattle.teg_net.specs.PartAnswers.{IsPartAnswer};
 ghost use Rattle.teg_howard.specs.PolicyRounds.{IsFirstRound, IsPolicyRun};
 ghost use Rattle.teg_howard.specs.PolicyRuns.{potential_of, IsAnswerOf, IsAnswerOfLast, EndsRun, KeepsLimits, AllRise, RiseByCase};
 ghost use Rattle.teg_howard.specs.FoundCircuits.{AreLowest};
-ghost use Rattle.teg_howard.specs.InnerPlaces.{ListsPlaces};
-ghost use Rattle.teg_howard.specs.RoundStates.{IsRoundState, HasCircuit, IsNextRoundState, IsLastRound};
+ghost use Rattle.teg_howard.specs.InnerPlaces.{AreInner};
+ghost use Rattle.teg_howard.specs.RoundStates.{IsRoundState, HasCircuit, SettlesTo, IsFirstState, IsImproved, IsNextRoundState, IsLastRound, StandsAt, GoesOn, StaysAtLast};
 
-use crate::inside::inner_places;
+use crate::inside::{InnerPlaces, inner_places};
 use crate::policies::{improve, is_any, lowest_places};
 use crate::policy_circuits::best_circuit;
 use crate::settling::{RoundState, settle};
 use std::alloc::{AllocError, Global};
+use std::mem;
 use teg_net::{Choice, Circuit, Net, PartAnswer, PlaceId, Potential, Ratio, Round};
+
+// The ratio and the circuit of the first round, where each member takes its lowest numbered place.
+fn first_circuit(
+    alloc: Global,
+    net: &Net,
+    parts: &[u32],
+    part: u32,
+    policy: &[PlaceId],
+) -> Result<(Ratio, Vec<PlaceId>), AllocError>
+    requires circuit { HasCircuit net.now parts.now part }
+    requires lowest { AreLowest net.now parts.now part policy.now }
+    ensures { IfOk result (λ w. SettlesTo net.now parts.now part policy.now w.0 w.1.items
+        (IsFirstState net.now parts.now part)) }
+{
+    let everywhere = vec![in alloc; true; parts.len()]?;
+    let found = best_circuit(alloc, net, parts, part, policy, &everywhere)?.unwrap();
+    Ok((Ratio::of(found.time, found.tokens), found.places))
+}
 
 // The first round: each member takes its lowest numbered place.
 fn first_state(
@@ -20,19 +39,41 @@ fn first_state(
     net: &Net,
     parts: &[u32],
     part: u32,
-    inner: &[PlaceId],
+    inner: &InnerPlaces,
     policy: &mut [PlaceId],
 ) -> Result<RoundState, AllocError>
-    requires inner { ListsPlaces net.now parts.now part inner.now }
+    requires inner { AreInner net.now parts.now part inner.now }
     requires circuit { HasCircuit net.now parts.now part }
     requires lowest { AreLowest net.now parts.now part policy.old }
-    ensures standing { IfOk result (λ st. IsRoundState net.now parts.now part policy.new st) }
-    ensures first { IfOk result (λ st. IsFirstRound net.now parts.now part st.round) }
+    ensures { IfOk result (IsFirstState net.now parts.now part policy.new) }
 {
-    let everywhere = vec![in alloc; true; parts.len()]?;
-    let found = best_circuit(alloc, net, parts, part, policy, &everywhere)?.unwrap();
-    let ratio = Ratio::of(found.time, found.tokens);
-    settle(alloc, net, parts, part, inner, policy, ratio, found.places)
+    let (ratio, circuit) = first_circuit(alloc, net, parts, part, policy)?;
+    settle(alloc, net, parts, part, inner, policy, ratio, circuit)
+}
+
+// The ratio and the circuit of the next round: those of the better policy's best circuit through a
+// changed member, and where it has none those of the round before.
+fn next_circuit(
+    alloc: Global,
+    net: &Net,
+    parts: &[u32],
+    part: u32,
+    state: &RoundState,
+    policy: &[PlaceId],
+    changed: &[bool],
+) -> Result<(Ratio, Vec<PlaceId>), AllocError>
+    requires circuit { HasCircuit net.now parts.now part }
+    requires improved { IsImproved net.now parts.now part state.now policy.now changed.now }
+    ensures { IfOk result (λ w. SettlesTo net.now parts.now part policy.now w.0 w.1.items
+        (λ routed next. IsNextRoundState net.now parts.now part routed state.now next)) }
+{
+    match best_circuit(alloc, net, parts, part, policy, changed)? {
+        Some(found) => Ok((Ratio::of(found.time, found.tokens), found.places)),
+        None => {
+            let circuit = state.round.circuit.places.clone()?;
+            Ok((state.round.ratio, circuit))
+        }
+    }
 }
 
 // The round that follows, unless no place improves.
@@ -41,11 +82,11 @@ fn next_state(
     net: &Net,
     parts: &[u32],
     part: u32,
-    inner: &[PlaceId],
+    inner: &InnerPlaces,
     state: &RoundState,
     policy: &mut [PlaceId],
 ) -> Result<Option<RoundState>, AllocError>
-    requires inner { ListsPlaces net.now parts.now part inner.now }
+    requires inner { AreInner net.now parts.now part inner.now }
     requires circuit { HasCircuit net.now parts.now part }
     requires standing { IsRoundState net.now parts.now part policy.old state.now }
     ensures some { IfOk result (λ o. IfSome o (λ next. IsNextRoundState net.now parts.now part
@@ -59,7 +100,7 @@ fn next_state(
         net,
         parts,
         part,
-        inner,
+        &inner.ids,
         state.round.ratio,
         &state.values,
         policy,
@@ -67,27 +108,9 @@ fn next_state(
     if !is_any(&changed) {
         return Ok(None);
     }
-    match best_circuit(alloc, net, parts, part, policy, &changed)? {
-        Some(found) => {
-            let ratio = Ratio::of(found.time, found.tokens);
-            let next = settle(alloc, net, parts, part, inner, policy, ratio, found.places)?;
-            Ok(Some(next))
-        }
-        None => {
-            let circuit = state.round.circuit.places.clone()?;
-            let next = settle(
-                alloc,
-                net,
-                parts,
-                part,
-                inner,
-                policy,
-                state.round.ratio,
-                circuit,
-            )?;
-            Ok(Some(next))
-        }
-    }
+    let (ratio, circuit) = next_circuit(alloc, net, parts, part, state, policy, &changed)?;
+    let next = settle(alloc, net, parts, part, inner, policy, ratio, circuit)?;
+    Ok(Some(next))
 }
 
 // The potentials of the choices.
@@ -116,6 +139,64 @@ fn answer_of(alloc: Global, round: &Round) -> Result<PartAnswer, AllocError>
     })
 }
 
+// Where the rounds of a part stand: the latest one, and the policy that it gives.
+#[derive(Debug, Drop)]
+struct Iteration {
+    inner: InnerPlaces,
+    policy: Vec<PlaceId>,
+    state: RoundState,
+}
+
+// The rounds of a part, at the first.
+fn begin(alloc: Global, net: &Net, parts: &[u32], part: u32) -> Result<Iteration, AllocError>
+    requires { HasCircuit net.now parts.now part }
+    ensures standing { IfOk result (StandsAt net.now parts.now part) }
+    ensures first { IfOk result (λ at. IsFirstRound net.now parts.now part at.state.round) }
+{
+    let inner = inner_places(alloc, net, parts, part)?;
+    let mut policy = lowest_places(alloc, net, parts, part)?;
+    let state = first_state(alloc, net, parts, part, &inner, &mut policy)?;
+    Ok(Iteration {
+        inner,
+        policy,
+        state,
+    })
+}
+
+// Goes on to the next round, and gives the one before. Where no place improves it stays, and gives
+// none.
+fn advance(
+    alloc: Global,
+    net: &Net,
+    parts: &[u32],
+    part: u32,
+    at: &mut Iteration,
+) -> Result<Option<Round>, AllocError>
+    requires circuit { HasCircuit net.now parts.now part }
+    requires standing { StandsAt net.now parts.now part at.old }
+    ensures some { IfOk result (λ o. IfSome o (GoesOn net.now parts.now part at.old at.new)) }
+    ensures none { IfOk result (λ o. IfNone o (StaysAtLast net.now parts.now part at.old at.new)) }
+{
+    match next_state(
+        alloc,
+        net,
+        parts,
+        part,
+        &at.inner,
+        &at.state,
+        &mut at.policy,
+    )? {
+        Some(next) => {
+            let RoundState {
+                round,
+                values: _values,
+            } = mem::replace(&mut at.state, next);
+            Ok(Some(round))
+        }
+        None => Ok(None),
+    }
+}
+
 // The policy run of a part, and the answer that its last round gives.
 pub(crate) fn policy_run(
     alloc: Global,
@@ -131,26 +212,16 @@ pub(crate) fn policy_run(
     ensures rises { IfOk result (λ w. AllRise w.1.items) }
     ensures cases { IfOk result (λ w. RiseByCase net.now parts.now part w.1.items) }
 {
-    let inner = inner_places(alloc, net, parts, part)?;
-    let mut policy = lowest_places(alloc, net, parts, part)?;
-    let mut state = first_state(alloc, net, parts, part, &inner, &mut policy)?;
+    let mut at = begin(alloc, net, parts, part)?;
     let mut rounds = Vec::new(alloc);
-    'rounds: while let Some(next) = next_state(
-        alloc,
-        net,
-        parts,
-        part,
-        &inner,
-        &state,
-        &mut policy,
-    )? {
-        let RoundState {
-            round,
-            values: _values,
-        } = state;
-        rounds.push(round)?;
-        state = next;
+    'rounds: while let Some(before) = advance(alloc, net, parts, part, &mut at)? {
+        rounds.push(before)?;
     }
+    let Iteration {
+        inner: _inner,
+        policy: _policy,
+        state,
+    } = at;
     let RoundState {
         round,
         values: _values,
@@ -172,20 +243,8 @@ pub(crate) fn last_answer(
     ensures run { IfOk result (λ answer. EndsRun net.now parts.now part answer) }
     ensures limits { IfOk result (λ answer. KeepsLimits answer) }
 {
-    let inner = inner_places(alloc, net, parts, part)?;
-    let mut policy = lowest_places(alloc, net, parts, part)?;
-    let mut state = first_state(alloc, net, parts, part, &inner, &mut policy)?;
-    'rounds: while let Some(next) = next_state(
-        alloc,
-        net,
-        parts,
-        part,
-        &inner,
-        &state,
-        &mut policy,
-    )? {
-        state = next;
-    }
-    let answer = answer_of(alloc, &state.round)?;
+    let mut at = begin(alloc, net, parts, part)?;
+    'rounds: while let Some(_before) = advance(alloc, net, parts, part, &mut at)? {}
+    let answer = answer_of(alloc, &at.state.round)?;
     Ok(answer)
 }

@@ -23,6 +23,14 @@ fn offer(ratio: Ratio, place: &Place, value: i128) -> i128
     gain as i128 - loss as i128 + value
 }
 
+// The number of the transition that the place leaves.
+pub(crate) fn start_of(net: &Net, id: PlaceId) -> usize
+    requires { id.index < length net.now.places }
+    ensures { result ≡ from_of net.now id }
+{
+    net.places()[id.index as usize].from.index as usize
+}
+
 // The number of the transition at which the place ends.
 pub(crate) fn end_of(net: &Net, id: PlaceId) -> usize
     requires { id.index < length net.now.places }

@@ -1,9 +1,10 @@
 //! Policy iteration on one part of a net: its answer alone, or with the rounds that led to it.
-ghost use Rattle.std.specs.Prelude.{IfOk};
+ghost use Rattle.std.specs.Prelude.{◌≡◌, IfOk};
 ghost use Rattle.teg_net.specs.PartAnswers.{IsPartAnswer};
 ghost use Rattle.teg_check.specs.Ranks.{IsRanking};
 ghost use Rattle.teg_parts.specs.Partitions.{AreParts};
 ghost use Rattle.teg_howard.specs.PolicyRounds.{IsPolicyRun};
+ghost use Rattle.teg_howard.specs.RoundStates.{HasCircuit};
 ghost use Rattle.teg_howard.specs.PolicyRuns.{HasInnerPlace, IsAnswerOfLast, EndsRun, KeepsLimits, AllRise, RiseByCase};
 
 use crate::iteration::{last_answer, policy_run};
@@ -11,6 +12,20 @@ use std::alloc::Global;
 use teg_check::Live;
 use teg_net::{Net, OutOfMemory, PartAnswer, Round};
 use teg_parts::Parts;
+
+// The number of each transition's part, where a circuit lies in the part.
+fn numbers_of(net: &Net, live: &Live, parts: &Parts, part: u32) -> Result<Vec<u32>, OutOfMemory>
+    requires live { IsRanking net.now live.now }
+    requires parts { AreParts net.now parts.now }
+    requires circuit { HasInnerPlace net.now parts.now.part_of part }
+    ensures same { IfOk result (λ numbers. numbers.items ≡ parts.now.part_of) }
+    ensures circuit { IfOk result (λ numbers. HasCircuit net.now numbers.items part) }
+{
+    let _ranks = live;
+    let _count = net.transitions().len();
+    let numbers = parts.numbers()?;
+    Ok(numbers)
+}
 
 /// The greatest ratio of a part that has a circuit (chapter 3), by policy iteration (Howard's
 /// algorithm), and the rounds that led to it.
@@ -37,9 +52,7 @@ pub fn howard(
     ensures rises { IfOk result (λ w. AllRise w.1.items) }
     ensures cases { IfOk result (λ w. RiseByCase net.now parts.now.part_of part w.1.items) }
 {
-    let _ranks = live;
-    let _count = net.transitions().len();
-    let part_of = parts.numbers()?;
+    let part_of = numbers_of(net, live, parts, part)?;
     let run = policy_run(alloc, net, &part_of, part)?;
     Ok(run)
 }
@@ -61,9 +74,7 @@ pub fn last_round(
     ensures run { IfOk result (λ answer. EndsRun net.now parts.now.part_of part answer) }
     ensures limits { IfOk result (λ answer. KeepsLimits answer) }
 {
-    let _ranks = live;
-    let _count = net.transitions().len();
-    let part_of = parts.numbers()?;
+    let part_of = numbers_of(net, live, parts, part)?;
     let answer = last_answer(alloc, net, &part_of, part)?;
     Ok(answer)
 }

@@ -6,7 +6,7 @@ ghost use Rattle.teg_net.specs.Parts.{to_of};
 ghost use Rattle.teg_howard.specs.Policies.{IsPolicy, IsPolicyCircuit};
 ghost use Rattle.teg_net.specs.declared.entries.PlaceId.{PlaceId};
 ghost use Rattle.teg_parts.specs.Components.{IsMarked};
-ghost use Rattle.teg_howard.specs.FoundCircuits.{policy_of, IsOnPolicy, IsFoundAt, IsAbove, IsFoundSmall, IsBestFound, GoesBelow};
+ghost use Rattle.teg_howard.specs.FoundCircuits.{policy_of, IsOnPolicy, IsFoundAt, IsAbove, IsFoundSmall, IsBetterOf, IsBestFound, GoesBelow};
 
 use crate::circuit_starts::circuit_starts;
 use crate::steps::place_into;
@@ -90,6 +90,27 @@ fn is_greater(circuit: &FoundCircuit, best: &Option<FoundCircuit>) -> bool
     }
 }
 
+// The circuit, where it passes a marked transition and has a greater ratio than the best so far,
+// and else that best.
+fn better_of(
+    net: &Net,
+    marked: &[bool],
+    circuit: FoundCircuit,
+    best: Option<FoundCircuit>,
+) -> Option<FoundCircuit>
+    requires in_range { AreInRange net.now circuit.places.items }
+    requires count { length marked.now ≡ length net.now.transitions }
+    requires small { IsFoundSmall (Some circuit) }
+    requires best_small { IsFoundSmall best }
+    ensures { IsBetterOf net.now marked.now circuit best result }
+{
+    if passes(net, &circuit.places, marked) && is_greater(&circuit, &best) {
+        Some(circuit)
+    } else {
+        best
+    }
+}
+
 // The policy's circuit of greatest ratio among those that pass a marked member, among equals
 // the one with the lowest numbered transition.
 pub(crate) fn best_circuit(
@@ -118,9 +139,7 @@ pub(crate) fn best_circuit(
     for start in 0..parts.len() {
         if starts[start] {
             if let Some(circuit) = circuit_through(alloc, net, policy, start)? {
-                if passes(net, &circuit.places, marked) && is_greater(&circuit, &best) {
-                    best = Some(circuit);
-                }
+                best = better_of(net, marked, circuit, best);
             }
         }
     }

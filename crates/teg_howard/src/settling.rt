@@ -1,13 +1,17 @@
 //! The potentials of a policy: every member is routed to the circuit, and gets its potential (value
 //! determination).
 ghost use Rattle.std.specs.Prelude.{◌≡◌, ◌≢◌, ◌<◌, ◌≤◌, ◌↔◌, ℕ, length, IsTrue, IfOk, IfSome, IfNone, None};
+ghost use Rattle.teg_net.specs.Circuits.{AreInRange};
 ghost use Rattle.teg_net.specs.Parts.{IsMember};
-ghost use Rattle.teg_net.specs.declared.entries.PlaceId.{PlaceId};
-ghost use Rattle.teg_howard.specs.InnerPlaces.{ListsPlaces};
-ghost use Rattle.teg_howard.specs.FoundCircuits.{policy_of, value_held, LeadsOn, IsJoin, IsNextJoin, IsRoundMade, CanSettle, IsSettled};
+ghost use Rattle.teg_net.specs.PartAnswers.{first_transition_of};
+ghost use Rattle.teg_parts.specs.Partitions.{AreStrong};
+ghost use Rattle.teg_howard.specs.InnerPlaces.{AreInner};
+ghost use Rattle.teg_howard.specs.Following.{CanFollow};
+ghost use Rattle.teg_howard.specs.FoundCircuits.{policy_of, value_held, LeadsOn, NoneLeadsOn, IsFirstOn, IsRoundMade, CanSettle, AreRouted, IsSettled};
 
 use crate::following::follow;
-use crate::offers::{end_of, offer_from};
+use crate::inside::InnerPlaces;
+use crate::offers::{end_of, offer_from, start_of};
 use std::alloc::{AllocError, Global};
 use teg_net::{Choice, Circuit, Net, PlaceId, Ratio, Round, TransitionId};
 
@@ -18,36 +22,65 @@ pub(crate) struct RoundState {
     pub(crate) values: Vec<Option<i128>>,
 }
 
-// Whether the place leads from a transition with a value to one without.
+// Whether the place leads from a transition with a value to one without. Both are read, since a
+// branch between them would be hard to foresee.
 fn joins(net: &Net, values: &[Option<i128>], id: PlaceId) -> bool
     requires place { id.index < length net.now.places }
     requires values { length values.now ≡ length net.now.transitions }
     ensures { IsTrue result ↔ LeadsOn net.now values.now id }
 {
     let place = &net.places()[id.index as usize];
-    values[place.from.index as usize].is_some() && values[place.to.index as usize].is_none()
+    values[place.from.index as usize].is_some() & values[place.to.index as usize].is_none()
 }
 
-// The lowest numbered place in the part from a transition with a value to one without.
-fn next_join(
-    net: &Net,
-    parts: &[u32],
-    part: u32,
-    inner: &[PlaceId],
-    values: &[Option<i128>],
-) -> Option<PlaceId>
-    requires inner { ListsPlaces net.now parts.now part inner.now }
-    requires parts { length parts.now ≡ length net.now.transitions }
-    requires values { length values.now ≡ length parts.now }
-    ensures some { IfSome result (λ p. IsNextJoin net.now parts.now part values.now p) }
-    ensures none { IfNone result ((p : PlaceId) → IsJoin net.now parts.now part values.now p → ⊥) }
+// The rank in the list of the first place from a transition with a value to one without, where
+// none stands below `from`.
+fn next_join(net: &Net, ids: &[PlaceId], values: &[Option<i128>], from: usize) -> Option<usize>
+    requires in_range { AreInRange net.now ids.now }
+    requires values { length values.now ≡ length net.now.transitions }
+    requires none_before { NoneLeadsOn net.now values.now ids.now from }
+    ensures some { IfSome result (IsFirstOn net.now values.now ids.now) }
+    ensures none { IfNone result (NoneLeadsOn net.now values.now ids.now (length ids.now)) }
 {
-    for id in inner {
-        if joins(net, values, *id) {
-            return Some(*id);
+    for rank in from..ids.len() {
+        if joins(net, values, ids[rank]) {
+            return Some(rank);
         }
     }
     None
+}
+
+// The potentials of all members. They spread from the root along the policy, and every member that
+// is not reached is routed to the root: the lowest numbered place from a member with a potential to
+// one without is taken into the policy, until there is none. A place that was passed can join only
+// once the transition that it leaves gets its potential, so the search goes on from the lower of
+// where it stood and the first exit of that transition.
+fn route(
+    alloc: Global,
+    net: &Net,
+    parts: &[u32],
+    part: u32,
+    inner: &InnerPlaces,
+    policy: &mut [PlaceId],
+    ratio: Ratio,
+    root: usize,
+) -> Result<Vec<Option<i128>>, AllocError>
+    requires inner { AreInner net.now parts.now part inner.now }
+    requires strong { AreStrong net.now parts.now }
+    requires can { CanFollow net.now parts.now part policy.old ratio root }
+    ensures { IfOk result (λ values. AreRouted net.now parts.now part policy.old policy.new ratio
+        root values.items) }
+{
+    let mut values = follow(alloc, net, parts, part, policy, ratio, root)?;
+    let mut from = 0;
+    'route: while let Some(rank) = next_join(net, &inner.ids, &values, from) {
+        let id = inner.ids[rank];
+        let member = end_of(net, id);
+        policy[member] = id;
+        values[member] = Some(offer_from(net, ratio, &values, id));
+        from = rank.min(inner.exits[member]);
+    }
+    Ok(values)
 }
 
 // A round: the members' places and potentials.
@@ -89,6 +122,15 @@ fn round_of(
     })
 }
 
+// The number of the transition at which the circuit begins.
+fn root_of(net: &Net, circuit: &[PlaceId]) -> usize
+    requires not_empty { 0 < length circuit.now }
+    requires in_range { AreInRange net.now circuit.now }
+    ensures { result ≡ first_transition_of net.now circuit.now }
+{
+    start_of(net, circuit[0])
+}
+
 // The round of a policy and one of its circuits: every other member is routed to the circuit,
 // and gets its potential.
 pub(crate) fn settle(
@@ -96,25 +138,18 @@ pub(crate) fn settle(
     net: &Net,
     parts: &[u32],
     part: u32,
-    inner: &[PlaceId],
+    inner: &InnerPlaces,
     policy: &mut [PlaceId],
     ratio: Ratio,
     circuit: Vec<PlaceId>,
 ) -> Result<RoundState, AllocError>
-    requires inner { ListsPlaces net.now parts.now part inner.now }
+    requires inner { AreInner net.now parts.now part inner.now }
     requires can { CanSettle net.now parts.now part policy.old ratio circuit.items }
     ensures { IfOk result (λ state. IsSettled net.now parts.now part policy.old policy.new ratio
         circuit.items state) }
 {
-    let places = net.places();
-    let first = circuit[0];
-    let root = places[first.index as usize].from.index as usize;
-    let mut values = follow(alloc, net, parts, part, policy, ratio, root)?;
-    'route: while let Some(id) = next_join(net, parts, part, inner, &values) {
-        let member = end_of(net, id);
-        policy[member] = id;
-        values[member] = Some(offer_from(net, ratio, &values, id));
-    }
+    let root = root_of(net, &circuit);
+    let values = route(alloc, net, parts, part, inner, policy, ratio, root)?;
     let round = round_of(alloc, parts, part, ratio, circuit, policy, &values)?;
     Ok(RoundState { round, values })
 }

@@ -2,15 +2,14 @@ use Rattle.std.proofs.Common.{ℕ, List, Option, Some, None, ◌≡◌, ◌<◌,
 use Rattle.std.proofs.lemmas.List.{get_or_read}
 use Rattle.std.specs.Prelude.{IfSome, IfNone}
 use Rattle.teg_net.specs.declared.entries.PlaceId.{PlaceId}
-use Rattle.std.proofs.lemmas.Bool.{iff_false}
 use Rattle.teg_howard.specs.declared.policy_circuits.FoundCircuit.{FoundCircuit}
 use Rattle.teg_net.specs.Parts.{IsMember}
 use Rattle.teg_howard.specs.Policies.{IsPolicy, IsPolicyCircuit, Policy}
 use Rattle.teg_howard.specs.FoundCircuits.{policy_of, IsFoundAt, IsBestFound}
 use Rattle.teg_net.specs.Nets.{NetLists, IsNet}
 use Rattle.teg_net.specs.Circuits.{IsLive}
-use Rattle.teg_howard.proofs.Best.{Passes, BestTo, best_skip, skip_unmarked, skip_none, skip_other, best_stay, best_take, best_all, none_all, found_circuit}
-use Rattle.teg_howard.proofs.policy_circuits.best_circuit.Goals.{then-index+in_ok-circuit+in-Some+then-passes+then-is_greater, then-index+in_ok-circuit+in-Some+else-passes, else-passes-via-then-passes+else-is_greater, else-passes-via-else-passes, then-index+in_ok-circuit+in_default, else-index}
+use Rattle.teg_howard.proofs.Best.{Passes, BestTo, best_skip, skip_unmarked, skip_none, best_of, best_all, none_all, found_circuit}
+use Rattle.teg_howard.proofs.policy_circuits.best_circuit.Goals.{then-index+in_ok-circuit+in-Some, then-index+in_ok-circuit+in_default, else-index}
 use Rattle.teg_howard.proofs.policy_circuits.best_circuit.Goals as goal
 
 pub loop-start-preserved : goal.loop-start-preserved
@@ -27,24 +26,11 @@ loop-start-preserved c =
     let i_in : i < length starts = omega (arith, c.loop-start-test.true, c.in_ok-starts.ensures.count) in
     let read : c.index.result.now ≡ get_or starts i false = get_or_read starts i c.index.result.now i_in c.index.ensures false in
     elim c.if-index.branch [
-      | then-index+in_ok-circuit+in-Some+then-passes+then-is_greater w ↦
+      | then-index+in_ok-circuit+in-Some w ↦
           let f = w.in-Some.circuit in
           let member : IsMember parts part i = c.in_ok-starts.ensures.only i (sym read ∙ w.if-index.true) in
           let found : IsFoundAt net π i f = rw w.in-Some.is at w.in_ok-circuit.ensures.some in
-          let through : Passes net marked f.places.items = rw w.deref.ensures.value at (w.passes.ensures.0 w.if-passes.true) in
-          rw w.best-is (best_take net parts part π marked r.policy r.kept r.live r.parts i f c.loop-start.best member found through h (w.is_greater.ensures.0 w.if-is_greater.true))
-      | then-index+in_ok-circuit+in-Some+else-passes w ↦
-          let f = w.in-Some.circuit in
-          let member : IsMember parts part i = c.in_ok-starts.ensures.only i (sym read ∙ w.if-index.true) in
-          let found : IsFoundAt net π i f = rw w.in-Some.is at w.in_ok-circuit.ensures.some in
-          rw w.best-is
-          (elim w.else-passes.branch [
-            | else-passes-via-then-passes+else-is_greater v ↦
-                best_stay net parts part π marked r.policy r.kept r.live r.parts i f c.loop-start.best member found h (iff_false v.is_greater.ensures v.if-is_greater.false)
-            | else-passes-via-else-passes v ↦
-                best_skip net parts part π marked r.policy r.kept r.live r.parts i c.loop-start.best h
-                (skip_other net parts part π marked r.policy r.kept r.live r.parts i f member found (rw w.deref.ensures.value at (iff_false w.passes.ensures v.if-passes.false)))
-          ])
+          rw w.best-is (best_of net parts part π marked r.policy r.kept r.live r.parts i f c.loop-start.best w.better_of-best.result member found h w.better_of-best.ensures)
       | then-index+in_ok-circuit+in_default w ↦
           let none = rw w.in_default.is at w.in_ok-circuit.ensures.none in
           rw w.best-is
@@ -60,8 +46,8 @@ loop-start-preserved c =
           f)))
     ]
 
-pub passes-requires-clause-in_range : goal.passes-requires-clause-in_range
-passes-requires-clause-in_range c =
+pub better_of-best-requires-clause-in_range : goal.better_of-best-requires-clause-in_range
+better_of-best-requires-clause-in_range c =
     let net = c.args.net.now in
     let starts = c.in_ok-starts.starts.items in
     let i = c.loop-start.start in
@@ -69,8 +55,7 @@ passes-requires-clause-in_range c =
     let member : IsMember c.args.parts.now c.args.part i = c.in_ok-starts.ensures.only i (sym read ∙ c.if-index.true) in
     let r = c.requires in
     let found : IsFoundAt net (policy_of c.args.policy.now) c.loop-start.start c.in-Some.circuit = rw c.in-Some.is at c.in_ok-circuit.ensures.some in
-    rw c.deref.ensures.value
-    (λ k d l. ((found_circuit net c.args.parts.now c.args.part (policy_of c.args.policy.now) c.args.marked.now r.policy r.kept r.live r.parts c.loop-start.start c.in-Some.circuit member found).inside k d l).in_range)
+    λ k d l. ((found_circuit net c.args.parts.now c.args.part (policy_of c.args.policy.now) c.args.marked.now r.policy r.kept r.live r.parts c.loop-start.start c.in-Some.circuit member found).inside k d l).in_range
 
 best_some : (net : NetLists) (parts : List ℕ) (part : ℕ) (π : Policy) (marked : List Bool) (ok : IsPolicy net parts part π) (kept : IsNet net) (live : IsLive net) (count : length parts ≡ length net.transitions) (n : ℕ) (best : Option FoundCircuit)
     → length parts ≤ n → BestTo net parts part π marked n best → IfSome best (λ f. IsBestFound net parts part π marked f)

@@ -1,15 +1,15 @@
 use Rattle.std.proofs.Common.{List, ◌<◌, length, count_by, is_none}
 use Rattle.std.specs.Prelude.{All}
 use Rattle.teg_net.specs.declared.entries.PlaceId.{PlaceId}
-use Rattle.teg_net.specs.PartAnswers.{first_transition_of}
-use Rattle.teg_howard.specs.FoundCircuits.{policy_of}
+use Rattle.teg_howard.specs.FoundCircuits.{policy_of, NoneLeadsOn}
 use Rattle.teg_howard.proofs.Values.{Routed}
-use Rattle.teg_howard.proofs.settling.settle.Given as goal
+use Rattle.teg_howard.proofs.settling.route.Given as goal
 
 abbrev pub invariant-route : goal.invariant-route
 invariant-route l = record {
   in_range : All (λ p. p.index < length l.net.places) l.policy;
-  routed : (joins : List PlaceId) × Routed l.net l.parts l.part l.ratio.time l.ratio.tokens (first_transition_of l.net l.circuit.items) (policy_of l.fn.policy) joins (policy_of l.policy) l.values.items;
+  routed : (joins : List PlaceId) × Routed l.net l.parts l.part l.ratio.time l.ratio.tokens l.root (policy_of l.fn.policy) joins (policy_of l.policy) l.values.items;
+  none_before : NoneLeadsOn l.net l.values.items l.inner.ids.items l.from;
 }
 
 abbrev pub decreases-route : goal.decreases-route

@@ -5,8 +5,8 @@ use Rattle.teg_net.specs.declared.entries.PlaceId.{PlaceId}
 use Rattle.teg_net.specs.Circuits.{no_place, place_at, from_of}
 use Rattle.teg_net.specs.Parts.{IsMember, to_of}
 use Rattle.teg_howard.proofs.InnerPlaces.{places_none, places_more, places_skip, places_all}
-use Rattle.teg_howard.proofs.inside.inner_places.Goals.{then-is_inside+in_ok-push, else-is_inside}
-use Rattle.teg_howard.proofs.inside.inner_places.Goals as goal
+use Rattle.teg_howard.proofs.inside.list_places.Goals.{then-is_inside+in_ok-push, else-is_inside}
+use Rattle.teg_howard.proofs.inside.list_places.Goals as goal
 
 pub loop-index-init : goal.loop-index-init
 loop-index-init c = rw c.new-ids.ensures.items (places_none c.args.net.now c.args.parts.now c.args.part)
