@@ -50,7 +50,7 @@ fn tell_late(
         JitRefusal::OutOfMemory => Err(OutOfMemory),
         JitRefusal::Late { .. } => {
             // The rules of the net, by which the walk can be told, and that no inputs are better.
-            let _transitions = net.net().transitions();
+            net.net().rules();
             zero_inputs_meet();
             late_excludes_meet();
             let text = report(alloc, Some(net.net()), &Answer::Late { refusal })?;
@@ -68,7 +68,7 @@ fn tell_latest(alloc: Global, net: &LiveNet, due: &Due) -> Result<Outcome, OutOf
     match net.latest(alloc, due) {
         Ok(plan) => {
             // The rules of the net, and that the steps of its plans lead to due firings.
-            let _transitions = net.net().transitions();
+            net.net().rules();
             plans_lead();
             let text = report(alloc, Some(net.net()), &Answer::Jit { plan: &plan })?;
             let verdict = Verdict::Done;

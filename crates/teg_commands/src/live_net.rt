@@ -112,7 +112,7 @@ impl LiveNet {
         ensures within { IfOk result (λ form. HasEndsIn self.now form) }
     {
         // The rules of the net, by which both ends of an entry are among these.
-        let _transitions = self.net.transitions();
+        self.net.rules();
         standard_form(alloc, &self.net, &self.live)
     }
 

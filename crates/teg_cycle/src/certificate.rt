@@ -80,7 +80,7 @@ fn attains(net: &Net, ratio: Ratio, places: &[PlaceId]) -> bool
     ensures { IsTrue result ↔ (time_of net.now places.now * ratio.tokens
         ≡ ratio.time * tokens_of net.now places.now) }
 {
-    let _count = net.transitions().len();
+    net.rules();
     let time = time_of(net, places);
     let tokens = tokens_of(net, places);
     is_ratio_of(ratio, time, tokens)

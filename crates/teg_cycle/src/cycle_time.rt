@@ -142,7 +142,7 @@ pub fn cycle(
     ensures net { IfOk result (λ a. IsCycleTime net.now a.parts.items a.best) }
     ensures certificate { IfOk result (λ a. IsCertificate net.now a) }
 {
-    let _count = net.transitions().len();
+    net.rules();
     let part_of = parts.numbers()?;
     let mut answers = Vec::new(alloc);
     for part in 0..parts.count() {
@@ -173,7 +173,7 @@ pub fn cycle_with_runs(
     ensures runs { IfOk result (λ w. AreRunsFrom net.now parts.now.part_of 0 w.0.parts.items
         (rounds_of_runs w.1.items)) }
 {
-    let _count = net.transitions().len();
+    net.rules();
     let part_of = parts.numbers()?;
     let mut answers = Vec::new(alloc);
     let mut runs = Vec::new(alloc);

@@ -104,7 +104,7 @@ pub(crate) fn keep_dues(
     ensures kept { IfOk result (λ _. InputsMeet net.now (due_in rows.now) inputs_at_zero) }
     ensures late { IfErr result (LateIsRight net.now rows.now) }
 {
-    let _ = net.transitions();
+    net.rules();
     let Some((index, least)) = first_late(alloc, net, live, rows)? else {
         return Ok(());
     };

@@ -41,6 +41,14 @@ impl Net {
         }
     }
 
+    /// That the net keeps the rules of nets. It does nothing when it runs: it is called where a
+    /// caller's own promise needs the rules.
+    pub fn rules(&self)
+        ensures { IsNet self.now }
+    {
+        let _own = self.transitions();
+    }
+
     /// The transitions in order. It takes no memory.
     pub fn transitions(&self) -> &[Transition]
         ensures value { result.now ≡ self.now.transitions }

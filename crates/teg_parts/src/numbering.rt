@@ -91,7 +91,7 @@ pub(crate) fn parts_in_order(
     ensures few { IfOk result (λ w. w.1 ≤ most_transitions) }
     ensures rules { IfOk result (λ _. IsNet net.now) }
 {
-    let _count = net.transitions().len();
+    net.rules();
     let mut numbers = vec![in alloc; None; components.len()]?;
     let mut next = 0;
     'number: while let Some(transition) = first_free(alloc, net, components, &numbers)? {

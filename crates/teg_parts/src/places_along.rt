@@ -75,7 +75,7 @@ pub(crate) fn push_places_along(
     ensures { OnOk result (AddsPlacesAlong net.now along.now.way transition agenda.old.items
         agenda.new.items) }
 {
-    let _count = net.places().len();
+    net.rules();
     let mut at = along.highest[transition];
     'down: while let Some(id) = at {
         agenda.push(id)?;

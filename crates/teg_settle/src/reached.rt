@@ -220,7 +220,7 @@ pub(crate) fn part_from(alloc: Global, net: &Net, input: TransitionId) -> Result
     ensures part { IfOk result (IsPartFrom net.now input.index) }
     ensures rules { IsNet net.now }
 {
-    let _own = net.transitions();
+    net.rules();
     let marks = marks_from(alloc, net, input)?;
     let numbers = numbers_of(alloc, &marks)?;
     let own = net_of(alloc, net, &marks, &numbers)?;

@@ -8,7 +8,7 @@ use Rattle.teg_commands.proofs.jit.tell_latest.Goals as goal
 pub returns-in_ok-text-in-Ok : goal.returns-in_ok-text-in-Ok
 returns-in_ok-text-in-Ok c =
     let has = c.in-Ok.ensures in
-    let ok = subst IsNet c.net.ensures c.transitions-transitions.ensures.rules in
+    let ok = subst IsNet c.net.ensures c.rules.ensures in
     let sizes : KeepsSizes c.in-Ok.plan = rw (← c.plan.view_is) c.plan.invariant in
     let plan = plan_of c.args.net.now c.args.due.now.rows.items c.in-Ok.plan ok c.plans_lead.ensures sizes has.numbers has.plan has.inputs has.in_time in
     let text_is = c.in_ok-text-in-Ok.ensures.text ∙ ap (λ (net : NetLists). jit_text net c.in-Ok.plan) c.net-in-Ok.ensures in

@@ -10,12 +10,12 @@ tokens_of-tokens-requires c = let h = c.requires.circuit in IsPathBetween-in_ran
 
 pub is_ratio_of-requires-clause-time : goal.is_ratio_of-requires-clause-time
 is_ratio_of-requires-clause-time c =
-    let s = circuit_sums c.args.net.now c.transitions-count.ensures.rules c.args.places.now c.requires.circuit in
+    let s = circuit_sums c.args.net.now c.rules.ensures c.args.places.now c.requires.circuit in
     rw c.time_of-time.ensures s.0
 
 pub is_ratio_of-requires-clause-tokens : goal.is_ratio_of-requires-clause-tokens
 is_ratio_of-requires-clause-tokens c =
-    let s = circuit_sums c.args.net.now c.transitions-count.ensures.rules c.args.places.now c.requires.circuit in
+    let s = circuit_sums c.args.net.now c.rules.ensures c.args.places.now c.requires.circuit in
     rw c.tokens_of-tokens.ensures s.1
 
 pub returns : goal.returns

@@ -22,7 +22,7 @@ number-preserved c =
     let few = h.few in
     rw whole
     (record {
-      numbered = numbered_more net c.transitions-count.ensures.rules comps c.requires ns new c.number.next t h.numbered first count given;
+      numbered = numbered_more net c.rules.ensures comps c.requires ns new c.number.next t h.numbered first count given;
       few = omega arith;
     })
 
@@ -32,7 +32,7 @@ numbers_of-requires c =
     let comps = c.args.components.now in
     let ns = c.number.numbers.items in
     let none : (t : ℕ) → IsFree net comps ns t → ⊥ = rw (c.in_default.is, c.deref.ensures.value) at c.in_ok-transition.ensures.none in
-    let all : AllNumbered ns = all_numbered net c.transitions-count.ensures.rules comps c.requires ns c.number.invariant.numbered.count none in
+    let all : AllNumbered ns = all_numbered net c.rules.ensures comps c.requires ns c.number.invariant.numbered.count none in
     rw c.deref-2.ensures.value all
 
 pub returns-clause-order : goal.returns-clause-order

@@ -7,4 +7,4 @@ use Rattle.teg_commands.proofs.live_net.LiveNet.standard_form.Goals as goal
 pub returns-clause-within : goal.returns-clause-within
 returns-clause-within c =
     rw (← c.self.view_is) (IfOk-weaker c.standard_form.result (IsStandardFormOf c.self.inside.net) (HasEndsIn c.self.inside.net)
-    (form_within c.self.inside.net c.transitions-transitions.ensures.rules) c.standard_form.ensures.form)
+    (form_within c.self.inside.net c.rules.ensures) c.standard_form.ensures.form)
