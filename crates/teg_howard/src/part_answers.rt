@@ -22,7 +22,7 @@ fn numbers_of(net: &Net, live: &Live, parts: &Parts, part: u32) -> Result<Vec<u3
     ensures circuit { IfOk result (λ numbers. HasCircuit net.now numbers.items part) }
 {
     let _ranks = live;
-    let _count = net.transitions().len();
+    net.rules();
     let numbers = parts.numbers()?;
     Ok(numbers)
 }

@@ -37,7 +37,7 @@ fn circuit_through(
     ensures none { IfOk result (λ found. IfNone found (GoesBelow net.now (policy_of policy.now)
         start (length policy.now))) }
 {
-    let _count = net.transitions().len();
+    net.rules();
     let mut back = Vec::new(alloc);
     let mut time = 0;
     let mut tokens = 0;

@@ -6,7 +6,7 @@ pub returns-clause-circuit : goal.returns-clause-circuit
 returns-clause-circuit c =
     let net = c.args.net.now in
     let has : HasCircuit net c.args.parts.now.part_of c.args.part = record {
-      kept = c.transitions-count.ensures.rules;
+      kept = c.rules.ensures;
       live = ranking_is_live net c.args.live.now c.requires.live;
       parts_ = c.requires.parts.strong;
       inner = c.requires.circuit;

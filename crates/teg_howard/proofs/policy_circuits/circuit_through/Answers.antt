@@ -23,19 +23,19 @@ sums_fit net policy start m at backs time tokens kept on here h l =
 pub overflow_add-time : goal.overflow_add-time
 overflow_add-time c =
     let h = c.walk.invariant in
-    let f = sums_fit c.args.net.now c.args.policy.now c.args.start c.walk._step c.walk.at c.walk.back.items c.walk.time c.walk.tokens c.transitions-count.ensures.rules c.requires.on_policy h.on_policy h.walked (omega (arith, c.requires.count, c.walk-test.true)) in
+    let f = sums_fit c.args.net.now c.args.policy.now c.args.start c.walk._step c.walk.at c.walk.back.items c.walk.time c.walk.tokens c.rules.ensures c.requires.on_policy h.on_policy h.walked (omega (arith, c.requires.count, c.walk-test.true)) in
     rw c.place_into-place.ensures (omega (arith, f.0))
 
 pub overflow_add-tokens : goal.overflow_add-tokens
 overflow_add-tokens c =
     let h = c.walk.invariant in
-    let f = sums_fit c.args.net.now c.args.policy.now c.args.start c.walk._step c.walk.at c.walk.back.items c.walk.time c.walk.tokens c.transitions-count.ensures.rules c.requires.on_policy h.on_policy h.walked (omega (arith, c.requires.count, c.walk-test.true)) in
+    let f = sums_fit c.args.net.now c.args.policy.now c.args.start c.walk._step c.walk.at c.walk.back.items c.walk.time c.walk.tokens c.rules.ensures c.requires.on_policy h.on_policy h.walked (omega (arith, c.requires.count, c.walk-test.true)) in
     rw c.place_into-place.ensures (omega (arith, f.1))
 
 pub returns-then-at-start-clause-some : goal.returns-then-at-start-clause-some
 returns-then-at-start-clause-some c =
     let item = c.place_into-place.ensures in
-    walked_round c.args.net.now (policy_of c.args.policy.now) c.args.start c.walk._step c.walk.at c.walk.back.items c.walk.time c.walk.tokens _ c.transitions-count.ensures.rules c.requires.on_policy c.walk.invariant.walked
+    walked_round c.args.net.now (policy_of c.args.policy.now) c.args.start c.walk._step c.walk.at c.walk.back.items c.walk.time c.walk.tokens _ c.rules.ensures c.requires.on_policy c.walk.invariant.walked
     (omega (arith, c.requires.count, c.walk-test.true)) (rw item at c.if-at-start.true) (c.reverse.ensures.items ∙ ap reverse c.in_ok-push.ensures.items)
     (rw item refl) (rw item refl)
 
