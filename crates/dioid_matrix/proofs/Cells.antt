@@ -34,12 +34,6 @@ module _ {M : Type 0} (d : DioidOf M) (a b : ℕ → M) where
 pub read_as : {M : Type 0} (xs : List M) (at place : ℕ) (x z : M) → at < length xs → x ≡ get_or xs at x → at ≡ place → x ≡ get_or xs place z
 read_as xs at place x z h e same = get_or_read xs at x h e z ∙ ap (λ m. get_or xs m z) same
 
--- the first place in a column of a table
-pub first_within : (n column columns len : ℕ) → 1 ≤ n → column < columns → len ≡ n * columns → column < len
-first_within n column columns len hn hc e =
-    let more : 1 * columns ≤ n * columns = mul-le-mul_right {m = 1} {n = n} columns hn in
-    omega (arith, more, e)
-
 -- a place in a table
 pub place_within : (k n column columns len : ℕ) → k < n → column < columns → len ≡ n * columns → k * columns + column < len
 place_within k n column columns len hk hc e =

@@ -129,14 +129,7 @@ impl<D: Dioid> Matrix<D> {
                 right_rows: other.rows,
             });
         }
-        let entries = products(
-            alloc,
-            self.entries.as_slice(),
-            other.entries.as_slice(),
-            self.rows,
-            self.columns,
-            other.columns,
-        )?;
+        let entries = products(alloc, self, other)?;
         Ok(Matrix {
             rows: self.rows,
             columns: other.columns,
@@ -222,14 +215,7 @@ impl<D: Residuated> Matrix<D> {
                 right_rows: other.rows,
             });
         }
-        let entries = residue_list(
-            alloc,
-            self.entries.as_slice(),
-            other.entries.as_slice(),
-            self.rows,
-            self.columns,
-            other.columns,
-        )?;
+        let entries = residue_list(alloc, self, other)?;
         Ok(Matrix {
             rows: self.columns,
             columns: other.columns,

@@ -1,12 +1,13 @@
-//! Lists of entries: which are elements, and the sums and products of two.
-ghost use Rattle.std.specs.Prelude.{◌≡◌, IfOk, ◌≤◌, ◌<◌, ◌+◌, ◌*◌, ◌^◌, ℕ, length, get_or};
+//! Lists of entries: which are elements, the sums of two, and the products of two matrices.
+ghost use Rattle.std.specs.Prelude.{◌≡◌, IfOk, ◌≤◌, ◌<◌, ◌*◌, ℕ, length};
 ghost use Rattle.dioid.specs.ElementAnswers.{Answers};
 ghost use Rattle.dioid_matrix.specs.EntryLists.{AnswersCell, AnswersList};
 ghost use Rattle.dioid_matrix.specs.Products.{StepFits, IsProduct, ProductRefused};
 ghost use Rattle.dioid_matrix.specs.Sums.{dot, IsSum, SumRefused};
-ghost use Rattle.dioid_matrix.specs.Tables.{table_of, AreElements};
+ghost use Rattle.dioid_matrix.specs.Tables.{table_of, entry_of, AreElements};
 ghost use Rattle.dioid_matrix.specs.Turns.{WayFits};
 
+use crate::grid::Matrix;
 use crate::refusals::{Cell, MatrixRefused};
 use dioid::{Dioid, Refused};
 use std::alloc::Global;
@@ -70,35 +71,31 @@ pub(crate) fn plus_product<D: Dioid>(
     before.plus(alloc, &product)
 }
 
-// The entry of a product: `count` entries of a row from `start` on, by those of a column.
-pub(crate) fn cell<D: Dioid>(
+// The entry in this row and column of a product.
+fn cell<D: Dioid>(
     alloc: Global,
-    left: &[D],
-    right: &[D],
-    start: usize,
+    left: &Matrix<D>,
+    right: &Matrix<D>,
+    row: usize,
     column: usize,
-    columns: usize,
-    count: usize,
 ) -> Cell<D>
-    requires some { 1 ≤ count }
-    requires row { start + count ≤ length left.now }
-    requires within { column < columns }
-    requires table { length right.now ≡ count * columns }
-    ensures { let a = λ (k : ℕ). get_or left.now (start + k) D.zero in let b = λ (k : ℕ). get_or right.now (k * columns + column) D.zero in
-        AnswersCell D.Dioid count (StepFits D.Dioid a b) (dot D.Dioid count a b) result }
+    requires goes { left.now.columns ≡ right.now.rows }
+    requires row { row < left.now.rows }
+    requires column { column < right.now.columns }
+    ensures { let a = entry_of D.Dioid left.now row in
+        let b = λ (k : ℕ). entry_of D.Dioid right.now k column in
+        AnswersCell D.Dioid left.now.columns (StepFits D.Dioid a b)
+        (dot D.Dioid left.now.columns a b) result }
 {
-    let mut sum = match left[start].times(alloc, &right[column]) {
+    let count = left.columns();
+    let mut sum = match left.entry(row, 0).times(alloc, right.entry(0, column)) {
         Ok(product) => product,
         Err(Refused::Range) => return Cell::Misfit(0),
         Err(Refused::OutOfMemory) => return Cell::NoMemoryLeft,
     };
     for middle in 1..count {
-        match plus_product(
-            alloc,
-            &sum,
-            &left[start + middle],
-            &right[middle * columns + column],
-        ) {
+        let here = left.entry(row, middle);
+        match plus_product(alloc, &sum, here, right.entry(middle, column)) {
             Ok(value) => sum = value,
             Err(Refused::Range) => return Cell::Misfit(middle),
             Err(Refused::OutOfMemory) => return Cell::NoMemoryLeft,
@@ -107,27 +104,21 @@ pub(crate) fn cell<D: Dioid>(
     Cell::Value(sum)
 }
 
-// The entries of the product of two lists of entries, by rows.
+// The entries of the product of two matrices, by rows.
 pub(crate) fn products<D: Dioid>(
     alloc: Global,
-    left: &[D],
-    right: &[D],
-    rows: usize,
-    count: usize,
-    columns: usize,
+    left: &Matrix<D>,
+    right: &Matrix<D>,
 ) -> Result<Vec<D>, MatrixRefused>
-    requires some_count { 1 ≤ count }
-    requires some_columns { 1 ≤ columns }
-    requires left_size { length left.now ≡ rows * count }
-    requires right_size { length right.now ≡ count * columns }
-    requires fits { rows * columns < 2 ^ 64 }
-    ensures { let a = table_of rows count left.now in let b = table_of count columns right.now in
-        AnswersList D.Dioid rows columns (IsProduct D.Dioid a b) (ProductRefused D.Dioid a b) result }
+    requires { left.now.columns ≡ right.now.rows }
+    ensures { AnswersList D.Dioid left.now.rows right.now.columns
+        (IsProduct D.Dioid left.now right.now) (ProductRefused D.Dioid left.now right.now) result }
 {
+    let rows = left.rows();
+    let columns = right.columns();
     let mut values = Vec::new(alloc);
     for place in 0..rows * columns {
-        let start = place / columns * count;
-        match cell(alloc, left, right, start, place % columns, columns, count) {
+        match cell(alloc, left, right, place / columns, place % columns) {
             Cell::Value(value) => {
                 if values.push(value).is_err() {
                     return Err(MatrixRefused::OutOfMemory);

@@ -1,10 +1,11 @@
-//! Residuals of lists of entries: meets over the rows.
-ghost use Rattle.std.specs.Prelude.{◌≡◌, IfOk, ◌≤◌, ◌<◌, ◌+◌, ◌*◌, ◌^◌, ℕ, length, get_or};
+//! Residuals of two matrices: meets over the rows.
+ghost use Rattle.std.specs.Prelude.{◌≡◌, IfOk, ◌<◌, ℕ};
 ghost use Rattle.dioid.specs.ElementAnswers.{Answers};
 ghost use Rattle.dioid_matrix.specs.EntryLists.{AnswersCell, AnswersList};
 ghost use Rattle.dioid_matrix.specs.Residuals.{meet_below, lefts, LeftMeetFits, RowFits, IsResidual, ResidualRefused};
-ghost use Rattle.dioid_matrix.specs.Tables.{table_of, AreElements};
+ghost use Rattle.dioid_matrix.specs.Tables.{entry_of};
 
+use crate::grid::Matrix;
 use crate::refusals::{Cell, MatrixRefused};
 use dioid::{Refused, Residuated};
 use std::alloc::Global;
@@ -20,38 +21,32 @@ fn meet_left<D: Residuated>(alloc: Global, before: &D, left: &D, right: &D) -> R
     before.meet(alloc, &residual)
 }
 
-// The entry of a residual: the meet of the rows' residuals in column `column` of the left, which
-// has `middle` columns, and column `other` of the right, which has `columns`.
-pub(crate) fn residue<D: Residuated>(
+// The entry of a residual: the meet of the rows' residuals, in column `column` of the left and
+// column `other` of the right.
+fn residue<D: Residuated>(
     alloc: Global,
-    left: &[D],
-    right: &[D],
+    left: &Matrix<D>,
+    right: &Matrix<D>,
     column: usize,
-    middle: usize,
     other: usize,
-    columns: usize,
-    rows: usize,
 ) -> Cell<D>
-    requires some { 1 ≤ rows }
-    requires within { column < middle }
-    requires inside { other < columns }
-    requires left_size { length left.now ≡ rows * middle }
-    requires right_size { length right.now ≡ rows * columns }
-    ensures { let a = λ (i : ℕ). get_or left.now (i * middle + column) D.zero in let b = λ (i : ℕ). get_or right.now (i * columns + other) D.zero in
-        AnswersCell D.Dioid rows (RowFits D.Dioid D.Residuated.own a b) (meet_below D.Residuated.own (lefts D.Dioid D.Residuated.own a b) rows) result }
+    requires goes { left.now.rows ≡ right.now.rows }
+    requires within { column < left.now.columns }
+    requires inside { other < right.now.columns }
+    ensures { let a = λ (i : ℕ). entry_of D.Dioid left.now i column in
+        let b = λ (i : ℕ). entry_of D.Dioid right.now i other in
+        AnswersCell D.Dioid left.now.rows (RowFits D.Dioid D.Residuated.own a b)
+        (meet_below D.Residuated.own (lefts D.Dioid D.Residuated.own a b) left.now.rows) result }
 {
-    let mut meet = match left[column].left(alloc, &right[other]) {
+    let rows = left.rows();
+    let mut meet = match left.entry(0, column).left(alloc, right.entry(0, other)) {
         Ok(residual) => residual,
         Err(Refused::Range) => return Cell::Misfit(0),
         Err(Refused::OutOfMemory) => return Cell::NoMemoryLeft,
     };
     for row in 1..rows {
-        match meet_left(
-            alloc,
-            &meet,
-            &left[row * middle + column],
-            &right[row * columns + other],
-        ) {
+        let here = left.entry(row, column);
+        match meet_left(alloc, &meet, here, right.entry(row, other)) {
             Ok(value) => meet = value,
             Err(Refused::Range) => return Cell::Misfit(row),
             Err(Refused::OutOfMemory) => return Cell::NoMemoryLeft,
@@ -60,37 +55,22 @@ pub(crate) fn residue<D: Residuated>(
     Cell::Value(meet)
 }
 
-// The entries of the residual of two lists of entries, by rows.
+// The entries of the residual of two matrices, by rows.
 pub(crate) fn residue_list<D: Residuated>(
     alloc: Global,
-    left: &[D],
-    right: &[D],
-    rows: usize,
-    middle: usize,
-    columns: usize,
+    left: &Matrix<D>,
+    right: &Matrix<D>,
 ) -> Result<Vec<D>, MatrixRefused>
-    requires some_rows { 1 ≤ rows }
-    requires some_columns { 1 ≤ columns }
-    requires left_size { length left.now ≡ rows * middle }
-    requires right_size { length right.now ≡ rows * columns }
-    requires fits { middle * columns < 2 ^ 64 }
-    requires left_elements { AreElements D.Dioid left.now }
-    requires right_elements { AreElements D.Dioid right.now }
-    ensures { let a = table_of rows middle left.now in let b = table_of rows columns right.now in
-        AnswersList D.Dioid middle columns (IsResidual D.Dioid D.Residuated.own a b) (ResidualRefused D.Dioid D.Residuated.own a b) result }
+    requires { left.now.rows ≡ right.now.rows }
+    ensures { AnswersList D.Dioid left.now.columns right.now.columns
+        (IsResidual D.Dioid D.Residuated.own left.now right.now)
+        (ResidualRefused D.Dioid D.Residuated.own left.now right.now) result }
 {
+    let middle = left.columns();
+    let columns = right.columns();
     let mut values = Vec::new(alloc);
     for place in 0..middle * columns {
-        match residue(
-            alloc,
-            left,
-            right,
-            place / columns,
-            middle,
-            place % columns,
-            columns,
-            rows,
-        ) {
+        match residue(alloc, left, right, place / columns, place % columns) {
             Cell::Value(value) => {
                 if values.push(value).is_err() {
                     return Err(MatrixRefused::OutOfMemory);

@@ -1,5 +1,4 @@
 pub mod BegunLaws
-pub mod CellLaws
 pub mod FirstValues
 pub mod LeftParts
 pub mod LeftSplits
@@ -9,6 +8,7 @@ pub mod PieceLaws
 pub mod ProductPlans
 pub mod Refusing
 pub mod ScaleLaws
+pub mod Scales
 pub mod ShortLaws
 pub mod SplitLaws
 pub mod StarValues

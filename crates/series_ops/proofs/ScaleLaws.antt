@@ -30,7 +30,7 @@ pub record IsScale (far bound top : ℕ) (early never : ℤ) (width : Width) : T
   pub bound_top : bound ≤ top
   pub fits : (z : ℤ) → unsigned_abs z ≤ top + top → FitsSigned width z
 
-module _ (far bound top : ℕ) (early never : ℤ) (width : Width) (scale : IsScale far bound top early never width) where
+module _ {far bound top : ℕ} {early never : ℤ} {width : Width} (scale : IsScale far bound top early never width) where
   -- ---- the date of a number
 
   pub in_never : (z : ℤ) → pos far <ℤ z → date_by_far far z ≡ Never
@@ -162,3 +162,12 @@ module _ (far bound top : ℕ) (early never : ℤ) (width : Width) (scale : IsSc
       ∙ ap (λ (z : Date). later_of z (date_by_far far sum)) eb
       ∙ ap (later_of (greatest_from f p m)) here
       ∙ ap (greatest_from f p) n
+
+  -- the same as the code computes it
+  pub split_code : (l r : List ℤ) (k p m : ℕ) (best new : ℤ) → AreCellsBy far bound early never l → AreCellsBy far bound early never r → p + m < length l → k - (p + m) < length r
+      → new ≡ int_max best (to_z width (of_z width (to_z width (of_z width (get_or l (p + m) (pos 0))) +ℤ to_z width (of_z width (get_or r (k - (p + m)) (pos 0)))))) → FitsSigned width new
+      → date_by_far far best ≡ greatest_from (split_of (value_listed (map (date_by_far far) l)) (value_listed (map (date_by_far far) r)) k) p m
+      → date_by_far far (to_z width (of_z width new)) ≡ greatest_from (split_of (value_listed (map (date_by_far far) l)) (value_listed (map (date_by_far far) r)) k) p (m + 1)
+  split_code l r k p m best new hl hr wl wr en fits eb =
+      let sum = sum_code (get_or l (p + m) (pos 0)) (get_or r (k - (p + m)) (pos 0)) (hl (p + m) wl) (hr (k - (p + m)) wr) in
+      ap (date_by_far far) (to_z-of_z width new fits) ∙ split_step l r k p m best _ new hl hr wl wr refl (en ∙ ap (int_max best) sum) eb

@@ -10,7 +10,6 @@ ghost use Rattle.series_laws.specs.ProductNeeds.{beats, anchor_step, anchor_of, 
 ghost use Rattle.series_form.specs.SeriesLimits.{greatest_part_value, greatest_part_product, greatest_part_loss, greatest_star_need};
 ghost use Rattle.series_ops.specs.ListFunctions.{AreUpTo, IsModest};
 
-use crate::cells::greater;
 use dioid::Date;
 use series_form::NeedPlan;
 use series_laws::Anchor;
@@ -123,7 +122,7 @@ fn greatest_loss(values: &[Date], period: usize, step: i128) -> i128
     let start = values.len() - period;
     let mut worst = loss(values, period, step, start);
     for place in 0..period - 1 {
-        worst = greater(worst, loss(values, period, step, start + (place + 1)));
+        worst = worst.max(loss(values, period, step, start + (place + 1)));
     }
     worst
 }

@@ -2,7 +2,6 @@
 //! comparisons of numbers alone: a number far below all others stands for Early, one far above for
 //! Never.
 ghost use Rattle.std.specs.Prelude.{◌≡◌, ◌≤◌, ◌<◌, ◌+◌, ◌-◌, ◌++◌, ◌∷◌, [], length, map, IfOk};
-ghost use Rattle.std.specs.Int.{int_max};
 ghost use Rattle.series_laws.specs.SeriesForms.{table};
 ghost use Rattle.series_form.specs.NumberBounds.{IsMagnitudeUpTo};
 ghost use Rattle.series_form.specs.SeriesLimits.{greatest_listed};
@@ -87,20 +86,6 @@ fn date_of_short(cell: i64) -> Date
     Date::At(cell as i128)
 }
 
-// The greater of two numbers of eight bytes.
-fn greater_short(first: i64, second: i64) -> i64
-    ensures { result ≡ int_max first second }
-{
-    if first < second { second } else { first }
-}
-
-// The greater of two numbers.
-pub(crate) fn greater(first: i128, second: i128) -> i128
-    ensures { result ≡ int_max first second }
-{
-    if first < second { second } else { first }
-}
-
 // Numbers change their sign, Early and Never their places.
 pub(crate) fn conjugate(date: Date) -> Date
     requires { IsMagnitudeUpTo far date }
@@ -171,7 +156,7 @@ impl Cells {
         let whole = self.short.len() == self.numbers.len();
         self.numbers.push(cell(date))?;
         if whole {
-            push_short(&mut self.short, date)?;
+            return push_short(&mut self.short, date);
         }
         Ok(())
     }
@@ -241,7 +226,7 @@ fn greatest_long(first: &[i128], second: &[i128], shift: usize, from: usize, cou
     let mut best = EARLY;
     for place in 0..count {
         let sum = first[from + place] + second[shift - (from + place)];
-        best = greater(best, sum);
+        best = best.max(sum);
     }
     best
 }
@@ -260,7 +245,7 @@ fn greatest_short(first: &[i64], second: &[i64], shift: usize, from: usize, coun
     let mut best = SHORT_EARLY;
     for place in 0..count {
         let sum = first[from + place] + second[shift - (from + place)];
-        best = greater_short(best, sum);
+        best = best.max(sum);
     }
     best
 }

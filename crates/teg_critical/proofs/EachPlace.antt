@@ -41,10 +41,6 @@ kept_by net r mid q s in' is p old = ⊎_elim
     (λ (ne : p.index ≢ q.index). subst (IsSlackOf net r p) (sym (get_or-set_other mid q.index p.index s NoCircuit ne)) old)
     (cases_eq p.index q.index)
 
--- before the first place
-pub told_none : (net : NetLists) (r : Fraction) (endings : List Ending) (slacks : List Slack) → AreToldMore net r (take 0 endings) slacks slacks
-told_none net r endings slacks = record { count = refl; told = λ i d l. absurd (omega arith); kept = λ p h. h }
-
 -- one place more
 pub told_one : (net : NetLists) (r : Fraction) (endings : List Ending) (k : ℕ) (e : Ending) (old mid : List Slack) (s : Slack) → AreToldMore net r (take k endings) old mid → k < length endings → e ≡ get_or endings k e
     → e.place.index < length old → IsSlackOf net r e.place s → AreToldMore net r (take (k + 1) endings) old (set mid e.place.index s)

@@ -1,12 +1,10 @@
 -- Places with their ends, listed one by one.
-use Rattle.std.proofs.Common.{ℕ, ◌+◌, ◌<◌, ◌≤◌, ◌≡◌, List, [], ◌∷◌, ◌++◌, length, get_or, take, refl, sym, ap, subst, ◌∙◌, Option, arith, ⊎_elim}
+use Rattle.std.proofs.Common.{ℕ, ◌<◌, ◌≤◌, ◌≡◌, List, length, get_or, take, refl, sym, ap, subst, ◌∙◌, Option, arith}
 use Rattle.std.specs.Prelude.{All, Contains, IsSome, IsPermutation}
-use Rattle.std.proofs.lemmas.Bool.{cases_lt}
-use Rattle.std.proofs.lemmas.List.{length_push, get_or_default}
-use Rattle.std.proofs.lemmas.List.Elements.{All-push, All-take, Contains-push, Contains-append_left}
+use Rattle.std.proofs.lemmas.List.{get_or_default}
+use Rattle.std.proofs.lemmas.List.Elements.{All-take}
 use Rattle.std.proofs.lemmas.List.Sorted.{All-permutation, Contains-permutation, length_permutation}
 use Rattle.teg_net.specs.declared.entries.PlaceId.{PlaceId}
-use Rattle.teg_net.specs.declared.entries.Place.{Place}
 use Rattle.teg_net.specs.Nets.{NetLists, IsNet, IsPlaceOf}
 use Rattle.teg_net.specs.Circuits.{no_place, place_at}
 use Rattle.teg_critical.specs.declared.endings.Ending.{Ending}
@@ -20,32 +18,6 @@ pub record EndingsUpTo (net : NetLists) (losses : List (Option Loss)) (order : L
   pub few : length order ≤ k
   pub known : All (IsEnding net) order
   pub all : (i : ℕ) → i < k → IsSome (loss_at losses (record { index = i })) → Contains order (ending_at net (record { index = i }))
-
-abbrev pub ending_of : Place → ℕ → Ending
-ending_of q k = record { start = q.from.index; end = q.to.index; place = record { index = k } }
-
-pub ending_more : (net : NetLists) (losses : List (Option Loss)) (order : List Ending) (k : ℕ) (q : Place) → EndingsUpTo net losses order k → k < length net.places → q ≡ place_at net (record { index = k }) → EndingsUpTo net losses (order ++ ending_of q k ∷ []) (k + 1)
-ending_more net losses order k q h l is =
-    let e : Ending = ending_of q k in
-    let own : e ≡ ending_at net (record { index = k }) = ap (λ (z : Place). ending_of z k) is in
-    record {
-      few = (let few = h.few in omega (arith, length_push order e));
-      known = All-push (IsEnding net) order e h.known (record { in_range = l; is = own });
-      all = λ i m some. ⊎_elim
-          (λ (low : i < k). Contains-append_left order (e ∷ []) (ending_at net (record { index = i })) (h.all i low some))
-          (λ (high : k ≤ i). let same : i ≡ k = omega arith in rw same (subst (Contains (order ++ e ∷ [])) own (Contains-push order e)))
-          (cases_lt i k);
-    }
-
-pub ending_skip : (net : NetLists) (losses : List (Option Loss)) (order : List Ending) (k : ℕ) → EndingsUpTo net losses order k → (IsSome (loss_at losses (record { index = k })) → ⊥) → EndingsUpTo net losses order (k + 1)
-ending_skip net losses order k h none = record {
-  few = (let few = h.few in omega arith);
-  known = h.known;
-  all = λ i m some. ⊎_elim
-      (λ (low : i < k). h.all i low some)
-      (λ (high : k ≤ i). let same : i ≡ k = omega arith in absurd (none (rw same at some)))
-      (cases_lt i k);
-}
 
 pub endings_sorted : (net : NetLists) (losses : List (Option Loss)) (order sorted : List Ending) (k : ℕ) → EndingsUpTo net losses order k → k ≡ length net.places → IsPermutation order sorted → AreEndings net losses sorted
 endings_sorted net losses order sorted k h full moved = record {

@@ -1,19 +1,18 @@
 -- What a certificate gives for the loss of one place.
-use Rattle.std.proofs.Common.{ℕ, ℤ, pos, ◌*◌, ◌<◌, ◌≤◌, ◌≡◌, ◌+ℤ◌, ◌-ℤ◌, List, length, get_or, Option, Some, None, refl, sym, ap, subst, ◌∙◌, arith, ⊎_elim}
+use Rattle.std.proofs.Common.{ℕ, ℤ, pos, ◌*◌, ◌<◌, ◌≤◌, ◌≡◌, ◌+ℤ◌, ◌-ℤ◌, List, length, Option, Some, None, refl, sym, ap, subst, ◌∙◌, arith, ⊎_elim}
 use Rattle.std.specs.Prelude.{◌≤ℤ◌}
 use Rattle.std.specs.Int.Signed.{pos-nat_abs, yes_non_neg}
 use Rattle.std.proofs.Math.IntN.{nat_abs}
 use Rattle.std.proofs.Math.Nat.{mul-le-mul_left}
 use Rattle.std.proofs.lemmas.Bool.{cases_lt}
 use Rattle.std.proofs.lemmas.Int.{ints}
-use Rattle.std.proofs.lemmas.List.{get_or_past, get_or_read}
+use Rattle.std.proofs.lemmas.List.{get_or_past}
 use Rattle.teg_net.specs.declared.entries.PlaceId.{PlaceId}
 use Rattle.teg_net.specs.declared.entries.Place.{Place}
 use Rattle.teg_net.specs.declared.answers.Potential.{Potential}
 use Rattle.teg_net.specs.declared.answers.PartAnswer.{PartAnswer}
 use Rattle.teg_net.specs.declared.answers.PartAnswer.TheVariants.{NoCircuit, Best}
 use Rattle.teg_net.specs.declared.answers.CycleAnswer.{CycleAnswer}
-use Rattle.teg_net.specs.declared.circuits.Circuit.{Circuit}
 use Rattle.teg_net.specs.Limits.{greatest_checked_potential}
 use Rattle.teg_net.specs.Nets.{NetLists, IsNet, IsPlaceOf}
 use Rattle.teg_net.specs.Ratios.{Fraction, IsRatioWithin}
@@ -24,8 +23,7 @@ use Rattle.teg_net.specs.GreatestRatios.{ratio_in, ratio_at, IsFirstGreatest}
 use Rattle.teg_net.specs.Certificates.{potential_at, IsBestCertificate, IsPartCertificate, IsCertificate}
 use Rattle.teg_cycle.specs.BestRatios.{named_ratio, best_ratio_of}
 use Rattle.teg_critical.specs.declared.losses.Loss.{Loss}
-use Rattle.teg_critical.specs.Losses.{most_lost, IsLost, CanLose, ratio_of, potentials_of, IsLossOf, IsLossIn, answer_of_part, part_of_transition, IsPlaceLoss}
-use Rattle.teg_critical.specs.Told.{CanLoseBy}
+use Rattle.teg_critical.specs.Losses.{most_lost, IsLost, CanLose, CanLoseIn, IsLossIn, answer_of_part, part_of_transition, IsPlaceLoss}
 use Rattle.teg_critical.proofs.Listed.{potential_within}
 
 -- what lies between two whole numbers
@@ -68,6 +66,28 @@ named answers (Some k) r e = (k, refl, e)
 best_of : (answer : CycleAnswer) (r : Fraction) → best_ratio_of answer ≡ Some r → IsBestOf answer r
 best_of answer r e = let w = named answer.parts.items answer.best r e in record { part = w.0; best = w.1; told = w.2 }
 
+-- the part of a place has an answer
+pub part_low : (net : NetLists) (answer : CycleAnswer) → IsCertificate net answer → (p : PlaceId) (k : ℕ) → IsPlaceOfPart net answer.part_of.items k p → k < length answer.parts.items
+part_low net answer h p k inside = subst (λ (z : ℕ). z < length answer.parts.items) inside.from_member.here (h.below (from_of net p) 0 inside.from_member.in_range)
+
+-- a place whose ends have this part's number
+pub in_part : (net : NetLists) (answer : CycleAnswer) → IsCertificate net answer → IsNet net → (p : PlaceId) (k : ℕ) → p.index < length net.places
+    → part_of_transition answer (from_of net p) ≡ k → part_of_transition answer (to_of net p) ≡ k → IsPlaceOfPart net answer.part_of.items k p
+in_part net answer h ok p k l from to =
+    let rules : IsPlaceOf net (place_at net p) = ok.each_place p.index no_place l in
+    let count = h.count in
+    let from_in = rules.from_in in
+    let to_in = rules.to_in in
+    record { in_range = l; from_member = record { in_range = omega arith; here = from }; to_member = record { in_range = omega arith; here = to } }
+
+-- what a place of a part loses there is its loss
+pub is_loss : (net : NetLists) (answer : CycleAnswer) (best : Fraction) (p : PlaceId) (k : ℕ) → IsPlaceOfPart net answer.part_of.items k p
+    → (loss : Option Loss) → IsLossIn best (answer_of_part answer k) (place_at net p) loss → IsPlaceLoss net answer best p loss
+is_loss net answer best p k inside loss is = record {
+  inside = λ e. subst (λ (z : ℕ). IsLossIn best (answer_of_part answer z) (place_at net p) loss) (sym inside.from_member.here) is;
+  apart = λ ne. absurd (ne (inside.from_member.here ∙ sym inside.to_member.here));
+}
+
 module _ (net : NetLists) (answer : CycleAnswer) (h : IsCertificate net answer) (best : Fraction) (is_best : best_ratio_of answer ≡ Some best) where
   b : IsBestOf answer best
   b = best_of answer best is_best
@@ -93,61 +113,16 @@ module _ (net : NetLists) (answer : CycleAnswer) (h : IsCertificate net answer) 
         same_told : (o : Option Fraction) (x y : Fraction) → o ≡ Some x → o ≡ Some y → x ≡ y
         same_told o x y f g = (let z : Some x ≡ Some y = sym f ∙ g in cc)
 
-  -- the part of a place, and its answer, as they are read
-  pub read_part : IsNet net → (p : PlaceId) → p.index < length net.places → (q : Place) → q ≡ place_at net p → (k : ℕ) → k ≡ get_or answer.part_of.items q.from.index k → (to : ℕ) → to ≡ get_or answer.part_of.items q.to.index to → to ≡ k
-      → (read : PartAnswer) → read ≡ get_or answer.parts.items k read → (k ≡ part_of_transition answer q.from.index) × (part_of_transition answer q.to.index ≡ k) × (read ≡ answer_of_part answer k)
-  read_part ok p l q q_is k k_read to to_read same read is =
-      let rules : IsPlaceOf net q = subst (IsPlaceOf net) (sym q_is) (ok.each_place p.index no_place l) in
-      let count = h.count in
-      let from_in = rules.from_in in
-      let to_in = rules.to_in in
-      let from_low : q.from.index < length answer.part_of.items = omega arith in
-      let to_low : q.to.index < length answer.part_of.items = omega arith in
-      let k_is : k ≡ part_of_transition answer q.from.index = get_or_read answer.part_of.items q.from.index k from_low k_read 0 in
-      let to_is : to ≡ part_of_transition answer q.to.index = get_or_read answer.part_of.items q.to.index to to_low to_read 0 in
-      let below : part_of_transition answer q.from.index < length answer.parts.items = h.below q.from.index 0 from_low in
-      (k_is, sym to_is ∙ same, get_or_read answer.parts.items k read (omega arith) is NoCircuit)
+  -- a place of part k
+  module _ (ok : IsNet net) (p : PlaceId) (k : ℕ) (inside : IsPlaceOfPart net answer.part_of.items k p) where
+    rules : IsPlaceOf net (place_at net p)
+    rules = ok.each_place p.index no_place inside.in_range
 
-  -- a place with both ends in part k, whose answer tells a ratio
-  module _ (ok : IsNet net) (p : PlaceId) (l : p.index < length net.places) (q : Place) (q_is : q ≡ place_at net p) (k : ℕ) (k_is : k ≡ part_of_transition answer q.from.index) (to_is : part_of_transition answer q.to.index ≡ k)
-      (r : Fraction) (c : Circuit) (vs : List Potential) (told : PartAnswer) (told_is : told ≡ answer_of_part answer k) (certificate : k < length answer.parts.items → IsPartCertificate net answer.part_of.items k told → IsBestCertificate net answer.part_of.items k r c.places.items vs)
-      (ratio_is : ratio_of told ≡ r) (ratio_told : ratio_in told ≡ Some r) (potentials_is : potentials_of told ≡ vs) where
-    rules : IsPlaceOf net q
-    rules = subst (IsPlaceOf net) (sym q_is) (ok.each_place p.index no_place l)
-
-    from_is : part_of_transition answer (from_of net p) ≡ k
-    from_is = ap (λ (z : Place). part_of_transition answer z.from.index) (sym q_is) ∙ sym k_is
-
-    there : part_of_transition answer (to_of net p) ≡ k
-    there = ap (λ (z : Place). part_of_transition answer z.to.index) (sym q_is) ∙ to_is
-
-    inside : IsPlaceOfPart net answer.part_of.items k p
-    inside =
-        let own : IsPlaceOf net (place_at net p) = ok.each_place p.index no_place l in
-        let count = h.count in
-        let from_in = own.from_in in
-        let to_in = own.to_in in
-        record { in_range = l; from_member = record { in_range = omega arith; here = from_is }; to_member = record { in_range = omega arith; here = there } }
-
-    part_low : k < length answer.parts.items
-    part_low =
-        let low : part_of_transition answer (from_of net p) < length answer.parts.items = h.below (from_of net p) 0 (let m = inside.from_member.in_range in m) in
-        subst (λ (z : ℕ). z < length answer.parts.items) from_is low
-
-    facts : IsBestCertificate net answer.part_of.items k r c.places.items vs
-    facts = certificate part_low (subst (IsPartCertificate net answer.part_of.items k) (sym told_is) (h.parts k part_low))
-
-    small_own : IsRatioWithin r
-    small_own = record { time_in = facts.time_in; tokens_in = facts.tokens_in }
-
-    below_own : r.time * best.tokens ≤ best.time * r.tokens
-    below_own = below_best k r (ap ratio_in (sym told_is) ∙ ratio_told)
-
-    can_lose : CanLose (reduced_time_of_place r q) (potential_at vs q.from.index) (potential_at vs q.to.index)
-    can_lose =
-        let keeps : (reduced_time_of_place r (place_at net p) +ℤ potential_at vs (from_of net p)) ≤ℤ potential_at vs (to_of net p) = facts.potentials p inside in
-        let own : (reduced_time_of_place r q +ℤ potential_at vs q.from.index) ≤ℤ potential_at vs q.to.index = subst (λ (z : Place). (reduced_time_of_place r z +ℤ potential_at vs z.from.index) ≤ℤ potential_at vs z.to.index) (sym q_is) keeps in
-        let gap = gap_of (reduced_time_of_place r q +ℤ potential_at vs q.from.index) (potential_at vs q.to.index) own in
+    can_lose : (r : Fraction) (c : List PlaceId) (vs : List Potential) → IsBestCertificate net answer.part_of.items k r c vs
+        → CanLose (reduced_time_of_place r (place_at net p)) (potential_at vs (from_of net p)) (potential_at vs (to_of net p))
+    can_lose r c vs facts =
+        let q : Place = place_at net p in
+        let gap = gap_of (reduced_time_of_place r q +ℤ potential_at vs q.from.index) (potential_at vs q.to.index) (facts.potentials p inside) in
         let is : IsLost (reduced_time_of_place r q) (potential_at vs q.from.index) (potential_at vs q.to.index) gap.0 = grouped gap.0 (reduced_time_of_place r q) (potential_at vs q.from.index) (potential_at vs q.to.index) gap.1 in
         let start = potential_within vs q.from.index facts.within in
         let above = potential_within vs q.to.index facts.within in
@@ -158,26 +133,17 @@ module _ (net : NetLists) (answer : CycleAnswer) (h : IsCertificate net answer) 
           grouped : (n : ℕ) (w s t : ℤ) → (pos n +ℤ (w +ℤ s)) ≡ t → ((pos n +ℤ w) +ℤ s) ≡ t
           grouped n w s t e = omega (arith, ints, e)
 
-    pub can_lose_by : CanLoseBy best r vs q
-    can_lose_by = record {
+    by_answer : (part : PartAnswer) → IsPartCertificate net answer.part_of.items k part → ((r : Fraction) → ratio_in part ≡ Some r → r.time * best.tokens ≤ best.time * r.tokens) → CanLoseIn best part (place_at net p)
+    by_answer NoCircuit facts below = facts p inside
+    by_answer (Best ratio circuit potentials) facts below = record {
       best_small = best_told.small;
-      own_small = small_own;
+      own_small = record { time_in = facts.time_in; tokens_in = facts.tokens_in };
       some = facts.terms.some;
-      below = below_own;
+      below = below ratio refl;
       hold = rules.hold_in;
       tokens = rules.tokens_in;
-      can_lose = can_lose;
+      can_lose = can_lose ratio circuit.places.items potentials.items facts;
     }
 
-    -- what the place is told is its loss
-    pub is_loss : (loss : Loss) → IsLossOf best r (potential_at vs q.from.index) (potential_at vs q.to.index) q loss → IsPlaceLoss net answer best p (Some loss)
-    is_loss loss one =
-        let P : Fraction → List Potential → Place → Type 0 = λ f us z. IsLossOf best f (potential_at us z.from.index) (potential_at us z.to.index) z loss in
-        let two : P (ratio_of told) vs q = subst (λ (f : Fraction). P f vs q) (sym ratio_is) one in
-        let three : P (ratio_of told) (potentials_of told) q = subst (λ (us : List Potential). P (ratio_of told) us q) (sym potentials_is) two in
-        let four : P (ratio_of told) (potentials_of told) (place_at net p) = subst (λ (z : Place). P (ratio_of told) (potentials_of told) z) q_is three in
-        let five : IsLossIn net answer best k p (Some loss) = subst (λ (z : PartAnswer). P (ratio_of z) (potentials_of z) (place_at net p)) told_is four in
-        record {
-          inside = λ e. subst (λ (z : ℕ). IsLossIn net answer best z p (Some loss)) (sym from_is) five;
-          apart = λ ne. absurd (ne (from_is ∙ sym there));
-        }
+    pub can_lose_in : CanLoseIn best (answer_of_part answer k) (place_at net p)
+    can_lose_in = by_answer (answer_of_part answer k) (h.parts k (part_low net answer h p k inside)) (below_best k)

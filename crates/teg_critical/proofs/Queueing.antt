@@ -222,7 +222,7 @@ queue_begins net losses start none settled n empty queue searching is l nothing 
           (cases_eq u start);
     }
 
-module _ (net : NetLists) (losses : List (Option Loss)) (start : ℕ) (least : List (Option ℕ)) (settled : List Bool) (first : Entry) (queue rest : List Entry) (h : IsQueueing net losses start least settled queue)
+module _ {net : NetLists} {losses : List (Option Loss)} {start : ℕ} {least : List (Option ℕ)} {settled : List Bool} {first : Entry} {queue rest : List Entry} (h : IsQueueing net losses start least settled queue)
     (moved : IsPermutation queue (first ∷ rest)) where
   -- the other entries
   elsewhere : (u d : ℕ) → u ≢ first.0.1 → Contains queue (entry d u) → Contains rest (entry d u)
@@ -271,9 +271,9 @@ module _ (net : NetLists) (losses : List (Option Loss)) (start : ℕ) (least : L
 
   -- it is settled, and its steps are taken
   pub goes_on :
-      (steps : List LossStep) (new : List (Option ℕ)) (after : List Entry) → first.0.1 < length settled → IsRelaxed steps first.0.0 least new → AreQueued least new rest after
+      {steps : List LossStep} {new : List (Option ℕ)} {after : List Entry} → first.0.1 < length settled → IsRelaxed steps first.0.0 least new → AreQueued least new rest after
       → IsHeap nearest_first rest → IsSearching net losses start new (set settled first.0.1 true) → IsQueueing net losses start new (set settled first.0.1 true) after
-  goes_on steps new after in' relaxed queued heap searching =
+  goes_on in' relaxed queued heap searching =
       let at : ℕ = first.0.1 in
       let apart : (u : ℕ) → is_settled (set settled at true) u ≡ false → u ≢ at =
       λ u opened q. true_false (is_settled (set settled at true) at) (get_or-set_same settled at true true in') (ap (is_settled (set settled at true)) (sym q) ∙ opened) in
@@ -293,8 +293,8 @@ module _ (net : NetLists) (losses : List (Option Loss)) (start : ℕ) (least : L
       }
 
 -- an empty queue ends it
-pub queue_over : (net : NetLists) (losses : List (Option Loss)) (start : ℕ) (least : List (Option ℕ)) (settled : List Bool) → IsQueueing net losses start least settled [] → IsOver least settled
-queue_over net losses start least settled h u opened = by_told (told_at least u) refl where
+pub queue_over : {net : NetLists} {losses : List (Option Loss)} {start : ℕ} {least : List (Option ℕ)} {settled : List Bool} → IsQueueing net losses start least settled [] → IsOver least settled
+queue_over {net} {losses} {start} {least} {settled} h u opened = by_told (told_at least u) refl where
   by_told : (o : Option ℕ) → told_at least u ≡ o → told_at least u ≡ None
   by_told None e = e
   by_told (Some d) e = absurd (contains_none (entry d u) (h.waits u d opened e))

@@ -66,8 +66,8 @@ module _ (net : NetLists) (ok : IsNet net) (answer : CycleAnswer) (h : IsCertifi
   pub has_loss : (k : ℕ) (p : PlaceId) → IsPlaceOfPart net parts k p → HasLoss k p
   has_loss k p inside =
       let told = (lost.each p inside.in_range).inside (inside.from_member.here ∙ sym inside.to_member.here) in
-      by_told (loss_at losses p) refl (subst (λ (z : ℕ). IsLossIn net answer r z p (loss_at losses p)) inside.from_member.here told) where
-        by_told : (o : Option Loss) → loss_at losses p ≡ o → IsLossIn net answer r k p o → HasLoss k p
+      by_told (loss_at losses p) refl (subst (λ (z : ℕ). IsLossIn r (answer_of_part answer z) (place_at net p) (loss_at losses p)) inside.from_member.here told) where
+        by_told : (o : Option Loss) → loss_at losses p ≡ o → IsLossIn r (answer_of_part answer k) (place_at net p) o → HasLoss k p
         by_told None e f = absurd f
         by_told (Some loss) e f = record { loss = loss; told = e; is = f }
 

@@ -38,7 +38,7 @@ none_some o d e f = cc
 pub same_some : (o : Option ℕ) (d e : ℕ) → o ≡ Some d → o ≡ Some e → d ≡ e
 same_some o d e f g = (let h : Some d ≡ Some e = sym f ∙ g in cc)
 
-module _ (net : NetLists) (losses : List (Option Loss)) (start : ℕ) (least : List (Option ℕ)) (settled : List Bool) (s : IsSearching net losses start least settled) where
+module _ {net : NetLists} {losses : List (Option Loss)} {start : ℕ} {least : List (Option ℕ)} {settled : List Bool} (s : IsSearching net losses start least settled) where
   -- a transition of which no more is told than of those that are not settled
   module _ (t : ℕ) (stop : (u d : ℕ) → is_settled settled u ≡ false → told_at least u ≡ Some d → IsToldWithin (told_at least t) d) where
     -- no path loses less than is told of its end, or of this transition

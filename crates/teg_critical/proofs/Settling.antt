@@ -32,8 +32,8 @@ one_more : (p : PlaceId) → (P : PlaceId → Type 0) → P p → All P (p ∷ [
 one_more p P h zero d l = h
 one_more p P h (suc i) d l = absurd (omega arith)
 
-module _ (net : NetLists) (losses : List (Option Loss)) (start : ℕ) (least : List (Option ℕ)) (settled : List Bool) (s : IsSearching net losses start least settled)
-    (at base : ℕ) (near : IsNearest least settled at base) (steps : List LossStep) (from : AreStepsFrom net losses at steps) (new : List (Option ℕ)) (relaxed : IsRelaxed steps base least new) where
+module _ {net : NetLists} {losses : List (Option Loss)} {start : ℕ} {least : List (Option ℕ)} {settled : List Bool} (s : IsSearching net losses start least settled)
+    {at base : ℕ} (near : IsNearest least settled at base) {steps : List LossStep} (from : AreStepsFrom net losses at steps) {new : List (Option ℕ)} (relaxed : IsRelaxed steps base least new) where
   told : told_at least at ≡ Some base
   told = near.told
 

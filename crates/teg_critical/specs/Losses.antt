@@ -6,9 +6,9 @@ use Rattle.teg_net.specs.declared.answers.Potential.{Potential}
 use Rattle.teg_net.specs.declared.answers.PartAnswer.{PartAnswer}
 use Rattle.teg_net.specs.declared.answers.PartAnswer.TheVariants.{NoCircuit, Best}
 use Rattle.teg_net.specs.declared.answers.CycleAnswer.{CycleAnswer}
-use Rattle.teg_net.specs.Limits.{greatest_checked_potential}
+use Rattle.teg_net.specs.Limits.{greatest_hold, greatest_checked_potential, most_place_tokens}
 use Rattle.teg_net.specs.Nets.{NetLists}
-use Rattle.teg_net.specs.Ratios.{Fraction}
+use Rattle.teg_net.specs.Ratios.{Fraction, IsRatioWithin}
 use Rattle.teg_net.specs.Circuits.{place_at, from_of}
 use Rattle.teg_net.specs.Parts.{to_of}
 use Rattle.teg_net.specs.ReducedTimes.{IsMagnitudeWithin, reduced_time_of_place}
@@ -49,6 +49,21 @@ abbrev pub potentials_of : PartAnswer → List Potential
 potentials_of NoCircuit = []
 potentials_of (Best ratio circuit potentials) = potentials.items
 
+-- a place loses in a part with this ratio, which is no greater, and these potentials, and all keep their limits
+pub record CanLoseBy (best own : Fraction) (potentials : List Potential) (p : Place) : Type 0 where
+  pub best_small : IsRatioWithin best
+  pub own_small : IsRatioWithin own
+  pub some : 1 ≤ own.tokens
+  pub below : own.time * best.tokens ≤ best.time * own.tokens
+  pub hold : p.hold ≤ greatest_hold
+  pub tokens : p.tokens ≤ most_place_tokens
+  pub can_lose : CanLose (reduced_time_of_place own p) (potential_at potentials p.from.index) (potential_at potentials p.to.index)
+
+-- the same in a part with this answer, which tells a ratio
+abbrev pub CanLoseIn : Fraction → PartAnswer → Place → Type 0
+CanLoseIn best NoCircuit p = ⊥
+CanLoseIn best (Best ratio circuit potentials) p = CanLoseBy best ratio potentials.items p
+
 -- the loss of a place in a part with this ratio, between these potentials of its ends
 pub record IsLossOf (best own : Fraction) (start above : ℤ) (p : Place) (l : Loss) : Type 0 where
   pub scale : l.scale ≡ own.tokens
@@ -63,21 +78,25 @@ pub record IsLossOf (best own : Fraction) (start above : ℤ) (p : Place) (l : L
 abbrev pub answer_of_part : CycleAnswer → ℕ → PartAnswer
 answer_of_part answer k = slice_index_or answer.parts.items k NoCircuit
 
--- the loss of a place whose ends lie in part k
-abbrev pub IsLossIn : NetLists → CycleAnswer → Fraction → ℕ → PlaceId → Option Loss → Type 0
-IsLossIn net answer best k p None = ⊥
-IsLossIn net answer best k p (Some l) =
-    let q = answer_of_part answer k in
-    IsLossOf best (ratio_of q) (potential_at (potentials_of q) (from_of net p)) (potential_at (potentials_of q) (to_of net p)) (place_at net p) l
+-- the loss of a place whose ends lie in a part with this answer
+abbrev pub IsLossIn : Fraction → PartAnswer → Place → Option Loss → Type 0
+IsLossIn best part p None = ⊥
+IsLossIn best part p (Some l) =
+    IsLossOf best (ratio_of part) (potential_at (potentials_of part) p.from.index) (potential_at (potentials_of part) p.to.index) p l
 
 -- the number of the transition's part
 abbrev pub part_of_transition : CycleAnswer → ℕ → ℕ
 part_of_transition answer t = slice_index answer.part_of.items t
 
+-- the ends of the place lie in two parts
+abbrev pub IsBetweenParts : NetLists → CycleAnswer → PlaceId → Type 0
+IsBetweenParts net answer p = part_of_transition answer (from_of net p) ≢ part_of_transition answer (to_of net p)
+
 -- the loss of a place with both ends in one part, and none where they lie in two
 pub record IsPlaceLoss (net : NetLists) (answer : CycleAnswer) (best : Fraction) (p : PlaceId) (l : Option Loss) : Type 0 where
-  pub inside : part_of_transition answer (from_of net p) ≡ part_of_transition answer (to_of net p) → IsLossIn net answer best (part_of_transition answer (from_of net p)) p l
-  pub apart : part_of_transition answer (from_of net p) ≢ part_of_transition answer (to_of net p) → l ≡ None
+  pub inside : part_of_transition answer (from_of net p) ≡ part_of_transition answer (to_of net p)
+      → IsLossIn best (answer_of_part answer (part_of_transition answer (from_of net p))) (place_at net p) l
+  pub apart : IsBetweenParts net answer p → l ≡ None
 
 -- what is told of the place
 abbrev pub loss_at : List (Option Loss) → PlaceId → Option Loss

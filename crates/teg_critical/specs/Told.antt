@@ -1,32 +1,18 @@
 -- Working definitions of how each place is told its slack.
-use Rattle.std.specs.Prelude.{ℕ, ◌*◌, ◌/◌, ◌<◌, ◌≤◌, ◌≡◌, List, length, Option, slice_index_or, replicate, All}
+use Rattle.std.specs.Prelude.{ℕ, ◌/◌, ◌<◌, ◌≡◌, List, length, Option, slice_index_or, replicate, All}
 use Rattle.teg_net.specs.declared.entries.PlaceId.{PlaceId}
-use Rattle.teg_net.specs.declared.entries.Place.{Place}
-use Rattle.teg_net.specs.declared.answers.Potential.{Potential}
 use Rattle.teg_net.specs.declared.answers.CycleAnswer.{CycleAnswer}
-use Rattle.teg_net.specs.Limits.{greatest_hold, most_place_tokens}
 use Rattle.teg_net.specs.Nets.{NetLists, IsNet}
 use Rattle.teg_net.specs.Ratios.{Fraction, IsRatioWithin}
 use Rattle.teg_net.specs.Circuits.{IsLive}
 use Rattle.teg_net.specs.GreatestRatios.{IsGreatestRatio, IsAnyPlace}
-use Rattle.teg_net.specs.Certificates.{potential_at, IsCertificate}
-use Rattle.teg_net.specs.ReducedTimes.{reduced_time_of_place}
+use Rattle.teg_net.specs.Certificates.{IsCertificate}
 use Rattle.teg_critical.specs.declared.endings.Ending.{Ending}
 use Rattle.teg_critical.specs.declared.losses.Loss.{Loss}
 use Rattle.teg_critical.specs.declared.slacks.Slack.{Slack}
 use Rattle.teg_critical.specs.declared.slacks.Slack.TheVariants.{NoCircuit, Critical, Rise}
 use Rattle.teg_critical.specs.Slacks.{IsSlackOf}
-use Rattle.teg_critical.specs.Losses.{CanLose, AreLosses}
-
--- a place loses in a part with this ratio, which is no greater, and these potentials, and all keep their limits
-pub record CanLoseBy (best own : Fraction) (potentials : List Potential) (p : Place) : Type 0 where
-  pub best_small : IsRatioWithin best
-  pub own_small : IsRatioWithin own
-  pub some : 1 ≤ own.tokens
-  pub below : own.time * best.tokens ≤ best.time * own.tokens
-  pub hold : p.hold ≤ greatest_hold
-  pub tokens : p.tokens ≤ most_place_tokens
-  pub can_lose : CanLose (reduced_time_of_place own p) (potential_at potentials p.from.index) (potential_at potentials p.to.index)
+use Rattle.teg_critical.specs.Losses.{AreLosses}
 
 -- the slack that a gap tells, given the gap times the scale
 abbrev pub IsSlackOfGap : ℕ → ℕ → Fraction → Slack → Type 0

@@ -1,13 +1,13 @@
 //! What places lose against the net's greatest ratio: by the potentials of the answer no place
 //! gains, so that the best path back is one that loses least (chapter 3).
-ghost use Rattle.std.specs.Prelude.{◌≡◌, ◌≤◌, ◌<◌, ◌*◌, length, IfOk, Some};
+ghost use Rattle.std.specs.Prelude.{◌≡◌, ◌≤◌, ◌<◌, ◌*◌, length, IfOk, IfSome, IfNone, Some};
 ghost use Rattle.teg_net.specs.Limits.{greatest_hold, most_place_tokens};
 ghost use Rattle.teg_net.specs.Certificates.{potential_at, IsCertificate};
+ghost use Rattle.teg_net.specs.Parts.{IsPlaceOfPart};
 ghost use Rattle.teg_net.specs.ReducedTimes.{reduced_time_of_place};
 ghost use Rattle.teg_net.specs.Ratios.{IsRatioWithin};
 ghost use Rattle.teg_cycle.specs.BestRatios.{best_ratio_of};
-ghost use Rattle.teg_critical.specs.Losses.{most_lost, most_loss, IsLost, CanLose, loss_at_best, IsLossOf, IsPlaceLoss, AreLosses};
-ghost use Rattle.teg_critical.specs.Told.{CanLoseBy};
+ghost use Rattle.teg_critical.specs.Losses.{most_lost, most_loss, IsLost, CanLose, CanLoseBy, CanLoseIn, loss_at_best, IsLossOf, IsLossIn, part_of_transition, IsBetweenParts, IsPlaceLoss, AreLosses};
 
 use std::alloc::{AllocError, Global};
 use teg_net::{CycleAnswer, Net, PartAnswer, Place, PlaceId, Potential, Ratio, TransitionId};
@@ -84,19 +84,12 @@ fn loss_by(best: Ratio, own: Ratio, potentials: &[Potential], place: &Place) -> 
     }
 }
 
-// What a place loses; none where its ends lie in two parts.
-fn loss_of(net: &Net, answer: &CycleAnswer, best: Ratio, place: PlaceId) -> Option<Loss>
-    requires certificate { IsCertificate net.now answer.now }
-    requires best { best_ratio_of answer.now ≡ Some best }
-    requires place { place.index < length net.now.places }
-    ensures { IsPlaceLoss net.now answer.now best place result }
+// What a place loses in a part with this answer.
+fn loss_in(best: Ratio, part: &PartAnswer, place: &Place) -> Option<Loss>
+    requires { CanLoseIn best part.now place.now }
+    ensures { IsLossIn best part.now place.now result }
 {
-    let place = &net.places()[place.index as usize];
-    let part = answer.part_of[place.from.index as usize];
-    if answer.part_of[place.to.index as usize] != part {
-        return None;
-    }
-    match &answer.parts[part as usize] {
+    match part {
         PartAnswer::NoCircuit => None,
         PartAnswer::Best {
             ratio,
@@ -104,6 +97,46 @@ fn loss_of(net: &Net, answer: &CycleAnswer, best: Ratio, place: PlaceId) -> Opti
             ..
         } => Some(loss_by(best, *ratio, potentials, place)),
     }
+}
+
+// The number of a transition's part.
+fn part_of_transition(answer: &CycleAnswer, transition: TransitionId) -> u32
+    requires { transition.index < length answer.now.part_of.items }
+    ensures { result ≡ part_of_transition answer.now transition.index }
+{
+    answer.part_of[transition.index as usize]
+}
+
+// The number of the part in which a place lies; none where its ends lie in two.
+fn part_of_place(net: &Net, answer: &CycleAnswer, place: PlaceId) -> Option<u32>
+    requires certificate { IsCertificate net.now answer.now }
+    requires place { place.index < length net.now.places }
+    ensures inside { IfSome result (λ part.
+        IsPlaceOfPart net.now answer.now.part_of.items part place) }
+    ensures apart { IfNone result (IsBetweenParts net.now answer.now place) }
+{
+    let place = &net.places()[place.index as usize];
+    let part = part_of_transition(answer, place.from);
+    if part_of_transition(answer, place.to) == part {
+        Some(part)
+    } else {
+        None
+    }
+}
+
+// What a place loses; none where its ends lie in two parts.
+fn loss_of(net: &Net, answer: &CycleAnswer, best: Ratio, place: PlaceId) -> Option<Loss>
+    requires certificate { IsCertificate net.now answer.now }
+    requires best { best_ratio_of answer.now ≡ Some best }
+    requires place { place.index < length net.now.places }
+    ensures { IsPlaceLoss net.now answer.now best place result }
+{
+    let part = part_of_place(net, answer, place)?;
+    loss_in(
+        best,
+        &answer.parts[part as usize],
+        &net.places()[place.index as usize],
+    )
 }
 
 // What each place loses.

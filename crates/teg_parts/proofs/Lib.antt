@@ -1,4 +1,3 @@
-pub mod FarEnds
 pub mod Marks
 pub mod Linking
 pub mod Reaching

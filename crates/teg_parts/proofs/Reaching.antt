@@ -12,10 +12,9 @@ use Rattle.teg_net.specs.Parts.{Reaches, to_of}
 use Rattle.teg_net.proofs.PathLaws.{IsPathBetween-append}
 use Rattle.teg_parts.specs.declared.places_along.Way.{Way}
 use Rattle.teg_parts.specs.declared.places_along.Way.TheVariants.{Onward, Back}
-use Rattle.teg_parts.specs.PlacesAlong.{near_of, Leads, AddsPlacesAlong}
+use Rattle.teg_parts.specs.PlacesAlong.{near_of, far_of, Leads, AddsPlacesAlong}
 use Rattle.teg_parts.specs.Components.{IsMarked, AreReachedMarks}
 use Rattle.teg_parts.proofs.Marks.{flag_past, false_not_true, set_flag, set_flag_before}
-use Rattle.teg_parts.proofs.FarEnds.{far_of}
 
 -- ---- paths
 pub reaches_itself : (net : NetLists) (a : ℕ) → Reaches net a a
@@ -57,7 +56,7 @@ pub record IsSearch (net : NetLists) (way : Way) (start : ℕ) (marks : List Boo
   pub waiting : (k : ℕ) (d : PlaceId) → k < length agenda → IsWaiting net way marks (get_or agenda k d)
   pub closed : (p : PlaceId) → IsWaiting net way marks p → Contains agenda p ⊎ IsMarked marks (far_of way net p)
 
-module _ (net : NetLists) (way : Way) (start : ℕ) where
+module _ {net : NetLists} {way : Way} {start : ℕ} where
   -- a transition to which a path goes is marked, and the places from there are listed
   module _ (marks : List Bool) (ag ag' : List PlaceId) (t : ℕ) (count : length marks ≡ length net.transitions) (t_in : t < length net.transitions)
       (led : (u : ℕ) → IsMarked marks u → Leads net way start u) (to_t : Leads net way start t) (begun : IsMarked marks start ⊎ (start ≡ t))
@@ -110,7 +109,10 @@ module _ (net : NetLists) (way : Way) (start : ℕ) where
       adds
 
   -- the last place of the list is taken up
-  module _ (marks : List Bool) (rest : List PlaceId) (p : PlaceId) (h : IsSearch net way start marks (rest ++ p ∷ [])) where
+  module _ {marks : List Bool} {agenda : List PlaceId} (rest : List PlaceId) (p : PlaceId) (is : agenda ≡ rest ++ p ∷ []) (before : IsSearch net way start marks agenda) where
+    h : IsSearch net way start marks (rest ++ p ∷ [])
+    h = subst (IsSearch net way start marks) is before
+
     waits : (k : ℕ) (d : PlaceId) → k < length rest → IsWaiting net way marks (get_or rest k d)
     waits k d l = let long = length_push rest p in subst (IsWaiting net way marks) (get_or_append_left rest (p ∷ []) d k l) (h.waiting k d (omega arith))
 

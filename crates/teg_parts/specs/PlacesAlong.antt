@@ -23,6 +23,10 @@ far_in Back place = place.from.index
 abbrev pub near_of : Way → NetLists → PlaceId → ℕ
 near_of way net p = near_in way (place_at net p)
 
+-- and that to which one comes along it
+abbrev pub far_of : Way → NetLists → PlaceId → ℕ
+far_of way net p = far_in way (place_at net p)
+
 -- a path goes this way from transition a to transition b
 abbrev pub Leads : NetLists → Way → ℕ → ℕ → Type 0
 Leads net Onward a b = Reaches net a b

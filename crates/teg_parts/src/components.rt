@@ -2,14 +2,23 @@
 //! there reaches, and what one against them reaches.
 ghost use Rattle.std.specs.Prelude.{◌≡◌, ◌<◌, length, IfOk, OnOk};
 ghost use Rattle.teg_net.specs.Nets.{IsNet};
-ghost use Rattle.teg_parts.specs.PlacesAlong.{ArePlacesAlong};
+ghost use Rattle.teg_parts.specs.PlacesAlong.{far_of, ArePlacesAlong};
 ghost use Rattle.teg_parts.specs.declared.places_along.Way.TheVariants.{Onward, Back};
 ghost use Rattle.teg_parts.specs.Components.{AreReachedMarks, AreFound, IsRooted, HasFound, AreComponents};
 
 use crate::numbers::numbers_of;
 use crate::places_along::{PlacesAlong, Way, far_end, places_along, push_places_along};
 use std::alloc::{AllocError, Global};
-use teg_net::Net;
+use teg_net::{Net, PlaceId};
+
+// The transition to which one comes along the place of this number.
+fn far_from(net: &Net, way: Way, id: PlaceId) -> usize
+    requires { id.index < length net.now.places }
+    ensures value { result ≡ far_of way net.now id }
+    ensures bound { result < length net.now.transitions }
+{
+    far_end(way, &net.places()[id.index as usize])
+}
 
 // The transitions to which a path goes from the start, marked: a place is gone along once at most.
 fn led_from(
@@ -22,13 +31,12 @@ fn led_from(
     requires start { start < length net.now.transitions }
     ensures { IfOk result (λ marks. AreReachedMarks net.now along.now.way start marks.items) }
 {
-    let places = net.places();
     let mut marks = vec![in alloc; false; net.transitions().len()]?;
     let mut agenda = Vec::new(alloc);
     marks[start] = true;
     push_places_along(net, along, start, &mut agenda)?;
     'search: while let Some(id) = agenda.pop() {
-        let far = far_end(along.way, &places[id.index as usize]);
+        let far = far_from(net, along.way, id);
         if !marks[far] {
             marks[far] = true;
             push_places_along(net, along, far, &mut agenda)?;

@@ -1,23 +1,23 @@
-use Rattle.std.proofs.Common.{◌≡◌, ◌≤◌, ℕ, ◌+◌, ◌*◌, ◌/◌, ◌++◌, ◌∷◌, [], length, rules, refl}
+use Rattle.std.proofs.Common.{◌≡◌, ℕ, ◌*◌, ◌++◌, ◌∷◌, [], rules, arith, refl}
 use Rattle.dioid_matrix.specs.Products.{CellFits}
 use Rattle.dioid_matrix.specs.Sums.{dot}
-use Rattle.dioid_matrix.specs.Tables.{entry_of, table_of}
-use Rattle.dioid_matrix.proofs.Cells.{row_within, holds_more, elements_everywhere}
+use Rattle.dioid_matrix.specs.Tables.{entry_of}
+use Rattle.dioid_matrix.proofs.Cells.{row_below, holds_more, elements_everywhere}
 use Rattle.dioid_matrix.proofs.Places.{first_misfit, entries_held, fits_held}
 use Rattle.dioid_matrix.proofs.lists.products.Goals as goal
 
-pub overflow_mul-start : goal.overflow_mul-start
-overflow_mul-start g c =
-    let h : c.loop-place.place / c.args.columns * c.args.count + c.args.count ≤ length c.args.left.now = row_within _ _ _ _ _ c.requires.some_columns c.loop-place-test.true c.requires.left_size in
-    search rules
-
 pub cell-requires-clause-row : goal.cell-requires-clause-row
-cell-requires-clause-row g c = row_within _ _ _ _ _ c.requires.some_columns c.loop-place-test.true c.requires.left_size
+cell-requires-clause-row g c =
+    let some = c.columns-columns.ensures.table.some_columns in
+    let b = row_below c.loop-place.place c.rows-rows.result c.columns-columns.result (omega (arith, c.columns-columns.ensures.value, some)) c.loop-place-test.true in
+    omega (arith, b, c.rows-rows.ensures.value)
 
 pub returns-in-Misfit : goal.returns-in-Misfit
 returns-in-Misfit g c =
-    let stop = c.in-Misfit.ensures in
-    (refl, first_misfit c.args.rows c.args.columns c.loop-place.place _ c.requires.some_columns (record { within = c.loop-place-test.true; before = c.loop-place.invariant.fit; here = λ f. stop.here (f _ stop.within) }), stop)
+    let rows = c.rows-rows.ensures.value in
+    let columns = c.columns-columns.ensures.value in
+    let stop = rw columns at c.in-Misfit.ensures in
+    rw columns (c.requires, first_misfit c.args.left.now.rows c.args.right.now.columns c.loop-place.place _ c.columns-columns.ensures.table.some_columns (record { within = rw (rows, columns) at c.loop-place-test.true; before = rw columns at c.loop-place.invariant.fit; here = λ f. stop.here (f _ stop.within) }), stop)
 
 pub loop-place-preserved : goal.loop-place-preserved
 loop-place-preserved g c =
@@ -27,19 +27,19 @@ loop-place-preserved g c =
 pub returns : goal.returns
 returns g c =
     let d = g.D.Dioid in
-    let a = entry_of d (table_of c.args.rows c.args.count c.args.left.now) in
-    let b = entry_of d (table_of c.args.count c.args.columns c.args.right.now) in
-    let whole : c.loop-place.place ≡ c.args.rows * c.args.columns = search rules in
-    let h = rw whole at c.loop-place.invariant in
-    let fits = λ (i j : ℕ). CellFits d c.args.count a b i j in
-    let value = λ (i j : ℕ). dot d c.args.count (a i) (λ k. b k j) in (
+    let a = c.args.left.now in
+    let b = c.args.right.now in
+    let whole : c.loop-place.place ≡ c.rows-rows.result * c.columns-columns.result = search rules in
+    let h = rw (whole, c.rows-rows.ensures.value, c.columns-columns.ensures.value) at c.loop-place.invariant in
+    let fits = λ (i j : ℕ). CellFits d a.columns (entry_of d a) (entry_of d b) i j in
+    let value = λ (i j : ℕ). dot d a.columns (entry_of d a i) (λ k. entry_of d b k j) in (
       h.len,
       elements_everywhere d _ _ _ _ g.met.D.Dioid.closed.zero_is h,
       record {
-        goes = refl;
+        goes = c.requires;
         rows = refl;
         columns = refl;
-        entries = entries_held d c.args.rows c.args.columns fits value _ h;
-        fit = fits_held d c.args.rows c.args.columns fits value _ h;
+        entries = entries_held d a.rows b.columns fits value _ h;
+        fit = fits_held d a.rows b.columns fits value _ h;
       },
     )

@@ -1,13 +1,13 @@
 use Rattle.std.proofs.Common.{◌/◌, ◌%◌}
 use Rattle.dioid_matrix.specs.Products.{CellFits}
 use Rattle.dioid_matrix.specs.Sums.{dot}
-use Rattle.dioid_matrix.specs.Tables.{entry_of, table_of}
+use Rattle.dioid_matrix.specs.Tables.{entry_of}
 use Rattle.dioid_matrix.proofs.lists.products.Given as goal
 use Rattle.dioid_matrix.proofs.Filled.{HoldsEach}
 
 abbrev pub invariant-loop-place : goal.invariant-loop-place
 invariant-loop-place g l =
     let d = g.D.Dioid in
-    let a = entry_of d (table_of l.rows l.count l.left) in
-    let b = entry_of d (table_of l.count l.columns l.right) in
-    HoldsEach d l.place (λ place. CellFits d l.count a b (place / l.columns) (place % l.columns)) (λ place. dot d l.count (a (place / l.columns)) (λ k. b k (place % l.columns))) l.values.items
+    let a = entry_of d l.left in
+    let b = entry_of d l.right in
+    HoldsEach d l.place (λ place. CellFits d l.left.columns a b (place / l.columns) (place % l.columns)) (λ place. dot d l.left.columns (a (place / l.columns)) (λ k. b k (place % l.columns))) l.values.items

@@ -1,5 +1,4 @@
-use Rattle.std.proofs.Common.{◌≡◌, ◌≤◌, ◌+◌, ◌*◌, ◌/◌, ◌++◌, ◌∷◌, [], rules, arith, refl}
-use Rattle.dioid_matrix.specs.Tables.{table_of}
+use Rattle.std.proofs.Common.{◌≡◌, ◌*◌, ◌++◌, ◌∷◌, [], rules, arith}
 use Rattle.dioid_matrix.proofs.Cells.{row_below, holds_more, elements_everywhere}
 use Rattle.dioid_matrix.proofs.Meets.{residual_table}
 use Rattle.dioid_matrix.proofs.Places.{first_misfit}
@@ -7,13 +6,16 @@ use Rattle.dioid_matrix.proofs.residues.residue_list.Goals as goal
 
 pub residue-requires-clause-within : goal.residue-requires-clause-within
 residue-requires-clause-within g c =
-    let b : c.loop-place.place / c.args.columns + 1 ≤ c.args.middle = row_below c.loop-place.place c.args.middle c.args.columns c.requires.some_columns c.loop-place-test.true in
-    omega (arith, b)
+    let some = c.columns-columns.ensures.table.some_columns in
+    let b = row_below c.loop-place.place c.columns-middle.result c.columns-columns.result (omega (arith, c.columns-columns.ensures.value, some)) c.loop-place-test.true in
+    omega (arith, b, c.columns-middle.ensures.value)
 
 pub returns-in-Misfit : goal.returns-in-Misfit
 returns-in-Misfit g c =
-    let stop = c.in-Misfit.ensures in
-    (refl, first_misfit c.args.middle c.args.columns c.loop-place.place _ c.requires.some_columns (record { within = c.loop-place-test.true; before = c.loop-place.invariant.fit; here = λ f. stop.here (f _ stop.within) }), stop)
+    let middle = c.columns-middle.ensures.value in
+    let columns = c.columns-columns.ensures.value in
+    let stop = rw columns at c.in-Misfit.ensures in
+    rw columns (c.requires, first_misfit c.args.left.now.columns c.args.right.now.columns c.loop-place.place _ c.columns-columns.ensures.table.some_columns (record { within = rw (middle, columns) at c.loop-place-test.true; before = rw columns at c.loop-place.invariant.fit; here = λ f. stop.here (f _ stop.within) }), stop)
 
 pub loop-place-preserved : goal.loop-place-preserved
 loop-place-preserved g c =
@@ -23,6 +25,8 @@ loop-place-preserved g c =
 pub returns : goal.returns
 returns g c =
     let met = g.met.D.Dioid in
-    let whole : c.loop-place.place ≡ c.args.middle * c.args.columns = search rules in
-    let h = rw whole at c.loop-place.invariant in
-    (h.len, elements_everywhere g.D.Dioid _ _ _ _ met.closed.zero_is h, residual_table g.D.Dioid g.D.Residuated met.closed met.laws g.met.D.Residuated.residual_laws (table_of c.args.rows c.args.middle c.args.left.now) (table_of c.args.rows c.args.columns c.args.right.now) refl c.requires.some_rows c.requires.left_elements c.requires.right_elements _ h)
+    let left = c.columns-middle.ensures.table in
+    let right = c.columns-columns.ensures.table in
+    let whole : c.loop-place.place ≡ c.columns-middle.result * c.columns-columns.result = search rules in
+    let h = rw (whole, c.columns-middle.ensures.value, c.columns-columns.ensures.value) at c.loop-place.invariant in
+    (h.len, elements_everywhere g.D.Dioid _ _ _ _ met.closed.zero_is h, residual_table g.D.Dioid g.D.Residuated met.closed met.laws g.met.D.Residuated.residual_laws c.args.left.now c.args.right.now c.requires left.some_rows left.elements right.elements _ h)

@@ -33,8 +33,8 @@ loop-place-init c =
 
 pub loop-place-preserved : goal.loop-place-preserved
 loop-place-preserved c =
-    further (λ (i : ℕ). loss_of_part (form_with c.args.values.now c.args.period (to_z w128 (of_z w128 c.args.step))) ((length c.args.values.now - c.args.period) + i)) c.loop-place.place _ c.loss.result c.greater-worst.result
-    c.loop-place.invariant.0 c.loop-place.invariant.1 c.loss.ensures.value c.loss.ensures.bound c.greater-worst.ensures
+    further (λ (i : ℕ). loss_of_part (form_with c.args.values.now c.args.period (to_z w128 (of_z w128 c.args.step))) ((length c.args.values.now - c.args.period) + i)) c.loop-place.place _ c.loss.result c.max-worst.result
+    c.loop-place.invariant.0 c.loop-place.invariant.1 c.loss.ensures.value c.loss.ensures.bound c.max-worst.ensures.value
 
 pub returns-clause-value : goal.returns-clause-value
 returns-clause-value c =

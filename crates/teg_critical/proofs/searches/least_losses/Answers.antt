@@ -8,7 +8,7 @@ use Rattle.teg_net.specs.Circuits.{no_place, place_at}
 use Rattle.teg_critical.specs.declared.losses.Loss.{Loss}
 use Rattle.teg_critical.specs.declared.searches.LossStep.{LossStep}
 use Rattle.teg_critical.specs.Losses.{most_loss}
-use Rattle.teg_critical.specs.LeastLosses.{AreStepsFrom, AreSettled, IsRelaxed, AreQueued, is_settled, nearest_first}
+use Rattle.teg_critical.specs.LeastLosses.{AreStepsFrom, AreSteps, AreSettled, IsRelaxed, AreQueued, is_settled, nearest_first}
 use Rattle.teg_net.proofs.Reading.{written_back}
 use Rattle.teg_critical.proofs.Stepping.{own_steps}
 use Rattle.teg_critical.proofs.Settling.{settles, one_settled}
@@ -32,7 +32,7 @@ search-init c =
 pub index-requires : goal.index-requires
 index-requires c =
     let h = c.search.invariant.0 in
-    let l = first_in c.args.net.now c.args.losses.now c.args.end c.search.least.items c.search.settled.items c.in-Some.field-0 (heap_items c.search.queue) (heap_items c.pop.new.self) h c.in-Some.ensures.permutation in
+    let l = first_in h c.in-Some.ensures.permutation in
     let marks = h.searching.marks in
     let ok = c.search.settled.ok in
     omega (arith, ok.0)
@@ -40,7 +40,7 @@ index-requires c =
 pub index_mut-requires-then-not-index : goal.index_mut-requires-then-not-index
 index_mut-requires-then-not-index c =
     let h = c.search.invariant.0 in
-    let l = first_in c.args.net.now c.args.losses.now c.args.end c.search.least.items c.search.settled.items c.in-Some.field-0 (heap_items c.search.queue) (heap_items c.pop.new.self) h c.in-Some.ensures.permutation in
+    let l = first_in h c.in-Some.ensures.permutation in
     let marks = h.searching.marks in
     let ok = c.search.settled.ok in
     omega (arith, ok.0)
@@ -48,48 +48,45 @@ index_mut-requires-then-not-index c =
 pub offset_bounds-steps-at : goal.offset_bounds-steps-at
 offset_bounds-steps-at c =
     let h = c.search.invariant.0 in
-    let l = first_in c.args.net.now c.args.losses.now c.args.end c.search.least.items c.search.settled.items c.in-Some.field-0 (heap_items c.search.queue) (heap_items c.pop.new.self) h c.in-Some.ensures.permutation in
+    let l = first_in h c.in-Some.ensures.permutation in
     let few = c.transitions-count.ensures.rules.few_transitions in
     omega arith
 
 pub bounds-steps-at : goal.bounds-steps-at
 bounds-steps-at c =
     let h = c.search.invariant.0 in
-    let l = first_in c.args.net.now c.args.losses.now c.args.end c.search.least.items c.search.settled.items c.in-Some.field-0 (heap_items c.search.queue) (heap_items c.pop.new.self) h c.in-Some.ensures.permutation in
+    let l = first_in h c.in-Some.ensures.permutation in
     let count = c.requires.steps.count in
     omega arith
+
+-- the steps of a transition, as they are read
+steps_read : {net : NetLists} {losses : List (Option Loss)} {all : List (List LossStep)} {read own : List LossStep} (at : ℕ) → AreSteps net losses all → at < length net.transitions → read ≡ get_or all at read → own ≡ read → AreStepsFrom net losses at own
+steps_read {net} {losses} {all} {read} at steps l is e = subst (AreStepsFrom net losses at) (sym e) (own_steps net losses all at read steps l is)
 
 pub relax-requires-clause-ends : goal.relax-requires-clause-ends
 relax-requires-clause-ends c =
     let h = c.search.invariant.0 in
-    let l = first_in c.args.net.now c.args.losses.now c.args.end c.search.least.items c.search.settled.items c.in-Some.field-0 (heap_items c.search.queue) (heap_items c.pop.new.self) h c.in-Some.ensures.permutation in
-    let own : AreStepsFrom c.args.net.now c.args.losses.now c.in-Some.field-0.0.1 c.as_slice.result.now =
-    subst (AreStepsFrom c.args.net.now c.args.losses.now c.in-Some.field-0.0.1) (sym c.as_slice.ensures) (own_steps c.args.net.now c.args.losses.now c.args.steps.now c.in-Some.field-0.0.1 c.index-steps-at.result c.requires.steps l c.index-steps-at.is) in
+    let l = first_in h c.in-Some.ensures.permutation in
+    let own = steps_read c.in-Some.field-0.0.1 c.requires.steps l c.index-steps-at.is c.as_slice.ensures in
     let count = h.searching.count in
     λ k d m. rw c.deref_mut.ensures.value (omega (arith, own.ends k d m))
 
 pub relax-requires-clause-small : goal.relax-requires-clause-small
 relax-requires-clause-small c =
-    let h = c.search.invariant.0 in
-    let l = first_in c.args.net.now c.args.losses.now c.args.end c.search.least.items c.search.settled.items c.in-Some.field-0 (heap_items c.search.queue) (heap_items c.pop.new.self) h c.in-Some.ensures.permutation in
-    let own : AreStepsFrom c.args.net.now c.args.losses.now c.in-Some.field-0.0.1 c.as_slice.result.now =
-    subst (AreStepsFrom c.args.net.now c.args.losses.now c.in-Some.field-0.0.1) (sym c.as_slice.ensures) (own_steps c.args.net.now c.args.losses.now c.args.steps.now c.in-Some.field-0.0.1 c.index-steps-at.result c.requires.steps l c.index-steps-at.is) in
-    λ k d m. own.small k d m
+    let l = first_in c.search.invariant.0 c.in-Some.ensures.permutation in
+    (steps_read c.in-Some.field-0.0.1 c.requires.steps l c.index-steps-at.is c.as_slice.ensures).small
 
 -- the entry of an unsettled transition is the nearest
-near_of : (net : NetLists) (losses : List (Option Loss)) (start : ℕ) (least : List (Option ℕ)) (settled : List Bool) (first : Reverse (ℕ × ℕ)) (queue rest : List (Reverse (ℕ × ℕ))) (read : Bool) → IsQueueing net losses start least settled queue
+near_of : {net : NetLists} {losses : List (Option Loss)} {start : ℕ} {least : List (Option ℕ)} {settled : List Bool} {first : Reverse (ℕ × ℕ)} {queue rest : List (Reverse (ℕ × ℕ))} {read : Bool} → IsQueueing net losses start least settled queue
     → IsPermutation queue (first ∷ rest) → (IsHeap nearest_first queue → IsUpperBound nearest_first first rest) → read ≡ get_or settled first.0.1 read → read ≡ false → IsNearest least settled first.0.1 first.0.0
-near_of net losses start least settled first queue rest read h moved top is not_yet =
-    let l = first_in net losses start least settled first queue rest h moved in
+near_of {settled = settled} {first = first} {read = read} h moved top is not_yet =
+    let l = first_in h moved in
     let marks = h.searching.marks in
     let low : first.0.1 < length settled = omega arith in
-    is_nearest net losses start least settled first queue rest h moved (sym (is ∙ get_or_default settled first.0.1 read true low) ∙ not_yet) low (top h.heap)
+    is_nearest h moved (sym (is ∙ get_or_default settled first.0.1 read true low) ∙ not_yet) low (top h.heap)
 
 most_of : (loss n u : ℕ) → loss + u * most_loss ≤ n * most_loss → n ≤ 400 → loss ≤ 4000000000000000000000000000000000
 most_of loss n u h few = omega arith
-
-fewer_of : (least : List (Option ℕ)) (settled : List Bool) (at loss : ℕ) → IsNearest least settled at loss → unsettled (set settled at true) + 1 ≡ unsettled settled
-fewer_of least settled at loss near = one_settled settled at near.in_range near.open_
 
 empty_of : {X : Type 0} (xs : List X) → length xs ≡ 0 → xs ≡ []
 empty_of [] e = refl
@@ -98,8 +95,7 @@ empty_of (x ∷ xs) e = absurd (omega arith)
 pub relax-requires-clause-base : goal.relax-requires-clause-base
 relax-requires-clause-base c =
     let h = c.search.invariant.0 in
-    let near = near_of c.args.net.now c.args.losses.now c.args.end c.search.least.items c.search.settled.items c.in-Some.field-0 (heap_items c.search.queue) (heap_items c.pop.new.self) c.index.result.now h c.in-Some.ensures.permutation c.in-Some.ensures.below_top
-    c.index.ensures c.if-not-index.true in
+    let near = near_of h c.in-Some.ensures.permutation c.in-Some.ensures.below_top c.index.ensures c.if-not-index.true in
     let small = h.searching.small c.in-Some.field-0.0.1 c.in-Some.field-0.0.0 near.told in
     let few = c.transitions-count.ensures.rules.few_transitions in
     let marks = h.searching.marks in
@@ -108,80 +104,62 @@ relax-requires-clause-base c =
 pub search-smaller-else-next-wanted : goal.search-smaller-else-next-wanted
 search-smaller-else-next-wanted c =
     let h = c.search.invariant.0 in
-    let first = c.in-Some.field-0 in
-    let l = first_in c.args.net.now c.args.losses.now c.args.end c.search.least.items c.search.settled.items first (heap_items c.search.queue) (heap_items c.pop.new.self) h c.in-Some.ensures.permutation in
+    let settled = c.search.settled.items in
+    let at = c.in-Some.field-0.0.1 in
+    let l = first_in h c.in-Some.ensures.permutation in
     let count = c.requires.steps.count in
-    let near = near_of c.args.net.now c.args.losses.now c.args.end c.search.least.items c.search.settled.items first (heap_items c.search.queue) (heap_items c.pop.new.self) c.index.result.now h c.in-Some.ensures.permutation c.in-Some.ensures.below_top
-    c.index.ensures c.if-not-index.true in
-    let own : c.as_slice.result.now ≡ get_or c.args.steps.now first.0.1 [] = c.as_slice.ensures ∙ get_or_read c.args.steps.now first.0.1 c.index-steps-at.result (omega arith) c.index-steps-at.is [] in
-    less_left c.search.settled.items (set c.search.settled.items first.0.1 true) c.args.steps.now c.as_slice.result.now first.0.1 (heap_len c.search.queue) (heap_len c.pop.new.self) (heap_len c.relax.new.queue) (omega arith) own
-    (fewer_of c.search.least.items c.search.settled.items first.0.1 first.0.0 near) c.in-Some.ensures.len c.in_ok-relax.ensures.few
+    let near = near_of h c.in-Some.ensures.permutation c.in-Some.ensures.below_top c.index.ensures c.if-not-index.true in
+    let own : c.as_slice.result.now ≡ get_or c.args.steps.now at [] = c.as_slice.ensures ∙ get_or_read c.args.steps.now at c.index-steps-at.result (omega arith) c.index-steps-at.is [] in
+    less_left settled (set settled at true) c.args.steps.now c.as_slice.result.now at (heap_len c.search.queue) (heap_len c.pop.new.self) (heap_len c.relax.new.queue) (omega arith) own
+    (one_settled settled at near.in_range near.open_) c.in-Some.ensures.len c.in_ok-relax.ensures.few
 
 -- what the search has found once the entry's steps are taken
-searching_on : (net : NetLists) (losses : List (Option Loss)) (start : ℕ) (least : List (Option ℕ)) (settled : List Bool) (first : Reverse (ℕ × ℕ)) (queue rest : List (Reverse (ℕ × ℕ))) (read : Bool) → IsNet net → IsQueueing net losses start least settled queue
-    → IsPermutation queue (first ∷ rest) → (IsHeap nearest_first queue → IsUpperBound nearest_first first rest) → read ≡ get_or settled first.0.1 read → read ≡ false
-    → (own : List LossStep) → AreStepsFrom net losses first.0.1 own → (new : List (Option ℕ)) → IsRelaxed own first.0.0 least new → IsSearching net losses start new (set settled first.0.1 true)
-searching_on net losses start least settled first queue rest read ok h moved top is not_yet own from new relaxed =
-    let near = near_of net losses start least settled first queue rest read h moved top is not_yet in
-    let marks = h.searching.marks in
-    settles net losses start least settled h.searching first.0.1 first.0.0 near own from new relaxed
-    (λ p m. (let rules : IsPlaceOf net (place_at net p) = ok.each_place p.index no_place m in let low = rules.from_in in omega arith))
+searching_on : {net : NetLists} {losses : List (Option Loss)} {start : ℕ} {least new : List (Option ℕ)} {settled : List Bool} {own : List LossStep} {at base : ℕ} → IsNet net → IsSearching net losses start least settled → IsNearest least settled at base
+    → AreStepsFrom net losses at own → IsRelaxed own base least new → IsSearching net losses start new (set settled at true)
+searching_on {net} ok searching near from relaxed =
+    let marks = searching.marks in
+    settles searching near from relaxed (λ p m. (let rules : IsPlaceOf net (place_at net p) = ok.each_place p.index no_place m in let low = rules.from_in in omega arith))
 
 pub search-preserved-else-next-wanted : goal.search-preserved-else-next-wanted
 search-preserved-else-next-wanted c =
-    let net : NetLists = c.args.net.now in
-    let losses = c.args.losses.now in
     let h = c.search.invariant.0 in
     let first = c.in-Some.field-0 in
-    let l = first_in net losses c.args.end c.search.least.items c.search.settled.items first (heap_items c.search.queue) (heap_items c.pop.new.self) h c.in-Some.ensures.permutation in
-    let own : AreStepsFrom net losses first.0.1 c.as_slice.result.now =
-    subst (AreStepsFrom net losses first.0.1) (sym c.as_slice.ensures) (own_steps net losses c.args.steps.now first.0.1 c.index-steps-at.result c.requires.steps l c.index-steps-at.is) in
+    let moved = c.in-Some.ensures.permutation in
+    let own = steps_read first.0.1 c.requires.steps (first_in h moved) c.index-steps-at.is c.as_slice.ensures in
+    let near = near_of h moved c.in-Some.ensures.below_top c.index.ensures c.if-not-index.true in
     let relaxed : IsRelaxed c.as_slice.result.now first.0.0 c.search.least.items c.relax.new.least = rw c.deref_mut.ensures.value at c.in_ok-relax.ensures.relaxed in
     let queued : AreQueued c.search.least.items c.relax.new.least (heap_items c.pop.new.self) (heap_items c.relax.new.queue) = rw c.deref_mut.ensures.value at c.in_ok-relax.ensures.queued in
     let vec = c.search.least.ok in
-    let long : length c.relax.new.least ≡ c.search.least.len = omega (arith, relaxed.count, vec.0) in
-    let whole = written_back c.relax.new.least c.search.least.items c.search.least.len long in
-    let marks = h.searching.marks in
-    let in' : first.0.1 < length c.search.settled.items = omega arith in
-    let rest = c.in-Some.ensures.heap_order h.heap in
-    let searching = searching_on net losses c.args.end c.search.least.items c.search.settled.items first (heap_items c.search.queue) (heap_items c.pop.new.self) c.index.result.now c.transitions-count.ensures.rules h
-    c.in-Some.ensures.permutation c.in-Some.ensures.below_top c.index.ensures c.if-not-index.true c.as_slice.result.now own c.relax.new.least relaxed in
+    let whole = written_back c.relax.new.least c.search.least.items c.search.least.len (omega (arith, relaxed.count, vec.0)) in
     let done : AreSettled (set c.search.settled.items first.0.1 true) (take c.first_open-next.result c.args.wanted.now) = rw c.deref.ensures.value at c.first_open-next.ensures.settled in
     rw whole (
-      goes_on net losses c.args.end c.search.least.items c.search.settled.items first (heap_items c.search.queue) (heap_items c.pop.new.self) h c.in-Some.ensures.permutation
-          c.as_slice.result.now c.relax.new.least (heap_items c.relax.new.queue) in' relaxed queued rest.0 searching,
+      goes_on h moved near.in_range relaxed queued (c.in-Some.ensures.heap_order h.heap).0 (searching_on c.transitions-count.ensures.rules h.searching near own relaxed),
       c.first_open-next.ensures.bound,
       done,
     )
 
 pub returns-then-next-wanted : goal.returns-then-next-wanted
 returns-then-next-wanted c =
-    let net : NetLists = c.args.net.now in
-    let losses = c.args.losses.now in
     let h = c.search.invariant.0 in
     let first = c.in-Some.field-0 in
-    let l = first_in net losses c.args.end c.search.least.items c.search.settled.items first (heap_items c.search.queue) (heap_items c.pop.new.self) h c.in-Some.ensures.permutation in
-    let own : AreStepsFrom net losses first.0.1 c.as_slice.result.now =
-    subst (AreStepsFrom net losses first.0.1) (sym c.as_slice.ensures) (own_steps net losses c.args.steps.now first.0.1 c.index-steps-at.result c.requires.steps l c.index-steps-at.is) in
+    let moved = c.in-Some.ensures.permutation in
+    let own = steps_read first.0.1 c.requires.steps (first_in h moved) c.index-steps-at.is c.as_slice.ensures in
+    let near = near_of h moved c.in-Some.ensures.below_top c.index.ensures c.if-not-index.true in
     let relaxed : IsRelaxed c.as_slice.result.now first.0.0 c.search.least.items c.relax.new.least = rw c.deref_mut.ensures.value at c.in_ok-relax.ensures.relaxed in
     let vec = c.search.least.ok in
-    let long : length c.relax.new.least ≡ c.search.least.len = omega (arith, relaxed.count, vec.0) in
-    let whole = written_back c.relax.new.least c.search.least.items c.search.least.len long in
-    let searching = searching_on net losses c.args.end c.search.least.items c.search.settled.items first (heap_items c.search.queue) (heap_items c.pop.new.self) c.index.result.now c.transitions-count.ensures.rules h
-    c.in-Some.ensures.permutation c.in-Some.ensures.below_top c.index.ensures c.if-not-index.true c.as_slice.result.now own c.relax.new.least relaxed in
+    let whole = written_back c.relax.new.least c.search.least.items c.search.least.len (omega (arith, relaxed.count, vec.0)) in
     let done : AreSettled (set c.search.settled.items first.0.1 true) (take c.first_open-next.result c.args.wanted.now) = rw c.deref.ensures.value at c.first_open-next.ensures.settled in
     let all : take c.first_open-next.result c.args.wanted.now ≡ c.args.wanted.now = take_all c.first_open-next.result c.args.wanted.now (omega (arith, c.if-next-wanted.true)) in
-    rw whole (settled_back net losses c.args.end c.relax.new.least (set c.search.settled.items first.0.1 true) searching c.transitions-count.ensures.rules c.args.wanted.now c.requires.wanted (rw all at done))
+    rw whole (settled_back (searching_on c.transitions-count.ensures.rules h.searching near own relaxed) c.transitions-count.ensures.rules c.args.wanted.now c.requires.wanted (rw all at done))
 
 pub search-preserved : goal.search-preserved
 search-preserved c =
     let h = c.search.invariant.0 in
     let first = c.in-Some.field-0 in
-    let l = first_in c.args.net.now c.args.losses.now c.args.end c.search.least.items c.search.settled.items first (heap_items c.search.queue) (heap_items c.pop.new.self) h c.in-Some.ensures.permutation in
+    let l = first_in h c.in-Some.ensures.permutation in
     let marks = h.searching.marks in
-    let done : is_settled c.search.settled.items first.0.1 ≡ true = sym (c.index.ensures ∙ get_or_default c.search.settled.items first.0.1 c.index.result.now true (omega arith)) ∙ c.if-not-index.false in
-    let rest = c.in-Some.ensures.heap_order h.heap in (
-      passed_over c.args.net.now c.args.losses.now c.args.end c.search.least.items c.search.settled.items first (heap_items c.search.queue) (heap_items c.pop.new.self) h c.in-Some.ensures.permutation done rest.0,
+    let done : is_settled c.search.settled.items first.0.1 ≡ true = sym (c.index.ensures ∙ get_or_default c.search.settled.items first.0.1 c.index.result.now true (omega arith)) ∙ c.if-not-index.false in (
+      passed_over h c.in-Some.ensures.permutation done (c.in-Some.ensures.heap_order h.heap).0,
       c.search.invariant.1,
       c.search.invariant.2,
     )
@@ -190,5 +168,5 @@ pub returns : goal.returns
 returns c =
     let h = c.search.invariant.0 in
     let nothing : heap_items c.search.queue ≡ [] = empty_of (heap_items c.search.queue) (search rules) in
-    let over : IsOver c.search.least.items c.search.settled.items = queue_over c.args.net.now c.args.losses.now c.args.end c.search.least.items c.search.settled.items (subst (IsQueueing c.args.net.now c.args.losses.now c.args.end c.search.least.items c.search.settled.items) nothing h) in
-    searched c.args.net.now c.args.losses.now c.args.end c.search.least.items c.search.settled.items h.searching c.transitions-count.ensures.rules over c.args.wanted.now c.requires.wanted
+    let over : IsOver c.search.least.items c.search.settled.items = queue_over (subst (IsQueueing c.args.net.now c.args.losses.now c.args.end c.search.least.items c.search.settled.items) nothing h) in
+    searched h.searching c.transitions-count.ensures.rules over c.args.wanted.now c.requires.wanted
