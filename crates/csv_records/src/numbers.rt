@@ -1,9 +1,9 @@
 //! Fields that write a number in decimal digits.
-ghost use Rattle.std.specs.Prelude.{◌≡◌, ◌≤◌, true, min, Some, None};
+ghost use Rattle.std.specs.Prelude.{◌≡◌, ◌≤◌, ◌+◌, true, min, Some, None};
 ghost use Rattle.std.specs.Char.{is_ascii_digit};
 ghost use Rattle.std.specs.List.{list_all};
 ghost use Rattle.std.specs.Str.Parse.{digits_value};
-ghost use Rattle.csv_records.specs.NumberFields.{is_number, number_up_to};
+ghost use Rattle.csv_records.specs.NumberFields.{greatest_field_number, is_number, number_up_to};
 
 fn has_only_digits(field: &[u8]) -> bool
     ensures { result ≡ list_all is_ascii_digit field.now }
@@ -21,7 +21,7 @@ pub fn is_number(field: &[u8]) -> bool
 // The number of the digits, held at `past`.
 fn held_at(field: &[u8], past: u64) -> u64
     requires digits { list_all is_ascii_digit field.now ≡ true }
-    requires small { past ≤ 1000000000000000001 }
+    requires small { past ≤ greatest_field_number + 1 }
     ensures { result ≡ min (digits_value 10 field.now) past }
 {
     let mut value: u64 = 0;
@@ -35,7 +35,7 @@ fn held_at(field: &[u8], past: u64) -> u64
 /// at most 10^18.
 pub fn number_up_to(field: &[u8], most: u64) -> Option<u64>
     requires number { is_number field.now ≡ true }
-    requires small { most ≤ 1000000000000000000 }
+    requires small { most ≤ greatest_field_number }
     ensures { result ≡ number_up_to most field.now }
 {
     let value = held_at(field, most + 1);

@@ -12,6 +12,7 @@ use Rattle.teg_settle.specs.series_laws.SeriesForms.{Form, form_with, size_of, r
 use Rattle.teg_settle.proofs.series_laws_proofs.FormValues.{value_in, value_repeats}
 use Rattle.teg_settle.proofs.series_laws_proofs.Canonical.{canonical_is, canonical_values, canonical_short, one_canonical}
 use Rattle.teg_settle.specs.series_form.NumberBounds.{IsSmallDate, HasSmallNumbers, IsSeries}
+use Rattle.teg_settle.specs.series_form.SeriesLimits.{greatest_value}
 use Rattle.teg_net.specs.Nets.{NetLists, IsNet}
 use Rattle.teg_net.specs.Circuits.{IsLive}
 use Rattle.teg_net.specs.Limits.{greatest_input_date}
@@ -48,17 +49,17 @@ canonical_size l n x h some fits up is same =
     let short : size_of (canonical_of s p n) ≤ p + n = canonical_short s p n x up some again in
     omega arith
 
-small_of : (d : Date) → IsDateWithin 1000000000000000000 d → IsSmallDate d
+small_of : (d : Date) → IsDateWithin greatest_value d → IsSmallDate d
 small_of Early h = tt
 small_of (At x) h = omega (arith, ints, h.0, h.1)
 small_of Never h = tt
 
 -- what lies between two numbers that are small is small
-between : (t x : ℤ) → IsDateWithin 1000000000000000000 (At t) → IsDateWithin 1000000000000000000 (At (t +ℤ x)) → unsigned_abs x ≤ 1000000000000000000
+between : (t x : ℤ) → IsDateWithin greatest_value (At t) → IsDateWithin greatest_value (At (t +ℤ x)) → unsigned_abs x ≤ greatest_value
 between t x h k = omega (arith, ints, h.0, h.1, k.0, k.1)
 
 -- a canonical form whose values are small as far as one past its list has small numbers
-small_numbers : (h : Form) → IsCanonical h → ((k : ℕ) → k ≤ size_of h → IsDateWithin 1000000000000000000 (value_at h k)) → HasSmallNumbers h
+small_numbers : (h : Form) → IsCanonical h → ((k : ℕ) → k ≤ size_of h → IsDateWithin greatest_value (value_at h k)) → HasSmallNumbers h
 small_numbers h is within = record { values = values; step = step (value_at h (repeat_start h)) refl } where
   values : (k : ℕ) → IsSmallDate (get_or h.values k Early)
   values k = ⊎_elim
@@ -66,10 +67,10 @@ small_numbers h is within = record { values = values; step = step (value_at h (r
       (λ (l : size_of h ≤ k). subst IsSmallDate (sym (get_or_past h.values k Early l)) tt)
       (cases_lt k (size_of h))
 
-  none : h.step ≡ pos 0 → unsigned_abs h.step ≤ 1000000000000000000
+  none : h.step ≡ pos 0 → unsigned_abs h.step ≤ greatest_value
   none e = rw e (omega arith)
 
-  step : (d : Date) → value_at h (repeat_start h) ≡ d → unsigned_abs h.step ≤ 1000000000000000000
+  step : (d : Date) → value_at h (repeat_start h) ≡ d → unsigned_abs h.step ≤ greatest_value
   step Early e = none (is.form.tail (inr e)).1
   step Never e = none (is.form.tail (inl e)).1
   step (At t) e =
@@ -77,18 +78,18 @@ small_numbers h is within = record { values = values; step = step (value_at h (r
       let some = is.form.period_positive in
       let last : repeat_start h + h.period ≡ size_of h = omega arith in
       let next : value_at h (size_of h) ≡ At (t +ℤ h.step) = ap (value_at h) (sym last) ∙ (value_repeats h some fits).at (repeat_start h) (omega arith) ∙ ap (move h.step) e in
-      between t h.step (subst (IsDateWithin 1000000000000000000) e (within (repeat_start h) (omega arith))) (subst (IsDateWithin 1000000000000000000) next (within (size_of h) (omega arith)))
+      between t h.step (subst (IsDateWithin greatest_value) e (within (repeat_start h) (omega arith))) (subst (IsDateWithin greatest_value) next (within (size_of h) (omega arith)))
 
 -- a canonical form of what a list of at most 20,000 values gives, with small values as far as that, is a series
 series_of : (l : List Date) (n : ℕ) (x : ℤ) (h : Form) → 0 < n → n ≤ length l → length l ≤ 20000 → Rising (value_at (form_with l n x)) → IsCanonical h → HasValues h (value_at (form_with l n x))
-    → ((k : ℕ) → k ≤ 20000 → IsDateWithin 1000000000000000000 (value_at h k)) → IsSeries h
+    → ((k : ℕ) → k ≤ 20000 → IsDateWithin greatest_value (value_at h k)) → IsSeries h
 series_of l n x h some fits short up is same within =
     let size = canonical_size l n x h some fits up is same in
     record { canonical = is; short = omega arith; small = small_numbers h is (λ k m. within k (omega arith)) }
 
 -- ---- due dates
 
-due_low : (net : NetLists) (r : EndlessRow) → IsEndlessRow net r → (k : ℕ) → k ≤ 20001 → due_number r k ≤ 1000000000000000000
+due_low : (net : NetLists) (r : EndlessRow) → IsEndlessRow net r → (k : ℕ) → k ≤ 20001 → due_number r k ≤ greatest_value
 due_low net r row k few =
     let some = row.goes_on.some in
     let every = row.goes_on.every_in in
@@ -96,7 +97,7 @@ due_low net r row k few =
     let slow = due_slow net r row k in
     let one : 1 * due_number r k ≤ r.every * due_number r k = product_most 1 (due_number r k) r.every (due_number r k) some (omega arith) in
     let two : r.every * greatest_input_date ≤ 1000 * greatest_input_date = product_most r.every greatest_input_date 1000 greatest_input_date every (omega arith) in
-    let three : r.gap * (k + r.every) ≤ 1000000000000 * 21001 = product_most r.gap (k + r.every) 1000000000000 21001 gap (omega arith) in
+    let three : r.gap * (k + r.every) ≤ greatest_input_date * 21001 = product_most r.gap (k + r.every) greatest_input_date 21001 gap (omega arith) in
     omega arith
 
 pub due_series_fit : DueSeriesFit
@@ -106,7 +107,7 @@ due_series_fit net r row d is =
     let few : length r.dates ≤ most_endless_dates = row.few in
     series_of (listed_dates r) r.every (pos r.gap) d list.some list.fits (omega arith) list.rising is.canonical
     (λ k. is.dates k ∙ sym (list.each k))
-    (λ k l. subst (IsDateWithin 1000000000000000000) (sym (is.dates k ∙ due_date_is r k)) (let low = due_low net r row (k + 1) (omega arith) in (omega (arith, ints), omega (arith, ints))))
+    (λ k l. subst (IsDateWithin greatest_value) (sym (is.dates k ∙ due_date_is r k)) (let low = due_low net r row (k + 1) (omega arith) in (omega (arith, ints), omega (arith, ints))))
 
 -- ---- walk times
 
@@ -117,7 +118,7 @@ zero_dating net ok live =
     (x, least_of_system net inputs_at_zero x (least_of net inputs_at_zero ranked.0 ranked.1 ranked.2))
 
 time_low : (net : NetLists) → IsNet net → IsLive net → (input t k : ℕ) (d : Date) → input < length net.transitions → t < length net.transitions → 1 ≤ k → k ≤ 20001
-    → IsGreatestWalkTime net input t k d → IsDateWithin 1000000000000000000 d
+    → IsGreatestWalkTime net input t k d → IsDateWithin greatest_value d
 time_low net ok live input t k d from to one few h =
     ⊎_elim
     (λ none. rw none.0 tt)
@@ -125,7 +126,7 @@ time_low net ok live input t k d from to one few h =
     let (x, least) = zero_dating net ok live in
     let most = walk_most net ok live x least t k input 1 found.0 to one from (omega arith) found.1 in
     let low = date_within net ok live x least t k (least_number net ok live x least t k) to one (date_is net ok live x least t k to one) in
-    let time : walk_time net found.0 ≤ 1000000000000000000 = omega arith in
+    let time : walk_time net found.0 ≤ greatest_value = omega arith in
     rw found.2 (omega (arith, ints), omega (arith, ints)))
     h.reached
 

@@ -23,7 +23,7 @@ use Rattle.teg_settle.proofs.teg_loops_proofs.Taking.{sum_most}
 use Rattle.forever_laws.specs.declared.rows.EndlessRow.{EndlessRow}
 use Rattle.forever_laws.specs.EndlessRows.{IsEndlessRow}
 use Rattle.forever_laws.specs.Late.{IsLateAt}
-use Rattle.forever_laws.specs.EndlessDues.{LateNumbersHaveLeast, LateIsSoon}
+use Rattle.forever_laws.specs.EndlessDues.{LateNumbersHaveLeast, LateIsSoon, late_date_bound, late_number_bound}
 use Rattle.forever_laws.proofs.GoingOn.{due_number, due_is, due_only, due_again, due_slow}
 use Rattle.forever_laws.proofs.Late.{LateSetting, flat_bound, steep_bound, late_soon}
 use Rattle.forever_laws.proofs.Zeros.{least_number, date_is, path_most, reached}
@@ -96,11 +96,11 @@ product_most a b c d l m =
     omega arith
 
 bound_low : (n every size : ℕ) → n ≤ 400 → every ≤ 1000 → size ≤ 10000
-    → flat_bound (n * most_place_tokens) most_place_tokens every size + steep_bound (n * most_place_tokens) (n * most_place_tokens) (n * every * greatest_hold) every greatest_input_date < 10 ^ 23
+    → flat_bound (n * most_place_tokens) most_place_tokens every size + steep_bound (n * most_place_tokens) (n * most_place_tokens) (n * every * greatest_hold) every greatest_input_date < late_number_bound
 bound_low n every size ln le ls =
     let piece : every * (n * most_place_tokens) ≤ 1000 * 400000 = product_most every (n * most_place_tokens) 1000 400000 le (omega arith) in
     let span : n * every ≤ 400 * 1000 = product_most n every 400 1000 ln le in
-    let last : n * every * greatest_hold * (1 + n * most_place_tokens + every) ≤ 400000000000000 * 401001 = product_most (n * every * greatest_hold) (1 + n * most_place_tokens + every) 400000000000000 401001 (omega arith) (omega arith) in
+    let last : n * every * greatest_hold * (1 + n * most_place_tokens + every) ≤ 400 * 1000 * greatest_hold * 401001 = product_most (n * every * greatest_hold) (1 + n * most_place_tokens + every) (400 * 1000 * greatest_hold) 401001 (omega arith) (omega arith) in
     omega arith
 
 -- ---- the least late number
@@ -170,7 +170,7 @@ date_within net ok live x least t k date l o e =
     omega (arith, ints, within.1)
 
 -- dates of numbers below 10^23 are below 10^35
-pub date_low : (net : NetLists) → IsNet net → IsLive net → (x : ℕ → ℕ → Date) → IsLeastUnder net inputs_at_zero x → (t k date : ℕ) → t < length net.transitions → 1 ≤ k → k < 10 ^ 23 → x t k ≡ At (pos date) → date < 10 ^ 35
+pub date_low : (net : NetLists) → IsNet net → IsLive net → (x : ℕ → ℕ → Date) → IsLeastUnder net inputs_at_zero x → (t k date : ℕ) → t < length net.transitions → 1 ≤ k → k < late_number_bound → x t k ≡ At (pos date) → date < late_date_bound
 date_low net ok live x least t k date l o few e = let within = date_within net ok live x least t k date l o e in omega arith
 
 pub late_is_soon : LateIsSoon
@@ -183,7 +183,7 @@ late_is_soon net ok live x least r row k due date h =
     let within = soon.within in
     let low = bound_low n r.every (length r.dates) ok.few_transitions row.goes_on.every_in row.few in
     let first = h.first soon.number (due_number r soon.number) (least_number net ok live x least t soon.number) (late_from net ok live x least r row soon.number soon.some soon.late) in
-    let few : k < 10 ^ 23 = omega arith in
+    let few : k < late_number_bound = omega arith in
     let small = date_low net ok live x least t k date row.in_range h.late.from_one few h.late.comes in
     let less = h.late.late in
     (few, omega arith, small)

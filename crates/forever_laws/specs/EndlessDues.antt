@@ -58,11 +58,19 @@ abbrev pub StepsAreFromZero : Type 0
 StepsAreFromZero = (net : NetLists) → IsNet net → IsLive net → (x : ℕ → ℕ → Date) → IsLeastUnder net inputs_at_zero x
     → (f : SettledForm) → StandsFor (length net.transitions) f x → (t : ℕ) → t < length net.transitions → (step : ℕ) × (step_of_form f t ≡ pos step)
 
+-- a least late number is below 10^23
+abbrev pub late_number_bound : ℕ
+late_number_bound = 10 ^ 23
+
+-- the dates of a least late number are below 10^35
+abbrev pub late_date_bound : ℕ
+late_date_bound = 10 ^ 35
+
 -- a least late number is below 10^23, and its dates are below 10^35
 abbrev pub LateIsSoon : Type 0
 LateIsSoon = (net : NetLists) → IsNet net → IsLive net → (x : ℕ → ℕ → Date) → IsLeastUnder net inputs_at_zero x
     → (r : EndlessRow) → IsEndlessRow net r → (k due least : ℕ) → IsLeastLate x r k due least
-    → (k < 10 ^ 23) × (due < 10 ^ 35) × (least < 10 ^ 35)
+    → (k < late_number_bound) × (due < late_date_bound) × (least < late_date_bound)
 
 -- inputs at 0 meet the due dates, or some row is the first that has a late number
 abbrev pub EndlessMeetOrLate : Type 0

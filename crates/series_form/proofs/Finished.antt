@@ -24,7 +24,7 @@ use Rattle.series_laws.proofs.Sums.{Serves}
 use Rattle.series_form.proofs.DateNumbers.{abs_sum, abs_difference, times_product, div_below}
 use Rattle.series_laws.proofs.Shifts.{monomial_below, monomial_from}
 use Rattle.dioid.proofs.Moves.{move_zero}
-use Rattle.series_form.specs.SeriesLimits.{greatest_value, greatest_moderate, greatest_listed}
+use Rattle.series_form.specs.SeriesLimits.{greatest_value, greatest_moderate, greatest_listed, monomial_bound}
 
 -- ---- bounds
 
@@ -153,7 +153,7 @@ constant_series d h = record {
   values zero = h
   values (suc k) = tt
 
-pub monomial_tabled : (n : ℕ) (t : ℤ) (l : List Date) → unsigned_abs t < 10000000000000000000 → l ≡ table (monomial_at n t) (n + 1) → IsTabled (monomial_at n t) (plan n 1) l (At t)
+pub monomial_tabled : (n : ℕ) (t : ℤ) (l : List Date) → unsigned_abs t < monomial_bound → l ≡ table (monomial_at n t) (n + 1) → IsTabled (monomial_at n t) (plan n 1) l (At t)
 monomial_tabled n t l small e = record {
   rising = record {
     rises = λ j k w. ⊎_elim

@@ -16,13 +16,13 @@ use Rattle.series_laws.proofs.Repeating.{repeats_times}
 use Rattle.series_laws.specs.SeriesForms.{Form, size_of, repeat_start, value_at, IsForm, gap}
 use Rattle.series_laws.specs.Needs.{period_with, rise_of, fall_of, turns_of, common, greatest_int, later_start, lead_of}
 use Rattle.series_laws.proofs.Sums.{form_repeats_own, common_positive, common_second, tail_number, le_greatest_int, rise_repeats, fall_repeats}
-use Rattle.series_form.specs.NumberBounds.{IsSeries, IsMagnitudeUpTo}
+use Rattle.series_form.specs.NumberBounds.{IsSeries}
 use Rattle.series_form.specs.Leads.{AreNumberSeries, NoGreaterLead, IsReach, climb_of, cover_of, gain_from_before, height_past, lead_past, integer_of_date, place_before, width_of}
 use Rattle.series_form.proofs.Cycles.{comes_low, turns_least, turns_some}
 use Rattle.series_laws.proofs.number_laws_proofs.Pigeons.{difference}
 use Rattle.series_form.specs.SeriesLimits.{greatest_value, most_covering_shifts, greatest_moderate, greatest_height}
 use Rattle.series_form.proofs.DateNumbers.{abs_sum, abs_difference, moderate_fits, within_fits}
-use Rattle.series_form.proofs.Finished.{value_up_to, up_to_more, gap_up_to}
+use Rattle.series_form.proofs.Finished.{value_up_to, gap_up_to}
 use Rattle.series_form.proofs.PointwiseTables.{max_up_to}
 
 module _ (f g : Form) (isf : IsForm f) (isg : IsForm g) (numbers : AreNumberSeries f g) where
@@ -174,9 +174,7 @@ module _ (f g : Form) (isf : IsForm f) (isg : IsForm g) (numbers : AreNumberSeri
 -- a lead on the list is moderate
 pub gap_moderate : (f g : Form) (k : ℕ) → IsSeries f → IsSeries g → k ≤ most_covering_shifts → unsigned_abs (gap (value_at f k) (value_at g k)) ≤ greatest_moderate
 gap_moderate f g k sf sg w =
-    let a : IsMagnitudeUpTo 400020001000000000000000000 (value_at f k) = up_to_more (greatest_value + most_covering_shifts * greatest_value) 400020001000000000000000000 (value_at f k) (omega arith) (value_up_to f sf k most_covering_shifts w) in
-    let b : IsMagnitudeUpTo 400020001000000000000000000 (value_at g k) = up_to_more (greatest_value + most_covering_shifts * greatest_value) 400020001000000000000000000 (value_at g k) (omega arith) (value_up_to g sg k most_covering_shifts w) in
-    let e : unsigned_abs (gap (value_at f k) (value_at g k)) ≤ 400020001000000000000000000 + 400020001000000000000000000 = gap_up_to 400020001000000000000000000 (value_at f k) (value_at g k) a b in
+    let low = gap_up_to (greatest_value + most_covering_shifts * greatest_value) (value_at f k) (value_at g k) (value_up_to f sf k most_covering_shifts w) (value_up_to g sg k most_covering_shifts w) in
     omega arith
 
 -- the greatest of numbers is one of them

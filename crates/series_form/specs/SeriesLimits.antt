@@ -5,6 +5,10 @@ use Rattle.std.specs.Prelude.{ℕ}
 abbrev pub greatest_value : ℕ
 greatest_value = 1000000000000000000
 
+-- the shift of a monomial and the magnitude of its date are below this
+abbrev pub monomial_bound : ℕ
+monomial_bound = 10000000000000000000
+
 -- a value 20,000 steps past one of a series
 abbrev pub greatest_value_ahead : ℕ
 greatest_value_ahead = 20001000000000000000000

@@ -50,14 +50,15 @@ impl Series {
     ghost use Rattle.series_laws.specs.Periodic.{Rising};
     ghost use Rattle.series_form.specs.NumberBounds.{IsSmallDate, IsSeries};
     ghost use Rattle.series_form.specs.SeriesAnswers.{AnswersOf, IsConstant};
+    ghost use Rattle.series_form.specs.SeriesLimits.{monomial_bound};
 
     /// The series that is Early below `shift` and `date` from there on; the shift and the magnitude
     /// of the date are below 10^19. Its need is `shift + 1`: TooLong above 20,000, and where not,
     /// TooGreat for a date of a magnitude above 10^18. `OutOfMemory` comes only where no memory is
     /// found. (Chapter 5.)
     pub fn monomial(alloc: Global, shift: u64, date: i128) -> Result<Series, SeriesRefused>
-        requires shift { shift < 10000000000000000000 }
-        requires date { unsigned_abs date < 10000000000000000000 }
+        requires shift { shift < monomial_bound }
+        requires date { unsigned_abs date < monomial_bound }
         ensures { AnswersOf (λ r. HasValues r (monomial_at shift date)) (shift + 1) (shift + 1)
             result }
     {

@@ -125,7 +125,7 @@ fn step_back(first: &Series, second: &Series, reach: Reach, periods: usize) -> R
 // The greater of a lead and the greatest one from a place.
 fn better(first: &Series, second: &Series, reach: Reach, best: i128) -> i128
     requires place { reach.place ≤ 40000 }
-    requires bound { unsigned_abs reach.height ≤ 100000000000000000000000000000000 }
+    requires bound { unsigned_abs reach.height ≤ 100000 * greatest_moderate }
     ensures { result ≡ cond (ltb reach.place first.now.period)
         (int_max best (reach.height -ℤ integer_of_date
         (value_at first.now (later_start first.now second.now + reach.place)))) best }

@@ -13,6 +13,9 @@ use crate::forms::{Series, SeriesRefused};
 use crate::values::{gap_of, is_moved};
 use dioid::Date;
 
+// The greatest magnitude of a value and of the step of a series.
+const GREATEST_VALUE: i128 = 1_000_000_000_000_000_000;
+
 // Whether `turn` shifts move the value at a shift of the list by `jump`. A value past the list is
 // one of the list, moved by the step, so that two values of the list are compared.
 fn moves_at(
@@ -158,7 +161,7 @@ fn is_great(number: i128) -> bool
     ensures { MatchBool result (greatest_value < unsigned_abs number)
         (unsigned_abs number ≤ greatest_value) }
 {
-    number > 1_000_000_000_000_000_000 || number < -1_000_000_000_000_000_000
+    number > GREATEST_VALUE || number < -GREATEST_VALUE
 }
 
 /// How much of a list is the canonical form of its function, with the period and the step.

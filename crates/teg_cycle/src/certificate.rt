@@ -15,6 +15,9 @@ use teg_net::{
     CycleAnswer, Net, PartAnswer, Place, PlaceId, Potential, Ratio, is_circuit, time_of, tokens_of,
 };
 
+// The greatest time and the most tokens of a ratio in an answer that is checked.
+const GREATEST_CHECKED_RATIO: u64 = 1_000_000_000_000;
+
 // Whether each number is below the count.
 fn all_below(part_of: &[u32], count: usize) -> bool
     ensures { IsTrue result ↔ All (λ k. k < count) part_of.now }
@@ -60,7 +63,7 @@ fn is_within(ratio: Ratio) -> bool
     ensures within { IsTrue result ↔ IsRatioWithin ratio }
     ensures terms { IsLowestTerms ratio }
 {
-    ratio.time() <= 1_000_000_000_000 && ratio.tokens() <= 1_000_000_000_000
+    ratio.time() <= GREATEST_CHECKED_RATIO && ratio.tokens() <= GREATEST_CHECKED_RATIO
 }
 
 // Whether the time and the tokens have the ratio.

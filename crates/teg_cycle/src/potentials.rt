@@ -10,6 +10,9 @@ ghost use Rattle.teg_cycle.specs.Checks.{HasPotentialTold, TellsMembers, KeepsPo
 use crate::inner_places::is_inner;
 use teg_net::{Net, Place, Potential, Ratio};
 
+// The greatest magnitude of a potential in an answer that is checked.
+const GREATEST_CHECKED_POTENTIAL: i128 = 1_000_000_000_000_000_000;
+
 // Whether the transition has the part's number.
 fn is_member(part_of: &[u32], part: usize, transition: usize) -> bool
     ensures { IsTrue result ↔ IsMember part_of.now part transition }
@@ -98,7 +101,7 @@ fn all_within(potentials: &[Potential]) -> bool
         potentials.now }
 {
     potentials.iter().all(|told| {
-        told.value >= -1_000_000_000_000_000_000 && told.value <= 1_000_000_000_000_000_000
+        told.value >= -GREATEST_CHECKED_POTENTIAL && told.value <= GREATEST_CHECKED_POTENTIAL
     })
 }
 

@@ -13,10 +13,7 @@ use csv_records::{
     three_fields,
 };
 use std::alloc::Global;
-use teg_net::{NameOrder, Net, TransitionId};
-
-// The greatest due date.
-const GREATEST_DUE_DATE: u64 = 1_000_000_000_000;
+use teg_net::{GREATEST_INPUT_DATE, NameOrder, Net, TransitionId};
 
 // A due file, which is read against a net, and the numbers that were read of each transition.
 #[derive(Drop)]
@@ -47,7 +44,7 @@ fn numbered_row(
         return Err(DueRefusal::RepeatedDue { row });
     }
     let number = number_up_to(number, u64::from(GREATEST_SEEN_NUMBER));
-    let date = number_up_to(date, GREATEST_DUE_DATE);
+    let date = number_up_to(date, GREATEST_INPUT_DATE);
     match (number, date) {
         (Some(number), Some(date)) if number >= 1 => Ok(DueRow {
             row,

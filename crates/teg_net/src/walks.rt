@@ -4,6 +4,7 @@ ghost use Rattle.teg_net.specs.Limits.{greatest_hold, greatest_firing_number};
 ghost use Rattle.teg_net.specs.Walks.{EndsAt, IsFiring, IsStepOf, IsWalk, WalksWithin, step_time, walk_time};
 
 use crate::entries::{PlaceId, TransitionId};
+use crate::limits::GREATEST_FIRING_NUMBER;
 use crate::net::Net;
 
 /// A step of a walk.
@@ -25,9 +26,6 @@ pub struct Walk {
     pub steps: Vec<Step>,
 }
 
-// The greatest firing number of a walk.
-const GREATEST_NUMBER: u64 = 1_000_000_000_000_000_000;
-
 // The firing to which the step leads; none where it does not leave this transition, is no place of
 // the net, or leads past the greatest number.
 fn step_end(net: &Net, start: TransitionId, number: u64, step: Step) -> Option<(TransitionId, u64)>
@@ -48,7 +46,7 @@ fn step_end(net: &Net, start: TransitionId, number: u64, step: Step) -> Option<(
         }
         Step::Next => (start, number + 1),
     };
-    if GREATEST_NUMBER < to {
+    if GREATEST_FIRING_NUMBER < to {
         return None;
     }
     Some((end, to))
@@ -82,7 +80,7 @@ fn is_firing(net: &Net, transition: TransitionId, number: u64) -> bool
 {
     (transition.index as usize) < net.transitions().len()
         && 1 <= number
-        && number <= GREATEST_NUMBER
+        && number <= GREATEST_FIRING_NUMBER
 }
 
 /// Whether the walk starts at a firing of the net from number 1 on, each place on it leaves the

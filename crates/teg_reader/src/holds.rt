@@ -15,6 +15,7 @@ use crate::refusals::ReadRefusal;
 use crate::trees::{number_at, text_at};
 use indexmap::IndexSet;
 use std::alloc::Global;
+use teg_net::GREATEST_HOLD;
 use toml::Value;
 
 // The duration of the transition of this name, or 0.
@@ -51,7 +52,7 @@ fn look_at_hold(
     requires name { has_good_name (view place.now) ≡ true }
     ensures { Finds (too_slow (map view transitions.now) (view place.now)) result }
 {
-    if hold_of(names, transitions, place) <= 1_000_000_000 {
+    if hold_of(names, transitions, place) <= GREATEST_HOLD {
         return Ok(());
     }
     let place = copy_name(alloc, text_at(place, Key::Name))?;

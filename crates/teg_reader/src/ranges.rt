@@ -13,6 +13,7 @@ use crate::refusals::{ReadRefusal, Section, Spot};
 use crate::trees::{is_between, list_at, value_at};
 use crate::walk::Pass;
 use std::alloc::Global;
+use teg_net::{GREATEST_HOLD, GREATEST_INPUT_DATE};
 use toml::Value;
 
 // Whether what stands at the key, if anything, is an integer from low to high.
@@ -58,7 +59,7 @@ fn are_dates(values: &[Value]) -> bool
     ensures { result ≡ list_all (is_between 0 greatest_input_date) (map view values.now) }
 {
     for value in values {
-        if !is_between(value, 0, 1_000_000_000_000) {
+        if !is_between(value, 0, GREATEST_INPUT_DATE) {
             return false;
         }
     }
@@ -87,11 +88,11 @@ fn in_range(section: Section, entry: &Value, key: Key) -> bool
         },
         Section::Transition => match key {
             Key::Role => has_role(entry),
-            Key::Duration => is_between_at(entry, key, 0, 1_000_000_000),
+            Key::Duration => is_between_at(entry, key, 0, GREATEST_HOLD),
             _ => true,
         },
         Section::Place => match key {
-            Key::Hold => is_between_at(entry, key, 0, 1_000_000_000),
+            Key::Hold => is_between_at(entry, key, 0, GREATEST_HOLD),
             Key::Tokens => is_between_at(entry, key, 0, 1000),
             Key::Ready => are_dates(list_at(entry, key)),
             _ => true,
@@ -99,7 +100,7 @@ fn in_range(section: Section, entry: &Value, key: Key) -> bool
         Section::Input => match key {
             Key::Dates => has_dates_in_range(entry),
             Key::Every => is_between_at(entry, key, 1, 1000),
-            Key::Gap => is_between_at(entry, key, 0, 1_000_000_000_000),
+            Key::Gap => is_between_at(entry, key, 0, GREATEST_INPUT_DATE),
             _ => true,
         },
     }

@@ -1,5 +1,5 @@
 use Rattle.std.proofs.Common.{◌+◌, ◌-◌, ◌≤◌}
-use Rattle.teg_settle.specs.ComparedRows.{AreRowsOf}
+use Rattle.teg_settle.specs.ComparedRows.{AreRowsOf, most_window}
 use Rattle.teg_settle.proofs.endless.endless.Given as goal
 
 abbrev pub invariant-search : goal.invariant-search
@@ -7,7 +7,7 @@ invariant-search g l = record {
   rows : AreRowsOf l.net l.releases l.rows;
   more : l.most + 8 ≤ l.stage;
   fewer : l.rows.count ≤ l.stage;
-  few : l.stage ≤ 40000000000000;
+  few : l.stage ≤ most_window;
 }
 
 abbrev pub decreases-search : goal.decreases-search

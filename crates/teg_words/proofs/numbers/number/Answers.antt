@@ -17,7 +17,7 @@ parts t h = grind (arith, nat_tests)
 small : (t : List ℕ) → is_number_word t ≡ true → digits_value 10 t < 2 ^ 64
 small t h =
     let (some, most, digits) = parts t h in
-    let short : digits_value 10 t < 10000000000000000000 = digits_value_short own t 19 digits most in
+    let short : digits_value 10 t < 10 ^ 19 = digits_value_short own t 19 digits most in
     omega arith
 
 pub returns-in-Ok-clause-value : goal.returns-in-Ok-clause-value
