@@ -10,6 +10,7 @@ use Rattle.series_form.specs.declared.forms.SeriesRefused.TheVariants.{TooLong, 
 use Rattle.series_ops.specs.series_laws.SeriesForms.{Form, value_at, HasValues, IsCanonical, monomial_at}
 use Rattle.series_ops.specs.series_laws.Pointwise.{sum_at, least_at}
 use Rattle.series_form.specs.NumberBounds.{IsSmallDate}
+use Rattle.series_form.specs.SeriesLimits.{greatest_value}
 use Rattle.series_form.proofs.Great.{no_great}
 use Rattle.series_ops.proofs.series_laws_proofs.Canonical.{one_canonical}
 use Rattle.series_form.specs.SeriesAnswers.{AnswersOf, IsConstant, IsFirstGreatValue, IsGreatStep}
@@ -22,8 +23,8 @@ use Rattle.teg_calc.specs.Meaning.{AnswersBoth, AnswersInOrder, AnswersOne, Answ
 -- ---- one operation
 
 -- a value that is great is not small
-great_here : (f : Form) (place : ℕ) (v : ℤ) → get_or f.values place Early ≡ At v → 1000000000000000000 < unsigned_abs v → IsSmallDate (get_or f.values place Early) → ⊥
-great_here f place v e high small = let low : unsigned_abs v ≤ 1000000000000000000 = rw e at small in omega arith
+great_here : (f : Form) (place : ℕ) (v : ℤ) → get_or f.values place Early ≡ At v → greatest_value < unsigned_abs v → IsSmallDate (get_or f.values place Early) → ⊥
+great_here f place v e high small = let low : unsigned_abs v ≤ greatest_value = rw e at small in omega arith
 
 -- the first great number is one
 one_great : (f : Form) (v u : ℤ) → (IsFirstGreatValue f v ⊎ IsGreatStep f v) → (IsFirstGreatValue f u ⊎ IsGreatStep f u) → v ≡ u

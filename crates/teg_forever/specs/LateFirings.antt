@@ -11,6 +11,7 @@ use Rattle.forever_laws.specs.due_laws.MeetingDueDates.{inputs_at_zero}
 use Rattle.forever_laws.specs.declared.rows.EndlessRow.{EndlessRow}
 use Rattle.forever_laws.specs.EndlessRows.{IsEndlessRow}
 use Rattle.forever_laws.specs.Late.{IsLeastLate}
+use Rattle.forever_laws.specs.EndlessDues.{late_date_bound, late_number_bound}
 use Rattle.teg_forever.specs.declared.late.Soonest.{Soonest}
 use Rattle.teg_forever.specs.declared.late.CommonPeriod.{CommonPeriod}
 
@@ -43,9 +44,9 @@ RisesIn f t firings rise = (k : ℕ) → f.after < k → settled_date f t (k + f
 -- the least late number of the row, and how great it is
 pub record IsSoonLate (f : SettledForm) (r : EndlessRow) (k due least : ℕ) : Type 0 where
   pub is : IsLeastLate (settled_date f) r k due least
-  pub number_in : k < 100000000000000000000000
-  pub due_in : due < 100000000000000000000000000000000000
-  pub least_in : least < 100000000000000000000000000000000000
+  pub number_in : k < late_number_bound
+  pub due_in : due < late_date_bound
+  pub least_in : least < late_date_bound
 
 -- the number, so many turns on, is the least late number of the row
 abbrev pub IsLateAfter : SettledForm → EndlessRow → CommonPeriod → Soonest → Type 0

@@ -1,5 +1,5 @@
 -- What is answered of endless due dates: when the inputs are released at the latest, or why they are not told (chapter 5).
-use Rattle.std.specs.Prelude.{ℕ, zero, suc, pos, ◌-◌, ◌^◌, ◌<◌, ◌≤◌, ◌≡◌, ◌==◌, List, [], ◌∷◌, ◌++◌, Some, length, slice_get, if◌then◌else◌, ⊤}
+use Rattle.std.specs.Prelude.{ℕ, zero, suc, pos, ◌-◌, ◌<◌, ◌≤◌, ◌≡◌, ◌==◌, List, [], ◌∷◌, ◌++◌, Some, length, slice_get, if◌then◌else◌, ⊤}
 use Rattle.dioid.specs.declared.dates.Date.{Date}
 use Rattle.dioid.specs.declared.dates.Date.TheVariants.{At, Never}
 use Rattle.forever_laws.specs.dioid_matrix.Residuals.{RowFits}
@@ -18,6 +18,7 @@ use Rattle.forever_laws.specs.due_laws.LatestInputs.{LeadsToNoDue}
 use Rattle.teg_due.specs.RowNames.{is_input}
 use Rattle.forever_laws.specs.declared.rows.EndlessRow.{EndlessRow}
 use Rattle.forever_laws.specs.EndlessRows.{due_on}
+use Rattle.forever_laws.specs.EndlessDues.{late_date_bound, late_number_bound}
 use Rattle.forever_laws.specs.Late.{IsFirstLateRow}
 use Rattle.forever_laws.specs.SeriesColumns.{AreSeriesColumns, gain_residuals}
 use Rattle.teg_forever.specs.declared.releases.Release.{Release}
@@ -108,9 +109,9 @@ pub record IsLateAnswer (net : NetLists) (rows : List EndlessRow) (t k due least
   pub row : EndlessRow
   pub first : IsFirstLateRow dating rows row k due least
   pub transition : row.transition.index ≡ t
-  pub number_in : k < 10 ^ 23
-  pub due_in : due < 10 ^ 35
-  pub least_in : least < 10 ^ 35
+  pub number_in : k < late_number_bound
+  pub due_in : due < late_date_bound
+  pub least_in : least < late_date_bound
 
 -- inputs at 0 meet the due dates, the inputs before this one are fine, and the settled form of its walk times is too long
 pub record IsInputTooLong (net : NetLists) (rows : List EndlessRow) (u : ℕ) : Type 0 where

@@ -3,20 +3,18 @@ ghost use Rattle.std.specs.Prelude.{◌≡◌, ◌<◌, ◌≤◌, ◌+◌, ◌*
 ghost use Rattle.dioid.specs.declared.dates.Date.TheVariants.{At};
 ghost use Rattle.teg_net.specs.Circuits.{IsLive};
 ghost use Rattle.teg_net.specs.Nets.{IsNet};
-ghost use Rattle.teg_net.specs.Limits.{greatest_firing_number, greatest_input_date};
+ghost use Rattle.teg_net.specs.Limits.{greatest_every, greatest_firing_number, greatest_input_date, most_rows};
+ghost use Rattle.forever_laws.specs.teg_model.DateBounds.{greatest_least_date};
 ghost use Rattle.forever_laws.specs.settled_laws.SettledForms.{settled_date};
-ghost use Rattle.forever_laws.specs.EndlessRows.{IsEndlessRow, row_due};
+ghost use Rattle.forever_laws.specs.EndlessRows.{IsEndlessRow, most_endless_dates, row_due};
 ghost use Rattle.forever_laws.specs.Late.{IsLeastLate, NoneLate, NoneLateTo};
 ghost use Rattle.forever_laws.specs.LateSearches.{IsSoonest, IsCommonPeriodOf, turns_to};
 ghost use Rattle.teg_forever.specs.LateFirings.{GoesOnBySteps, IsClimbing, IsGoingRow, IsLateAfter, IsSoonLate, IsZeroForm, RisesIn};
 
 use dioid::Date;
 use forever_laws::{EndlessRow, late_is_soon, turns_tell_late};
-use teg_net::{Net, OutOfMemory, TransitionId};
+use teg_net::{GREATEST_FIRING_NUMBER, Net, OutOfMemory, TransitionId};
 use teg_settle::Settled;
-
-// The greatest number that a settled form tells.
-const GREATEST_NUMBER: u64 = 1_000_000_000_000_000_000;
 
 // A late firing of a row: its number, its due date, and its least date.
 #[derive(Clone, Copy)]
@@ -77,7 +75,7 @@ fn least_at(settled: &Settled, transition: TransitionId, number: u64) -> u128
     requires first { 1 ≤ number }
     requires last { number ≤ greatest_firing_number }
     ensures least { settled_date settled.now transition.index number ≡ At (pos result) }
-    ensures low { result ≤ 2000000000000000000000000000000 }
+    ensures low { result ≤ greatest_least_date }
 {
     settled.after();
     match settled.date(transition, number) {
@@ -172,8 +170,8 @@ fn fewest_turns(settled: &Settled, row: &EndlessRow, past: u64, last: u64, gain:
 fn rises_in(settled: &Settled, transition: TransitionId, firings: u64, rise: u128) -> bool
     requires climbing { IsClimbing settled.now transition.index }
     requires steps { GoesOnBySteps settled.now transition.index }
-    requires firings { firings ≤ 1000000000000000 }
-    requires rise { rise ≤ 2000000000000000000000000000000 }
+    requires firings { firings ≤ most_rows }
+    requires rise { rise ≤ greatest_least_date }
     ensures { IsTrue result → RisesIn settled.now transition.index firings rise }
 {
     let after = settled.after();
@@ -202,8 +200,8 @@ fn own_cycle(settled: &Settled, transition: TransitionId) -> Cycle
     requires steps { GoesOnBySteps settled.now transition.index }
     ensures rises { RisesIn settled.now transition.index result.firings result.rise }
     ensures some { 1 ≤ result.firings }
-    ensures firings { result.firings ≤ 1000000000000000 }
-    ensures rise { result.rise ≤ 2000000000000000000000000000000 }
+    ensures firings { result.firings ≤ most_rows }
+    ensures rise { result.rise ≤ greatest_least_date }
 {
     let period = settled.period();
     let step = settled.step(transition) as u128;
@@ -223,8 +221,8 @@ fn own_cycle(settled: &Settled, transition: TransitionId) -> Cycle
 // firings.
 fn common_cycles(firings: u64, every: u64) -> u64
     requires some { 1 ≤ every }
-    requires every { every ≤ 1000 }
-    requires firings { firings ≤ 1000000000000000 }
+    requires every { every ≤ greatest_every }
+    requires firings { firings ≤ most_rows }
     ensures from_one { 1 ≤ result }
     ensures within { result ≤ every }
     ensures common { result * firings % every ≡ 0 }
@@ -255,7 +253,7 @@ fn turn_of(settled: &Settled, row: &EndlessRow) -> CommonPeriod
     ensures turn { IsCommonPeriodOf (settled_date settled.now) row.now result.past result.firings
         result.rise
         result.fall }
-    ensures past { result.past ≤ 1000000000010000 }
+    ensures past { result.past ≤ most_rows + most_endless_dates }
     ensures firings { result.firings ≤ greatest_firing_number }
 {
     let every = row.every as u64;
@@ -336,7 +334,7 @@ pub(crate) fn late_in_row(
     late_is_soon();
     let turn = turn_of(settled, row);
     let last = turn.past + turn.firings;
-    if last > GREATEST_NUMBER {
+    if last > GREATEST_FIRING_NUMBER {
         return Err(OutOfMemory);
     }
     if let Some(late) = late_listed(settled, row, last) {

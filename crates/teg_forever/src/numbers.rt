@@ -8,10 +8,7 @@ ghost use Rattle.teg_forever.specs.EndlessFiles.{has_numbers, IsLimited, AreDate
 
 use csv_records::{ByteRecord, is_number, number_up_to};
 use std::alloc::Global;
-use teg_net::OutOfMemory;
-
-// The greatest gap and the greatest date.
-const GREATEST_DATE: u64 = 1_000_000_000_000;
+use teg_net::{GREATEST_INPUT_DATE, OutOfMemory};
 
 // The most firings after which dates go on.
 const MOST_EVERY: u64 = 1_000;
@@ -71,7 +68,7 @@ fn dates_of(alloc: Global, record: &ByteRecord) -> Result<Option<Vec<u64>>, OutO
 {
     let mut dates = Vec::new(alloc);
     for index in 3..record.len() {
-        let Some(date) = number_at(record, index, GREATEST_DATE) else {
+        let Some(date) = number_at(record, index, GREATEST_INPUT_DATE) else {
             return Ok(None);
         };
         if dates.push(date).is_err() {
@@ -92,7 +89,7 @@ pub(crate) fn limited_numbers(
     let Some(every) = number_at(record, 1, MOST_EVERY) else {
         return Ok(None);
     };
-    let Some(gap) = number_at(record, 2, GREATEST_DATE) else {
+    let Some(gap) = number_at(record, 2, GREATEST_INPUT_DATE) else {
         return Ok(None);
     };
     if every < 1 || record.len() > MOST_DATES + 3 {
