@@ -143,8 +143,8 @@ impl<D: Kleene> Matrix<D> {
     ghost use Rattle.dioid_matrix.specs.Tables.{IsTable};
     ghost use Rattle.dioid_matrix.specs.Turns.{AnswersSolve, AnswersStar};
 
-    /// The star of a square matrix, whose product with each column `b` is the least solution of `x
-    /// = self x + b` (chapter 4). By Kleene's recursion, in n^3 sums and products: step `k` adds
+    /// The star of a square matrix, whose product with each column `b` is the least solution of
+    /// `x = self x + b` (chapter 4). By Kleene's recursion, in n^3 sums and products: step `k` adds
     /// the ways through `k`, by the star of the pivot, and a last step adds one on the diagonal.
     ///
     /// `Shape`, with the columns and then the rows, exactly where the matrix is not square. `Range`

@@ -55,9 +55,9 @@ pub(crate) fn plan_for(
 /// date (chapter 5). The input lists of the net play no part, since the inputs are to be found.
 /// `Late` comes exactly where the least dating with all inputs at 0 exceeds a due date: it names
 /// the first such row, its date there, and a walk that ends at its firing and whose start plus time
-/// is that date. `OutOfMemory` comes only where no memory is found. It takes time of order `N (n +
-/// p)` for N numbers, n transitions and p places, and `r log r` for r due dates, and memory of 16
-/// bytes for each of `N n` firings, of which the plan keeps eight.
+/// is that date. `OutOfMemory` comes only where no memory is found. It takes time of order
+/// `N (n + p)` for N numbers, n transitions and p places, and `r log r` for r due dates, and memory
+/// of 16 bytes for each of `N n` firings, of which the plan keeps eight.
 pub fn latest_inputs(alloc: Global, net: &Net, live: &Live, due: &Due) -> Result<Plan, JitRefusal>
     requires stands { IsRanking net.now live.now }
     requires due { IsDueOf net.now due.now.rows.items }

@@ -117,8 +117,8 @@ fn left_by(
 /// places together; `Unworkable` exactly where the plan does not leave some place its time, with
 /// the lowest numbered such place; `TooLong` exactly where there is a limit, from 1 to 200,000,
 /// that the settling length exceeds. `OutOfMemory` comes only where no memory is found. For n
-/// transitions, p places, r delays and a settling length l it takes time of order `n r + (n + p)
-/// l`, and what the periods that are tried take beside the rows, as in
+/// transitions, p places, r delays and a settling length l it takes time of order
+/// `n r + (n + p) l`, and what the periods that are tried take beside the rows, as in
 /// [`settle_within`](teg_settle::settle_within); the rows are kept, eight bytes a date where dates
 /// are below 2^64 - 2.
 pub fn spread(
