@@ -26,7 +26,8 @@ impl<'a> Model for Records<'a> {
 
     ghost Value = { List Record };
 
-    ghost view = { λ r. if r.ended then [] else records_left_of (reader_state r.reader) (source_of (λ s. Some s.now) r.reader) };
+    ghost view = { λ r. if r.ended then []
+        else records_left_of (reader_state r.reader) (source_of (λ s. Some s.now) r.reader) };
 
     ghost invariant = { λ r. r.ended ≡ false → IsReading (λ s. Some s.now) r.reader };
 }

@@ -24,7 +24,8 @@ impl<D: Dioid> Model for Matrix<D> {
 
     ghost view = { λ m. record { rows = m.rows; columns = m.columns; entries = m.entries.items } };
 
-    ghost invariant = { λ m. IsTable D.Dioid (record { rows = m.rows; columns = m.columns; entries = m.entries.items }) };
+    ghost invariant = { λ m. IsTable D.Dioid
+        (record { rows = m.rows; columns = m.columns; entries = m.entries.items }) };
 }
 
 impl<D: Dioid> Matrix<D> {

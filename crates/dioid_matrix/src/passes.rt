@@ -56,7 +56,8 @@ pub(crate) fn turned<D: Kleene>(
     requires loops { AreLoops D.Dioid D.Kleene.own size
         (entry_of D.Dioid (table_of size size entries.now)) k loops.now }
     ensures { let r = entry_of D.Dioid (table_of size size entries.now) in
-        AnswersList D.Dioid size size (IsAfterPass D.Dioid D.Kleene.own size r k) (PassRefused D.Dioid D.Kleene.own size r k) result }
+        AnswersList D.Dioid size size (IsAfterPass D.Dioid D.Kleene.own size r k)
+        (PassRefused D.Dioid D.Kleene.own size r k) result }
 {
     let mut values = Vec::new(alloc);
     for place in 0..size * size {
@@ -104,7 +105,8 @@ pub(crate) fn pass<D: Kleene>(
     requires filled { length entries.now ≡ size * size }
     requires fits { size * size < 2 ^ 64 }
     ensures { let r = entry_of D.Dioid (table_of size size entries.now) in
-        AnswersList D.Dioid size size (IsAfterPass D.Dioid D.Kleene.own size r k) (PassRefused D.Dioid D.Kleene.own size r k) result }
+        AnswersList D.Dioid size size (IsAfterPass D.Dioid D.Kleene.own size r k)
+        (PassRefused D.Dioid D.Kleene.own size r k) result }
 {
     let Ok(loops) = loops(alloc, entries, size, k) else {
         return Err(MatrixRefused::OutOfMemory);
@@ -141,7 +143,8 @@ pub(crate) fn finish<D: Kleene>(
     requires filled { length entries.now ≡ size * size }
     requires fits { size * size < 2 ^ 64 }
     ensures { let r = entry_of D.Dioid (table_of size size entries.now) in
-        AnswersList D.Dioid size size (IsAfterLastPass D.Dioid size r) (LastRefused D.Dioid size r) result }
+        AnswersList D.Dioid size size (IsAfterLastPass D.Dioid size r)
+        (LastRefused D.Dioid size r) result }
 {
     let Ok(one) = D::one(alloc) else {
         return Err(MatrixRefused::OutOfMemory);
@@ -181,7 +184,8 @@ pub(crate) fn star_entries<D: Kleene>(
     requires fits { size * size < 2 ^ 64 }
     requires elements { AreElements D.Dioid entries.now }
     ensures { let a = table_of size size entries.now in
-        AnswersList D.Dioid size size (IsStar D.Dioid D.Kleene.own a) (StarRefused D.Dioid D.Kleene.own a) result }
+        AnswersList D.Dioid size size (IsStar D.Dioid D.Kleene.own a)
+        (StarRefused D.Dioid D.Kleene.own a) result }
 {
     let mut table = pass(alloc, entries, size, 0)?;
     for k in 1..size {

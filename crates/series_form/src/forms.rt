@@ -40,7 +40,8 @@ impl Model for Series {
 
     ghost view = { λ s. record { values = s.values.items; period = s.period; step = s.step } };
 
-    ghost invariant = { λ s. IsSeries (record { values = s.values.items; period = s.period; step = s.step }) };
+    ghost invariant = { λ s. IsSeries
+        (record { values = s.values.items; period = s.period; step = s.step }) };
 }
 
 impl Series {

@@ -97,7 +97,8 @@ impl Model for Target {
 
     ghost view = { λ r. (r.time, r.tokens) };
 
-    ghost invariant = { λ r. (r.time ≤ greatest_target_time) × (1 ≤ r.tokens) × (r.tokens ≤ most_target_tokens) };
+    ghost invariant = { λ r. (r.time ≤ greatest_target_time) × (1 ≤ r.tokens)
+        × (r.tokens ≤ most_target_tokens) };
 }
 
 impl Target {

@@ -122,7 +122,8 @@ fn tell_seen(
 ) -> Result<Outcome, OutOfMemory>
     requires { IfSome replayed.now.refused (λ refused. CanTellRefusal net.now refused.why) }
     ensures { let lines = map (λ m. line_text m []) monitors.now in
-        Tells (SaysEnd net.now replayed.now.refused replayed.now.accepted lines) (outcome_of result) }
+        Tells (SaysEnd net.now replayed.now.refused replayed.now.accepted lines)
+        (outcome_of result) }
 {
     let lines = lines_of(alloc, monitors)?;
     tell_end(alloc, net, replayed, lines.as_slice())
@@ -139,7 +140,8 @@ fn tell_run(
     requires rows { IsLogOf net.now rows.now }
     ensures says { Tells (SaysRun (λ firings. map (λ m. line_text m firings) monitors.items) net.now
         rows.now) (outcome_of result.0) }
-    ensures shown { ShowsRun net.now rows.now (λ firings. map (λ m. line_text m firings) monitors.items)
+    ensures shown { ShowsRun net.now rows.now
+        (λ firings. map (λ m. line_text m firings) monitors.items)
         (λ firings. map (λ m. line_text m firings) result.1.items) (is_ok result.0) }
 {
     let run = replay(alloc, net.net(), rows, &mut monitors);
@@ -164,7 +166,8 @@ pub fn tell_replay(
     requires { length bytes.now ≤ most_file_bytes }
     ensures says { Tells (SaysReplay (λ firings. map (λ m. line_text m firings) monitors.items)
         net.now bytes.now) (outcome_of result.0) }
-    ensures shown { ShowsReplay net.now bytes.now (λ firings. map (λ m. line_text m firings) monitors.items)
+    ensures shown { ShowsReplay net.now bytes.now
+        (λ firings. map (λ m. line_text m firings) monitors.items)
         (λ firings. map (λ m. line_text m firings) result.1.items) (is_ok result.0) }
 {
     match read_log(alloc, net.net(), bytes) {

@@ -24,9 +24,16 @@ impl Model for LastRows {
 
     ghost Value = { LastDates };
 
-    ghost view = { λ a. record { width = a.width; reach = a.reach; number = a.number; dates = a.cells.items } };
+    ghost view = { λ a. record {
+      width = a.width;
+      reach = a.reach;
+      number = a.number;
+      dates = a.cells.items;
+    } };
 
-    ghost invariant = { λ a. AreLastDates (record { width = a.width; reach = a.reach; number = a.number; dates = a.cells.items }) × (a.cells.capacity ≡ a.reach * a.width) };
+    ghost invariant = { λ a. AreLastDates
+        (record { width = a.width; reach = a.reach; number = a.number; dates = a.cells.items })
+        × (a.cells.capacity ≡ a.reach * a.width) };
 }
 
 impl LastRows {
@@ -37,7 +44,8 @@ impl LastRows {
     pub(crate) fn new(alloc: Global, width: usize, reach: u64) -> Result<LastRows, AllocError>
         requires width { width ≤ most_transitions }
         requires reach { reach ≤ most_place_tokens }
-        ensures { IfOk result (λ last. last ≡ record { width = width; reach = reach; number = 0; dates = [] }) }
+        ensures { IfOk result
+            (λ last. last ≡ record { width = width; reach = reach; number = 0; dates = [] }) }
     {
         let cells = HeapCircularBuffer::with_capacity(alloc, reach as usize * width)?;
         Ok(LastRows {

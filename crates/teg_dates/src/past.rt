@@ -50,7 +50,13 @@ impl Past<Date> for AllRows<'_> {
     ghost use Rattle.std.specs.Prelude.{◌+◌, ◌-◌};
     ghost use Rattle.teg_dates.specs.DateTables.{date_in_list};
 
-    ghost rows = { λ p. record { width = p.width; reach = p.count; number = p.count; kept = p.count; back = λ t b. date_in_list p.width p.dates.now t (p.count + 1 - b) } };
+    ghost rows = { λ p. record {
+      width = p.width;
+      reach = p.count;
+      number = p.count;
+      kept = p.count;
+      back = λ t b. date_in_list p.width p.dates.now t (p.count + 1 - b);
+    } };
 
     fn back(&self, transition: TransitionId, behind: u64) -> Date {
         self.dates

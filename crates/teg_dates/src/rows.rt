@@ -66,7 +66,8 @@ impl Model for Rows {
 
     ghost view = { λ a. record { width = a.width; count = a.count; dates = a.dates } };
 
-    ghost invariant = { λ a. IsRows (record { width = a.width; count = a.count; dates = a.dates }) };
+    ghost invariant = { λ a. IsRows
+        (record { width = a.width; count = a.count; dates = a.dates }) };
 }
 
 impl Rows {
@@ -74,7 +75,8 @@ impl Rows {
 
     /// No rows of this net. It takes no memory.
     pub fn new(alloc: Global, net: &Net) -> Rows
-        ensures none { result ≡ record { width = length net.now.transitions; count = 0; dates = [] } }
+        ensures none { result
+            ≡ record { width = length net.now.transitions; count = 0; dates = [] } }
         ensures limits { IsRows result }
         ensures rules { IsNet net.now }
     {

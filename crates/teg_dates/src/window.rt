@@ -30,9 +30,24 @@ impl Model for Window {
 
     ghost Value = { WindowCells };
 
-    ghost view = { λ a. record { width = a.width; reach = a.reach; room = a.room; at = a.at; number = a.number; cells = a.cells.items } };
+    ghost view = { λ a. record {
+      width = a.width;
+      reach = a.reach;
+      room = a.room;
+      at = a.at;
+      number = a.number;
+      cells = a.cells.items;
+    } };
 
-    ghost invariant = { λ a. AreLastColumns (record { width = a.width; reach = a.reach; room = a.room; at = a.at; number = a.number; cells = a.cells.items }) };
+    ghost invariant = { λ a. AreLastColumns
+        (record {
+          width = a.width;
+          reach = a.reach;
+          room = a.room;
+          at = a.at;
+          number = a.number;
+          cells = a.cells.items;
+        }) };
 }
 
 // Where a date of a transition stands.
@@ -125,7 +140,14 @@ impl Window {
 
     // The rows, for a pass to read. It takes no memory.
     pub(crate) fn columns(&self) -> Columns<'_>
-        ensures { record { width = result.width; reach = result.reach; room = result.room; at = result.at; number = result.number; cells = result.cells.now } ≡ self.now }
+        ensures { record {
+          width = result.width;
+          reach = result.reach;
+          room = result.room;
+          at = result.at;
+          number = result.number;
+          cells = result.cells.now;
+        } ≡ self.now }
     {
         Columns {
             width: self.width,
@@ -158,13 +180,29 @@ pub(crate) struct Columns<'a> {
     at: usize,
     number: u64,
     cells: &'a [u64],
-    ghost within: { AreLastColumns (record { width = width; reach = reach; room = room; at = at; number = number; cells = cells.now }) },
+    ghost within: { AreLastColumns
+        (record {
+          width = width;
+          reach = reach;
+          room = room;
+          at = at;
+          number = number;
+          cells = cells.now;
+        }) },
 }
 
 impl Past<u64> for Columns<'_> {
     ghost use Rattle.teg_dates.specs.LastColumns.{window_rows};
 
-    ghost rows = { λ c. window_rows (record { width = c.width; reach = c.reach; room = c.room; at = c.at; number = c.number; cells = c.cells.now }) };
+    ghost rows = { λ c. window_rows
+        (record {
+          width = c.width;
+          reach = c.reach;
+          room = c.room;
+          at = c.at;
+          number = c.number;
+          cells = c.cells.now;
+        }) };
 
     fn back(&self, transition: TransitionId, behind: u64) -> u64 {
         let at = self.at - behind as usize;

@@ -28,7 +28,8 @@ impl Model for Plan {
 
     ghost view = { λ a. record { width = a.width; numbers = a.numbers; dates = a.dates } };
 
-    ghost invariant = { λ a. KeepsSizes (record { width = a.width; numbers = a.numbers; dates = a.dates }) };
+    ghost invariant = { λ a. KeepsSizes
+        (record { width = a.width; numbers = a.numbers; dates = a.dates }) };
 }
 
 impl Plan {

@@ -32,7 +32,8 @@ impl Model for MemorySink {
       faults = s.faults;
     } };
 
-    ghost invariant = { λ s. (0 < s.most) × (vec_len s.bytes ≤ s.room) × (s.room ≤ vec_capacity s.bytes) };
+    ghost invariant = { λ s. (0 < s.most) × (vec_len s.bytes ≤ s.room)
+        × (s.room ≤ vec_capacity s.bytes) };
 }
 
 impl MemorySink {

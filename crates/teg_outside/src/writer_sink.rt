@@ -19,7 +19,8 @@ pub struct WriterSink<W> {
 impl<W: Write> WriterSink<W> {
     /// A sink over this writer as it is, with its count at 0. No memory is taken.
     pub fn new(inner: W) -> Self
-        ensures told { ⟦<WriterSink<W> as Sink>⟧.state result ≡ record { bytes = None; faults = 0 } }
+        ensures told { ⟦<WriterSink<W> as Sink>⟧.state result
+            ≡ record { bytes = None; faults = 0 } }
         ensures inner { result.inner ≡ inner }
     {
         WriterSink { inner, faults: 0 }
@@ -54,7 +55,8 @@ impl<W: Write> Sink for WriterSink<W> {
     /// That raises the count by one, and the writer may have taken a first part of the piece.
     fn write(&mut self, piece: &[u8]) -> Result<usize, SinkFault>
         ensures faults { self.old.faults ≤ self.new.faults }
-        ensures answer { WriteAnswers (record { bytes = None; faults = self.old.faults }) (record { bytes = None; faults = self.new.faults }) piece.now result }
+        ensures answer { WriteAnswers (record { bytes = None; faults = self.old.faults })
+            (record { bytes = None; faults = self.new.faults }) piece.now result }
         ensures taken { IfOk result (λ n. Appends (W.contents self.old.inner)
             (W.contents self.new.inner) (take n piece.now)) }
         ensures counts { OnErr result (self.new.faults ≡ counted_once_more self.old.faults) }

@@ -32,7 +32,12 @@ impl Model for Game {
 
     ghost Value = { GameState };
 
-    ghost view = { λ g. record { run = g.history.run; width = g.history.width; ends = g.ends; tokens = g.tokens } };
+    ghost view = { λ g. record {
+      run = g.history.run;
+      width = g.history.width;
+      ends = g.ends;
+      tokens = g.tokens;
+    } };
 }
 
 // The initial tokens in all places.
@@ -113,16 +118,27 @@ impl Game {
         requires date { date ≤ 10 ^ 18 }
 
         // what an accepted firing is, and what is told of it
-        ensures legal { IfOk result (λ _. IsLegalAfter net.now self.old.run (record { transition = transition; date = date })) }
-        ensures appended { IfOk result (λ _. self.new.run ≡ self.old.run ++ (record { transition = transition; date = date }) ∷ []) }
-        ensures told { IfOk result (λ firing. IsFiringOf net.now self.old.run (record { transition = transition; date = date }) firing) }
+        ensures legal { IfOk result
+            (λ _. IsLegalAfter net.now self.old.run
+            (record { transition = transition; date = date })) }
+        ensures appended { IfOk result
+            (λ _. self.new.run
+            ≡ self.old.run ++ (record { transition = transition; date = date }) ∷ []) }
+        ensures told { IfOk result
+            (λ firing. IsFiringOf net.now self.old.run
+            (record { transition = transition; date = date }) firing) }
 
         ensures least { IfOk result (λ firing. StandsToLeastDates net.now self.old.run firing) }
 
         // why one is refused, which changes nothing; a legal one is refused for want of memory
         // alone
-        ensures refused { IfErr result (λ why. IsRightFireRefusal net.now self.old.run (record { transition = transition; date = date }) why) }
-        ensures failure { IfErr result (λ why. IsFailure why → IsLegalAfter net.now self.old.run (record { transition = transition; date = date }) → ⊥) }
+        ensures refused { IfErr result
+            (λ why. IsRightFireRefusal net.now self.old.run
+            (record { transition = transition; date = date }) why) }
+        ensures failure { IfErr result
+            (λ why. IsFailure why
+            → IsLegalAfter net.now self.old.run
+            (record { transition = transition; date = date }) → ⊥) }
         ensures unchanged { IfErr result (λ _. self.new ≡ self.old) }
 
         ensures stands { IsGameOf net.now self.new }

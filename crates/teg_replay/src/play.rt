@@ -17,7 +17,11 @@ use teg_outside::Monitor;
 
 // The answer where a row is refused.
 fn refused(row: &LogRow, accepted: u64, why: FireRefusal) -> Result<Replayed, OutOfMemory>
-    ensures told { IfOk result (λ replayed. replayed ≡ record { accepted = accepted; refused = Some (record { row = row.now.row; why = why }) }) }
+    ensures told { IfOk result
+        (λ replayed. replayed ≡ record {
+          accepted = accepted;
+          refused = Some (record { row = row.now.row; why = why });
+        }) }
     ensures failed { IfOk result (λ _. IsFailure why) }
 {
     match why {

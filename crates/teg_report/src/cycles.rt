@@ -48,7 +48,8 @@ fn push_members(
 ) -> Result<(), AllocError>
     requires { length part_of.now ≡ length net.now.transitions }
     ensures { IfOk result (λ _. string_bytes text.new ≡
-        string_bytes text.old ++ written (map (member_line net.now) (members_from 0 part_of.now part))) }
+        string_bytes text.old
+        ++ written (map (member_line net.now) (members_from 0 part_of.now part))) }
 {
     for index in 0..part_of.len() {
         if part_of[index] as usize == part {
@@ -82,7 +83,8 @@ fn push_part(
     requires full { length part_of.now ≡ length net.now.transitions }
     requires part { IsPartTold net.now (members_from 0 part_of.now number) (part_lists part.now) }
     ensures { IfOk result (λ _. string_bytes text.new ≡
-        string_bytes text.old ++ written (part_lines net.now part_of.now number (part_lists part.now))) }
+        string_bytes text.old
+        ++ written (part_lines net.now part_of.now number (part_lists part.now))) }
 {
     match part {
         PartAnswer::NoCircuit => {
@@ -123,7 +125,8 @@ fn best(alloc: Global, net: &Net, part: &PartAnswer) -> Result<String, AllocErro
 fn head(alloc: Global, net: &Net, answer: &CycleAnswer) -> Result<String, AllocError>
     requires { IsCycleTold net.now (cycle_lists answer.now) }
     ensures { IfOk result (λ text. string_bytes text ≡
-        written (best_lines net.now (best_of (cycle_lists answer.now).parts (cycle_lists answer.now).best))) }
+        written (best_lines net.now
+        (best_of (cycle_lists answer.now).parts (cycle_lists answer.now).best))) }
 {
     match answer.best {
         Some(number) => Ok(best(alloc, net, &answer.parts[number as usize])?),
@@ -160,8 +163,11 @@ pub(crate) fn cycle(
     requires answer { IsCycleTold net.now (cycle_lists answer.now) }
     requires rounds { AreRoundsTold net.now (cycle_lists answer.now).parts
         (option_map runs_lists (option_copied rounds)) }
-    ensures text { IfOk result (λ text. text.items ≡ written (cycle_lines net.now (cycle_lists answer.now)
-        ++ runs_text net.now (told_runs (cycle_lists answer.now).parts (option_map runs_lists (option_copied rounds.entry))))) }
+    ensures text { IfOk result
+        (λ text. text.items ≡ written (cycle_lines net.now (cycle_lists answer.now)
+        ++ runs_text net.now
+        (told_runs (cycle_lists answer.now).parts
+        (option_map runs_lists (option_copied rounds.entry))))) }
     ensures kept { IfOk result (λ _. IfSome (option_map runs_lists (option_copied rounds.entry))
         (λ runs. All IsRunKept runs)) }
 {

@@ -87,7 +87,8 @@ fn failure_at(
 ) -> Result<String, AllocError>
     requires { IsFailureIn (option_copied net) failure }
     ensures text { IfOk result (λ text. string_bytes text ≡
-        line_then (row_line (codes "log") row (failure_words (names_from (option_copied net.entry)) failure)) []) }
+        line_then (row_line (codes "log") row
+        (failure_words (names_from (option_copied net.entry)) failure)) []) }
     ensures kept { IsWord32 row }
 {
     match (failure, net) {
@@ -111,7 +112,8 @@ pub(crate) fn refused(
 ) -> Result<Vec<u8>, OutOfMemory>
     requires { IsFailureIn (option_copied net) failure }
     ensures text { IfOk result (λ text. text.items ≡
-        written (refused_lines (names_from (option_copied net.entry)) row failure (map string_bytes lines.now))) }
+        written (refused_lines (names_from (option_copied net.entry)) row failure
+        (map string_bytes lines.now))) }
     ensures kept { IsWord32 row }
 {
     let mut text = failure_at(alloc, net, row, failure)?;

@@ -142,7 +142,9 @@ fn push_step(
 fn end_steps(text: &mut String, net: &Net, walk: &Walk) -> Result<(), AllocError>
     requires { IsPathIn net.now walk.now.start walk.now.number walk.now.steps.items }
     ensures { IfOk result (λ _. string_bytes text.new ≡
-        string_bytes text.old ++ further_then (steps_words net.now walk.now.start walk.now.number walk.now.steps.items) []) }
+        string_bytes text.old
+        ++ further_then (steps_words net.now walk.now.start walk.now.number
+        walk.now.steps.items) []) }
 {
     // That the net keeps its rules.
     net.transitions();
@@ -159,7 +161,9 @@ fn end_steps(text: &mut String, net: &Net, walk: &Walk) -> Result<(), AllocError
 fn push_path(text: &mut String, net: &Net, walk: &Walk) -> Result<(), AllocError>
     requires { IsPathIn net.now walk.now.start walk.now.number walk.now.steps.items }
     ensures text { IfOk result (λ _. string_bytes text.new ≡
-        string_bytes text.old ++ line_then (path_line net.now walk.now.start walk.now.number walk.now.steps.items) []) }
+        string_bytes text.old
+        ++ line_then (path_line net.now walk.now.start walk.now.number walk.now.steps.items)
+        []) }
     ensures first { IfOk result (λ _. IsWord64 walk.now.number) }
 {
     let name = net.transitions()[walk.start.index as usize].name.as_str();

@@ -154,7 +154,8 @@ pub fn report_both(
     ensures second { IfOk result (λ texts. texts.1.items
         ≡ text_of (option_copied second_net.entry) (meant second.now)) }
     // Different answers have different bytes.
-    ensures different { IfOk result (λ texts. IsPlain (meant first.now) → IsPlain (meant second.now) →
+    ensures different { IfOk result
+        (λ texts. IsPlain (meant first.now) → IsPlain (meant second.now) →
         texts.0.items ≡ texts.1.items → meant first.now ≡ meant second.now) }
 {
     let one = report(alloc, first_net, first)?;

@@ -73,7 +73,9 @@ fn push_run(text: &mut String, net: &Net, part: usize, rounds: &[Round]) -> Resu
     requires parts { part < 2 ^ 63 }
     requires rounds { IsRunIn net.now (map round_lists rounds.now) }
     ensures text { IfOk result (λ _. string_bytes text.new ≡
-        string_bytes text.old ++ written (run_lines net.now (record { part = part; rounds = map round_lists rounds.now }))) }
+        string_bytes text.old
+        ++ written (run_lines net.now
+        (record { part = part; rounds = map round_lists rounds.now }))) }
     ensures kept { IfOk result (λ _. IsRunKept (map round_lists rounds.now)) }
 {
     for turn in 0..rounds.len() {
@@ -91,7 +93,9 @@ pub(crate) fn push_runs(
 ) -> Result<(), AllocError>
     requires { AreRunsTold net.now (map part_lists parts.now) (runs_lists runs.now) }
     ensures text { IfOk result (λ _. string_bytes text.new ≡
-        string_bytes text.old ++ written (runs_text net.now (runs_from 0 (map part_lists parts.now) (runs_lists runs.now)))) }
+        string_bytes text.old
+        ++ written (runs_text net.now
+        (runs_from 0 (map part_lists parts.now) (runs_lists runs.now)))) }
     ensures kept { IfOk result (λ _. All IsRunKept (runs_lists runs.now)) }
 {
     let mut told = 0;

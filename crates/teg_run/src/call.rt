@@ -40,7 +40,8 @@ fn serve_words<S: Shelf, W: Sink>(
 ) -> (Status, Vec<Box<dyn Monitor>>)
     ensures { let asked = request_of (map string_bytes words.now) in
         ServesAndShows (Asked asked (λ firings. map (λ m. line_text m firings) monitors.items))
-        (ShowsAsked asked (λ firings. map (λ m. line_text m firings) monitors.items) (λ firings. map (λ m. line_text m firings) result.1.items)) (asked_files asked)
+        (ShowsAsked asked (λ firings. map (λ m. line_text m firings) monitors.items)
+        (λ firings. map (λ m. line_text m firings) result.1.items)) (asked_files asked)
         (S.state shelf.old) (S.state shelf.new) (W.state out.old) (W.state out.new) result.0 }
 {
     match read_request(alloc, words) {

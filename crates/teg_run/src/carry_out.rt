@@ -30,7 +30,8 @@ fn serve_net<S: Shelf, W: Sink>(
     shelf: &mut S,
     out: &mut W,
 ) -> Status
-    ensures { Serves (SaysFile OpensNet (λ file. SaysOutcome (SaysNet command file))) ((Which.Net, net.now) ∷ [])
+    ensures { Serves (SaysFile OpensNet (λ file. SaysOutcome (SaysNet command file)))
+        ((Which.Net, net.now) ∷ [])
         (S.state shelf.old) (S.state shelf.new) (W.state out.old) (W.state out.new) result }
 {
     match open_net(alloc, net, shelf) {
@@ -50,9 +51,14 @@ fn answer_second<S: Shelf>(
     monitors: Vec<Box<dyn Monitor>>,
 ) -> (Ending, Vec<Box<dyn Monitor>>)
     ensures { AnsweredAndShown
-        (SaysFile (OpensBytes (second_of command)) (λ bytes. SaysOutcome (SaysFiles command (λ firings. map (λ m. line_text m firings) monitors.items) net.now bytes)))
-        (ShowsSecond command net.now (λ firings. map (λ m. line_text m firings) monitors.items) (λ firings. map (λ m. line_text m firings) result.1.items))
-        ((second_of command, second.now) ∷ []) (S.state shelf.old) (S.state shelf.new) (ended result.0) }
+        (SaysFile (OpensBytes (second_of command))
+        (λ bytes. SaysOutcome
+        (SaysFiles command (λ firings. map (λ m. line_text m firings) monitors.items) net.now
+        bytes)))
+        (ShowsSecond command net.now (λ firings. map (λ m. line_text m firings) monitors.items)
+        (λ firings. map (λ m. line_text m firings) result.1.items))
+        ((second_of command, second.now) ∷ []) (S.state shelf.old) (S.state shelf.new)
+        (ended result.0) }
 {
     match open_bytes(alloc, second_of(&command), second, shelf) {
         Opened::Accepted(file) => {
@@ -75,9 +81,14 @@ fn answer_files<S: Shelf>(
     monitors: Vec<Box<dyn Monitor>>,
 ) -> (Ending, Vec<Box<dyn Monitor>>)
     ensures { AnsweredAndShown
-        (SaysFile OpensNet (λ file. SaysFile (OpensBytes (second_of command)) (λ bytes. SaysOutcome (SaysFiles command (λ firings. map (λ m. line_text m firings) monitors.items) file bytes))))
-        (ShowsBoth command (λ firings. map (λ m. line_text m firings) monitors.items) (λ firings. map (λ m. line_text m firings) result.1.items))
-        ((Which.Net, net.now) ∷ (second_of command, second.now) ∷ []) (S.state shelf.old) (S.state shelf.new) (ended result.0) }
+        (SaysFile OpensNet (λ file. SaysFile (OpensBytes (second_of command))
+        (λ bytes. SaysOutcome
+        (SaysFiles command (λ firings. map (λ m. line_text m firings) monitors.items) file
+        bytes))))
+        (ShowsBoth command (λ firings. map (λ m. line_text m firings) monitors.items)
+        (λ firings. map (λ m. line_text m firings) result.1.items))
+        ((Which.Net, net.now) ∷ (second_of command, second.now) ∷ []) (S.state shelf.old)
+        (S.state shelf.new) (ended result.0) }
 {
     match open_net(alloc, net, shelf) {
         Opened::Accepted(net) => answer_second(alloc, command, &net, second, shelf, monitors),
@@ -95,8 +106,10 @@ pub fn serve_request<S: Shelf, W: Sink>(
     out: &mut W,
     monitors: Vec<Box<dyn Monitor>>,
 ) -> (Status, Vec<Box<dyn Monitor>>)
-    ensures { ServesAndShows (Says request (λ firings. map (λ m. line_text m firings) monitors.items))
-        (Shows request (λ firings. map (λ m. line_text m firings) monitors.items) (λ firings. map (λ m. line_text m firings) result.1.items)) (files_of request)
+    ensures { ServesAndShows
+        (Says request (λ firings. map (λ m. line_text m firings) monitors.items))
+        (Shows request (λ firings. map (λ m. line_text m firings) monitors.items)
+        (λ firings. map (λ m. line_text m firings) result.1.items)) (files_of request)
         (S.state shelf.old) (S.state shelf.new) (W.state out.old) (W.state out.new) result.0 }
 {
     match request {

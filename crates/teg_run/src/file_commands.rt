@@ -36,7 +36,8 @@ pub fn of_files(
 ) -> (Result<Outcome, OutOfMemory>, Vec<Box<dyn Monitor>>)
     ensures says { Tells (SaysFiles command (λ firings. map (λ m. line_text m firings)
         monitors.items) net.now file.now) (outcome_of result.0) }
-    ensures shown { ShowsFiles command net.now file.now (λ firings. map (λ m. line_text m firings) monitors.items)
+    ensures shown { ShowsFiles command net.now file.now
+        (λ firings. map (λ m. line_text m firings) monitors.items)
         (λ firings. map (λ m. line_text m firings) result.1.items) (is_ok result.0) }
 {
     match command {

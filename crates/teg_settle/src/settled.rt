@@ -39,9 +39,11 @@ impl Model for Settled {
 
     ghost Value = { SettledForm };
 
-    ghost view = { λ s. stored_form s.after s.period (map (λ r. r.items) s.rows.items) s.steps.items s.own.items };
+    ghost view = { λ s. stored_form s.after s.period (map (λ r. r.items) s.rows.items) s.steps.items
+        s.own.items };
 
-    ghost invariant = { λ s. IsStored s.after s.period (map (λ r. r.items) s.rows.items) s.steps.items s.own.items };
+    ghost invariant = { λ s. IsStored s.after s.period (map (λ r. r.items) s.rows.items)
+        s.steps.items s.own.items };
 }
 
 // The number so many steps on.

@@ -11,7 +11,8 @@ use teg_net::{Circuit, Net};
 pub fn push_places(text: &mut String, net: &Net, circuit: &Circuit) -> Result<(), AllocError>
     requires { AreInRange net.now circuit.now.places.items }
     ensures { IfOk result (λ _. string_bytes text.new ≡
-        string_bytes text.old ++ flat_map (λ id. 32 ∷ name_of_place net.now id) circuit.now.places.items) }
+        string_bytes text.old
+        ++ flat_map (λ id. 32 ∷ name_of_place net.now id) circuit.now.places.items) }
 {
     let places = net.places();
     for id in &circuit.places {

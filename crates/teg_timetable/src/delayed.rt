@@ -24,13 +24,23 @@ impl Model for Delayed {
 
     ghost Value = { Spread };
 
-    ghost view = { λ d. record { firsts = d.left.firsts; every = d.left.every; form = d.left.form; outcome = outcome_told d.outcome } };
+    ghost view = { λ d. record {
+      firsts = d.left.firsts;
+      every = d.left.every;
+      form = d.left.form;
+      outcome = outcome_told d.outcome;
+    } };
 }
 
 impl Delayed {
     // These delays with this outcome.
     pub(crate) fn new(left: Left, outcome: DelayOutcome) -> Delayed
-        ensures { result ≡ record { firsts = left.firsts; every = left.every; form = left.form; outcome = outcome_told outcome } }
+        ensures { result ≡ record {
+          firsts = left.firsts;
+          every = left.every;
+          form = left.form;
+          outcome = outcome_told outcome;
+        } }
     {
         Delayed { left, outcome }
     }

@@ -26,7 +26,8 @@ impl Model for Left {
 
     ghost view = { λ d. record { firsts = d.firsts.items; every = d.every; form = d.settled } };
 
-    ghost invariant = { λ d. AreLeftDelays (record { firsts = d.firsts.items; every = d.every; form = d.settled }) };
+    ghost invariant = { λ d. AreLeftDelays
+        (record { firsts = d.firsts.items; every = d.every; form = d.settled }) };
 }
 
 impl Left {

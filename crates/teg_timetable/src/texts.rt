@@ -43,7 +43,8 @@ fn push_delays(
 fn begin_line(text: &mut String, net: &Net, index: usize) -> Result<(), AllocError>
     requires { index < length net.now.transitions }
     ensures { IfOk result (λ _. string_bytes text.new ≡
-        string_bytes text.old ++ (codes "delays " ++ name_of_transition net.now (record { index = index }))) }
+        string_bytes text.old
+        ++ (codes "delays " ++ name_of_transition net.now (record { index = index }))) }
 {
     let name = net.transitions()[index].name.as_str();
     write!(text, "delays {name}")
@@ -61,7 +62,9 @@ fn push_line(
     requires width { length delayed.now.firsts ≡ length net.now.transitions }
     requires count { count ≤ greatest_firing_number }
     ensures text { IfOk result (λ _. string_bytes text.new ≡
-        string_bytes text.old ++ line_then (delays_line net.now index (delays_up_to (delay_by_spread delayed.now index) count)) []) }
+        string_bytes text.old
+        ++ line_then (delays_line net.now index
+        (delays_up_to (delay_by_spread delayed.now index) count)) []) }
     ensures small { IfOk result (λ _. AreLeftDelaysShort delayed.now index count) }
 {
     // That the net keeps its rules, and so has few transitions.
