@@ -9,11 +9,7 @@ pub rounds-init : goal.rounds-init
 rounds-init c = record { standing = c.in_ok-at.ensures.standing; run = ([], run_one c.args.net.now c.args.parts.now c.args.part c.in_ok-at.at.state.round c.in_ok-at.ensures.first) }
 
 pub rounds-smaller : goal.rounds-smaller
-rounds-smaller c =
-    let old = c.rounds.at in
-    let new = c.advance.new.at in
-    let goes : GoesOn c.args.net.now c.args.parts.now c.args.part old new c.in-Some._before = rw c.in-Some.is at c.in_ok-_before.ensures.some in
-    falls c.args.net.now c.args.parts.now c.args.part old.policy.items new.policy.items old.state new.state c.rounds.invariant.standing.standing goes.standing.standing goes.rises
+rounds-smaller c = falls c.args.net.now c.args.parts.now c.args.part c.rounds.at c.advance.new.at c.in-Some._before c.rounds.invariant.standing (rw c.in-Some.is at c.in_ok-_before.ensures.some)
 
 pub rounds-preserved : goal.rounds-preserved
 rounds-preserved c =

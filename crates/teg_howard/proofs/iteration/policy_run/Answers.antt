@@ -7,11 +7,7 @@ use Rattle.teg_howard.proofs.Ending.{falls}
 use Rattle.teg_howard.proofs.iteration.policy_run.Goals as goal
 
 pub rounds-smaller : goal.rounds-smaller
-rounds-smaller c =
-    let old = c.rounds.at in
-    let new = c.advance.new.at in
-    let goes : GoesOn c.args.net.now c.args.parts.now c.args.part old new c.in-Some.before = rw c.in-Some.is at c.in_ok-before.ensures.some in
-    falls c.args.net.now c.args.parts.now c.args.part old.policy.items new.policy.items old.state new.state c.rounds.invariant.standing.standing goes.standing.standing goes.rises
+rounds-smaller c = falls c.args.net.now c.args.parts.now c.args.part c.rounds.at c.advance.new.at c.in-Some.before c.rounds.invariant.standing (rw c.in-Some.is at c.in_ok-before.ensures.some)
 
 pub rounds-preserved : goal.rounds-preserved
 rounds-preserved c =
