@@ -21,17 +21,6 @@ pub ratio_told : (net : NetLists) (part_of : List ℕ) (k : ℕ) (q : PartAnswer
 ratio_told net part_of k NoCircuit h p inside = absurd (h p inside)
 ratio_told net part_of k (Best ratio circuit potentials) h p inside = refl
 
--- ---- sums along paths
-
--- what the places of a path count together
-pub reduced_is : (net : NetLists) (a b : ℕ) (ps : List PlaceId) → (reduced_time_of net a b ps +ℤ pos (a * tokens_of net ps)) ≡ pos (b * time_of net ps)
-reduced_is net a b [] = let e : a * 0 ≡ b * 0 = omega arith in rw e (omega (arith, ints))
-reduced_is net a b (p ∷ ps) =
-    let rest = reduced_is net a b ps in
-    let time : b * time_of net (p ∷ ps) ≡ b * (place_at net p).hold + b * time_of net ps = rw (sum_by-cons (λ q. (place_at net q).hold) p ps) (grind arith) in
-    let tokens : a * tokens_of net (p ∷ ps) ≡ a * (place_at net p).tokens + a * tokens_of net ps = rw (sum_by-cons (λ q. (place_at net q).tokens) p ps) (grind arith) in
-    rw (time, tokens) (omega (arith, ints, rest))
-
 module _ (net : NetLists) (ok : IsNet net) (answer : CycleAnswer) (h : IsCertificate net answer) where
   abbrev parts : List ℕ
   parts = answer.part_of.items
