@@ -1,17 +1,14 @@
 -- What a certificate says of paths: those that end in the part where they begin stay there.
-use Rattle.std.proofs.Common.{ℕ, pos, ◌+◌, ◌*◌, ◌<◌, ◌≤◌, ◌≡◌, ◌+ℤ◌, List, [], ◌∷◌, length, zero, suc, Option, Some, None, refl, ap, subst, ◌∙◌, arith}
+use Rattle.std.proofs.Common.{ℕ, ◌<◌, ◌≤◌, ◌≡◌, List, [], ◌∷◌, length, zero, suc, Option, Some, None, refl, ap, subst, ◌∙◌, arith}
 use Rattle.std.specs.Prelude.{All, slice_index, slice_index_or}
-use Rattle.std.proofs.lemmas.Int.{ints}
-use Rattle.std.proofs.lemmas.List.Sums.{sum_by-cons}
 use Rattle.teg_net.specs.declared.entries.PlaceId.{PlaceId}
 use Rattle.teg_net.specs.declared.answers.PartAnswer.{PartAnswer}
 use Rattle.teg_net.specs.declared.answers.PartAnswer.TheVariants.{NoCircuit, Best}
 use Rattle.teg_net.specs.declared.answers.CycleAnswer.{CycleAnswer}
 use Rattle.teg_net.specs.Nets.{NetLists, IsNet, IsPlaceOf}
 use Rattle.teg_net.specs.Ratios.{Fraction}
-use Rattle.teg_net.specs.Circuits.{no_place, place_at, from_of, IsPathBetween, time_of, tokens_of}
+use Rattle.teg_net.specs.Circuits.{no_place, place_at, from_of, IsPathBetween}
 use Rattle.teg_net.specs.Parts.{to_of, IsPlaceOfPart}
-use Rattle.teg_net.specs.ReducedTimes.{reduced_time_of}
 use Rattle.teg_net.specs.GreatestRatios.{IsAnyPlace, HasNoCircuit, ratio_in, ratio_at}
 use Rattle.teg_net.specs.Certificates.{IsPartCertificate, IsCertificate}
 use Rattle.teg_critical.specs.Losses.{ratio_of}

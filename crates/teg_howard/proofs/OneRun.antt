@@ -8,7 +8,7 @@ use Rattle.teg_net.specs.Nets.{NetLists, IsNet}
 use Rattle.teg_net.specs.Circuits.{IsLive, time_of, tokens_of, from_of}
 use Rattle.teg_net.specs.declared.rounds.Choice.{Choice}
 use Rattle.teg_net.specs.declared.rounds.Round.{Round}
-use Rattle.teg_net.specs.Parts.{IsMember, IsPlaceOfPart, to_of}
+use Rattle.teg_net.specs.Parts.{IsMember, to_of}
 use Rattle.teg_howard.specs.Policies.{Policy, IsPolicy, IsBestCircuit, LeadsBack, IsRouted, Joins, IsRouting, AreSums, IsImprovement, IsChanged, Improves}
 use Rattle.teg_net.specs.PartAnswers.{first_transition_of}
 use Rattle.teg_howard.specs.PolicyRounds.{chosen, potential, chosen_place, value_in, choice_of_member, IsRound, IsRoundOf, IsFirstRound, KeepsCircuit, FollowsRound, IsRunTo, IsPolicyRun}
