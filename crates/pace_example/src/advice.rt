@@ -7,10 +7,10 @@ ghost use Rattle.pace_example.specs.Advice.{IsAdvice, IsPaceOf, IsWhyNot, pace_l
 use crate::no_advice::NoAdvice;
 use std::alloc::{AllocError, Global};
 use teg_check::{Live, check};
-use teg_cycle::cycle;
+use teg_cycle::{best_ratio, cycle};
 use teg_due::read_due;
 use teg_jit::{Plan, latest_inputs};
-use teg_net::{Net, OutOfMemory, PartAnswer, Ratio};
+use teg_net::{Net, OutOfMemory, Ratio};
 use teg_parts::split;
 use teg_reader::read_net;
 
@@ -32,13 +32,7 @@ pub fn pace(alloc: Global, net: &Net, live: &Live) -> Result<Option<Ratio>, OutO
 {
     let parts = split(alloc, net)?;
     let answer = cycle(alloc, net, live, &parts)?;
-    let Some(part) = answer.best else {
-        return Ok(None);
-    };
-    match &answer.parts[part as usize] {
-        PartAnswer::NoCircuit => Ok(None),
-        PartAnswer::Best { ratio, .. } => Ok(Some(*ratio)),
-    }
+    Ok(best_ratio(&answer))
 }
 
 // The line of a pace.

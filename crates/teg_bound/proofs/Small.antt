@@ -11,7 +11,7 @@ use Rattle.teg_net.specs.Circuits.{IsLive, time_of, tokens_of}
 use Rattle.teg_net.specs.GreatestRatios.{IsGreatestRatio, IsAnyPlace}
 use Rattle.teg_net.specs.Limits.{greatest_circuit_time, greatest_hold, most_circuit_tokens, most_place_tokens}
 use Rattle.teg_net.proofs.LowestTerms.{IsRatioOf-divided}
-use Rattle.teg_cycle.proofs.teg_howard_proofs.LowestTerms.{one_ratio}
+use Rattle.teg_cycle.proofs.teg_howard_proofs.OneRatio.{one_ratio}
 use Rattle.teg_cycle.proofs.Short.{circuit_sums}
 use Rattle.teg_bound.specs.Readings.{AreReadingsWithin}
 
@@ -48,14 +48,10 @@ ratio_small net r rules live h terms =
 -- what is multiplied and added on the way to the bound
 pub record AreSmall (count hold tokens time per : ℕ) : Type 0 where
   pub straight : (count - 1) * tokens ≤ 399 * most_place_tokens
-  pub around : count * tokens ≤ most_circuit_tokens
-  pub path : (count - 1) * hold ≤ 399 * greatest_hold
-  pub gain : per * ((count - 1) * hold) ≤ most_circuit_tokens * (399 * greatest_hold)
-  pub cost : time * ((count - 1) * tokens + count * tokens) ≤ greatest_circuit_time * 799000
   pub product : count * tokens * (per * ((count - 1) * hold) + time * ((count - 1) * tokens + count * tokens)) ≤ most_circuit_tokens * (most_circuit_tokens * (399 * greatest_hold) + greatest_circuit_time * 799000)
 
-pub are_small : (count hold tokens time per : ℕ) → AreReadingsWithin count hold tokens time per → AreSmall count hold tokens time per
-are_small count hold tokens time per h =
+pub are_small : {count hold tokens time per : ℕ} → AreReadingsWithin count hold tokens time per → AreSmall count hold tokens time per
+are_small {count} {hold} {tokens} {time} {per} h =
     let less : count - 1 ≤ 399 = (let l = h.count_in in omega arith) in
     let straight : (count - 1) * tokens ≤ 399 * most_place_tokens = mul-le-mul less h.tokens_in in
     let around : count * tokens ≤ most_circuit_tokens = mul-le-mul h.count_in h.tokens_in in
@@ -64,4 +60,4 @@ are_small count hold tokens time per h =
     let gain : per * ((count - 1) * hold) ≤ most_circuit_tokens * (399 * greatest_hold) = mul-le-mul h.per_in path in
     let cost : time * ((count - 1) * tokens + count * tokens) ≤ greatest_circuit_time * 799000 = mul-le-mul h.time_in both in
     let sum : per * ((count - 1) * hold) + time * ((count - 1) * tokens + count * tokens) ≤ most_circuit_tokens * (399 * greatest_hold) + greatest_circuit_time * 799000 = omega arith in
-    record { straight = straight; around = around; path = path; gain = gain; cost = cost; product = mul-le-mul around sum }
+    record { straight = straight; product = mul-le-mul around sum }

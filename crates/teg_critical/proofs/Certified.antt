@@ -1,17 +1,14 @@
 -- What a certificate says of paths: those that end in the part where they begin stay there.
-use Rattle.std.proofs.Common.{ℕ, pos, ◌+◌, ◌*◌, ◌<◌, ◌≤◌, ◌≡◌, ◌+ℤ◌, List, [], ◌∷◌, length, zero, suc, Option, Some, None, refl, ap, subst, ◌∙◌, arith}
+use Rattle.std.proofs.Common.{ℕ, ◌<◌, ◌≤◌, ◌≡◌, List, [], ◌∷◌, length, zero, suc, Option, Some, None, refl, ap, subst, ◌∙◌, arith}
 use Rattle.std.specs.Prelude.{All, slice_index, slice_index_or}
-use Rattle.std.proofs.lemmas.Int.{ints}
-use Rattle.std.proofs.lemmas.List.Sums.{sum_by-cons}
 use Rattle.teg_net.specs.declared.entries.PlaceId.{PlaceId}
 use Rattle.teg_net.specs.declared.answers.PartAnswer.{PartAnswer}
 use Rattle.teg_net.specs.declared.answers.PartAnswer.TheVariants.{NoCircuit, Best}
 use Rattle.teg_net.specs.declared.answers.CycleAnswer.{CycleAnswer}
 use Rattle.teg_net.specs.Nets.{NetLists, IsNet, IsPlaceOf}
 use Rattle.teg_net.specs.Ratios.{Fraction}
-use Rattle.teg_net.specs.Circuits.{no_place, place_at, from_of, IsPathBetween, time_of, tokens_of}
+use Rattle.teg_net.specs.Circuits.{no_place, place_at, from_of, IsPathBetween}
 use Rattle.teg_net.specs.Parts.{to_of, IsPlaceOfPart}
-use Rattle.teg_net.specs.ReducedTimes.{reduced_time_of}
 use Rattle.teg_net.specs.GreatestRatios.{IsAnyPlace, HasNoCircuit, ratio_in, ratio_at}
 use Rattle.teg_net.specs.Certificates.{IsPartCertificate, IsCertificate}
 use Rattle.teg_critical.specs.Losses.{ratio_of}
@@ -20,17 +17,6 @@ use Rattle.teg_critical.specs.Losses.{ratio_of}
 pub ratio_told : (net : NetLists) (part_of : List ℕ) (k : ℕ) (q : PartAnswer) → IsPartCertificate net part_of k q → (p : PlaceId) → IsPlaceOfPart net part_of k p → ratio_in q ≡ Some (ratio_of q)
 ratio_told net part_of k NoCircuit h p inside = absurd (h p inside)
 ratio_told net part_of k (Best ratio circuit potentials) h p inside = refl
-
--- ---- sums along paths
-
--- what the places of a path count together
-pub reduced_is : (net : NetLists) (a b : ℕ) (ps : List PlaceId) → (reduced_time_of net a b ps +ℤ pos (a * tokens_of net ps)) ≡ pos (b * time_of net ps)
-reduced_is net a b [] = let e : a * 0 ≡ b * 0 = omega arith in rw e (omega (arith, ints))
-reduced_is net a b (p ∷ ps) =
-    let rest = reduced_is net a b ps in
-    let time : b * time_of net (p ∷ ps) ≡ b * (place_at net p).hold + b * time_of net ps = rw (sum_by-cons (λ q. (place_at net q).hold) p ps) (grind arith) in
-    let tokens : a * tokens_of net (p ∷ ps) ≡ a * (place_at net p).tokens + a * tokens_of net ps = rw (sum_by-cons (λ q. (place_at net q).tokens) p ps) (grind arith) in
-    rw (time, tokens) (omega (arith, ints, rest))
 
 module _ (net : NetLists) (ok : IsNet net) (answer : CycleAnswer) (h : IsCertificate net answer) where
   abbrev parts : List ℕ

@@ -14,7 +14,8 @@ use Rattle.teg_net.specs.Parts.{to_of, IsPlaceOfPart}
 use Rattle.teg_net.specs.ReducedTimes.{reduced_time_of}
 use Rattle.teg_net.specs.GreatestRatios.{IsGreatestRatio, IsAnyPlace}
 use Rattle.teg_net.specs.Certificates.{potential_at, IsCertificate}
-use Rattle.teg_critical.proofs.Certified.{reduced_is, closed_inside}
+use Rattle.teg_critical.proofs.Certified.{closed_inside}
+use Rattle.teg_cycle.proofs.teg_howard_proofs.Sums.{weight_is}
 use Rattle.teg_critical.specs.declared.losses.Loss.{Loss}
 use Rattle.teg_critical.specs.Losses.{ratio_of, potentials_of, IsLossOf, IsLossIn, answer_of_part, loss_at, AreLosses}
 use Rattle.teg_critical.specs.LeastLosses.{amount_in, loss_of_path, IsWay}
@@ -104,7 +105,7 @@ module _ (net : NetLists) (ok : IsNet net) (answer : CycleAnswer) (h : IsCertifi
   round_is k p ps a inside path =
       let here : HasLoss k p = has_loss k p (inside 0 p (omega arith)) in
       let sum : HasSum k a (p ∷ ps) a = sums k (p ∷ ps) a a inside path in
-      let counts = reduced_is net (own k).time (own k).tokens (p ∷ ps) in
+      let counts = weight_is net (own k).time (own k).tokens (p ∷ ps) in
       let below = here.is.below in
       round_amount r.time r.tokens (slower k) (own k).time (own k).tokens sum.all (time_of net (p ∷ ps)) (tokens_of net (p ∷ ps)) (loss_of_path losses (p ∷ ps)) (omega arith)
       (round_lost sum.all ((own k).time * tokens_of net (p ∷ ps)) ((own k).tokens * time_of net (p ∷ ps)) (reduced_time_of net (own k).time (own k).tokens (p ∷ ps)) (value k a) sum.is counts) sum.amount

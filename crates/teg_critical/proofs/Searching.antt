@@ -32,12 +32,6 @@ pub within_told : (o : Option ℕ) (x : ℕ) → IsToldWithin o x → IsTold o x
 within_told None x h = absurd h
 within_told (Some d) x h = record { number = d; is = refl; low = h }
 
-pub none_some : (o : Option ℕ) (d : ℕ) → o ≡ None → o ≡ Some d → ⊥
-none_some o d e f = cc
-
-pub same_some : (o : Option ℕ) (d e : ℕ) → o ≡ Some d → o ≡ Some e → d ≡ e
-same_some o d e f g = (let h : Some d ≡ Some e = sym f ∙ g in cc)
-
 module _ {net : NetLists} {losses : List (Option Loss)} {start : ℕ} {least : List (Option ℕ)} {settled : List Bool} (s : IsSearching net losses start least settled) where
   -- a transition of which no more is told than of those that are not settled
   module _ (t : ℕ) (stop : (u d : ℕ) → is_settled settled u ≡ false → told_at least u ≡ Some d → IsToldWithin (told_at least t) d) where
@@ -87,7 +81,7 @@ module _ {net : NetLists} {losses : List (Option Loss)} {start : ℕ} {least : L
     pub searched : IsOver least settled → (wanted : List Ending) → All (IsEndingAt net start) wanted → AreToldBack net losses least wanted
     searched over wanted at = record {
       count = s.count;
-      each = λ i d l. told_back (get_or wanted i d) (at i d l) (λ u x opened told. absurd (none_some (told_at least u) x (over u opened) told));
+      each = λ i d l. told_back (get_or wanted i d) (at i d l) (λ u x opened told. let none = over u opened in let f : ⊥ = cc in absurd f);
     }
 
     -- the start of a place of the net is one of its transitions

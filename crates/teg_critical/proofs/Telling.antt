@@ -21,7 +21,7 @@ use Rattle.teg_critical.specs.declared.slacks.Slack.TheVariants.{NoCircuit, Crit
 use Rattle.teg_critical.specs.Slacks.{IsOnCircuit, IsSlack, IsSlackOf}
 use Rattle.teg_critical.specs.Gaps.{IsGap}
 use Rattle.teg_critical.specs.SlackAndPaths.{GapTells}
-use Rattle.teg_critical.specs.Losses.{part_of_transition, loss_at, LeavesGap}
+use Rattle.teg_critical.specs.Losses.{most_gap, part_of_transition, loss_at, LeavesGap}
 use Rattle.teg_critical.specs.LeastLosses.{amount_in, loss_of_path, IsWay, IsLeastLoss}
 use Rattle.teg_critical.specs.Told.{CanTellSlack, IsSlackOfGap}
 use Rattle.teg_critical.proofs.GapLaws.{gaps_tell}
@@ -133,7 +133,7 @@ module _ (net : NetLists) (ok : IsNet net) (r : Fraction) (losses : List (Option
     }
 
     -- a straight path back shows that the gap is not great
-    pub gap_low : gap < 1000000000000000000
+    pub gap_low : gap ≤ most_gap
     gap_low =
         let ends = ends_below net ok in
         let s = split net best (to_of net p) (from_of net p) best_path in

@@ -23,6 +23,10 @@ most_lost = 3000000000000000000
 abbrev pub most_loss : ℕ
 most_loss = 10000000000000000000000000000000
 
+-- the most that the paths back from the end of a place to its start lack, with the place
+abbrev pub most_gap : ℕ
+most_gap = 400000000000000000
+
 -- by so much what is counted, from this potential on, stays below that potential
 abbrev pub IsLost : ℤ → ℤ → ℤ → ℕ → Type 0
 IsLost count start above lost = ((pos lost +ℤ count) +ℤ start) ≡ above
@@ -116,4 +120,4 @@ pub record LeavesGap (total scale : ℕ) : Type 0 where
   pub gap : ℕ
   pub some : 1 ≤ scale
   pub is : total ≡ scale * gap
-  pub low : gap < 1000000000000000000
+  pub low : gap ≤ most_gap

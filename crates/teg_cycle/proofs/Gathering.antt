@@ -1,18 +1,28 @@
 -- The answers of parts put together, and the rounds of each part with a circuit.
-use Rattle.std.proofs.Common.{◌≡◌, ℕ, suc, ◌+◌, ◌<◌, List, [], ◌∷◌, ◌++◌, Option, Some, None, length, refl, sym, subst, ap, ◌∙◌, arith}
+use Rattle.std.proofs.Common.{◌≡◌, ℕ, suc, ◌+◌, ◌<◌, List, [], ◌∷◌, ◌++◌, Option, Some, None, Bool, true, false, length, get_or, refl, sym, subst, ap, ◌∙◌, arith}
 use Rattle.std.specs.Prelude.{All}
 use Rattle.teg_net.specs.declared.answers.CycleAnswer.{CycleAnswer}
 use Rattle.teg_net.specs.declared.answers.PartAnswer.{PartAnswer}
 use Rattle.teg_net.specs.declared.answers.PartAnswer.TheVariants.{NoCircuit, Best}
 use Rattle.teg_net.specs.declared.rounds.Round.{Round}
-use Rattle.teg_net.specs.GreatestRatios.{IsFirstGreatest}
+use Rattle.teg_net.specs.GreatestRatios.{IsFirstGreatest, HasNoCircuit}
+use Rattle.teg_net.specs.Parts.{IsPlaceOfPart}
 use Rattle.teg_net.specs.Nets.{NetLists}
 use Rattle.teg_net.specs.Certificates.{IsCertificate}
 use Rattle.teg_parts.specs.Partitions.{PartLists, AreParts}
 use Rattle.teg_howard.specs.PolicyRounds.{IsPolicyRun}
-use Rattle.teg_howard.specs.PolicyRuns.{IsAnswerOfLast}
+use Rattle.teg_howard.specs.PolicyRuns.{HasInnerPlace, IsAnswerOfLast}
 use Rattle.teg_cycle.specs.Checks.{ArePartCertificates}
 use Rattle.teg_cycle.specs.LastRounds.{IsLastOfRun, IsRunOf, AreRunsFrom, some_run}
+use Rattle.teg_cycle.proofs.Telling.{no_place_no_circuit}
+
+-- the mark of a part tells whether a place lies in it
+module _ (net : NetLists) (parts : PartLists) (ok : AreParts net parts) (part : ℕ) (l : part < length parts.inner) (mark : Bool) (is : mark ≡ get_or parts.inner part false) where
+  pub marked : mark ≡ true → HasInnerPlace net parts.part_of part
+  marked e = (ok.inner part l).0 (sym is ∙ e)
+
+  pub unmarked : mark ≡ false → HasNoCircuit net (IsPlaceOfPart net parts.part_of part)
+  unmarked e = no_place_no_circuit net parts.part_of part (λ p inside. let other = (ok.inner part l).1 (p, inside) in let f : ⊥ = cc in f)
 
 -- certified parts make a certificate
 pub certified : (net : NetLists) (parts : PartLists) (answer : CycleAnswer) → AreParts net parts → answer.part_of.items ≡ parts.part_of → length answer.parts.items ≡ length parts.inner →

@@ -1,6 +1,5 @@
 //! The cycle time of a net and of its parts: the answer alone, or with the rounds that led to it.
 ghost use Rattle.std.specs.Prelude.{◌≡◌, ◌<◌, ◌≤◌, ◌++◌, ◌∷◌, [], length, IfOk, OnOk};
-ghost use Rattle.teg_net.specs.Limits.{most_transitions};
 ghost use Rattle.teg_net.specs.Nets.{IsNet};
 ghost use Rattle.teg_net.specs.PartAnswers.{IsPartAnswer, ArePartAnswers};
 ghost use Rattle.teg_net.specs.GreatestRatios.{IsFirstGreatest, IsCycleTime};
@@ -95,7 +94,6 @@ fn gathered(
     requires parts { AreParts net.now parts.now }
     requires numbers { part_of.items ≡ parts.now.part_of }
     requires count { length answers.items ≡ length parts.now.inner }
-    requires few { length answers.items ≤ most_transitions }
     requires answers { ArePartAnswers net.now parts.now.part_of answers.items }
     requires certificates { ArePartCertificates net.now parts.now.part_of answers.items }
     ensures part_of { result.part_of.items ≡ part_of.items }
@@ -106,7 +104,7 @@ fn gathered(
 {
     let _net = net;
     let _ranks = live;
-    let _parts = parts;
+    let _count = parts.count();
     let best = best_number(&answers);
     CycleAnswer {
         part_of,

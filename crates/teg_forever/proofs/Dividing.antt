@@ -6,6 +6,7 @@ use Rattle.std.proofs.Math.Seq.{get_or-append_seam}
 use Rattle.std.proofs.lemmas.Bool.{cases_lt}
 use Rattle.std.proofs.lemmas.List.{length-append}
 use Rattle.std.proofs.lemmas.List.Elements.{All-append, All-cons, All-nil, All-take}
+use Rattle.std.proofs.lemmas.Option.{slice_get_within, get_or_from_slice_get}
 use Rattle.dioid.specs.ElementAnswers.{Answers}
 use Rattle.dioid.specs.declared.algebra.Refused.{Refused}
 use Rattle.dioid.specs.declared.algebra.Refused.TheVariants.{Range, OutOfMemory as NoRoom}
@@ -34,7 +35,7 @@ use Rattle.teg_forever.specs.declared.releases.ForeverRefusal.TheVariants.{Late,
 use Rattle.teg_forever.specs.InputAnswers.{IsStopped}
 use Rattle.teg_forever.specs.Divisions.{AreAlike, AreDivisions, AreFirstsTo, IsAlikeAt, IsDivided, IsKeptIn, IsMeetOver, IsMeetTo, IsMisfit, IsDividedAt, IsRefusedAt, IsResidualOf, refusal_at}
 use Rattle.teg_forever.specs.LatestReleases.{WalkTimesSettleSoon}
-use Rattle.teg_forever.proofs.Series.{behind, got_is, got_within, some_is}
+use Rattle.teg_forever.proofs.Series.{behind, some_is}
 
 -- ---- rows that ask the same dates
 
@@ -121,7 +122,7 @@ kept_place old new x place kept = record {
 }
 
 kept_at : (rows : List EndlessRow) (list : List Divided) (place : ℕ) (x : Divided) → slice_get list place ≡ Some x → All (IsDivided rows) list → IsDivided rows x
-kept_at rows list place x here all = subst (IsDivided rows) (got_is list place x x here) (all place x (got_within list place x here))
+kept_at rows list place x here all = subst (IsDivided rows) (get_or_from_slice_get list place x x here) (all place x (slice_get_within list place x here))
 
 -- ---- a row
 
@@ -138,6 +139,7 @@ module _ (net : NetLists) (rows : List EndlessRow) (u : ℕ) (i first : ℕ) (r 
   residual_found list place all found = record {
     divided = found.divided;
     stands = found.stands;
+    within = slice_get_within list place found.divided found.stands;
     is = λ walks dues columns.
         let x : Divided = found.divided in
         let g : GotRow rows first = got_row rows first alike.within in

@@ -14,7 +14,8 @@ use Rattle.teg_forever.specs.declared.releases.Release.{Release}
 use Rattle.teg_forever.specs.declared.releases.Release.TheVariants.{Free, Latest}
 use Rattle.teg_forever.specs.LatestReleases.{AreBeside, AreEndlessReleases, IsFine, IsReleaseOf, inputs_below, inputs_of, release_date, released, release_in}
 use Rattle.teg_forever.specs.InputAnswers.{AreReleasesBelow}
-use Rattle.teg_forever.proofs.InputLists.{inputs_more, input_test, input_within, input_in, beside_more, beside_in}
+use Rattle.forever_laws.proofs.Inputs.{input_in as input_within}
+use Rattle.teg_forever.proofs.InputLists.{inputs_more, input_test, input_in, beside_more, beside_in}
 
 module _ (net : NetLists) (rows : List EndlessRow) (n : ℕ) (releases : List Release) (h : AreReleasesBelow net rows n releases) where
   one_fine : (IsInput net n → IsFine net rows n) → (u : ℕ) → u < n + 1 → IsInput net u → IsFine net rows u

@@ -1,9 +1,8 @@
 -- The inputs of a net in order, and what stands beside them.
-use Rattle.std.proofs.Common.{ℕ, zero, suc, ◌+◌, ◌<◌, ◌≤◌, ◌≡◌, ◌==◌, ◌⊎◌, inl, inr, Bool, true, false, List, [], ◌∷◌, ◌++◌, All, Option, Some, None, length, get_or, refl, sym, subst, ap, ◌∙◌, arith, ⊎_elim}
+use Rattle.std.proofs.Common.{ℕ, zero, suc, ◌+◌, ◌<◌, ◌≤◌, ◌≡◌, ◌==◌, ◌⊎◌, inl, inr, Bool, true, false, List, [], ◌∷◌, ◌++◌, All, Option, Some, None, get_or, refl, sym, subst, ap, ◌∙◌, arith, ⊎_elim}
 use Rattle.std.specs.Prelude.{slice_get, IsSomeAnd, if◌then◌else◌}
 use Rattle.std.specs.Option.{option_map_or}
-use Rattle.std.proofs.lemmas.Bool.{cases_Bool, cases_lt}
-use Rattle.std.proofs.lemmas.Bool.Decides.{nat_tests}
+use Rattle.std.proofs.lemmas.Bool.{cases_Bool, cases_lt, eq-eqb}
 use Rattle.std.proofs.lemmas.List.Elements.{All-append}
 use Rattle.forever_laws.proofs.number_laws_proofs.Numbers.{same_number}
 use Rattle.teg_net.specs.declared.entries.Transition.{Transition}
@@ -12,7 +11,6 @@ use Rattle.teg_net.specs.Nets.{NetLists, IsInput}
 use Rattle.teg_due.specs.RowNames.{is_input, is_input_role}
 use Rattle.teg_forever.specs.declared.releases.Release.{Release}
 use Rattle.teg_forever.specs.LatestReleases.{AreBeside, inputs_below, release_in}
-use Rattle.teg_forever.proofs.Series.{got_within}
 
 plus_one : (net : NetLists) (n : ℕ) → inputs_below net (n + 1) ≡ inputs_below net n ++ (if is_input net n then n ∷ [] else [])
 plus_one net n = let e : n + 1 ≡ suc n = omega arith in ap (inputs_below net) e
@@ -34,20 +32,13 @@ all_low net m (suc n) h = elim (cases_Bool (is_input net n)) [
   | inr other ↦ rw other (All-append (λ u. u < m) (inputs_below net n) [] (all_low net m n (omega arith)) (λ k d w. absurd (omega (arith, w))))
 ]
 
--- an input is told to be one, and is in the net
+-- an input is told to be one
 pub input_test : (net : NetLists) (u : ℕ) → IsInput net u → is_input net u ≡ true
 input_test net u h = there (slice_get net.transitions u) h
   where
     there : (o : Option Transition) → IsSomeAnd o (λ x. x.role ≡ Input) → option_map_or (λ x. is_input_role x.role) o false ≡ true
     there None h = absurd h
     there (Some x) h = ap is_input_role h
-
-pub input_within : (net : NetLists) (u : ℕ) → IsInput net u → u < length net.transitions
-input_within net u h = there (slice_get net.transitions u) refl h
-  where
-    there : (o : Option Transition) → slice_get net.transitions u ≡ o → IsSomeAnd o (λ x. x.role ≡ Input) → u < length net.transitions
-    there None e h = absurd h
-    there (Some x) e h = got_within net.transitions u x e
 
 -- u stands in the list
 abbrev pub IsIn : ℕ → List ℕ → Type 0
@@ -81,15 +72,12 @@ beside_more Is [] (s ∷ releases) t r h i = absurd h
 beside_more Is (u ∷ ts) [] t r h i = absurd h
 beside_more Is (u ∷ ts) (s ∷ releases) t r h i = (h.0, beside_more Is ts releases t r h.1 i)
 
-self : (u : ℕ) → (u == u) ≡ true
-self u = grind (arith, nat_tests)
-
 pub beside_in : (Is : ℕ → Release → Type 0) (ts : List ℕ) (releases : List Release) (u : ℕ) → AreBeside Is ts releases → IsIn u ts → Is u (release_in ts releases u)
 beside_in Is [] releases u h i = absurd i
 beside_in Is (t ∷ ts) [] u h i = absurd h
 beside_in Is (t ∷ ts) (r ∷ releases) u h i = elim (cases_Bool (t == u)) [
   | inl same ↦ rw same (subst (λ (z : ℕ). Is z r) (same_number t u same) h.0)
   | inr other ↦ rw other (beside_in Is ts releases u h.1 (⊎_elim
-      (λ (e : t ≡ u). let one : (t == u) ≡ true = ap (λ (z : ℕ). z == u) e ∙ self u in let clash : true ≡ false = sym one ∙ other in absurd (cc))
+      (λ (e : t ≡ u). let one : (t == u) ≡ true = eq-eqb t u e in let clash : true ≡ false = sym one ∙ other in absurd (cc))
       (λ (l : IsIn u ts). l) i))
 ]

@@ -3,6 +3,7 @@ use Rattle.std.proofs.Common.{ℕ, ℤ, ◌≡◌, ◌<◌, ◌≤◌, ◌+◌, 
 use Rattle.std.specs.Prelude.{slice_get}
 use Rattle.std.proofs.lemmas.Int.{ints}
 use Rattle.std.proofs.lemmas.List.{get_or-take, length-take-le}
+use Rattle.std.proofs.lemmas.Option.{slice_get_within, get_or_from_slice_get}
 use Rattle.dioid.specs.declared.dates.Date.TheVariants.{At}
 use Rattle.dioid.specs.Dates.{move}
 use Rattle.dioid.proofs.Moves.{at_inj}
@@ -21,7 +22,6 @@ use Rattle.forever_laws.specs.EndlessDues.{TurnsTellLate, LateIsSoon, StepsAreFr
 use Rattle.forever_laws.proofs.Zeros.{date_is, least_number}
 use Rattle.teg_forever.specs.LateFirings.{GoesOnBySteps, IsZeroForm, IsClimbing, IsSoonLate}
 use Rattle.teg_forever.specs.LatestReleases.{IsLateAnswer}
-use Rattle.teg_forever.proofs.Series.{got_within, got_is}
 use Rattle.teg_forever.proofs.LateNumbers.{none_to_as, none_as, least_as, soonest_as}
 
 -- the settled form of the net without its input lists
@@ -113,8 +113,8 @@ module _ (net : NetLists) (ok : IsNet net) (live : IsLive net) (f : SettledForm)
 pub late_answer : (net : NetLists) (ok : IsNet net) (live : IsLive net) (f : SettledForm) (form : IsZeroForm net f) (rows : List EndlessRow) → IsEndlessOf net rows → (i : ℕ) (r : EndlessRow) → slice_get rows i ≡ Some r
     → All (NoneLate (settled_date f)) (take i rows) → (k due least : ℕ) → IsSoonLate f r k due least → IsLateAnswer net rows r.transition.index k due least
 late_answer net ok live f form rows ends i r at none k due least h =
-    let lt : i < length rows = got_within rows i r at in
-    let rule : IsEndlessRow net r = subst (IsEndlessRow net) (got_is rows i r r at) (ends.each i r lt) in
+    let lt : i < length rows = slice_get_within rows i r at in
+    let rule : IsEndlessRow net r = subst (IsEndlessRow net) (get_or_from_slice_get rows i r r at) (ends.each i r lt) in
     record {
       dating = form.dating;
       is_least = form.least;

@@ -24,7 +24,7 @@ use Rattle.teg_forever.specs.declared.releases.ForeverRefusal.TheVariants.{Late,
 use Rattle.teg_forever.specs.LatestReleases.{IsFine, IsReleaseOf, ForeverRefused, WalkTimesSettleSoon, longest_form}
 use Rattle.teg_forever.specs.InputAnswers.{IsReleaseBy, IsStopped, AreReleasesBelow}
 use Rattle.teg_forever.specs.Divisions.{IsMeetOver}
-use Rattle.teg_forever.proofs.InputLists.{input_within}
+use Rattle.forever_laws.proofs.Inputs.{input_in}
 use Rattle.forever_laws.proofs.number_laws_proofs.Numbers.{same_number}
 
 module _ (net : NetLists) (rows : List EndlessRow) (u : ℕ) (ok : IsNet net) (live : IsLive net) (ends : IsEndlessOf net rows) (input : IsInput net u) (exist : ColumnsExist) (m : Gain) (meet : IsMeetOver net rows u (length rows) m) where
@@ -40,13 +40,13 @@ module _ (net : NetLists) (rows : List EndlessRow) (u : ℕ) (ok : IsNet net) (l
       by_meet c.0 c.1 c.2 release (subst (λ (g : Gain). IsReleaseBy g.series release) value h)
     where
       by_meet : (walks dues : ℕ → Gain) → AreSeriesColumns net u rows walks dues → (release : Release) → IsReleaseBy (residual_over (length rows) walks dues).series release → IsReleaseOf net rows u release
-      by_meet walks dues columns Free h = ((numbers net ok live rows ends some zero u (input_within net u input) walks dues columns).0 h).1
+      by_meet walks dues columns Free h = ((numbers net ok live rows ends some zero u (input_in net u input) walks dues columns).0 h).1
       by_meet walks dues columns (Latest s) h = (
         subst (λ (z : Form). IsSeries z) (sym h.1) h.2,
         λ k one.
             let shift : k - 1 + 1 ≡ k = omega arith in
-            let date = latest net ok live rows ends some zero u (input_within net u input) walks dues columns (k - 1) in
-            let number = (numbers net ok live rows ends some zero u (input_within net u input) walks dues columns).1 h.0 (k - 1) in (
+            let date = latest net ok live rows ends some zero u (input_in net u input) walks dues columns (k - 1) in
+            let number = (numbers net ok live rows ends some zero u (input_in net u input) walks dues columns).1 h.0 (k - 1) in (
               subst (λ (z : Form). IsLatestDate net (due_on rows) u k (value_at z (k - 1))) (sym h.1)
                   (subst (λ (n : ℕ). IsLatestDate net (due_on rows) u n (value_at (residual_over (length rows) walks dues).series (k - 1))) shift date),
               (number.0, ap (λ (z : Form). value_at z (k - 1)) h.1 ∙ number.1),

@@ -4,6 +4,7 @@ use Rattle.std.specs.Prelude.{slice_get, if◌then◌else◌}
 use Rattle.std.proofs.lemmas.Bool.{cases_Bool, cases_lt}
 use Rattle.std.proofs.lemmas.Bool.Decides.{nat_tests}
 use Rattle.std.proofs.lemmas.List.Sums.{sum_by-cons}
+use Rattle.std.proofs.lemmas.Option.{slice_get_within, get_or_from_slice_get}
 use Rattle.dioid.specs.declared.dates.Date.{Date}
 use Rattle.dioid.specs.declared.dates.Date.TheVariants.{At}
 use Rattle.dioid.specs.Dates.{IsAtMostDate, delayed, move}
@@ -22,14 +23,15 @@ use Rattle.forever_laws.specs.due_laws.LatestDates.{IsDateToDue}
 use Rattle.forever_laws.specs.declared.rows.EndlessRow.{EndlessRow}
 use Rattle.forever_laws.specs.EndlessRows.{IsEndlessOf, IsEndlessRow, due_on}
 use Rattle.forever_laws.specs.SeriesColumns.{IsWalkSeries}
+use Rattle.forever_laws.proofs.Inputs.{input_in}
 use Rattle.forever_laws.proofs.Meeting.{has_row}
 use Rattle.forever_laws.proofs.OneColumn.{one_time}
 use Rattle.teg_forever.specs.declared.releases.Release.{Release}
 use Rattle.teg_forever.specs.declared.releases.Release.TheVariants.{Free, Latest}
 use Rattle.teg_forever.specs.LatestReleases.{AreBeside, IsFine, IsReleaseOf, WalkTimesSettleSoon, inputs_below, longest_form}
 use Rattle.teg_forever.specs.Twins.{AreTwins, HasTwinPlace, IsTwinPlace, LeadsAlike}
-use Rattle.teg_forever.proofs.InputLists.{input_within, inputs_more}
-use Rattle.teg_forever.proofs.Series.{behind, got_is, got_within, some_is}
+use Rattle.teg_forever.proofs.InputLists.{inputs_more}
+use Rattle.teg_forever.proofs.Series.{behind, some_is}
 
 -- s and t are the two transitions, or one that is neither
 abbrev Swaps : ℕ → ℕ → ℕ → ℕ → Type 0
@@ -126,9 +128,9 @@ module _ (net : NetLists) (ok : IsNet net) (u v : ℕ) (first : IsInput net u) (
   other_in : (t : ℕ) → t < length net.transitions → other t < length net.transitions
   unfolding other
   other_in t l = elim (cases_Bool (t == v)) [
-    | inl e ↦ rw e (input_within net u first)
+    | inl e ↦ rw e (input_in net u first)
     | inr e ↦ rw e (elim (cases_Bool (t == u)) [
-      | inl f ↦ rw f (input_within net v second)
+      | inl f ↦ rw f (input_in net v second)
       | inr f ↦ rw f l
     ])
   ]
@@ -159,7 +161,7 @@ module _ (net : NetLists) (ok : IsNet net) (u v : ℕ) (first : IsInput net u) (
   module _ (rows : List EndlessRow) (ends : IsEndlessOf net rows) where
     row_apart : (i : ℕ) (r : EndlessRow) → slice_get rows i ≡ Some r → IsInput net r.transition.index → ⊥
     row_apart i r at =
-        let row : IsEndlessRow net r = subst (IsEndlessRow net) (got_is rows i r r at) (ends.each i r (got_within rows i r at)) in
+        let row : IsEndlessRow net r = subst (IsEndlessRow net) (get_or_from_slice_get rows i r r at) (ends.each i r (slice_get_within rows i r at)) in
         row.no_input
 
     pub twin_fine : WalkTimesSettle → IsLive net → IsFine net rows u → IsFine net rows v

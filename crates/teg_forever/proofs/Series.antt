@@ -1,5 +1,5 @@
 -- Series that are made of lists.
-use Rattle.std.proofs.Common.{ℕ, inl, inr, ◌≡◌, ◌+◌, ◌<◌, ◌≤◌, List, [], ◌∷◌, ◌++◌, Option, Some, None, Result, Ok, Err, length, get_or, refl, sym, subst, ap, ◌∙◌, arith}
+use Rattle.std.proofs.Common.{ℕ, ◌≡◌, ◌+◌, ◌<◌, ◌≤◌, List, [], ◌∷◌, ◌++◌, Option, Some, Result, Ok, Err, length, get_or, refl, sym, subst, ◌∙◌, arith}
 use Rattle.std.specs.Prelude.{IfOk, slice_get}
 use Rattle.dioid.specs.declared.dates.Date.{Date}
 use Rattle.forever_laws.specs.series_laws.SeriesForms.{Form, value_at, HasValues, IsCanonical}
@@ -13,8 +13,7 @@ use Rattle.teg_net.specs.Nets.{NetLists}
 use Rattle.forever_laws.specs.declared.rows.EndlessRow.{EndlessRow}
 use Rattle.forever_laws.specs.SeriesColumns.{IsDueSeries, IsWalkSeries, due_date_at}
 use Rattle.teg_settle.specs.Transfers.{IsGreatestWalkTime}
-use Rattle.std.proofs.lemmas.List.{get_or_default}
-use Rattle.std.proofs.lemmas.Option.{slice_get_cases}
+use Rattle.std.proofs.lemmas.Option.{slice_get_read}
 use Rattle.teg_forever.specs.InputAnswers.{FitsIfMade}
 
 -- the gain of a series that was made
@@ -58,22 +57,7 @@ some_is o a b p q = let c : Some a ≡ Some b = sym p ∙ q in cc
 
 -- what stands in a list is got from it
 pub got : {A : Type 0} (xs : List A) (i : ℕ) (x : A) → i < length xs → x ≡ get_or xs i x → slice_get xs i ≡ Some x
-got xs i x lt e = elim (slice_get_cases xs i).1 [
-  | inl (y, w, here, is) ↦ here ∙ ap Some (sym is ∙ get_or_default xs i y x lt ∙ sym e)
-  | inr (past, here) ↦ absurd (omega (arith, past, lt))
-]
-
-pub got_within : {A : Type 0} (xs : List A) (i : ℕ) (x : A) → slice_get xs i ≡ Some x → i < length xs
-got_within xs i x e = elim (slice_get_cases xs i).1 [
-  | inl (y, w, here, is) ↦ w
-  | inr (past, here) ↦ (let c : None ≡ Some x = sym here ∙ e in cc)
-]
-
-pub got_is : {A : Type 0} (xs : List A) (i : ℕ) (x d : A) → slice_get xs i ≡ Some x → get_or xs i d ≡ x
-got_is xs i x d e = elim (slice_get_cases xs i).1 [
-  | inl (y, w, here, is) ↦ get_or_default xs i d y w ∙ is ∙ some_is (slice_get xs i) y x here e
-  | inr (past, here) ↦ (let c : None ≡ Some x = sym here ∙ e in cc)
-]
+got xs i x = slice_get_read xs (length xs) i x refl
 
 -- what is put behind a list stands there
 pub behind : {A : Type 0} (xs : List A) (x : A) → slice_get (xs ++ x ∷ []) (length xs) ≡ Some x

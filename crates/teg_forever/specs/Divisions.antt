@@ -81,6 +81,7 @@ IsMisfit rows due walk NoRoom = ⊤
 pub record IsResidualOf (net : NetLists) (rows : List EndlessRow) (u i : ℕ) (list : List Divided) (place : ℕ) : Type 0 where
   pub divided : Divided
   pub stands : slice_get list place ≡ Some divided
+  pub within : place < length list
   pub is : (walks dues : ℕ → Gain) → AreSeriesColumns net u rows walks dues → (divided.residual ≡ gain_left (walks i) (dues i)) × LeftFits (walks i) (dues i)
 
 -- the meet over so many rows, each of which fits

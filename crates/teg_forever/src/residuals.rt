@@ -10,7 +10,7 @@ use crate::alike::is_as_before;
 use crate::divisions::Divisions;
 use crate::gains::walk_gain;
 use crate::releases::ForeverRefusal;
-use dioid::{Dioid, Refused, Residuated};
+use dioid::{Refused, Residuated};
 use forever_laws::{EndlessRow, columns_exist};
 use series_ops::Gain;
 use std::alloc::Global;
@@ -99,6 +99,7 @@ fn residual_at(
 }
 
 // The residual of the first row.
+#[tactic(auto, using(std::proofs::lemmas::Result::err_from_is_err_and))]
 fn first_meet(
     alloc: Global,
     net: &Net,
@@ -123,6 +124,7 @@ fn first_meet(
 }
 
 // The meet of the meet over the rows before with the residual of a row.
+#[tactic(auto, using(std::proofs::lemmas::Result::err_from_is_err_and))]
 fn meet_with(
     alloc: Global,
     net: &Net,

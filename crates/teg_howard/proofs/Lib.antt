@@ -24,7 +24,7 @@ pub mod Runs
 pub mod Rising
 pub mod Exits
 pub mod Unique
-pub mod LowestTerms
+pub mod OneRatio
 pub mod OneRun
 pub use Rattle.teg_check.proofs.number_laws_proofs as number_laws_proofs
 pub use Rattle.teg_net.proofs as teg_net_proofs

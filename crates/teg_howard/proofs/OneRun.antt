@@ -8,7 +8,7 @@ use Rattle.teg_net.specs.Nets.{NetLists, IsNet}
 use Rattle.teg_net.specs.Circuits.{IsLive, time_of, tokens_of, from_of}
 use Rattle.teg_net.specs.declared.rounds.Choice.{Choice}
 use Rattle.teg_net.specs.declared.rounds.Round.{Round}
-use Rattle.teg_net.specs.Parts.{IsMember, IsPlaceOfPart, to_of}
+use Rattle.teg_net.specs.Parts.{IsMember, to_of}
 use Rattle.teg_howard.specs.Policies.{Policy, IsPolicy, IsBestCircuit, LeadsBack, IsRouted, Joins, IsRouting, AreSums, IsImprovement, IsChanged, Improves}
 use Rattle.teg_net.specs.PartAnswers.{first_transition_of}
 use Rattle.teg_howard.specs.PolicyRounds.{chosen, potential, chosen_place, value_in, choice_of_member, IsRound, IsRoundOf, IsFirstRound, KeepsCircuit, FollowsRound, IsRunTo, IsPolicyRun}
@@ -18,9 +18,9 @@ use Rattle.teg_net.proofs.Reading.{same_id}
 use Rattle.teg_howard.proofs.Routing.{all_home}
 use Rattle.teg_howard.proofs.Optimum.{some_token}
 use Rattle.teg_howard.proofs.Listing.{only_members}
-use Rattle.teg_howard.proofs.RoundStates.{same_functions, best_kind}
+use Rattle.teg_howard.proofs.RoundStates.{same_functions, any_kind, best_kind}
 use Rattle.teg_howard.proofs.Unique.{one_improvement, leads_agrees, circuit_agrees, one_best, one_routing, one_sums}
-use Rattle.teg_howard.proofs.LowestTerms.{one_ratio}
+use Rattle.teg_howard.proofs.OneRatio.{one_ratio}
 
 pub record Equal (r q : Round) : Type 0 where
   pub choices : chosen r ≡ chosen q
@@ -127,11 +127,6 @@ module _ (net : NetLists) (parts : List ℕ) (part : ℕ) where
       same_id (f t) (g t) (omega arith) in
       one_round_of live kept f g (λ t i. (h.begins.1 t i).enters) (λ t i. (k.begins.1 t i).enters) same (IsMember parts part) (IsMember parts part) (λ t i y. y) (λ t i y. y) r q h.round k.round h.begins.2 k.begins.2
 
-  any_to : (K L : ℕ → Type 0) → ((t : ℕ) → IsMember parts part t → K t → L t) → (d : List PlaceId) → All (IsPlaceOfPart net parts part) d → Any (λ p. K (to_of net p)) d → Any (λ p. L (to_of net p)) d
-  any_to K L k d h w =
-      let inside : IsPlaceOfPart net parts part w.1 = subst (IsPlaceOfPart net parts part) w.3 (h w.0 w.1 w.2) in
-      (w.0, w.1, w.2, w.3, k (to_of net w.1) inside.to_member w.4)
-
   pub one_next : (live : IsLive net) (kept : IsNet net) (r r' s q : Round) → Equal r r' → IsRound net parts part r → ((t : ℕ) → IsMember parts part t → LeadsBack net (chosen r) t (first_transition_of net r.circuit.places.items)) → FollowsRound net parts part r s → FollowsRound net parts part r' q
       → Equal s q × ((t : ℕ) → IsMember parts part t → LeadsBack net (chosen s) t (first_transition_of net s.circuit.places.items))
   one_next live kept r r' s q e hr home h k =
@@ -155,12 +150,12 @@ module _ (net : NetLists) (parts : List ℕ) (part : ℕ) where
       ⊎_elim
       (λ (y : IsRoundOf net parts part g (IsChanged parts part (chosen r') g) q). one_round_of live kept f g ok ok' agree (IsChanged parts part (chosen r) f) (IsChanged parts part (chosen r') g) to from s q h.round k.round x y)
       (λ (y : KeepsCircuit net parts part r' q g).
-      absurd (y.none_new s.circuit.places.items (circuit_agrees net parts part f g agree s.circuit.places.items x.best.is) (any_to (IsChanged parts part (chosen r) f) (IsChanged parts part (chosen r') g) to s.circuit.places.items x.best.is.inside x.best.through)))
+      absurd (y.none_new s.circuit.places.items (circuit_agrees net parts part f g agree s.circuit.places.items x.best.is) (any_kind net parts part (IsChanged parts part (chosen r) f) (IsChanged parts part (chosen r') g) to s.circuit.places.items x.best.is.inside x.best.through)))
       k.next)
       (λ (x : KeepsCircuit net parts part r s f).
       ⊎_elim
       (λ (y : IsRoundOf net parts part g (IsChanged parts part (chosen r') g) q).
-      absurd (x.none_new q.circuit.places.items (circuit_agrees net parts part g f (λ t i. sym (agree t i)) q.circuit.places.items y.best.is) (any_to (IsChanged parts part (chosen r') g) (IsChanged parts part (chosen r) f) from q.circuit.places.items y.best.is.inside y.best.through)))
+      absurd (x.none_new q.circuit.places.items (circuit_agrees net parts part g f (λ t i. sym (agree t i)) q.circuit.places.items y.best.is) (any_kind net parts part (IsChanged parts part (chosen r') g) (IsChanged parts part (chosen r) f) from q.circuit.places.items y.best.is.inside y.best.through)))
       (λ (y : KeepsCircuit net parts part r' q g).
       let circuit : s.circuit.places.items ≡ q.circuit.places.items = x.same_circuit ∙ (e.circuit ∙ sym y.same_circuit) in
       let still = still_back_to_root net parts part (chosen r) hr.policy a b r.circuit.places.items hr.circuit hr.ratio.same (potential r) hr.sums f h.improves home x.none_new in

@@ -94,7 +94,7 @@ module _ (net : NetLists) (parts : List ℕ) (part : ℕ) where
             (subst (λ x. AreSums net parts part st.round.ratio.time st.round.ratio.tokens x (first_transition_of net c) (potentials st.values.items)) f h.sums);
       }
 
-  any_kind : (K L : ℕ → Type 0) → ((t : ℕ) → IsMember parts part t → K t → L t) → (d : List PlaceId) → All (IsPlaceOfPart net parts part) d → Any (λ p. K (to_of net p)) d → Any (λ p. L (to_of net p)) d
+  pub any_kind : (K L : ℕ → Type 0) → ((t : ℕ) → IsMember parts part t → K t → L t) → (d : List PlaceId) → All (IsPlaceOfPart net parts part) d → Any (λ p. K (to_of net p)) d → Any (λ p. L (to_of net p)) d
   any_kind K L k d h w =
       let inside : IsPlaceOfPart net parts part w.1 = subst (IsPlaceOfPart net parts part) w.3 (h w.0 w.1 w.2) in
       (w.0, w.1, w.2, w.3, k (to_of net w.1) inside.to_member w.4)

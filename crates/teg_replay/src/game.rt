@@ -20,7 +20,7 @@ use teg_outside::Firing;
 
 /// The token game of a net: the list of its accepted firings, which is a legal run. Contracts see
 /// this list and what is kept beside it; it stands for each net of which that is true (`IsGameOf`).
-#[derive(Debug, Drop)]
+#[derive(Drop)]
 pub struct Game {
     history: History,
     ends: EndLists,
@@ -73,6 +73,18 @@ impl Game {
         self.history.run()
     }
 
+    // The tokens in all places after one more firing, which may follow the run.
+    fn tokens_with(&self, net: &Net, fired: Fired) -> u64
+        requires stands { IsGameOf net.now self.now }
+        requires few { length self.now.run < 2 ^ 40 }
+        requires legal { IsLegalAfter net.now self.now.run fired }
+        ensures { result ≡ tokens_after net.now (self.now.run ++ fired ∷ []) }
+    {
+        let brought = u64::from(self.ends.leaving(fired.transition));
+        let taken = self.ends.entering(fired.transition).len() as u64;
+        self.tokens + brought - taken
+    }
+
     // Appends a firing that may follow the run, or changes nothing.
     fn accept(&mut self, net: &Net, fired: Fired, earliest: u64) -> Result<Firing, FireRefusal>
         requires stands { IsGameOf net.now self.old }
@@ -87,16 +99,15 @@ impl Game {
         ensures stands { IsGameOf net.now self.new }
     {
         let number = next_number(&self.history, fired.transition);
+        let tokens = self.tokens_with(net, fired);
         self.history.push(fired)?;
-        let brought = u64::from(self.ends.leaving(fired.transition));
-        let taken = self.ends.entering(fired.transition).len() as u64;
-        self.tokens = self.tokens + brought - taken;
+        self.tokens = tokens;
         Ok(Firing {
             transition: fired.transition.index,
             number,
             date: fired.date,
             earliest,
-            tokens: self.tokens,
+            tokens,
         })
     }
 

@@ -1,19 +1,19 @@
 //! The run so far, with the dates of each transition beside it.
-ghost use Rattle.std.specs.Prelude.{◌≡◌, ◌<◌, ◌+◌, ◌++◌, ◌∷◌, [], IfOk, is_ok, replicate, if◌then◌else◌, length};
+ghost use Rattle.std.specs.Prelude.{◌≡◌, ◌<◌, ◌+◌, ◌++◌, ◌∷◌, [], IfOk, is_ok, if◌then◌else◌, length};
 ghost use Rattle.teg_replay.specs.Games.{Past, AreDateColumns};
 ghost use Rattle.run_laws.specs.Runs.{dates_of_transition, last_date};
 
-use crate::column::Column;
+use crate::column::{Column, empty_columns};
 use run_laws::Fired;
 use std::alloc::{AllocError, Global};
 use std::marker::Model;
 use teg_net::TransitionId;
 
 // A run over a number of transitions. Contracts see that number and the run.
-#[derive(Debug, Drop)]
+#[derive(Drop)]
 pub(crate) struct History {
     run: Vec<Fired>,
-    columns: Vec<Column>,
+    columns: Vec<Column<u64>>,
 }
 
 impl Model for History {
@@ -25,17 +25,6 @@ impl Model for History {
     ghost view = { λ h. record { width = length h.columns.items; run = h.run.items } };
 
     ghost invariant = { λ h. AreDateColumns h.run.items h.columns.items };
-}
-
-// So many columns without dates.
-fn empty_columns(alloc: Global, width: usize) -> Result<Vec<Column>, AllocError>
-    ensures { IfOk result (λ columns. columns.items ≡ replicate width []) }
-{
-    let mut columns = Vec::new(alloc);
-    for _index in 0..width {
-        columns.push(Column::new(alloc))?;
-    }
-    Ok(columns)
 }
 
 impl History {

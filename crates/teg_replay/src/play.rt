@@ -1,8 +1,7 @@
 //! The replay of a log.
-ghost use Rattle.std.specs.Prelude.{◌<◌, ◌^◌, ◌≡◌, map, length, [], IfOk, IfSome, Some};
+ghost use Rattle.std.specs.Prelude.{◌<◌, ◌^◌, ◌≡◌, map, length, IfOk, IfSome, Some};
 ghost use Rattle.teg_due.specs.RowRules.{IsLogOf};
 ghost use Rattle.teg_replay.specs.RefusedFirings.{IsFailure, NamesPlaceOf};
-ghost use Rattle.teg_replay.specs.Games.{IsGameOf};
 ghost use Rattle.teg_replay.specs.RunsAndLeastDates.{AcceptsLegalRuns, AcceptsEarliestRuns};
 ghost use Rattle.teg_replay.specs.Replays.{Replays};
 
@@ -35,41 +34,6 @@ fn refused(row: &LogRow, accepted: u64, why: FireRefusal) -> Result<Replayed, Ou
     }
 }
 
-// The same of a game that has no firing yet.
-fn play_rows(
-    alloc: Global,
-    net: &Net,
-    game: &mut Game,
-    log: &[LogRow],
-    monitors: &mut [Box<dyn Monitor>],
-) -> Result<Replayed, OutOfMemory>
-    requires stands { IsGameOf net.now game.old }
-    requires begins { game.old.run ≡ [] }
-    requires few { length log.now < 2 ^ 40 }
-    requires rows { IsLogOf net.now log.now }
-    ensures replayed { Replays net.now log.now (λ firings. map (λ m. line_text m firings)
-        monitors.old) (λ firings. map (λ m. line_text m firings) monitors.new) result }
-    ensures named { IfOk result (λ replayed. IfSome replayed.refused
-        (λ refused. NamesPlaceOf net.now refused.why)) }
-    ensures legal { IfOk result (λ replayed. AcceptsLegalRuns net.now log.now replayed) }
-    ensures earliest { IfOk result (λ replayed. AcceptsEarliestRuns net.now log.now replayed) }
-{
-    let mut accepted = 0;
-    for row in log {
-        match game.fire(alloc, net, row.transition, row.date) {
-            Ok(firing) => {
-                show_each(monitors, firing);
-                accepted += 1;
-            }
-            Err(why) => return refused(row, accepted, why),
-        }
-    }
-    Ok(Replayed {
-        accepted,
-        refused: None,
-    })
-}
-
 /// Fires the rows in order up to the first that is refused, and shows each accepted firing to every
 /// monitor, in order, once. It answers how many were accepted, and the refused row with the first
 /// way in which it fails. There are fewer than 2^40 rows, each of a transition of the net and with
@@ -93,5 +57,18 @@ pub fn replay(
     let Ok(mut game) = Game::new(alloc, net) else {
         return Err(OutOfMemory);
     };
-    play_rows(alloc, net, &mut game, log, monitors)
+    let mut accepted = 0;
+    for row in log {
+        match game.fire(alloc, net, row.transition, row.date) {
+            Ok(firing) => {
+                show_each(monitors, firing);
+                accepted += 1;
+            }
+            Err(why) => return refused(row, accepted, why),
+        }
+    }
+    Ok(Replayed {
+        accepted,
+        refused: None,
+    })
 }

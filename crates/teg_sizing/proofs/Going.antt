@@ -14,6 +14,7 @@ use Rattle.teg_net.specs.ReducedTimes.{reduced_time_of_place}
 use Rattle.teg_net.proofs.PathLaws.{no_id}
 use Rattle.teg_sizing.specs.declared.rounds.ValueCell.{ValueCell}
 use Rattle.teg_sizing.specs.ValueRounds.{IsTarget, reduced_time_of_path, Avoids, greatest_reduced_time, value_told, by_at, IsAtLeast, AreValuesWithin, IsTakenBy, IsRoundAfter, round_at, AreRounds}
+use Rattle.teg_sizing.specs.TracedPaths.{last_round}
 use Rattle.teg_sizing.proofs.Values.{same_some, at_least_some, at_least_less, at_least_is, weight_within, value_cons, value_none, told_or_not}
 
 pub within_more : (m n : ℕ) (cells : List ValueCell) → m ≤ n → AreValuesWithin m cells → AreValuesWithin n cells
@@ -52,9 +53,12 @@ pub round_last : (rounds : List (List ValueCell)) (after : List ValueCell) → r
 round_last rounds after = let e : length rounds ≡ length rounds + 0 = omega arith in ap (λ (z : ℕ). get_or (rounds ++ (after ∷ [])) z []) e ∙ get_or-append-add rounds (after ∷ []) 0 []
 
 -- one more
-pub rounds_more : (net : NetLists) (r : Fraction) (e : PlaceId) (first : List ValueCell) (rounds : List (List ValueCell)) (k : ℕ) (after : List ValueCell) → IsNet net → IsTarget r → AreRounds net r e first rounds → length rounds ≡ k + 1
-    → IsRoundAfter net r e (round_at rounds k) after → AreRounds net r e first (rounds ++ (after ∷ []))
-rounds_more net r e first rounds k after ok target h long here =
+pub rounds_more : (net : NetLists) (r : Fraction) (e : PlaceId) (first : List ValueCell) (rounds : List (List ValueCell)) (after : List ValueCell) → IsNet net → IsTarget r → AreRounds net r e first rounds
+    → IsRoundAfter net r e (last_round rounds) after → AreRounds net r e first (rounds ++ (after ∷ []))
+rounds_more net r e first rounds after ok target h here =
+    let some = h.some in
+    let k : ℕ = length rounds - 1 in
+    let long : length rounds ≡ k + 1 = omega arith in
     let more : List (List ValueCell) = rounds ++ (after ∷ []) in
     let wide : length more ≡ length rounds + 1 = length-append rounds (after ∷ []) in
     let old : (j : ℕ) → j < length rounds → round_at more j ≡ round_at rounds j = λ j l. get_or_append_left rounds (after ∷ []) [] j l in
@@ -99,6 +103,9 @@ held net r e before after t u h told =
     at_least_less (value_told after t) u s.0 s.2 (h.kept t s.0 s.1)
 
 module _ (net : NetLists) (r : Fraction) (e : PlaceId) (first : List ValueCell) (rounds : List (List ValueCell)) (h : AreRounds net r e first rounds) where
+  pub next_round : (k : ℕ) → suc k < length rounds → IsRoundAfter net r e (round_at rounds k) (round_at rounds (suc k))
+  next_round k l = let z : k + 1 ≡ suc k = omega arith in subst (λ (j : ℕ). IsRoundAfter net r e (round_at rounds k) (round_at rounds j)) z (h.each k (omega arith))
+
   pub held_on : (j i t : ℕ) (u : ℤ) → j + i < length rounds → IsAtLeast (value_told (round_at rounds j) t) u → IsAtLeast (value_told (round_at rounds (j + i)) t) u
   held_on j zero t u l told = let z : j + 0 ≡ j = omega arith in rw z told
   held_on j (suc i) t u l told =

@@ -1,5 +1,5 @@
 -- Rounds that stop at one that tells no more: those after it would be as it is.
-use Rattle.std.proofs.Common.{ℕ, zero, suc, ◌+◌, ◌-◌, ◌<◌, ◌≤◌, ◌≡◌, List, [], ◌∷◌, ◌++◌, length, Some, None, refl, sym, ap, ◌∙◌, arith, ⊎_elim}
+use Rattle.std.proofs.Common.{ℕ, zero, suc, ◌+◌, ◌-◌, ◌<◌, ◌≤◌, ◌≡◌, List, [], ◌∷◌, ◌++◌, length, Some, None, refl, sym, ap, subst, ◌∙◌, arith, ⊎_elim}
 use Rattle.std.proofs.lemmas.Bool.{cases_lt}
 use Rattle.std.proofs.lemmas.List.{length-append, get_or_append_left, get_or_past}
 use Rattle.teg_net.specs.declared.entries.PlaceId.{PlaceId}
@@ -8,7 +8,7 @@ use Rattle.teg_net.specs.Ratios.{Fraction}
 use Rattle.teg_net.specs.Circuits.{from_of}
 use Rattle.teg_sizing.specs.declared.rounds.ValueCell.{ValueCell}
 use Rattle.teg_sizing.specs.ValueRounds.{IsTarget, no_cell, value_told, by_at, IsRoundAfter, round_at, AreRounds}
-use Rattle.teg_sizing.specs.TracedPaths.{trace_of, HaveToldAll}
+use Rattle.teg_sizing.specs.TracedPaths.{trace_of, last_round, HaveToldAll}
 use Rattle.teg_sizing.specs.Surpluses.{NoneIsBetter}
 use Rattle.teg_sizing.proofs.Values.{none_some, at_least_is, told_or_not}
 use Rattle.teg_sizing.proofs.Going.{round_last, rounds_more}
@@ -72,8 +72,10 @@ lengthen net r e first last ok target again none (suc m) k rounds h long is =
     let more : List (List ValueCell) = rounds ++ (last ∷ []) in
     let wide : length more ≡ (k + 1) + 1 = omega (arith, length-append rounds (last ∷ []), long) in
     let end : round_at more (k + 1) ≡ last = ap (round_at more) (sym long) ∙ round_last rounds last in
+    let at : length rounds - 1 ≡ k = omega (arith, long) in
+    let here = subst (λ (z : List ValueCell). IsRoundAfter net r e z last) (sym (ap (round_at rounds) at ∙ is)) again in
     let rest : IsLengthened net r e first more last ((k + 1) + m) =
-    lengthen net r e first last ok target again none m (k + 1) more (rounds_more net r e first rounds k last ok target h long (rw is again)) wide end in
+    lengthen net r e first last ok target again none m (k + 1) more (rounds_more net r e first rounds last ok target h here) wide end in
     let same : k + suc m ≡ (k + 1) + m = omega arith in
     rw same (record {
       all = rest.all;
@@ -84,20 +86,24 @@ lengthen net r e first last ok target again none (suc m) k rounds h long is =
     })
 
 -- rounds that stop at one that tells no more have told all
-pub stopped : (net : NetLists) (r : Fraction) (e : PlaceId) (first before last : List ValueCell) (rounds : List (List ValueCell)) (k count : ℕ) → IsNet net → IsTarget r → AreRounds net r e first rounds → length rounds ≡ k + 1 → k ≤ count
-    → round_at rounds k ≡ last → IsRoundAfter net r e before last → NoneIsBetter last → HaveToldAll net r e first count rounds
-stopped net r e first before last rounds k count ok target h long few is after better =
+pub stopped : (net : NetLists) (r : Fraction) (e : PlaceId) (first : List ValueCell) (rounds : List (List ValueCell)) (last : List ValueCell) (count : ℕ) → IsNet net → IsTarget r → AreRounds net r e first rounds → length rounds ≤ count
+    → IsRoundAfter net r e (last_round rounds) last → NoneIsBetter last → HaveToldAll net r e first count (rounds ++ (last ∷ []))
+stopped net r e first rounds last count ok target h few after better =
     let none = none_at_all last better in
-    let all : IsLengthened net r e first rounds last (k + (count - k)) = lengthen net r e first last ok target (is_after_itself net r e before last after none) none (count - k) k rounds h long is in
+    let more : List (List ValueCell) = rounds ++ (last ∷ []) in
+    let k : ℕ = length rounds in
+    let long : length more ≡ k + 1 = length-append rounds (last ∷ []) in
+    let all : IsLengthened net r e first more last (k + (count - k)) =
+    lengthen net r e first last ok target (is_after_itself net r e (last_round rounds) last after none) none (count - k) k more (rounds_more net r e first rounds last ok target h after) long (round_last rounds last) in
     let same : k + (count - k) ≡ count = omega arith in
-    let own : IsLengthened net r e first rounds last count = rw same at all in
-    let end : length rounds - 1 ≡ k = omega (arith, long) in
+    let own : IsLengthened net r e first more last count = rw same at all in
+    let end : length more - 1 ≡ k = omega (arith, long) in
     record {
       some = omega (arith, long);
       all = own.all;
       are = own.are;
       long = own.long;
-      last = ap (round_at rounds) end ∙ (is ∙ sym own.last_is);
+      last = ap (round_at more) end ∙ (round_last rounds last ∙ sym own.last_is);
       paths = own.paths;
     }
 

@@ -18,11 +18,11 @@ use Rattle.teg_loops.proofs.Straight.{loop_or_apart, apart_straight, loop_short}
 use Rattle.teg_loops.proofs.Taking.{rest_leads, rest_shorter}
 use Rattle.teg_loops.proofs.Through.{IsThrough, through, closes}
 use Rattle.teg_sizing.specs.declared.rounds.ValueCell.{ValueCell}
-use Rattle.teg_sizing.specs.ValueRounds.{IsTarget, reduced_time_of_path, Avoids, greatest_reduced_time, value_told, by_at, IsAtLeast, IsRoundAfter, IsTakenBy, round_at, AreRounds}
+use Rattle.teg_sizing.specs.ValueRounds.{IsTarget, reduced_time_of_path, Avoids, greatest_reduced_time, value_told, by_at, IsAtLeast, IsTakenBy, round_at, AreRounds}
 use Rattle.teg_sizing.specs.TracedPaths.{trace_of}
 use Rattle.teg_sizing.specs.Surpluses.{NoneIsAbove, StartsFrom, NonePasses, IsBestThrough}
 use Rattle.teg_sizing.proofs.Values.{same_some, none_some, at_least_some, weight_within, value_append, value_cons, value_one, told_or_not, all_first, all_second}
-use Rattle.teg_sizing.proofs.Going.{complete}
+use Rattle.teg_sizing.proofs.Going.{complete, next_round}
 use Rattle.teg_sizing.proofs.Traces.{IsTraced, traced, trace_same}
 
 ends_below : (net : NetLists) → IsNet net → EndsBelow net (length net.transitions)
@@ -46,9 +46,7 @@ module _ (net : NetLists) (r : Fraction) (p : PlaceId) (first : List ValueCell) 
   -- a path by which more is told has no loop: without it as much would have been told before
   no_loop_by : (k t : ℕ) (v : ℤ) → suc k < length rounds → value_told (round_at rounds (suc k)) t ≡ Some v → HasLoop net (to_of net p) t (trace_of net rounds (suc (suc k)) t) → (q : PlaceId) → by_at (round_at rounds (suc k)) t ≡ Some q → ⊥
   no_loop_by k t v l told loop q by =
-      let z : k + 1 ≡ suc k = omega arith in
-      let own : IsRoundAfter net r p (round_at rounds k) (round_at rounds (suc k)) = subst (λ (j : ℕ). IsRoundAfter net r p (round_at rounds k) (round_at rounds j)) z (h.each k (omega arith)) in
-      let taken : IsTakenBy net r p (round_at rounds k) (round_at rounds (suc k)) t q = own.by_place t q by in
+      let taken : IsTakenBy net r p (round_at rounds k) (round_at rounds (suc k)) t q = (next_round net r p first rounds h k l).by_place t q by in
       let same : taken.value ≡ v = same_some (value_told (round_at rounds (suc k)) t) taken.value v taken.told told in
       let ps : List PlaceId = trace_of net rounds (suc (suc k)) t in
       let w : IsTraced net r p first ps (suc k) t v = traced net r p first rounds h starts.by_none (suc k) t v l told in
@@ -85,15 +83,12 @@ module _ (net : NetLists) (r : Fraction) (p : PlaceId) (first : List ValueCell) 
       let some = loop.circuit.not_empty in
       absurd (omega arith)
 
-  next_round : (k : ℕ) → suc k < length rounds → IsRoundAfter net r p (round_at rounds k) (round_at rounds (suc k))
-  next_round k l = let z : k + 1 ≡ suc k = omega arith in subst (λ (j : ℕ). IsRoundAfter net r p (round_at rounds k) (round_at rounds j)) z (h.each k (omega arith))
-
   -- a path that is told has no loop
   no_loop : (k t : ℕ) (v : ℤ) → k < length rounds → value_told (round_at rounds k) t ≡ Some v → HasLoop net (to_of net p) t (trace_of net rounds (suc k) t) → ⊥
   no_loop zero t v l told loop = no_loop_first t loop
   no_loop (suc k) t v l told loop = ⊎_elim
       (λ (none : by_at (round_at rounds (suc k)) t ≡ None).
-      no_loop k t v (omega arith) (sym ((next_round k l).same t none) ∙ told) (subst (HasLoop net (to_of net p) t) (trace_same net rounds (suc k) t none) loop))
+      no_loop k t v (omega arith) (sym ((next_round net r p first rounds h k l).same t none) ∙ told) (subst (HasLoop net (to_of net p) t) (trace_same net rounds (suc k) t none) loop))
       (λ (some : (q : PlaceId) × (by_at (round_at rounds (suc k)) t ≡ Some q)). no_loop_by k t v l told loop some.0 some.1)
       (told_or_not (by_at (round_at rounds (suc k)) t))
 

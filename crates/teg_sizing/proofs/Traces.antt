@@ -11,10 +11,10 @@ use Rattle.teg_net.specs.Parts.{to_of}
 use Rattle.teg_net.specs.ReducedTimes.{reduced_time_of_place}
 use Rattle.teg_net.proofs.PathLaws.{IsPathBetween-append}
 use Rattle.teg_sizing.specs.declared.rounds.ValueCell.{ValueCell}
-use Rattle.teg_sizing.specs.ValueRounds.{reduced_time_of_path, Avoids, value_told, by_at, IsAtLeast, IsTakenBy, IsRoundAfter, round_at, AreRounds}
+use Rattle.teg_sizing.specs.ValueRounds.{reduced_time_of_path, Avoids, value_told, by_at, IsAtLeast, IsTakenBy, round_at, AreRounds}
 use Rattle.teg_sizing.specs.TracedPaths.{AreOfNet, by_place, trace_of}
 use Rattle.teg_sizing.proofs.Values.{same_some, none_some, value_append, value_one, value_none, told_or_not}
-use Rattle.teg_sizing.proofs.Going.{stepped}
+use Rattle.teg_sizing.proofs.Going.{next_round, stepped}
 use Rattle.teg_sizing.proofs.Values.{at_least_is}
 
 -- where no place is told
@@ -73,13 +73,8 @@ module _ (net : NetLists) (r : Fraction) (e : PlaceId) (first : List ValueCell) 
     from : (k t : ℕ) (p : PlaceId) → k < length rounds → by_at (round_at rounds k) t ≡ Some p → p.index < length net.places
     from zero t p l by = absurd (none_some (by_at (round_at rounds 0) t) p (bare_first t) by)
     from (suc k) t p l by =
-        let z : k + 1 ≡ suc k = omega arith in
-        let own : IsRoundAfter net r e (round_at rounds k) (round_at rounds (k + 1)) = h.each k (omega arith) in
-        let taken : IsTakenBy net r e (round_at rounds k) (round_at rounds (k + 1)) t p = own.by_place t p (ap (λ (j : ℕ). by_at (round_at rounds j) t) z ∙ by) in
+        let taken : IsTakenBy net r e (round_at rounds k) (round_at rounds (suc k)) t p = (next_round net r e first rounds h k l).by_place t p by in
         taken.in_range
-
-  next_round : (k : ℕ) → suc k < length rounds → IsRoundAfter net r e (round_at rounds k) (round_at rounds (suc k))
-  next_round k l = let z : k + 1 ≡ suc k = omega arith in subst (λ (j : ℕ). IsRoundAfter net r e (round_at rounds k) (round_at rounds j)) z (h.each k (omega arith))
 
   extended : (ps : List PlaceId) (k t : ℕ) (p : PlaceId) (u v : ℤ) → IsTraced net r e first ps k (from_of net p) u → p.index < length net.places → to_of net p ≡ t → p.index ≢ e.index → v ≡ u +ℤ reduced_time_of_place r (place_at net p) → IsTraced net r e first (ps ++ (p ∷ [])) (suc k) t v
   extended ps k t p u v old l to other is =
@@ -113,7 +108,7 @@ module _ (net : NetLists) (r : Fraction) (e : PlaceId) (first : List ValueCell) 
       } in
       subst (λ (ps : List PlaceId). IsTraced net r e first ps 0 t v) (sym (trace_first t)) empty
   traced (suc k) t v l told =
-      let own = next_round k l in
+      let own = next_round net r e first rounds h k l in
       ⊎_elim
       (λ (none : by_at (round_at rounds (suc k)) t ≡ None).
       let old = traced k t v (omega arith) (sym (own.same t none) ∙ told) in
@@ -139,8 +134,8 @@ module _ (net : NetLists) (r : Fraction) (e : PlaceId) (first : List ValueCell) 
   -- since otherwise the round before had told as much
   told_before : (j t : ℕ) (p : PlaceId) → suc (suc j) < length rounds → by_at (round_at rounds (suc (suc j))) t ≡ Some p → by_at (round_at rounds (suc j)) (from_of net p) ≡ None → ⊥
   told_before j t p l by none =
-      let taken : IsTakenBy net r e (round_at rounds (suc j)) (round_at rounds (suc (suc j))) t p = (next_round (suc j) l).by_place t p by in
-      let last = next_round j (omega arith) in
+      let taken : IsTakenBy net r e (round_at rounds (suc j)) (round_at rounds (suc (suc j))) t p = (next_round net r e first rounds h (suc j) l).by_place t p by in
+      let last = next_round net r e first rounds h j (omega arith) in
       let told : value_told (round_at rounds j) (from_of net p) ≡ Some taken.offered.start = sym (last.same (from_of net p) none) ∙ taken.offered.told in
       let up = stepped net r e (round_at rounds j) (round_at rounds (suc j)) p taken.offered.start last taken.in_range taken.offered.other (at_least_is (value_told (round_at rounds j) (from_of net p)) taken.offered.start told) in
       taken.more (subst (λ (z : ℕ). IsAtLeast (value_told (round_at rounds (suc j)) z) taken.value) taken.to (subst (IsAtLeast (value_told (round_at rounds (suc j)) (to_of net p))) (sym taken.offered.is) up))

@@ -4,6 +4,7 @@ ghost use Rattle.teg_net.specs.Nets.{IsNet};
 ghost use Rattle.teg_net.specs.Circuits.{IsPath};
 ghost use Rattle.teg_sizing.specs.TracedPaths.{IsLeftBefore, IsFirstLoop, NoneLeaves};
 
+use crate::tracing::start_of;
 use std::alloc::{AllocError, Global};
 use teg_net::{Net, PlaceId};
 
@@ -14,10 +15,9 @@ fn left_before(net: &Net, places: &[PlaceId], position: usize) -> Option<usize>
     ensures none { IfNone result (NoneLeaves net.now places.now position) }
     ensures some { IfSome result (λ before. IsLeftBefore net.now places.now before position) }
 {
-    let own = net.places();
-    let from = own[places[position].index as usize].from;
+    let from = start_of(net, places[position]);
     for before in 0..position {
-        if own[places[before].index as usize].from.index == from.index {
+        if start_of(net, places[before]) == from {
             return Some(before);
         }
     }

@@ -187,8 +187,8 @@ pub(crate) fn rounds(
 {
     let mut rounds = Vec::new(alloc);
     rounds.push(first)?;
-    for number in 0..count {
-        let after = round_after(alloc, net, target, except, rounds[number].cells())?;
+    for _number in 0..count {
+        let after = round_after(alloc, net, target, except, last_cells(&rounds))?;
         let is_last = better_at(after.cells()).is_none();
         rounds.push(after)?;
         if is_last {

@@ -21,7 +21,7 @@ fn place_by(net: &Net, rounds: &[ValueRound], number: usize, at: usize) -> Optio
 }
 
 // The transition that the place leaves.
-fn start_of(net: &Net, id: PlaceId) -> usize
+pub(crate) fn start_of(net: &Net, id: PlaceId) -> usize
     requires { id.index < length net.now.places }
     ensures start { result ≡ from_of net.now id }
     ensures in_range { result < length net.now.transitions }

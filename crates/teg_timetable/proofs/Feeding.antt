@@ -1,5 +1,5 @@
 -- Places that pass the greatest delay on, and what becomes of the delays.
-use Rattle.std.proofs.Common.{ℕ, ◌+◌, ◌<◌, ◌≤◌, ◌≡◌, ◌≢◌, List, length, get_or, set, take, drop, Option, Some, None, refl, sym, ap, subst, ◌∙◌, arith, ⊎_elim}
+use Rattle.std.proofs.Common.{ℕ, ◌+◌, ◌<◌, ◌≤◌, ◌≡◌, ◌≢◌, List, length, get_or, set, take, drop, Option, Some, None, sym, ap, subst, ◌∙◌, arith, ⊎_elim}
 use Rattle.std.specs.Prelude.{All, ◌⊎◌}
 use Rattle.std.proofs.lemmas.Bool.{cases_eq, cases_lt}
 use Rattle.std.proofs.lemmas.List.{length-set, get_or-set_same, get_or-set_other}
@@ -85,24 +85,23 @@ pub feeders_go_back : (net : NetLists) → IsNet net → IsLive net → (period 
     → AreSettledDelays net period t (delay_left s) s.form.after s.form.period → (tops : List ℕ) (most : ℕ) → 1 ≤ most → AreBuilt (IsTop s) (length net.transitions) tops
     → All (λ top. top ≤ most) tops → (feeders : List (Option PlaceId)) → AreFeeders net period t tops most (length net.places) feeders
     → FeedersGoBack net period t tops most feeders
-feeders_go_back net rules live period some t workable s settled tops most late h high feeders f i l is =
-    let ends = ends_in net rules in
-    let long = h.long in
-    let own : HasDelayPast (delay_left s) s.form.after s.form.period most i = subst (λ (z : ℕ). HasDelayPast (delay_left s) s.form.after s.form.period z i) is (h.each i 0 l).attained in
-    let on = greatest_delays_are_passed_on net ends live period some t workable (delay_left s) s.form.after s.form.period settled most late (greatest_past net s tops most h high) i l own in
-    let p : PlaceId = on.0 in
-    let from_in : from_of net p < length net.transitions = (rules.each_place p.index _ on.1.place).from_in in
-    let below : get_or tops (from_of net p) 0 ≤ most = high (from_of net p) 0 (omega arith) in
-    let from : get_or tops (from_of net p) 0 ≡ most = top_is s (from_of net p) (get_or tops (from_of net p) 0) (h.each (from_of net p) 0 from_in) most on.1.from below in
-    let feeder : IsFeeder net period t tops most i p = record {
-      feeds = record { in_range = on.1.place; no_spare = on.1.no_spare; from = from; to = ap (λ (j : ℕ). get_or tops j 0) on.1.to ∙ is };
-      ends = on.1.to;
-    } in
-    told (get_or feeders i None) refl (f.complete i p on.1.place feeder)
-  where
-    told : (o : Option PlaceId) → get_or feeders i None ≡ o → get_or feeders i None ≢ None → (q : PlaceId) × (get_or feeders i None ≡ Some q) × IsFeeder net period t tops most i q
-    told None e some = absurd (some e)
-    told (Some q) e some = (q, e, f.sound i q e)
+feeders_go_back net rules live period some t workable s settled tops most late h high feeders f = record {
+  some = λ i l is.
+      let ends = ends_in net rules in
+      let long = h.long in
+      let own : HasDelayPast (delay_left s) s.form.after s.form.period most i = subst (λ (z : ℕ). HasDelayPast (delay_left s) s.form.after s.form.period z i) is (h.each i 0 l).attained in
+      let on = greatest_delays_are_passed_on net ends live period some t workable (delay_left s) s.form.after s.form.period settled most late (greatest_past net s tops most h high) i l own in
+      let p : PlaceId = on.0 in
+      let from_in : from_of net p < length net.transitions = (rules.each_place p.index _ on.1.place).from_in in
+      let below : get_or tops (from_of net p) 0 ≤ most = high (from_of net p) 0 (omega arith) in
+      let from : get_or tops (from_of net p) 0 ≡ most = top_is s (from_of net p) (get_or tops (from_of net p) 0) (h.each (from_of net p) 0 from_in) most on.1.from below in
+      let feeder : IsFeeder net period t tops most i p = record {
+        feeds = record { in_range = on.1.place; no_spare = on.1.no_spare; from = from; to = ap (λ (j : ℕ). get_or tops j 0) on.1.to ∙ is };
+        ends = on.1.to;
+      } in
+      f.complete i p on.1.place feeder;
+  sound = f.sound;
+}
 
 -- a turned circuit has the same places
 pub good_turned : (net : NetLists) (period : ℕ) (t : Timetable) (tops : List ℕ) (most : ℕ) (ps qs : List PlaceId) → IsTurned ps qs

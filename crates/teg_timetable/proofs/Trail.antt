@@ -13,7 +13,7 @@ use Rattle.teg_net.specs.Circuits.{from_of, IsPathBetween, IsCircuit}
 use Rattle.teg_net.specs.Parts.{to_of}
 use Rattle.teg_net.proofs.PathLaws.{IsPathBetween-split}
 use Rattle.delay_laws.specs.DelayOutcomes.{HasNoSpare}
-use Rattle.teg_timetable.specs.Working.{AreGood, IsFeeder}
+use Rattle.teg_timetable.specs.Working.{AreGood, IsFedCircuit, IsFeeder}
 
 abbrev pub first_id : PlaceId
 first_id = record { index = 0 }
@@ -123,12 +123,8 @@ closed_circuit net ps a some h apart = record {
         let two = joined net ps a a j h m in
         apart i j first_id (omega (arith, l)) (omega (arith, m)) (sym one ∙ e ∙ two)
 
-pub record IsFound (net : NetLists) (period : ℕ) (t : Timetable) (tops : List ℕ) (most : ℕ) (ps : List PlaceId) : Type 0 where
-  pub circuit : IsCircuit net ps
-  pub good : AreGood net period t tops most ps
-
 pub circuit_of_trail : (net : NetLists) (period : ℕ) (t : Timetable) (tops : List ℕ) (most start : ℕ) (left : List (Option ℕ)) (trail : List PlaceId) (at first : ℕ)
-    → Trail net period t tops most start left trail at → get_or left at None ≡ Some first → IsFound net period t tops most (take (length trail - first) trail)
+    → Trail net period t tops most start left trail at → get_or left at None ≡ Some first → IsFedCircuit net period t tops most (take (length trail - first) trail)
 circuit_of_trail net period t tops most start left trail at first h is =
     let mark = h.marks at first is in
     let m : ℕ = length trail - first in

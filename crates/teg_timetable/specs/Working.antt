@@ -14,12 +14,12 @@ use Rattle.teg_net.specs.declared.entries.Place.{Place}
 use Rattle.teg_net.specs.declared.entries.PlaceId.{PlaceId}
 use Rattle.teg_net.specs.declared.entries.Role.TheVariants.{Internal, Input}
 use Rattle.teg_net.specs.declared.entries.Transition.{Transition}
-use Rattle.teg_net.specs.Circuits.{place_at, from_of}
+use Rattle.teg_net.specs.Circuits.{place_at, from_of, IsCircuit}
 use Rattle.teg_net.specs.Limits.{greatest_input_date}
 use Rattle.teg_net.specs.Names.{is_name}
 use Rattle.teg_net.specs.Nets.{NetLists}
 use Rattle.teg_net.specs.Parts.{to_of}
-use Rattle.teg_timetable.specs.Spreads.{LeftDelays, delay_left}
+use Rattle.teg_timetable.specs.Spreads.{LeftDelays, delay_left, greatest_period}
 
 -- a list of so many entries, of which the one at k is of its kind
 pub record AreBuilt {X : Type 0} (Is : ℕ → X → Type 0) (count : ℕ) (xs : List X) : Type 0 where
@@ -81,7 +81,7 @@ pub record IsNetMade (net : NetLists) (period : ℕ) (t : Timetable) (d : NetLis
   pub few : length net.transitions ≤ 200
   pub fits : length net.transitions + length net.places ≤ 4000
   pub some : 1 ≤ period
-  pub period_in : period ≤ 1000000
+  pub period_in : period ≤ greatest_period
 
 -- the greatest delay left of transition i in the period past the number
 pub record IsTop (s : LeftDelays) (i top : ℕ) : Type 0 where
@@ -106,11 +106,16 @@ pub record AreFeeders (net : NetLists) (period : ℕ) (t : Timetable) (tops : Li
   pub sound : (i : ℕ) (p : PlaceId) → slice_index_or feeders i None ≡ Some p → IsFeeder net period t tops most i p
   pub complete : (i : ℕ) (p : PlaceId) → p.index < upto → IsFeeder net period t tops most i p → slice_index_or feeders i None ≢ None
 
--- from each transition with that delay feeders lead back without end
-abbrev pub FeedersGoBack : NetLists → ℕ → Timetable → List ℕ → ℕ → List (Option PlaceId) → Type 0
-FeedersGoBack net period t tops most feeders =
-    (i : ℕ) → i < length net.transitions → slice_index tops i ≡ most → (p : PlaceId) × (slice_index_or feeders i None ≡ Some p) × IsFeeder net period t tops most i p
+-- there is a feeder of each transition with that delay, so feeders lead back without end
+pub record FeedersGoBack (net : NetLists) (period : ℕ) (t : Timetable) (tops : List ℕ) (most : ℕ) (feeders : List (Option PlaceId)) : Type 0 where
+  pub some : (i : ℕ) → i < length net.transitions → slice_index tops i ≡ most → slice_index_or feeders i None ≢ None
+  pub sound : (i : ℕ) (p : PlaceId) → slice_index_or feeders i None ≡ Some p → IsFeeder net period t tops most i p
 
 -- each place of the list has no spare time and leaves a transition with that delay
 abbrev pub AreGood : NetLists → ℕ → Timetable → List ℕ → ℕ → List PlaceId → Type 0
 AreGood net period t tops most ps = All (λ p. HasNoSpare net period t p × (slice_index tops (from_of net p) ≡ most)) ps
+
+-- a circuit of such places
+pub record IsFedCircuit (net : NetLists) (period : ℕ) (t : Timetable) (tops : List ℕ) (most : ℕ) (ps : List PlaceId) : Type 0 where
+  pub circuit : IsCircuit net ps
+  pub good : AreGood net period t tops most ps

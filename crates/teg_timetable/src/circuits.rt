@@ -5,7 +5,7 @@ ghost use Rattle.delay_laws.specs.PlannedTimetables.{IsTableOf};
 ghost use Rattle.teg_net.specs.Circuits.{from_of, IsCircuit, BeginsLowest};
 ghost use Rattle.teg_net.specs.Parts.{to_of};
 ghost use Rattle.teg_timetable.specs.Spreads.{greatest_period};
-ghost use Rattle.teg_timetable.specs.Working.{AreFeeders, AreGood, FeedersGoBack, FeedsAt};
+ghost use Rattle.teg_timetable.specs.Working.{AreFeeders, AreGood, FeedersGoBack, FeedsAt, IsFedCircuit};
 
 use delay_laws::Timetable;
 use std::alloc::{AllocError, Global};
@@ -25,6 +25,18 @@ fn has_no_spare(net: &Net, period: u64, table: &Timetable, id: PlaceId) -> bool
     from + place.hold == to + period * u64::from(place.tokens)
 }
 
+// The numbers of the transitions that the place leaves and enters.
+fn ends(net: &Net, id: PlaceId) -> (usize, usize)
+    requires { id.index < length net.now.places }
+    ensures from { result.0 ≡ from_of net.now id }
+    ensures from_in { result.0 < length net.now.transitions }
+    ensures to { result.1 ≡ to_of net.now id }
+    ensures to_in { result.1 < length net.now.transitions }
+{
+    let place = &net.places()[id.index as usize];
+    (place.from.index as usize, place.to.index as usize)
+}
+
 // Whether both ends of the place have this greatest delay, and the place has no spare time.
 fn feeds(net: &Net, period: u64, table: &Timetable, tops: &[u64], most: u64, id: PlaceId) -> bool
     requires period { period ≤ greatest_period }
@@ -34,19 +46,8 @@ fn feeds(net: &Net, period: u64, table: &Timetable, tops: &[u64], most: u64, id:
     ensures yes { result ≡ true → FeedsAt net.now period table.now tops.now most id }
     ensures no { result ≡ false → FeedsAt net.now period table.now tops.now most id → ⊥ }
 {
-    let place = &net.places()[id.index as usize];
-    let from = tops[place.from.index as usize];
-    let to = tops[place.to.index as usize];
-    from == most && to == most && has_no_spare(net, period, table, id)
-}
-
-// The number of the transition that the place enters.
-fn end(net: &Net, id: PlaceId) -> usize
-    requires { id.index < length net.now.places }
-    ensures is { result ≡ to_of net.now id }
-    ensures in_range { result < length net.now.transitions }
-{
-    net.places()[id.index as usize].to.index as usize
+    let (from, to) = ends(net, id);
+    tops[from] == most && tops[to] == most && has_no_spare(net, period, table, id)
 }
 
 // For each transition with this greatest delay a place without spare time that leads to it from
@@ -71,19 +72,10 @@ pub(crate) fn feeders(
             index: index as u32,
         };
         if feeds(net, period, table, tops, most, id) {
-            feeders[end(net, id)] = Some(id);
+            feeders[ends(net, id).1] = Some(id);
         }
     }
     Ok(feeders)
-}
-
-// The number of the transition that the place leaves.
-fn start(net: &Net, id: PlaceId) -> usize
-    requires { id.index < length net.now.places }
-    ensures is { result ≡ from_of net.now id }
-    ensures in_range { result < length net.now.transitions }
-{
-    net.places()[id.index as usize].from.index as usize
 }
 
 // The feeder that is there.
@@ -109,8 +101,7 @@ fn fed_circuit(
     requires starts { from < length net.now.transitions }
     requires most { slice_index tops.now from ≡ most }
     requires back { FeedersGoBack net.now _period _table.now tops.now most feeders.now }
-    ensures circuit { IfOk result (λ ps. IsCircuit net.now ps.items) }
-    ensures good { IfOk result (λ ps. AreGood net.now _period _table.now tops.now most ps.items) }
+    ensures { IfOk result (λ ps. IsFedCircuit net.now _period _table.now tops.now most ps.items) }
 {
     let mut left: Vec<Option<usize>> = vec![in alloc; None; feeders.len()]?;
     let mut trail = Vec::new(alloc);
@@ -119,7 +110,7 @@ fn fed_circuit(
         left[at] = Some(trail.len());
         let feeder = feeder_at(feeders, at);
         trail.insert(0, feeder)?;
-        at = start(net, feeder);
+        at = ends(net, feeder).0;
     }
     let first = left[at].unwrap();
     trail.truncate(trail.len() - first);

@@ -1,7 +1,7 @@
 //! The releases of a transition: its planned departures with their delays, none before an earlier
 //! one.
 ghost use Rattle.std.specs.Prelude.{ℕ, ◌≡◌, ◌≤◌, ◌<◌, ◌+◌, ◌*◌, ◌∷◌, [], None, length, IfOk, slice_index_or};
-ghost use Rattle.delay_laws.specs.PlannedTimetables.{IsPastDelays, first_planned, greatest_departure};
+ghost use Rattle.delay_laws.specs.PlannedTimetables.{IsPastDelays, first_planned, greatest_delay, greatest_departure};
 ghost use Rattle.teg_timetable.specs.Departures.{or_second};
 ghost use Rattle.teg_timetable.specs.Spreads.{greatest_period};
 ghost use Rattle.teg_timetable.specs.Working.{AreBuilt, ArePlannedReleases, AreDelaysSmall, IsSmall, given_in, most_releases};
@@ -13,7 +13,7 @@ use std::alloc::{AllocError, Global};
 fn periods_for(by: u64, period: u64) -> u64
     requires some { 1 ≤ period }
     requires period { period ≤ greatest_period }
-    requires by { by ≤ 50000 }
+    requires by { by ≤ greatest_delay }
     ensures enough { by ≤ period * result }
     ensures few { result ≤ by }
 {

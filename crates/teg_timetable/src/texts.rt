@@ -141,28 +141,6 @@ pub fn spread_text(alloc: Global, net: &Net, delayed: &Delayed) -> Result<String
     Ok(text)
 }
 
-// The text of why a file is no timetable, where want of memory is that of a call for memory.
-fn table_text(alloc: Global, net: &Net, refusal: &TableRefusal) -> Result<String, AllocError>
-    requires { IsTableRefusalIn net.now refusal.now }
-    ensures text { IfOk result (λ text. IsTimetableText net.now (table_told refusal.now)
-        (string_bytes text)) }
-    ensures told { IfOk result (λ _. IfSome (table_told refusal.now) (IsTimetableTold net.now)) }
-{
-    match *refusal {
-        TableRefusal::BadRow { row } => row_fault(alloc, "timetable", row, "is not an entry"),
-        TableRefusal::UnknownTransition { row } => {
-            row_fault(alloc, "timetable", row, "unknown transition")
-        }
-        TableRefusal::Repeated { row } => row_fault(alloc, "timetable", row, "repeated"),
-        TableRefusal::OutOfRange { row } => row_fault(alloc, "timetable", row, "out of range"),
-        TableRefusal::Missing { transition } => {
-            let name = net.transitions()[transition.index as usize].name.as_str();
-            format!(in alloc; "refused: no departure of {name}\n")
-        }
-        TableRefusal::OutOfMemory => Err(AllocError),
-    }
-}
-
 /// The text of why a file is no timetable. [`TableRefusal::OutOfMemory`] has no text: it is
 /// answered by `OutOfMemory`, which else comes only where no memory is found.
 pub fn table_refusal_text(
@@ -175,34 +153,20 @@ pub fn table_refusal_text(
         (string_bytes text)) }
     ensures told { IfOk result (λ _. IfSome (table_told refusal.now) (IsTimetableTold net.now)) }
 {
-    Ok(table_text(alloc, net, refusal)?)
-}
-
-// The text of why delays are not followed, where want of memory is that of a call for memory.
-fn delay_text(alloc: Global, net: &Net, refusal: &DelayRefusal) -> Result<String, AllocError>
-    requires { IsDelayRefusalIn net.now refusal.now }
-    ensures text { IfOk result (λ text. IsTimetableText net.now (delay_told refusal.now)
-        (string_bytes text)) }
-    ensures told { IfOk result (λ _. IfSome (delay_told refusal.now) (IsTimetableTold net.now)) }
-{
-    match *refusal {
-        DelayRefusal::TooLarge {
-            transitions,
-            places,
-        } => {
-            format!(in alloc;
-                "refused: timetable of {transitions} transitions and {places} places\n"
-            )
+    let text = match *refusal {
+        TableRefusal::BadRow { row } => row_fault(alloc, "timetable", row, "is not an entry")?,
+        TableRefusal::UnknownTransition { row } => {
+            row_fault(alloc, "timetable", row, "unknown transition")?
         }
-        DelayRefusal::Unworkable { place } => {
-            let name = net.places()[place.index as usize].name.as_str();
-            format!(in alloc; "refused: place {name} does not fit the timetable\n")
+        TableRefusal::Repeated { row } => row_fault(alloc, "timetable", row, "repeated")?,
+        TableRefusal::OutOfRange { row } => row_fault(alloc, "timetable", row, "out of range")?,
+        TableRefusal::Missing { transition } => {
+            let name = net.transitions()[transition.index as usize].name.as_str();
+            format!(in alloc; "refused: no departure of {name}\n")?
         }
-        DelayRefusal::TooLong { limit } => {
-            format!(in alloc; "too long: no settled form within {limit}\n")
-        }
-        DelayRefusal::OutOfMemory => Err(AllocError),
-    }
+        TableRefusal::OutOfMemory => return Err(OutOfMemory),
+    };
+    Ok(text)
 }
 
 /// The text of why the delays of a timetable are not followed. [`DelayRefusal::OutOfMemory`] has no
@@ -217,7 +181,24 @@ pub fn delay_refusal_text(
         (string_bytes text)) }
     ensures told { IfOk result (λ _. IfSome (delay_told refusal.now) (IsTimetableTold net.now)) }
 {
-    Ok(delay_text(alloc, net, refusal)?)
+    match *refusal {
+        DelayRefusal::TooLarge {
+            transitions,
+            places,
+        } => {
+            Ok(format!(in alloc;
+                "refused: timetable of {transitions} transitions and {places} places\n"
+            )?)
+        }
+        DelayRefusal::Unworkable { place } => {
+            let name = net.places()[place.index as usize].name.as_str();
+            Ok(format!(in alloc; "refused: place {name} does not fit the timetable\n")?)
+        }
+        DelayRefusal::TooLong { limit } => {
+            Ok(format!(in alloc; "too long: no settled form within {limit}\n")?)
+        }
+        DelayRefusal::OutOfMemory => Err(OutOfMemory),
+    }
 }
 
 /// The law that different answers and refusals about one net have different texts, those of a file

@@ -27,6 +27,3 @@ loop-part-preserved c =
 
 pub gathered-requires-clause-count : goal.gathered-requires-clause-count
 gathered-requires-clause-count c = omega (arith, c.loop-part.invariant.count, c.loop-part-test.false, c.loop-part.auto.part-end, c.count-part-end.ensures.value)
-
-pub gathered-requires-clause-few : goal.gathered-requires-clause-few
-gathered-requires-clause-few c = omega (arith, c.loop-part.invariant.count, c.loop-part-test.false, c.loop-part.auto.part-end, c.count-part-end.ensures.value, c.count-part-end.ensures.few)

@@ -1,18 +1,18 @@
 use Rattle.std.proofs.Common.{◌≡◌, ◌<◌, sym, subst}
 use Rattle.std.proofs.lemmas.Result.{IfErr-weaker}
+use Rattle.std.proofs.lemmas.Option.{slice_get_within}
 use Rattle.teg_forever.specs.declared.releases.ForeverRefusal.TheVariants.{OutOfMemory}
 use Rattle.teg_forever.specs.InputAnswers.{IsStopped}
 use Rattle.teg_forever.specs.LatestReleases.{IsFine, IsReleaseOf, inputs_below}
 use Rattle.teg_forever.proofs.Residues.{any_ok, any_on, each_ok}
 use Rattle.teg_forever.proofs.SameWalks.{beside_at, twin_fine, twin_release}
-use Rattle.teg_forever.proofs.Series.{got_within}
 use Rattle.teg_forever.proofs.inputs.next_release.Goals as goal
 
 pub release_at-requires : goal.release_at-requires
 release_at-requires c =
     let h = c.in-Some.ensures in
     let ts = inputs_below c.args.net.now c.args.input.index in
-    subst (λ n. c.in-Some.place < n) (sym c.requires.releases.each_input) (got_within ts c.in-Some.place h.other h.stands)
+    subst (λ n. c.in-Some.place < n) (sym c.requires.releases.each_input) (slice_get_within ts c.in-Some.place h.other h.stands)
 
 pub returns-in-Some-clause-divisions : goal.returns-in-Some-clause-divisions
 returns-in-Some-clause-divisions c = any_on c.release_at.result _ c.requires.divisions

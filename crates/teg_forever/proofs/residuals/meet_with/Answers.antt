@@ -1,18 +1,9 @@
 use Rattle.std.proofs.Common.{sym, subst}
-use Rattle.std.proofs.lemmas.Result.{err_from_is_err_and}
 use Rattle.teg_forever.specs.Divisions.{IsRefusedAt}
 use Rattle.teg_forever.proofs.Dividing.{refused_meet}
 use Rattle.teg_forever.proofs.Repeated.{met_so_far}
-use Rattle.teg_forever.proofs.Series.{got, got_within}
+use Rattle.teg_forever.proofs.Series.{got}
 use Rattle.teg_forever.proofs.residuals.meet_with.Goals as goal
-
-pub residual-requires : goal.residual-requires
-residual-requires c = let h = c.in_ok-at.ensures.residual in got_within c.residual_at.new.divisions.list.items c.in_ok-at.at h.divided h.stands
-
-pub returns-in_err-at-clause-refused : goal.returns-in_err-at-clause-refused
-returns-in_err-at-clause-refused c =
-    let p = err_from_is_err_and c.from_residual.result c.from_residual.ensures.1 in
-    rw (p.1, p.2) c.in_err-at.ensures.refused
 
 pub returns-in-Ok-clause-meet : goal.returns-in-Ok-clause-meet
 returns-in-Ok-clause-meet c =

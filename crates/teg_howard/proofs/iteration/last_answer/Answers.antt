@@ -9,11 +9,7 @@ pub rounds-init : goal.rounds-init
 rounds-init c = record { standing = c.in_ok-at.ensures.standing; run = ([], run_one c.args.net.now c.args.parts.now c.args.part c.in_ok-at.at.state.round c.in_ok-at.ensures.first) }
 
 pub rounds-smaller : goal.rounds-smaller
-rounds-smaller c =
-    let old = c.rounds.at in
-    let new = c.advance.new.at in
-    let goes : GoesOn c.args.net.now c.args.parts.now c.args.part old new c.in-Some._before = rw c.in-Some.is at c.in_ok-_before.ensures.some in
-    falls c.args.net.now c.args.parts.now c.args.part old.policy.items new.policy.items old.state new.state c.rounds.invariant.standing.standing goes.standing.standing goes.rises
+rounds-smaller c = falls c.args.net.now c.args.parts.now c.args.part c.rounds.at c.advance.new.at c.in-Some._before c.rounds.invariant.standing (rw c.in-Some.is at c.in_ok-_before.ensures.some)
 
 pub rounds-preserved : goal.rounds-preserved
 rounds-preserved c =
@@ -23,24 +19,22 @@ rounds-preserved c =
     let goes : GoesOn c.args.net.now c.args.parts.now c.args.part old new c.in-Some._before = rw c.in-Some.is at c.in_ok-_before.ensures.some in
     record { standing = goes.standing; run = (run.0 ++ old.state.round ∷ [], run_more c.args.net.now c.args.parts.now c.args.part run.0 old.state.round new.state.round run.1 goes.follows) }
 
-pub returns-clause-best : goal.returns-clause-best
-returns-clause-best c =
-    let end : StaysAtLast c.args.net.now c.args.parts.now c.args.part c.rounds.at c.advance.new.at = rw c.in_default.is at c.in_ok-_before.ensures.none in
-    last_answers c.args.net.now c.args.parts.now c.args.part c.rounds.at.policy.items c.rounds.at.state c.in_ok-answer.answer c.rounds.invariant.standing.standing end.last (rw end.same at c.in_ok-answer.ensures)
-
-pub returns-clause-run : goal.returns-clause-run
-returns-clause-run c =
+pub returns : goal.returns
+returns c =
     let net = c.args.net.now in
-    let end : StaysAtLast net c.args.parts.now c.args.part c.rounds.at c.advance.new.at = rw c.in_default.is at c.in_ok-_before.ensures.none in
-    let is : IsAnswerOf c.rounds.at.state.round c.in_ok-answer.answer = rw end.same at c.in_ok-answer.ensures in
-    let run = c.rounds.invariant.run in
-    let r = c.rounds.at.state.round in (
-      run.0 ++ r ∷ [],
-      run_all net c.args.parts.now c.args.part run.0 r run.1 end.last,
-      λ d. last_pushed net c.args.parts.now c.args.part (λ s. IsAnswerOf s c.in_ok-answer.answer) run.0 r d is,
-    )
-
-pub returns-clause-limits : goal.returns-clause-limits
-returns-clause-limits c =
-    let end : StaysAtLast c.args.net.now c.args.parts.now c.args.part c.rounds.at c.advance.new.at = rw c.in_default.is at c.in_ok-_before.ensures.none in
-    last_keeps c.args.net.now c.args.parts.now c.args.part c.rounds.at.policy.items c.rounds.at.state c.in_ok-answer.answer c.rounds.invariant.standing.standing (rw end.same at c.in_ok-answer.ensures)
+    let parts = c.args.parts.now in
+    let part = c.args.part in
+    let at = c.rounds.at in
+    let h = c.rounds.invariant in
+    let r = at.state.round in
+    let end : StaysAtLast net parts part at c.advance.new.at = rw c.in_default.is at c.in_ok-_before.ensures.none in
+    let is : IsAnswerOf r c.in_ok-answer.answer = rw end.same at c.in_ok-answer.ensures in
+    record {
+      best = last_answers net parts part at.policy.items at.state c.in_ok-answer.answer h.standing.standing end.last is;
+      run = (
+        h.run.0 ++ r ∷ [],
+        run_all net parts part h.run.0 r h.run.1 end.last,
+        λ d. last_pushed net parts part (λ s. IsAnswerOf s c.in_ok-answer.answer) h.run.0 r d is,
+      );
+      limits = last_keeps net parts part at.policy.items at.state c.in_ok-answer.answer h.standing.standing is;
+    }

@@ -7,11 +7,7 @@ use Rattle.teg_howard.proofs.Ending.{falls}
 use Rattle.teg_howard.proofs.iteration.policy_run.Goals as goal
 
 pub rounds-smaller : goal.rounds-smaller
-rounds-smaller c =
-    let old = c.rounds.at in
-    let new = c.advance.new.at in
-    let goes : GoesOn c.args.net.now c.args.parts.now c.args.part old new c.in-Some.before = rw c.in-Some.is at c.in_ok-before.ensures.some in
-    falls c.args.net.now c.args.parts.now c.args.part old.policy.items new.policy.items old.state new.state c.rounds.invariant.standing.standing goes.standing.standing goes.rises
+rounds-smaller c = falls c.args.net.now c.args.parts.now c.args.part c.rounds.at c.advance.new.at c.in-Some.before c.rounds.invariant.standing (rw c.in-Some.is at c.in_ok-before.ensures.some)
 
 pub rounds-preserved : goal.rounds-preserved
 rounds-preserved c =
@@ -26,33 +22,23 @@ rounds-preserved c =
       rises = rise_more c.args.net.now c.args.parts.now c.args.part rounds old.state.round new.state.round c.rounds.invariant.rises goes.rises;
     })
 
-pub returns-clause-run : goal.returns-clause-run
-returns-clause-run c =
-    let end : StaysAtLast c.args.net.now c.args.parts.now c.args.part c.rounds.at c.advance.new.at = rw c.in_default.is at c.in_ok-before.ensures.none in
-    rw (c.in_ok-push-2.ensures.items, end.same) (run_all c.args.net.now c.args.parts.now c.args.part c.rounds.rounds.items c.rounds.at.state.round c.rounds.invariant.run end.last)
-
-pub returns-clause-best : goal.returns-clause-best
-returns-clause-best c =
-    let end : StaysAtLast c.args.net.now c.args.parts.now c.args.part c.rounds.at c.advance.new.at = rw c.in_default.is at c.in_ok-before.ensures.none in
-    last_answers c.args.net.now c.args.parts.now c.args.part c.rounds.at.policy.items c.rounds.at.state c.in_ok-answer.answer c.rounds.invariant.standing.standing end.last (rw end.same at c.in_ok-answer.ensures)
-
-pub returns-clause-limits : goal.returns-clause-limits
-returns-clause-limits c =
-    let end : StaysAtLast c.args.net.now c.args.parts.now c.args.part c.rounds.at c.advance.new.at = rw c.in_default.is at c.in_ok-before.ensures.none in
-    last_keeps c.args.net.now c.args.parts.now c.args.part c.rounds.at.policy.items c.rounds.at.state c.in_ok-answer.answer c.rounds.invariant.standing.standing (rw end.same at c.in_ok-answer.ensures)
-
-pub returns-clause-answer : goal.returns-clause-answer
-returns-clause-answer c =
-    rw c.in_ok-push-2.ensures.items
-    (λ d. last_pushed c.args.net.now c.args.parts.now c.args.part (λ r. IsAnswerOf r c.in_ok-answer.answer) c.rounds.rounds.items c.advance.new.at.state.round d c.in_ok-answer.ensures)
-
-pub returns-clause-rises : goal.returns-clause-rises
-returns-clause-rises c =
-    let end : StaysAtLast c.args.net.now c.args.parts.now c.args.part c.rounds.at c.advance.new.at = rw c.in_default.is at c.in_ok-before.ensures.none in
-    rw (c.in_ok-push-2.ensures.items, end.same) c.rounds.invariant.rises
-
-pub returns-clause-cases : goal.returns-clause-cases
-returns-clause-cases c =
-    let end : StaysAtLast c.args.net.now c.args.parts.now c.args.part c.rounds.at c.advance.new.at = rw c.in_default.is at c.in_ok-before.ensures.none in
+pub returns : goal.returns
+returns c =
+    let net = c.args.net.now in
+    let parts = c.args.parts.now in
+    let part = c.args.part in
+    let at = c.rounds.at in
+    let h = c.rounds.invariant in
+    let before = c.rounds.rounds.items in
+    let r = at.state.round in
+    let end : StaysAtLast net parts part at c.advance.new.at = rw c.in_default.is at c.in_ok-before.ensures.none in
+    let is : IsAnswerOf r c.in_ok-answer.answer = rw end.same at c.in_ok-answer.ensures in
     rw (c.in_ok-push-2.ensures.items, end.same)
-    (rise_by_case c.args.net.now c.args.parts.now c.args.part c.requires.live (c.rounds.rounds.items ++ c.rounds.at.state.round ∷ []) c.rounds.invariant.run c.rounds.invariant.rises)
+    (record {
+      run = run_all net parts part before r h.run end.last;
+      best = last_answers net parts part at.policy.items at.state c.in_ok-answer.answer h.standing.standing end.last is;
+      answer = λ d. last_pushed net parts part (λ s. IsAnswerOf s c.in_ok-answer.answer) before r d is;
+      limits = last_keeps net parts part at.policy.items at.state c.in_ok-answer.answer h.standing.standing is;
+      rises = h.rises;
+      cases = rise_by_case net parts part c.requires.live (before ++ r ∷ []) h.run h.rises;
+    })

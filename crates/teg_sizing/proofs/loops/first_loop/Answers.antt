@@ -1,11 +1,8 @@
-use Rattle.std.proofs.Common.{◌≡◌, Result, Ok, Err, length, arith}
-use Rattle.std.specs.Prelude.{IfOk}
+use Rattle.std.proofs.Common.{◌≡◌, length, arith}
+use Rattle.std.proofs.lemmas.Result.{IfOk-weaker}
+use Rattle.teg_sizing.specs.TracedPaths.{IsFirstLoop}
 use Rattle.teg_sizing.proofs.Looping.{once_short, loop_found}
 use Rattle.teg_sizing.proofs.loops.first_loop.Goals as goal
-
-IfOk_then : {A E : Type 0} (r : Result A E) {P Q : A → Type 0} → IfOk r P → ((x : A) → P x → Q x) → IfOk r Q
-IfOk_then (Ok x) p f = f x p
-IfOk_then (Err e) p f = p
 
 pub returns-in-Some : goal.returns-in-Some
 returns-in-Some c =
@@ -14,7 +11,7 @@ returns-in-Some c =
     let path = c.requires.path in
     let left = c.in-Some.ensures.some in
     let found = loop_found net ps path.0 path.1 c.in-Some.begin c.loop-end.end path.2 left.before_it c.loop-end-test.true left.same c.loop-end.invariant in
-    IfOk_then c.from_slice.result c.from_slice.ensures.items (λ v is. rw is found)
+    IfOk-weaker c.from_slice.result _ (λ v. IsFirstLoop net ps v.items) (λ v is. rw is found) c.from_slice.ensures.items
 
 pub unreachable-requires : goal.unreachable-requires
 unreachable-requires c =

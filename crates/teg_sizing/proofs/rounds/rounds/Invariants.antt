@@ -1,6 +1,6 @@
-use Rattle.std.proofs.Common.{◌≡◌, ◌≤◌, ◌+◌, length}
+use Rattle.std.proofs.Common.{◌≡◌, ◌+◌, length}
 use Rattle.teg_sizing.specs.ValueRounds.{AreRounds}
 use Rattle.teg_sizing.proofs.rounds.rounds.Given as goal
 
 abbrev pub invariant-loop-number : goal.invariant-loop-number
-invariant-loop-number l = AreRounds l.net l.target l.except l.fn.first l.rounds.items × (length l.rounds.items ≡ l.number + 1) × (l.number ≤ l.count)
+invariant-loop-number l = AreRounds l.net l.target l.except l.fn.first l.rounds.items × (length l.rounds.items ≡ l._number + 1)

@@ -12,8 +12,8 @@ loop-index-preserved c =
     let id : PlaceId = record { index = k } in
     elim c.if-feeds.branch [
       | then-feeds w ↦
-          let to_in : to_of net id < length net.transitions = subst (λ (z : ℕ). z < length net.transitions) w.end.ensures.is w.end.ensures.in_range in
-          rw (w.feeders-is, w.end.ensures.is)
+          let to_in : to_of net id < length net.transitions = subst (λ (z : ℕ). z < length net.transitions) w.ends.ensures.to w.ends.ensures.to_in in
+          rw (w.feeders-is, w.ends.ensures.to)
           (feeders_set net c.args.period c.args.table.now c.args.tops.now c.args.most k c.loop-index.feeders.items id refl to_in c.loop-index.invariant (c.feeds.ensures.yes w.if-feeds.true))
       | else-feeds w ↦
           rw w.feeders-is

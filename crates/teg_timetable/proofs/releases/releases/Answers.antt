@@ -6,7 +6,9 @@ use Rattle.delay_laws.specs.declared.table.Delay.{Delay}
 use Rattle.delay_laws.specs.declared.table.Timetable.{Timetable}
 use Rattle.delay_laws.specs.PlannedTimetables.{delay_given, delay_in, first_planned, planned}
 use Rattle.delay_laws.specs.Delays.{IsReleaseAt}
-use Rattle.teg_timetable.specs.Working.{AreBuilt, given_in}
+use Rattle.teg_net.specs.Limits.{greatest_input_date}
+use Rattle.teg_timetable.specs.Spreads.{greatest_period}
+use Rattle.teg_timetable.specs.Working.{AreBuilt, given_in, most_releases}
 use Rattle.teg_timetable.proofs.Releasing.{given_number, given_small, next_is, releases_more}
 use Rattle.teg_timetable.proofs.releases.releases.Goals as goal
 
@@ -15,10 +17,10 @@ by_given : (ds : List Delay) (i k count by : ℕ) (cells : List (Option ℕ)) (o
     → o ≡ get_or cells k o → by ≡ unwrap_or o 0 → by ≡ delay_in ds i (k + 1)
 by_given ds i k count by cells o h lt read is = is ∙ ap (λ (x : Option ℕ). unwrap_or x 0) (read ∙ h.each k o lt) ∙ given_number ds i (k + 1)
 
-plan_small : (period index : ℕ) → period ≤ 1000000 → index ≤ 60000 → period * index ≤ 60000000000
+plan_small : (period index : ℕ) → period ≤ greatest_period → index ≤ most_releases → period * index ≤ greatest_period * most_releases
 plan_small period index low few =
-    let a : period * index ≤ period * 60000 = mul-le-mul_left {m = index} {n = 60000} period few in
-    let b : period * 60000 ≤ 1000000 * 60000 = mul-le-mul_right 60000 low in
+    let a : period * index ≤ period * most_releases = mul-le-mul_left {m = index} {n = most_releases} period few in
+    let b : period * most_releases ≤ greatest_period * most_releases = mul-le-mul_right most_releases low in
     omega arith
 
 own_is : (period : ℕ) (t : Timetable) (i index first by : ℕ) → first ≡ first_planned t i → by ≡ delay_given t i (index + 1) → first + period * index + by ≡ planned period t i (index + 1) + delay_given t i (index + 1)
@@ -53,14 +55,14 @@ loop-index-preserved c =
     let product = plan_small c.args.period k c.requires.period (omega arith) in
     let date : ℕ = c.index-first.result.now + c.args.period * k + c.unwrap_or-by.result in
     let own = own_is c.args.period t i k c.index-first.result.now c.unwrap_or-by.result first by in
-    let low : date ≤ 100000000000 = omega (arith, c.requires.first) in
+    let low : date ≤ greatest_input_date = omega (arith, c.requires.first) in
     let before = c.loop-index.invariant.small in
     let is : max date c.loop-index.latest ≡ c.max-latest.result = omega (arith, c.max-latest.ensures) in
-    let most : c.max-latest.result ≤ 100000000000 = omega arith in
+    let most : c.max-latest.result ≤ greatest_input_date = omega arith in
     let next : IsReleaseAt c.args.period t i (k + 1) c.max-latest.result =
     subst (IsReleaseAt c.args.period t i (k + 1)) is (next_is c.args.period t i k c.loop-index.latest date own c.loop-index.invariant.none c.loop-index.invariant.latest) in
     record {
-      dates = rw c.in_ok-push.ensures.items (releases_more c.args.period t i k c.max-latest.result c.loop-index.dates.items c.loop-index.invariant.dates next (omega arith));
+      dates = rw c.in_ok-push.ensures.items (releases_more c.args.period t i k c.max-latest.result c.loop-index.dates.items c.loop-index.invariant.dates next most);
       none = λ e. absurd (omega arith);
       latest = λ _. next;
       small = most;

@@ -1,5 +1,6 @@
 use Rattle.std.proofs.Common.{◌≡◌, ◌≤◌}
 use Rattle.delay_laws.specs.Delays.{IsReleaseAt}
+use Rattle.teg_net.specs.Limits.{greatest_input_date}
 use Rattle.teg_timetable.specs.Working.{ArePlannedReleases}
 use Rattle.teg_timetable.proofs.releases.releases.Given as goal
 
@@ -8,5 +9,5 @@ invariant-loop-index l = record {
   dates : ArePlannedReleases l.period l.table l.transition l.index l.dates.items;
   none : l.index ≡ 0 → l.latest ≡ 0;
   latest : 1 ≤ l.index → IsReleaseAt l.period l.table l.transition l.index l.latest;
-  small : l.latest ≤ 100000000000;
+  small : l.latest ≤ greatest_input_date;
 }

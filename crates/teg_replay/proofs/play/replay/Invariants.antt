@@ -2,7 +2,7 @@ use Rattle.std.proofs.Common.{◌≡◌, List, map, take, length}
 use Rattle.teg_outside.specs.declared.monitor.Firing.{Firing}
 use Rattle.teg_replay.specs.Games.{IsGameOf}
 use Rattle.teg_replay.specs.Replays.{run_of, AreFiringsOf, WereShown}
-use Rattle.teg_replay.proofs.play.play_rows.Given as goal
+use Rattle.teg_replay.proofs.play.replay.Given as goal
 
 abbrev pub invariant-loop-row : goal.invariant-loop-row
 invariant-loop-row g l = record {
