@@ -132,7 +132,7 @@ def public_text(crate, text):
         if kind[1]:
             yield re.sub(r"ghost use [^;]*;|//.*", "", block), inner
         else:
-            ghosts = re.findall(r"^ +ghost (\w+) = \{(.*\};$|.*\n(?:.*\n)*?    \} *\};$)", block, re.M)
+            ghosts = re.findall(r"^ +ghost (\w+) = \{(.*\};$|.*\n(?:.*\n)*?    (?:\} *|    .*)\};$)", block, re.M)
             meanings = "\n".join(it for name, it in ghosts if "law" not in name and name != "closed")
             yield meanings + clauses_of(block, 4, of_all=bool(kind[2])), inner
     for name in re.findall(r"^pub fn (\w+)", text, re.M):

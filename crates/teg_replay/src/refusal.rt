@@ -7,7 +7,7 @@ use teg_net::PlaceId;
 
 /// Why a firing is refused: the first of three ways to fail, or want of memory. Dates are in the
 /// user's unit of time.
-#[derive(Clone, Copy)]
+#[derive(Clone, Copy, Debug, PartialEq, Eq)]
 pub enum FireRefusal {
     /// This place, the lowest numbered of those into the transition, has not its token by the date:
     /// the token is ready later, or the firing that brings it is missing.

@@ -2,7 +2,7 @@
 use crate::refusal::FireRefusal;
 
 /// The first refused row of a log, and why it was refused.
-#[derive(Clone, Copy)]
+#[derive(Clone, Copy, Debug, PartialEq, Eq)]
 pub struct Refused {
     /// The number of the row in the file, from 1, a header included.
     pub row: u32,
@@ -10,7 +10,7 @@ pub struct Refused {
 }
 
 /// How many firings were accepted, and the row that was refused, if one was.
-#[derive(Clone, Copy)]
+#[derive(Clone, Copy, Debug, PartialEq, Eq)]
 pub struct Replayed {
     pub accepted: u64,
     pub refused: Option<Refused>,
