@@ -10,7 +10,7 @@ use crate::exits::{Exits, circuit_from};
 use crate::live::Live;
 use crate::refusal::CheckRefusal;
 use std::alloc::Global;
-use teg_net::{Circuit, Net};
+use teg_net::{Circuit, Net, OutOfMemory};
 
 // The first transition that has no rank.
 fn first_unranked(ranked: &[bool]) -> Option<usize>
@@ -52,4 +52,18 @@ pub fn check(alloc: Global, net: &Net) -> Result<Live, CheckRefusal>
         }
     }
     Ok(Live::new(ranks))
+}
+
+/// The ranks of a net that is known to be live.
+///
+/// `OutOfMemory` comes only where no memory is found. It takes the time of [`check`].
+pub fn ranks_of(alloc: Global, net: &Net) -> Result<Live, OutOfMemory>
+    requires { IsLive net.now }
+    ensures { IfOk result (IsRanking net.now) }
+{
+    match check(alloc, net) {
+        Ok(live) => Ok(live),
+        Err(CheckRefusal::TokenFree { .. }) => unreachable!(),
+        Err(CheckRefusal::OutOfMemory) => Err(OutOfMemory),
+    }
 }

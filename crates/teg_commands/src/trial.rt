@@ -15,7 +15,7 @@ use crate::numbers::Machines;
 use crate::outcome::{Outcome, Verdict};
 use crate::slack::best_ratio;
 use std::alloc::Global;
-use teg_check::{CheckRefusal, check};
+use teg_check::ranks_of;
 use teg_critical::{Slack, Slacks};
 use teg_net::{CycleAnswer, Net, OutOfMemory, PlaceId, Ratio, TransitionId};
 use teg_report::{Answer, report};
@@ -44,11 +44,8 @@ fn with_ranks(alloc: Global, net: Net) -> Result<LiveNet, OutOfMemory>
     requires { IsLive net }
     ensures { IfOk result (λ live. live ≡ net) }
 {
-    match check(alloc, &net) {
-        Ok(live) => Ok(LiveNet::new(net, live)),
-        Err(CheckRefusal::TokenFree { .. }) => unreachable!(),
-        Err(CheckRefusal::OutOfMemory) => Err(OutOfMemory),
-    }
+    let live = ranks_of(alloc, &net)?;
+    Ok(LiveNet::new(net, live))
 }
 
 // What is told of the line with these slacks and this greatest ratio.

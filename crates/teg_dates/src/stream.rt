@@ -2,7 +2,6 @@
 ghost use Rattle.std.specs.Prelude.{◌≡◌, ◌+◌, ◌<◌, ◌≤◌, length, IfOk};
 ghost use Rattle.teg_net.specs.Limits.{greatest_firing_number};
 ghost use Rattle.teg_net.specs.Circuits.{IsLive};
-ghost use Rattle.teg_check.specs.Ranks.{IsRanking};
 ghost use Rattle.teg_form.specs.StandardForms.{IsStandardFormOf};
 ghost use Rattle.teg_dates.specs.Streams.{HasLeast, IsLeastRow, IsStreamOf, rows_given};
 
@@ -12,7 +11,7 @@ use crate::order::PlaceOrder;
 use dioid::Date;
 use std::alloc::Global;
 use std::marker::Model;
-use teg_check::{CheckRefusal, Live, check};
+use teg_check::ranks_of;
 use teg_form::Form;
 use teg_net::{Net, OutOfMemory};
 
@@ -34,18 +33,6 @@ impl Model for Stream {
     ghost view = { λ a. record { order = a.order; last = a.last } };
 }
 
-// The ranks of a net that is live.
-fn live_of(alloc: Global, net: &Net) -> Result<Live, OutOfMemory>
-    requires { IsLive net.now }
-    ensures { IfOk result (IsRanking net.now) }
-{
-    match check(alloc, net) {
-        Ok(live) => Ok(live),
-        Err(CheckRefusal::OutOfMemory) => Err(OutOfMemory),
-        Err(CheckRefusal::TokenFree { .. }) => unreachable!(),
-    }
-}
-
 impl Stream {
     /// A stream before the first row of the net that this form stands for. The net is live, as each
     /// net is that a form was made of.
@@ -62,7 +49,7 @@ impl Stream {
         ensures number { IfOk result (λ stream. rows_given stream ≡ 0) }
         ensures exists { IfOk result (λ _. HasLeast net.now) }
     {
-        let live = live_of(alloc, net)?;
+        let live = ranks_of(alloc, net)?;
         let order = PlaceOrder::new(alloc, net, &live)?;
         let reach = most_tokens_of(net) as u64;
         let last = LastRows::new(alloc, net.transitions().len(), reach)?;

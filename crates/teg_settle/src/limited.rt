@@ -19,7 +19,7 @@ use crate::search::{Found, dates_of, form_of, ready_tokens, search};
 use crate::settled::Settled;
 use crate::shown::SettledDates;
 use std::alloc::Global;
-use teg_check::{CheckRefusal, Live, check};
+use teg_check::{Live, ranks_of};
 use teg_net::{Net, OutOfMemory, TransitionId};
 
 // Rows that show the shortest form of the least dating of the net with these releases, if its
@@ -141,18 +141,6 @@ pub fn settle_dates_within(
 {
     let releases = Releases::of_net(alloc, net)?;
     dates_within(alloc, net, live, &releases, limit)
-}
-
-// Ranks of a live net.
-fn ranks_of(alloc: Global, net: &Net) -> Result<Live, OutOfMemory>
-    requires { IsLive net.now }
-    ensures { IfOk result (IsRanking net.now) }
-{
-    match check(alloc, net) {
-        Ok(live) => Ok(live),
-        Err(CheckRefusal::TokenFree { .. }) => unreachable!(),
-        Err(CheckRefusal::OutOfMemory) => Err(OutOfMemory),
-    }
 }
 
 // The same form of a live net without initial tokens in which this input alone is released.

@@ -18,21 +18,9 @@ use crate::refusals::DelayRefusal;
 use crate::workable::first_unworkable;
 use delay_laws::Timetable;
 use std::alloc::Global;
-use teg_check::{CheckRefusal, Live, check};
+use teg_check::{Live, ranks_of};
 use teg_net::{Net, OutOfMemory};
 use teg_settle::{SettleRefusal, SettledDates, settle_dates, settle_dates_within};
-
-// The ranks of a live net.
-fn ranks(alloc: Global, net: &Net) -> Result<Live, OutOfMemory>
-    requires { IsLive net.now }
-    ensures { IfOk result (λ live. IsRanking net.now live) }
-{
-    match check(alloc, net) {
-        Ok(live) => Ok(live),
-        Err(CheckRefusal::OutOfMemory) => Err(OutOfMemory),
-        Err(CheckRefusal::TokenFree { .. }) => unreachable!(),
-    }
-}
 
 // The settled form of a net with these ranks, within the limit.
 fn settled_within(
@@ -62,7 +50,7 @@ fn settled_in(alloc: Global, net: &Net, limit: Option<u32>) -> Result<SettledDat
     ensures within { IfOk result (λ form. IsLengthWithinLimit limit (settled_length form)) }
     ensures refused { IfErr result (IsSettlingRefusal net.now limit) }
 {
-    let live = ranks(alloc, net)?;
+    let live = ranks_of(alloc, net)?;
     match limit {
         None => Ok(settle_dates(alloc, net, &live)?),
         Some(limit) => settled_within(alloc, net, &live, limit),
