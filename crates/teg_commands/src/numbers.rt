@@ -4,6 +4,7 @@ ghost use Rattle.teg_net.specs.Limits.{greatest_target_time, most_target_tokens}
 ghost use Rattle.teg_settle.specs.LimitRefusals.{greatest_limit};
 
 use std::marker::Model;
+use teg_net::GREATEST_FIRING_NUMBER;
 
 /// A number from 1 to `MOST`. Contracts see the number.
 #[derive(Debug, Drop)]
@@ -44,9 +45,6 @@ impl<const MOST: u64> UpTo<MOST> {
 // The most firing numbers that a list has.
 const MOST_NUMBERS: u64 = 10_000;
 
-// The greatest number of a firing.
-const GREATEST_NUMBER: u64 = 1_000_000_000_000_000_000;
-
 // The greatest limit of a settled form.
 const GREATEST_LIMIT: u64 = 200_000;
 
@@ -60,7 +58,7 @@ const MOST_MACHINES: u64 = 400;
 pub type Count = UpTo<MOST_NUMBERS>;
 
 /// The number of a firing, from 1 to 10^18.
-pub type FiringNumber = UpTo<GREATEST_NUMBER>;
+pub type FiringNumber = UpTo<GREATEST_FIRING_NUMBER>;
 
 /// The greatest length that a settled form may have, from 1 to 200,000.
 pub type Limit = UpTo<GREATEST_LIMIT>;

@@ -3,7 +3,7 @@ ghost use Rattle.std.specs.Prelude.{◌≡◌, ◌≤◌, ◌++◌, Some, ◌∷
 ghost use Rattle.teg_outside.specs.Monitors.{IsOneLine};
 ghost use Rattle.teg_commands.specs.CommandOutcomes.{Tells, outcome_of};
 ghost use Rattle.teg_report.specs.csv_records.Records.{most_file_bytes};
-ghost use Rattle.teg_commands.specs.Replay.{CanTellRefusal, IsToldAs, SaysEnd, SaysReplay, SaysRun, ShowsReplay, ShowsRun, TellsBadLog};
+ghost use Rattle.teg_commands.specs.Replay.{CanTellRefusal, IsToldAs, SaysEnd, SaysReplay, SaysRun, ShowsReplay, ShowsRun, TellsBadLog, lines_by};
 ghost use Rattle.teg_due.specs.RowRules.{IsLogOf};
 ghost use Rattle.teg_report.specs.FileRows.{IsFailureIn};
 
@@ -56,7 +56,7 @@ fn keep(lines: &mut Vec<String>, line: String) -> Result<(), OutOfMemory>
 // The line of each monitor, in order.
 fn lines_of(alloc: Global, monitors: &[Box<dyn Monitor>]) -> Result<Vec<String>, OutOfMemory>
     ensures text { IfOk result (λ lines. map string_bytes lines.items
-        ≡ map (λ m. line_text m []) monitors.now) }
+        ≡ lines_by line_text monitors.now []) }
     ensures one_line { IfOk result (λ lines. All IsOneLine (map string_bytes lines.items)) }
 {
     let mut lines = Vec::new(alloc);
@@ -121,9 +121,8 @@ fn tell_seen(
     monitors: &[Box<dyn Monitor>],
 ) -> Result<Outcome, OutOfMemory>
     requires { IfSome replayed.now.refused (λ refused. CanTellRefusal net.now refused.why) }
-    ensures { let lines = map (λ m. line_text m []) monitors.now in
-        Tells (SaysEnd net.now replayed.now.refused replayed.now.accepted lines)
-        (outcome_of result) }
+    ensures { Tells (SaysEnd net.now replayed.now.refused replayed.now.accepted
+        (lines_by line_text monitors.now [])) (outcome_of result) }
 {
     let lines = lines_of(alloc, monitors)?;
     tell_end(alloc, net, replayed, lines.as_slice())
@@ -138,11 +137,10 @@ fn tell_run(
 ) -> (Result<Outcome, OutOfMemory>, Vec<Box<dyn Monitor>>)
     requires few { length rows.now ≤ most_file_bytes }
     requires rows { IsLogOf net.now rows.now }
-    ensures says { Tells (SaysRun (λ firings. map (λ m. line_text m firings) monitors.items) net.now
-        rows.now) (outcome_of result.0) }
-    ensures shown { ShowsRun net.now rows.now
-        (λ firings. map (λ m. line_text m firings) monitors.items)
-        (λ firings. map (λ m. line_text m firings) result.1.items) (is_ok result.0) }
+    ensures says { Tells (SaysRun (lines_by line_text monitors.items) net.now rows.now)
+        (outcome_of result.0) }
+    ensures shown { ShowsRun net.now rows.now (lines_by line_text monitors.items)
+        (lines_by line_text result.1.items) (is_ok result.0) }
 {
     let run = replay(alloc, net.net(), rows, &mut monitors);
     let seen = monitors.as_slice();
@@ -164,11 +162,10 @@ pub fn tell_replay(
     monitors: Vec<Box<dyn Monitor>>,
 ) -> (Result<Outcome, OutOfMemory>, Vec<Box<dyn Monitor>>)
     requires { length bytes.now ≤ most_file_bytes }
-    ensures says { Tells (SaysReplay (λ firings. map (λ m. line_text m firings) monitors.items)
-        net.now bytes.now) (outcome_of result.0) }
-    ensures shown { ShowsReplay net.now bytes.now
-        (λ firings. map (λ m. line_text m firings) monitors.items)
-        (λ firings. map (λ m. line_text m firings) result.1.items) (is_ok result.0) }
+    ensures says { Tells (SaysReplay (lines_by line_text monitors.items) net.now bytes.now)
+        (outcome_of result.0) }
+    ensures shown { ShowsReplay net.now bytes.now (lines_by line_text monitors.items)
+        (lines_by line_text result.1.items) (is_ok result.0) }
 {
     match read_log(alloc, net.net(), bytes) {
         Ok(rows) => tell_run(alloc, net, rows.as_slice(), monitors),

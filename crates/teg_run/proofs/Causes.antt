@@ -20,7 +20,7 @@ use Rattle.teg_run.specs.Reads.{ReadsAll}
 use Rattle.teg_run.specs.declared.request.Request.{Request}
 use Rattle.teg_run.specs.declared.request.Request.TheVariants.{OfNet, OfFiles, ValueOf, TrialOf}
 use Rattle.teg_run.specs.Requests.{files_of, second_of}
-use Rattle.teg_run.specs.Says.{Says, SaysFile, SaysFiles, SaysNet, SaysOpening, SaysOutcome}
+use Rattle.teg_run.specs.Says.{Says, SaysFile, SaysFiles, SaysNet, SaysOpening, SaysOutcome, SaysSecond}
 use Rattle.teg_run.specs.Statuses.{IsOwn}
 use Rattle.teg_run.proofs.Refusals.{told_file}
 
@@ -121,8 +121,7 @@ said_of files (OfNet command name) lines old new replies status text told own re
     let on = net_goes_on files old new name [] (λ net. SaysOutcome (SaysNet command net)) replies status text told own reads h in
     (on.0, on.1, on.2.4.1)
 said_of files (OfFiles command name second) lines old new replies status text told own reads h =
-    let on = net_goes_on files old new name ((second_of command, second) ∷ []) (λ net. SaysFile (OpensBytes (second_of command)) (λ bytes. SaysOutcome (SaysFiles command lines net bytes)))
-    replies status text told own reads h in
+    let on = net_goes_on files old new name ((second_of command, second) ∷ []) (SaysSecond command lines) replies status text told own reads h in
     let then = bytes_go_on files on.2.0 new (second_of command) second (λ bytes. SaysOutcome (SaysFiles command lines on.0 bytes)) on.2.1 status text on.2.2 own on.2.3 on.2.4 in
     (on.0, then.0, on.1, then.1, then.2.1.1)
 said_of files (ValueOf value) lines old new replies status text told own reads h = h.1

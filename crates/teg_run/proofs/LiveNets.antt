@@ -7,7 +7,7 @@ use Rattle.teg_reader.specs.Documents.{document}
 use Rattle.teg_outside.specs.declared.shelf.ShelfFault.{ShelfFault}
 use Rattle.teg_outside.specs.declared.shelf.ShelfFault.TheVariants.{Failed, TooLarge, OutOfMemory}
 use Rattle.teg_outside.specs.Causes.{Rested}
-use Rattle.teg_outside.specs.Shelves.{ShelfState, Reads, file_of}
+use Rattle.teg_outside.specs.Shelves.{ShelfState, Reads}
 use Rattle.teg_outside.proofs.Counts.{rose_not_rested, rested_then}
 use Rattle.teg_commands.specs.csv_records.Records.{most_file_bytes}
 use Rattle.teg_report.specs.declared.answer.Which.{Which}
@@ -18,7 +18,7 @@ use Rattle.teg_run.specs.Openings.{Opening, Accepted, Refused, OpensNet, OpensDo
 use Rattle.teg_run.specs.Reads.{ReadsAll}
 use Rattle.teg_run.specs.Says.{SaysFile, SaysOpening}
 use Rattle.teg_run.proofs.ReadOrder.{none_left}
-use Rattle.teg_run.proofs.Refusals.{told_file, told_long, not_long, same_document, live_not_free}
+use Rattle.teg_run.proofs.Refusals.{told_file, told_long, not_long, same_bytes, same_document, live_not_free}
 use Rattle.teg_run.proofs.Ways.{said_of_refused, ends_here}
 
 -- what goes on with the net
@@ -68,16 +68,13 @@ live_goes_on files old new name named net goes_on (reply ∷ replies) status tex
 
 -- ---- a second file
 
-same_held : (files : List (List ℕ × List ℕ)) (name xs ys : List ℕ) → file_of files name ≡ Some xs → file_of files name ≡ Some ys → xs ≡ ys
-same_held files name xs ys h k = cc
-
 held_reply : (files : List (List ℕ × List ℕ)) (old mid new : ShelfState) (which : Which) (name bytes : List ℕ)
     (goes_on : List ℕ → List (Result (List ℕ) ShelfFault) → Status → List ℕ → Type 0) (reply : Result (List ℕ) ShelfFault)
     (replies : List (Result (List ℕ) ShelfFault)) (status : Status) (text : List ℕ) (opening : Opening (List ℕ)) →
     old.files ≡ Some files → Rested old.faults new.faults → Holds files name bytes → Reads old mid name most_file_bytes reply →
     ReadsAll mid new [] replies → OpensBytes which reply opening → SaysOpening goes_on opening replies status text → goes_on bytes replies status text
 held_reply files old mid new which name bytes goes_on (Ok read_bytes) replies status text opening told calm holds read rest opened h =
-    let same = same_held files name read_bytes bytes (told_file files old.files name read_bytes told read.answer.3) holds.0 in
+    let same = same_bytes files name read_bytes bytes (told_file files old.files name read_bytes told read.answer.3) holds.0 in
     let said = subst (λ (o : Opening (List ℕ)). SaysOpening goes_on o replies status text) opened h in
     subst (λ (b : List ℕ). goes_on b replies status text) same said
 held_reply files old mid new which name bytes goes_on (Err TooLarge) replies status text opening told calm holds read rest opened h =

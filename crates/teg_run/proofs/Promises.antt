@@ -22,8 +22,7 @@ use Rattle.teg_run.specs.declared.request.Request.{Request}
 use Rattle.teg_run.specs.declared.request.Request.TheVariants.{OfNet, OfFiles, ValueOf, TrialOf}
 use Rattle.teg_run.specs.Requests.{request_of, files_of, asked_files, second_of}
 use Rattle.teg_run.specs.WholeCalls.{Answered, CarriesOut, Finished, Runs}
-use Rattle.teg_run.specs.Openings.{OpensBytes}
-use Rattle.teg_run.specs.Says.{Asked, Says, SaysFile, SaysFiles, SaysNet, SaysOutcome}
+use Rattle.teg_run.specs.Says.{Asked, Says, SaysFiles, SaysNet, SaysOutcome, SaysSecond}
 use Rattle.teg_run.specs.Statuses.{IsOwn, status_of}
 use Rattle.teg_commands.specs.CommandTexts.{usage, too_large_text}
 use Rattle.teg_run.proofs.Causes.{said_of}
@@ -184,7 +183,7 @@ both_said : (call : Call) (command : FileCommand) (net : NetLists) (bytes : List
 both_said call command net bytes asks Lost h k = inr k
 both_said call command net bytes asks (Whole said text) h k =
     let on = live_goes_on asks.files call.shelf_before call.shelf_after asks.name ((second_of command, asks.second) ∷ []) net
-    (λ n. SaysFile (OpensBytes (second_of command)) (λ b. SaysOutcome (SaysFiles command call.lines n b))) h.0 said text asks.told asks.calm asks.opens h.1 h.2 in
+    (SaysSecond command call.lines) h.0 said text asks.told asks.calm asks.opens h.1 h.2 in
     let then = held_goes_on asks.files on.0 call.shelf_after (second_of command) asks.second bytes (λ b. SaysOutcome (SaysFiles command call.lines net b)) on.1 said text
     on.2 on.3 asks.holds on.4 on.5 in
     inl (then.1.1.0, text, then.1.1.2, inl (subst (λ (s : Status). Finished call.sink_before call.sink_after (Whole s text) call.status) then.1.1.1 k))

@@ -49,7 +49,8 @@ pub told_long : (files : List (List ℕ × List ℕ)) (told : Option (List (List
     IsLongFile told name most_file_bytes → IsFileTooLong files name
 told_long files told name e h = subst (λ (o : Option (List (List ℕ × List ℕ))). IsLongFile o name most_file_bytes) e h
 
-same_bytes : (files : List (List ℕ × List ℕ)) (name xs ys : List ℕ) → file_of files name ≡ Some xs → file_of files name ≡ Some ys → xs ≡ ys
+-- a name has one file
+pub same_bytes : (files : List (List ℕ × List ℕ)) (name xs ys : List ℕ) → file_of files name ≡ Some xs → file_of files name ≡ Some ys → xs ≡ ys
 same_bytes files name xs ys h k = cc
 
 pub not_long : (files : List (List ℕ × List ℕ)) (name bytes : List ℕ) → file_of files name ≡ Some bytes → length bytes ≤ most_file_bytes → IsFileTooLong files name → ⊥

@@ -26,7 +26,7 @@ use Rattle.teg_run.specs.Openings.{Opening, Accepted, Refused, OpensBytes, Opens
 use Rattle.teg_run.specs.Reads.{ReadsAll}
 use Rattle.teg_run.specs.Requests.{asked_files, request_of, second_of}
 use Rattle.teg_run.specs.WholeCalls.{Finished}
-use Rattle.teg_run.specs.Says.{Asked, SaysFile, SaysFiles, SaysOpening, SaysOutcome}
+use Rattle.teg_run.specs.Says.{Asked, SaysFile, SaysFiles, SaysOpening, SaysOutcome, SaysSecond}
 use Rattle.teg_run.specs.ShownFirings.{AnsweredAndShown, ShowsAsked, ShowsBoth, ShowsFiles, ShowsFor, ShowsJust, ShowsSecond, ShowsTold}
 use Rattle.teg_run.specs.Statuses.{IsOwn}
 use Rattle.teg_run.proofs.Causes.{net_opened}
@@ -84,12 +84,12 @@ own_of_bytes which bytes opening says status text is h =
     subst IsOwn (sym said.1.1) (verdict_is_own said.1.0)
 
 own_of_both : (command : FileCommand) (lines : Lines) (bytes : List ℕ) (opening : Opening NetLists) (status : Status) (text : List ℕ) →
-    SaysOpening (λ file. SaysFile (OpensBytes (second_of command)) (λ b. SaysOutcome (SaysFiles command lines file b))) opening (Ok bytes ∷ []) status text → IsOwn status
+    SaysOpening (SaysSecond command lines) opening (Ok bytes ∷ []) status text → IsOwn status
 own_of_both command lines bytes (Refused status' text') status text h = absurd (let none = h.0 in let bad : ⊥ = cc in bad)
 own_of_both command lines bytes (Accepted file) status text h = own_of_bytes (second_of command) bytes h.0 (SaysFiles command lines file) status text h.1 h.2
 
 fault_of_both : (command : FileCommand) (lines before now : Lines) (replies : List Reply) (status : Status) (text : List ℕ) → (IsOwn status → ⊥) →
-    SaysFile OpensNet (λ file. SaysFile (OpensBytes (second_of command)) (λ b. SaysOutcome (SaysFiles command lines file b))) replies status text →
+    SaysFile OpensNet (SaysSecond command lines) replies status text →
     ShowsBoth command before now replies true → ShowsNothing before now
 fault_of_both command lines before now [] status text other h k = k
 fault_of_both command lines before now (reply ∷ []) status text other h k = k

@@ -20,7 +20,7 @@ use Rattle.teg_run.specs.declared.request.FileCommand.TheVariants.{Jit as JitNet
 use Rattle.teg_run.specs.declared.request.Request.{Request}
 use Rattle.teg_run.specs.declared.request.Request.TheVariants.{OfNet, OfFiles, ValueOf, TrialOf}
 use Rattle.teg_run.specs.Requests.{files_of, second_of}
-use Rattle.teg_run.specs.Says.{Says, SaysFile, SaysFiles, SaysNet, SaysOpening, SaysOutcome}
+use Rattle.teg_run.specs.Says.{Says, SaysFile, SaysFiles, SaysNet, SaysOpening, SaysOutcome, SaysSecond}
 use Rattle.teg_commands.specs.Trial.{SaysTrial}
 use Rattle.teg_commands.specs.Calc.{SaysCalc}
 use Rattle.teg_commands.specs.CommandTexts.{read_text}
@@ -158,7 +158,7 @@ way_of (OfNet command name) lines old new replies status text reads h =
     net_way old new name [] (λ net. SaysOutcome (SaysNet command net)) replies status text reads h
     (λ net mid more rest k. outcome_way mid new (SaysNet command net) more status text k)
 way_of (OfFiles command name second) lines old new replies status text reads h =
-    net_way old new name ((second_of command, second) ∷ []) (λ net. SaysFile (OpensBytes (second_of command)) (λ bytes. SaysOutcome (SaysFiles command lines net bytes))) replies status text reads h
+    net_way old new name ((second_of command, second) ∷ []) (SaysSecond command lines) replies status text reads h
     (λ net mid more rest k. bytes_way mid new (second_of command) second (second_accepts command) (λ bytes. SaysOutcome (SaysFiles command lines net bytes)) more status text rest k
     (λ bytes last further said. outcome_way last new (SaysFiles command lines net bytes) further status text said))
 way_of (ValueOf text) lines old new replies status told reads h = outcome_way old new (SaysCalc text) replies status told h

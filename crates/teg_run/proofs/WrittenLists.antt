@@ -1,5 +1,5 @@
 -- A list of dates that is written piece by piece, as its rows are made.
-use Rattle.std.proofs.Common.{◌≡◌, ℕ, ◌+◌, ◌<◌, ◌≤◌, List, [], ◌++◌, length, map, take, drop, Result, Ok, Err, Some, inl, inr, refl, sym, ap, subst, ◌∙◌, append_assoc, arith, length-append}
+use Rattle.std.proofs.Common.{◌≡◌, ℕ, ◌+◌, ◌≤◌, List, [], ◌++◌, length, map, take, drop, Result, Ok, Err, Some, inl, inr, refl, sym, ap, subst, ◌∙◌, append_assoc, arith, length-append}
 use Rattle.std.specs.List.{flat_map, range_with_len}
 use Rattle.std.proofs.Math.Seq.{take-append-add}
 use Rattle.std.proofs.lemmas.Grind.{flat_map-append}
@@ -21,7 +21,7 @@ use Rattle.teg_outside.proofs.Growth.{bytes_grow_none, bytes_grow_then}
 use Rattle.teg_report.specs.DateLists.{head_text, number_line, row_text}
 use Rattle.teg_report.proofs.ListRows.{row_is_line, list_of_lines}
 use Rattle.teg_run.specs.declared.status.Status.TheVariants.{Done, WriteFault}
-use Rattle.teg_run.specs.WrittenLists.{WritesFull, lines_text, piece}
+use Rattle.teg_run.specs.WrittenLists.{WritesFull, lines_text}
 use Rattle.teg_run.specs.WholeCalls.{WritesOutcome}
 use Rattle.teg_run.specs.Writing.{WritesText}
 use Rattle.teg_commands.specs.teg_text.Lines.{line_then}

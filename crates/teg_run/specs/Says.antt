@@ -75,11 +75,14 @@ SaysFiles ReplayNet lines = SaysReplay lines
 SaysFiles ForeverNet lines = SaysForever
 SaysFiles (TimetableNet period limit) lines = SaysTimetable period limit
 
+-- what a command says of a live net, by the reply for the second file, with the lines of the monitors after given firings
+abbrev pub SaysSecond : FileCommand → (List Firing → List (List ℕ)) → NetLists → List (Result (List ℕ) ShelfFault) → Status → List ℕ → Type 0
+SaysSecond command lines net = SaysFile (OpensBytes (second_of command)) (λ bytes. SaysOutcome (SaysFiles command lines net bytes))
+
 -- what a request says, with the lines of the monitors after given firings
 abbrev pub Says : Request → (List Firing → List (List ℕ)) → List (Result (List ℕ) ShelfFault) → Status → List ℕ → Type 0
 Says (OfNet command net) lines = SaysFile OpensNet (λ file. SaysOutcome (SaysNet command file))
-Says (OfFiles command net second) lines =
-    SaysFile OpensNet (λ file. SaysFile (OpensBytes (second_of command)) (λ bytes. SaysOutcome (SaysFiles command lines file bytes)))
+Says (OfFiles command net second) lines = SaysFile OpensNet (SaysSecond command lines)
 Says (ValueOf text) lines = SaysOutcome (SaysCalc text)
 Says (TrialOf machines) lines = SaysOutcome (SaysTrial machines)
 

@@ -7,6 +7,7 @@ ghost use Rattle.teg_run.specs.Requests.{request_of, asked_files};
 ghost use Rattle.teg_run.specs.ShownFirings.{ServesAndShows, ShowsAsked, ShowsJust, ShowsTold};
 ghost use Rattle.teg_run.specs.Says.{Said, Asked};
 ghost use Rattle.teg_commands.specs.CommandTexts.{usage};
+ghost use Rattle.teg_commands.specs.Replay.{lines_by};
 
 use crate::asked::read_request;
 use crate::carry_out::serve_request;
@@ -38,11 +39,13 @@ fn serve_words<S: Shelf, W: Sink>(
     out: &mut W,
     monitors: Vec<Box<dyn Monitor>>,
 ) -> (Status, Vec<Box<dyn Monitor>>)
-    ensures { let asked = request_of (map string_bytes words.now) in
-        ServesAndShows (Asked asked (λ firings. map (λ m. line_text m firings) monitors.items))
-        (ShowsAsked asked (λ firings. map (λ m. line_text m firings) monitors.items)
-        (λ firings. map (λ m. line_text m firings) result.1.items)) (asked_files asked)
-        (S.state shelf.old) (S.state shelf.new) (W.state out.old) (W.state out.new) result.0 }
+    ensures { let asked = request_of (map string_bytes words.now) in ServesAndShows
+        (Asked asked (lines_by line_text monitors.items))
+        (ShowsAsked asked (lines_by line_text monitors.items) (lines_by line_text result.1.items))
+        (asked_files asked)
+        (S.state shelf.old) (S.state shelf.new)
+        (W.state out.old) (W.state out.new)
+        result.0 }
 {
     match read_request(alloc, words) {
         Ok(Some(request)) => serve_request(alloc, request, shelf, out, monitors),
@@ -67,7 +70,7 @@ pub fn serve<S: Shelf, W: Sink>(
 ) -> (Status, Vec<Box<dyn Monitor>>)
     ensures promises { KeepsPromises (record {
       words = map string_bytes words.now;
-      lines = λ firings. map (λ m. line_text m firings) monitors.items;
+      lines = lines_by line_text monitors.items;
       shelf_before = S.state shelf.old;
       shelf_after = S.state shelf.new;
       sink_before = W.state out.old;
@@ -76,22 +79,22 @@ pub fn serve<S: Shelf, W: Sink>(
     }) }
     ensures shown { ShowsJust (record {
       words = map string_bytes words.now;
-      lines = λ firings. map (λ m. line_text m firings) monitors.items;
+      lines = lines_by line_text monitors.items;
       shelf_before = S.state shelf.old;
       shelf_after = S.state shelf.new;
       sink_before = W.state out.old;
       sink_after = W.state out.new;
       status = result.0;
-    }) (λ firings. map (λ m. line_text m firings) result.1.items) }
+    }) (lines_by line_text result.1.items) }
     ensures told { ShowsTold (record {
       words = map string_bytes words.now;
-      lines = λ firings. map (λ m. line_text m firings) monitors.items;
+      lines = lines_by line_text monitors.items;
       shelf_before = S.state shelf.old;
       shelf_after = S.state shelf.new;
       sink_before = W.state out.old;
       sink_after = W.state out.new;
       status = result.0;
-    }) (λ firings. map (λ m. line_text m firings) result.1.items) }
+    }) (lines_by line_text result.1.items) }
 {
     serve_words(alloc, words, shelf, out, monitors)
 }
@@ -116,7 +119,7 @@ pub fn workbench<S: Shelf, W: Sink>(
 ) -> Status
     ensures { KeepsPromises (record {
       words = map string_bytes words.now;
-      lines = λ firings. map (λ m. line_text m firings) monitors.items;
+      lines = lines_by line_text monitors.items;
       shelf_before = S.state shelf.old;
       shelf_after = S.state shelf.new;
       sink_before = W.state out.old;

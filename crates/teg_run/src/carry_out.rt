@@ -1,11 +1,12 @@
 //! How a request is carried out: its files are opened one after another, its command answers, and
 //! the answer is written.
-ghost use Rattle.std.specs.Prelude.{[], ◌∷◌, map};
+ghost use Rattle.std.specs.Prelude.{[], ◌∷◌};
+ghost use Rattle.teg_commands.specs.Replay.{lines_by};
 ghost use Rattle.teg_run.specs.CallMeanings.{ended};
-ghost use Rattle.teg_run.specs.Openings.{OpensBytes, OpensNet};
+ghost use Rattle.teg_run.specs.Openings.{OpensNet};
 ghost use Rattle.teg_run.specs.Requests.{files_of, second_of};
 ghost use Rattle.teg_run.specs.WholeCalls.{Serves};
-ghost use Rattle.teg_run.specs.Says.{Says, SaysFile, SaysFiles, SaysNet, SaysOutcome};
+ghost use Rattle.teg_run.specs.Says.{Says, SaysFile, SaysNet, SaysOutcome, SaysSecond};
 ghost use Rattle.teg_run.specs.ShownFirings.{AnsweredAndShown, ServesAndShows, Shows, ShowsBoth, ShowsSecond};
 
 use crate::ending::{Ending, closed};
@@ -30,9 +31,12 @@ fn serve_net<S: Shelf, W: Sink>(
     shelf: &mut S,
     out: &mut W,
 ) -> Status
-    ensures { Serves (SaysFile OpensNet (λ file. SaysOutcome (SaysNet command file)))
+    ensures { Serves
+        (SaysFile OpensNet (λ file. SaysOutcome (SaysNet command file)))
         ((Which.Net, net.now) ∷ [])
-        (S.state shelf.old) (S.state shelf.new) (W.state out.old) (W.state out.new) result }
+        (S.state shelf.old) (S.state shelf.new)
+        (W.state out.old) (W.state out.new)
+        result }
 {
     match open_net(alloc, net, shelf) {
         Opened::Accepted(net) => write_net(alloc, command, &net, out),
@@ -50,14 +54,11 @@ fn answer_second<S: Shelf>(
     shelf: &mut S,
     monitors: Vec<Box<dyn Monitor>>,
 ) -> (Ending, Vec<Box<dyn Monitor>>)
-    ensures { AnsweredAndShown
-        (SaysFile (OpensBytes (second_of command))
-        (λ bytes. SaysOutcome
-        (SaysFiles command (λ firings. map (λ m. line_text m firings) monitors.items) net.now
-        bytes)))
-        (ShowsSecond command net.now (λ firings. map (λ m. line_text m firings) monitors.items)
-        (λ firings. map (λ m. line_text m firings) result.1.items))
-        ((second_of command, second.now) ∷ []) (S.state shelf.old) (S.state shelf.new)
+    ensures { let lines = lines_by line_text monitors.items in AnsweredAndShown
+        (SaysSecond command lines net.now)
+        (ShowsSecond command net.now lines (lines_by line_text result.1.items))
+        ((second_of command, second.now) ∷ [])
+        (S.state shelf.old) (S.state shelf.new)
         (ended result.0) }
 {
     match open_bytes(alloc, second_of(&command), second, shelf) {
@@ -80,15 +81,12 @@ fn answer_files<S: Shelf>(
     shelf: &mut S,
     monitors: Vec<Box<dyn Monitor>>,
 ) -> (Ending, Vec<Box<dyn Monitor>>)
-    ensures { AnsweredAndShown
-        (SaysFile OpensNet (λ file. SaysFile (OpensBytes (second_of command))
-        (λ bytes. SaysOutcome
-        (SaysFiles command (λ firings. map (λ m. line_text m firings) monitors.items) file
-        bytes))))
-        (ShowsBoth command (λ firings. map (λ m. line_text m firings) monitors.items)
-        (λ firings. map (λ m. line_text m firings) result.1.items))
-        ((Which.Net, net.now) ∷ (second_of command, second.now) ∷ []) (S.state shelf.old)
-        (S.state shelf.new) (ended result.0) }
+    ensures { let lines = lines_by line_text monitors.items in AnsweredAndShown
+        (SaysFile OpensNet (SaysSecond command lines))
+        (ShowsBoth command lines (lines_by line_text result.1.items))
+        ((Which.Net, net.now) ∷ (second_of command, second.now) ∷ [])
+        (S.state shelf.old) (S.state shelf.new)
+        (ended result.0) }
 {
     match open_net(alloc, net, shelf) {
         Opened::Accepted(net) => answer_second(alloc, command, &net, second, shelf, monitors),
@@ -106,11 +104,13 @@ pub fn serve_request<S: Shelf, W: Sink>(
     out: &mut W,
     monitors: Vec<Box<dyn Monitor>>,
 ) -> (Status, Vec<Box<dyn Monitor>>)
-    ensures { ServesAndShows
-        (Says request (λ firings. map (λ m. line_text m firings) monitors.items))
-        (Shows request (λ firings. map (λ m. line_text m firings) monitors.items)
-        (λ firings. map (λ m. line_text m firings) result.1.items)) (files_of request)
-        (S.state shelf.old) (S.state shelf.new) (W.state out.old) (W.state out.new) result.0 }
+    ensures { let lines = lines_by line_text monitors.items in ServesAndShows
+        (Says request lines)
+        (Shows request lines (lines_by line_text result.1.items))
+        (files_of request)
+        (S.state shelf.old) (S.state shelf.new)
+        (W.state out.old) (W.state out.new)
+        result.0 }
 {
     match request {
         Request::OfNet { command, net } => (

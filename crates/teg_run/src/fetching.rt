@@ -10,8 +10,8 @@ const MOST_BYTES: usize = 4_194_304;
 
 /// The bytes of the file of that name, which is read once and with the one limit.
 pub fn fetch<S: Shelf>(alloc: Global, name: &str, shelf: &mut S) -> Result<Vec<u8>, ShelfFault>
-    ensures { Reads (S.state shelf.old) (S.state shelf.new) name.now most_file_bytes (replied
-        result) }
+    ensures { Reads (S.state shelf.old) (S.state shelf.new) name.now most_file_bytes
+        (replied result) }
 {
     shelf.read(alloc, name, MOST_BYTES)
 }

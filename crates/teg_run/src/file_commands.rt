@@ -1,6 +1,7 @@
 //! The commands on a net and a second file.
-ghost use Rattle.std.specs.Prelude.{◌≡◌, is_ok, map};
+ghost use Rattle.std.specs.Prelude.{◌≡◌, is_ok};
 ghost use Rattle.teg_commands.specs.CommandOutcomes.{Tells, outcome_of};
+ghost use Rattle.teg_commands.specs.Replay.{lines_by};
 ghost use Rattle.teg_run.specs.Requests.{second_of};
 ghost use Rattle.teg_run.specs.Says.{SaysFiles};
 ghost use Rattle.teg_run.specs.ShownFirings.{ShowsFiles};
@@ -34,11 +35,10 @@ pub fn of_files(
     file: &FileBytes,
     monitors: Vec<Box<dyn Monitor>>,
 ) -> (Result<Outcome, OutOfMemory>, Vec<Box<dyn Monitor>>)
-    ensures says { Tells (SaysFiles command (λ firings. map (λ m. line_text m firings)
-        monitors.items) net.now file.now) (outcome_of result.0) }
-    ensures shown { ShowsFiles command net.now file.now
-        (λ firings. map (λ m. line_text m firings) monitors.items)
-        (λ firings. map (λ m. line_text m firings) result.1.items) (is_ok result.0) }
+    ensures says { Tells (SaysFiles command (lines_by line_text monitors.items) net.now file.now)
+        (outcome_of result.0) }
+    ensures shown { ShowsFiles command net.now file.now (lines_by line_text monitors.items)
+        (lines_by line_text result.1.items) (is_ok result.0) }
 {
     match command {
         FileCommand::Jit => (tell_jit(alloc, net, file.as_slice()), monitors),

@@ -78,8 +78,8 @@ fn judge_net(alloc: Global, reply: Result<Vec<u8>, ShelfFault>) -> Opened<LiveNe
 
 /// The live net in the file of that name, or the refusal of that file.
 pub fn open_net<S: Shelf>(alloc: Global, name: &str, shelf: &mut S) -> Opened<LiveNet>
-    ensures { OpenedBy OpensNet name.now (S.state shelf.old) (S.state shelf.new) (opening_of
-        result) }
+    ensures { OpenedBy OpensNet name.now (S.state shelf.old) (S.state shelf.new)
+        (opening_of result) }
 {
     let reply = fetch(alloc, name, shelf);
     judge_net(alloc, reply)
