@@ -1,7 +1,7 @@
 //! A reader of expressions, byte by byte: the open brackets, and where the next byte stands.
 ghost use Rattle.std.specs.Prelude.{◌≡◌, ◌≢◌, IfSome, length};
 ghost use Rattle.teg_calc.specs.ExpressionTrees.{tree_of_expression};
-ghost use Rattle.teg_calc.specs.Readers.{Finishes, Goes, GoesOnByByte, HasFewDigits, IsAt, ReachesLevels, StandsWell, behind_step, close_step, comma_step, date_on, factor_of, factored, finish, gone_on, nested, operand_step, operator_by, operator_step, stand_of, start, state, state_of, step, tree_in, within, within_step};
+ghost use Rattle.teg_calc.specs.Readers.{Finishes, Goes, GoesOnByByte, HasFewDigits, IsAt, ReachesLevels, StandsWell, behind_step, close_step, comma_step, date_on, factor_of, factored, finish, gone_on, nested, operand_step, operator_by, operator_step, stand_of, start, state, state_of, step, term_of, tree_in, within, within_step};
 
 use crate::brackets::{Bracket, Call, closed, joined, multiplied, opened, takes_comma};
 use crate::bytes::{Sign, digit_of, sign_of};
@@ -76,17 +76,22 @@ impl Reader {
             sum,
             product,
         } = inner;
-        match place {
-            ReadPlace::Operator(term) => Ok(joined(alloc, sum, term)?),
-            ReadPlace::Within(part) => match factor_of(part) {
-                Some(factor) => {
-                    let term = multiplied(alloc, product, factor)?;
-                    Ok(joined(alloc, sum, term)?)
-                }
-                None => Err(Stop::Unexpected),
-            },
-            ReadPlace::Operand => Err(Stop::Unexpected),
-        }
+        let term = last_term(alloc, place, product)?;
+        Ok(joined(alloc, sum, term)?)
+    }
+}
+
+// The term that ends where the text does, after the product so far; Unexpected where none does.
+fn last_term(alloc: Global, place: ReadPlace, product: Option<Expr>) -> Result<Expr, Stop>
+    ensures { Finishes (term_of (stand_of place) (tree_in product)) result }
+{
+    match place {
+        ReadPlace::Operand => Err(Stop::Unexpected),
+        ReadPlace::Within(part) => match factor_of(part) {
+            Some(factor) => Ok(multiplied(alloc, product, factor)?),
+            None => Err(Stop::Unexpected),
+        },
+        ReadPlace::Operator(term) => Ok(term),
     }
 }
 

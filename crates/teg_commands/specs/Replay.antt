@@ -1,5 +1,5 @@
 -- What is said of a recorded run of a live net.
-use Rattle.std.specs.Prelude.{ℕ, Bool, true, false, ◌<◌, ◌≡◌, ◌≢◌, ◌⊎◌, List, [], length, map, ⊤, Option, Some, None, Result, Ok, Err}
+use Rattle.std.specs.Prelude.{ℕ, Bool, true, false, ◌<◌, ◌≡◌, ◌≢◌, ◌⊎◌, List, [], length, ⊤, Option, Some, None, Result, Ok, Err}
 use Rattle.teg_due.specs.declared.rows.LogRefusal.{LogRefusal}
 use Rattle.teg_due.specs.declared.rows.LogRefusal.TheVariants.{OutOfMemory as NoRoom}
 use Rattle.teg_due.specs.declared.rows.LogRow.{LogRow}
@@ -44,10 +44,6 @@ abbrev pub SaysEnd : NetLists → Option Refused → ℕ → List (List ℕ) →
 SaysEnd net None accepted lines verdict text = (verdict ≡ VerdictDone) × (text ≡ replayed_text accepted lines)
 SaysEnd net (Some refused) accepted lines verdict text =
     (verdict ≡ VerdictLog) × ((failure : Failure) × IsToldAs refused.why failure × (text ≡ refused_text net refused.row failure lines))
-
--- the lines of all monitors after given firings, by the text of each
-abbrev pub lines_by : {A : Type 0} → (A → List Firing → List ℕ) → List A → List Firing → List (List ℕ)
-lines_by text monitors firings = map (λ m. text m firings) monitors
 
 -- of the rows of a log is said how they were replayed, with the lines of the monitors after just the accepted firings
 abbrev pub SaysRun : (List Firing → List (List ℕ)) → NetLists → List LogRow → Verdict → List ℕ → Type 0

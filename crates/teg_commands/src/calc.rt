@@ -13,6 +13,9 @@ use teg_calc::{Expr, ParseRefused, evaluate, parse};
 use teg_net::{Label, OutOfMemory};
 use teg_report::{Answer, report};
 
+/// The most bytes that an expression has.
+pub const MOST_EXPRESSION: usize = 4096;
+
 /// The text of an expression, of at most 4,096 bytes. Contracts see its bytes.
 #[derive(Debug, Drop)]
 pub struct Expression {

@@ -30,7 +30,7 @@ mod transfer;
 mod trial;
 
 pub use bound::tell_bound;
-pub use calc::{Expression, tell_calc};
+pub use calc::{Expression, MOST_EXPRESSION, tell_calc};
 pub use check::tell_check;
 pub use cycle::{tell_cycle, tell_rounds};
 pub use dates::{tell_date, tell_dates};
@@ -40,7 +40,10 @@ pub use jit::tell_jit;
 pub use laws::{no_circuit_is_told, rounds_follow_times, unread_files_are_told};
 pub use live_net::LiveNet;
 pub use migrate::tell_migrate;
-pub use numbers::{Count, FiringNumber, Limit, Machines, Period, Target, UpTo};
+pub use numbers::{
+    Count, FiringNumber, GREATEST_TARGET_TIME, Limit, MOST_TARGET_TOKENS, Machines, Period, Target,
+    UpTo,
+};
 pub use outcome::{Outcome, Verdict};
 pub use replay::tell_replay;
 pub use size::tell_size;

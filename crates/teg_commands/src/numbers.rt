@@ -80,6 +80,12 @@ pub(crate) fn most_of(limit: Option<Limit>) -> Option<u32>
     }
 }
 
+/// The greatest time of a target ratio.
+pub const GREATEST_TARGET_TIME: u64 = 1_000_000_000_000;
+
+/// The most tokens of a target ratio.
+pub const MOST_TARGET_TOKENS: u64 = 1_000_000;
+
 /// A ratio that is aimed at: a time, at most 10^12, to tokens, from 1 to 10^6. Contracts see both.
 #[derive(Debug, Drop)]
 pub struct Target {

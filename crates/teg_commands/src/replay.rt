@@ -1,9 +1,9 @@
 //! Recorded runs: a log that is replayed, and the lines of the monitors.
 ghost use Rattle.std.specs.Prelude.{◌≡◌, ◌≤◌, ◌++◌, Some, ◌∷◌, [], All, IfOk, IfSome, is_ok, length, map, string_bytes};
-ghost use Rattle.teg_outside.specs.Monitors.{IsOneLine};
+ghost use Rattle.teg_outside.specs.Monitors.{IsOneLine, lines_by};
 ghost use Rattle.teg_commands.specs.CommandOutcomes.{Tells, outcome_of};
 ghost use Rattle.teg_report.specs.csv_records.Records.{most_file_bytes};
-ghost use Rattle.teg_commands.specs.Replay.{CanTellRefusal, IsToldAs, SaysEnd, SaysReplay, SaysRun, ShowsReplay, ShowsRun, TellsBadLog, lines_by};
+ghost use Rattle.teg_commands.specs.Replay.{CanTellRefusal, IsToldAs, SaysEnd, SaysReplay, SaysRun, ShowsReplay, ShowsRun, TellsBadLog};
 ghost use Rattle.teg_due.specs.RowRules.{IsLogOf};
 ghost use Rattle.teg_report.specs.FileRows.{IsFailureIn};
 

@@ -13,6 +13,10 @@ use Rattle.teg_critical.specs.Losses.{loss_at}
 use Rattle.teg_critical.specs.LossEndings.{ending_at, IsEnding, IsEndingAt, AreEndings}
 use Rattle.teg_net.proofs.Reading.{same_id}
 
+-- what stands past the end of a list of places with their ends
+abbrev pub no_ending : Ending
+no_ending = record { start = 0; end = 0; place = record { index = 0 } }
+
 -- the places below k that are told a loss are listed
 pub record EndingsUpTo (net : NetLists) (losses : List (Option Loss)) (order : List Ending) (k : ℕ) : Type 0 where
   pub few : length order ≤ k

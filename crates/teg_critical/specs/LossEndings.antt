@@ -8,10 +8,6 @@ use Rattle.teg_critical.specs.declared.endings.Ending.{Ending}
 use Rattle.teg_critical.specs.declared.losses.Loss.{Loss}
 use Rattle.teg_critical.specs.Losses.{loss_at}
 
--- what stands past the end of a list of them
-abbrev pub no_ending : Ending
-no_ending = record { start = 0; end = 0; place = record { index = 0 } }
-
 -- the place with its ends
 abbrev pub ending_at : NetLists → PlaceId → Ending
 ending_at net p = record { start = from_of net p; end = to_of net p; place = p }

@@ -6,10 +6,21 @@ use Rattle.std.proofs.lemmas.List.{get_or-set_same, get_or-set_other, get_or_def
 use Rattle.teg_net.specs.declared.entries.PlaceId.{PlaceId}
 use Rattle.teg_net.specs.Nets.{NetLists}
 use Rattle.teg_net.specs.Circuits.{from_of}
-use Rattle.teg_net.specs.Parts.{to_of}
+use Rattle.teg_net.specs.Parts.{IsPlaceOfPart, to_of}
 use Rattle.teg_howard.specs.Policies.{first_id}
 use Rattle.teg_howard.specs.InnerPlaces.{ListsPlaces, IsFirstExit}
-use Rattle.teg_howard.specs.FoundCircuits.{value_held, LeadsOn, NoneLeadsOn, IsFirstOn, IsJoin, IsNextJoin}
+use Rattle.teg_howard.specs.FoundCircuits.{value_held, LeadsOn, NoneLeadsOn, IsFirstOn}
+
+-- a place in the part from a transition with a value to one without
+pub record IsJoin (net : NetLists) (parts : List ℕ) (part : ℕ) (values : List (Option ℤ)) (p : PlaceId) : Type 0 where
+  pub inside : IsPlaceOfPart net parts part p
+  pub starts : value_held values (from_of net p) ≢ None
+  pub without : value_held values (to_of net p) ≡ None
+
+-- the lowest numbered place in the part from a transition with a value to one without
+pub record IsNextJoin (net : NetLists) (parts : List ℕ) (part : ℕ) (values : List (Option ℤ)) (p : PlaceId) : Type 0 where
+  pub join : IsJoin net parts part values p
+  pub lowest : (q : PlaceId) → IsJoin net parts part values q → p.index ≤ q.index
 
 module _ (net : NetLists) (ids : List PlaceId) where
   abbrev start_at : ℕ → ℕ

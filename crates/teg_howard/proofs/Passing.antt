@@ -9,7 +9,7 @@ use Rattle.teg_net.specs.Circuits.{from_of}
 use Rattle.teg_net.specs.Parts.{IsMember}
 use Rattle.teg_parts.specs.Components.{IsMarked}
 use Rattle.teg_howard.specs.Policies.{Policy, IsPolicy, step_back, LeadsBack}
-use Rattle.teg_howard.specs.CircuitStarts.{IsLowestOnCircuit, IsLowestBack, walk_at, HasWalkPassed, AreStarts}
+use Rattle.teg_howard.specs.CircuitStarts.{IsLowestOnCircuit, IsLowestBack, walk_at, HasWalkPassed}
 use Rattle.teg_howard.proofs.Back.{back_add, back_member}
 use Rattle.teg_parts.proofs.Ordering.{cases_number}
 
@@ -34,17 +34,6 @@ module _ (net : NetLists) (π : Policy) where
     pub kept : (t : ℕ) → walk_at old t ≢ None → walk_at now t ≡ walk_at old t
     pub way : (j : ℕ) → j < steps → walk_at now (step_back net π j start) ≢ None
     pub fresh : (t : ℕ) → walk_at old t ≡ None → walk_at now t ≢ None → (walk_at now t ≡ Some start) × ((j : ℕ) × (j < steps) × (t ≡ step_back net π j start))
-
-  pub passing_start : (start : ℕ) (old : List (Option ℕ)) → Passing start old old start
-  passing_start start old = record {
-    steps = 0;
-    count = refl;
-    at_is = refl;
-    few = omega arith;
-    kept = λ t n. refl;
-    way = λ j l. absurd (omega arith);
-    fresh = λ t e n. absurd (n e);
-  }
 
   abbrev counted : Option ℕ → ℕ
   counted o = cond (is_none o) 1 0
@@ -176,14 +165,6 @@ module _ (net : NetLists) (π : Policy) where
     pub low : (j : ℕ) → j ≤ i → lowest ≤ step_back net π j start
     pub not_yet : (j : ℕ) → 0 < j → j ≤ i → step_back net π j start ≢ start
 
-  pub lowering_start : (start : ℕ) → Lowering start 0 start start
-  lowering_start start = record {
-    at_is = refl;
-    leads = (0, refl);
-    low = λ j l. let z : j ≡ 0 = omega arith in rw z (omega arith);
-    not_yet = λ j l m. absurd (omega arith);
-  }
-
   module _ (start i at lowest : ℕ) (h : Lowering start i at lowest) where
     next_is : from_of net (π at) ≡ step_back net π (suc i) start
     next_is = ap (λ x. from_of net (π x)) h.at_is
@@ -230,17 +211,6 @@ module _ (net : NetLists) (π : Policy) where
       pub only : (t : ℕ) → IsMarked starts t → IsMember parts part t
       pub all : (t : ℕ) → walk_at passed t ≢ None → IsLowestOnCircuit net π t → IsMarked starts t
       pub done : (t : ℕ) → t < i → IsMember parts part t → walk_at passed t ≢ None
-
-    pub started_none : (starts : List Bool) (passed : List (Option ℕ)) → length starts ≡ length parts → length passed ≡ length parts → ((t : ℕ) → get_or starts t false ≡ false) → ((t : ℕ) → walk_at passed t ≡ None) → Started starts passed 0
-    started_none starts passed l m none clear = record {
-      count = l;
-      count_passed = m;
-      below = λ t k e. absurd (some_not_none (walk_at passed t) k e (clear t));
-      closed = λ t n. absurd (n (clear t));
-      only = λ t y. let z = none t in let f : ⊥ = cc in absurd f;
-      all = λ t n h. absurd (n (clear t));
-      done = λ t q h. absurd (omega arith);
-    }
 
     pub started_outside : (starts : List Bool) (passed : List (Option ℕ)) (i : ℕ) → Started starts passed i → (IsMember parts part i → ⊥) → Started starts passed (i + 1)
     started_outside starts passed i h out = record {
@@ -360,10 +330,3 @@ module _ (net : NetLists) (π : Policy) where
                 (was t);
             done = now_done;
           }
-
-    pub started_all : (starts : List Bool) (passed : List (Option ℕ)) (n : ℕ) → length parts ≤ n → Started starts passed n → AreStarts net parts part π starts
-    started_all starts passed n l h = record {
-      count = h.count;
-      only = h.only;
-      all = λ t m low. let r = m.in_range in h.all t (h.done t (omega arith) m) low;
-    }

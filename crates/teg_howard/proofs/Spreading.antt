@@ -4,8 +4,7 @@ use Rattle.std.specs.Prelude.{ℤ, pos, All, Any, ◌⊎◌}
 use Rattle.std.proofs.lemmas.List.Sums.{sum_by-set}
 use Rattle.std.proofs.lemmas.Bool.{cases_eq, cases_lt}
 use Rattle.std.proofs.lemmas.List.{get_or-set_same, get_or-set_other, length-set, length_push, get_or_push, get_or_append_left}
-use lib.ListN.{replicate}
-use Rattle.std.proofs.lemmas.List.{get_or-replicate, length-replicate, append-nil}
+use Rattle.std.proofs.lemmas.List.{append-nil}
 use Rattle.teg_net.specs.Nets.{NetLists}
 use Rattle.teg_net.specs.Circuits.{from_of}
 use Rattle.teg_net.specs.Parts.{IsMember}
@@ -95,14 +94,6 @@ module _ (net : NetLists) (parts : List ℕ) (part : ℕ) (π : Policy) (root : 
     pub highest_ : (x : ℕ) → x < length parts → IsHighestFollowerBelow net parts part π root x i (get_or highest x None)
     pub lower_ : (x t : ℕ) → t < i → At x t → IsHighestFollowerBelow net parts part π root x t (get_or lower t None)
 
-  pub linked_none : (highest lower : List (Option ℕ)) → highest ≡ replicate (length parts) None → lower ≡ replicate (length parts) None → LinkedTo highest lower 0
-  linked_none highest lower e f = record {
-    highest_count = ap length e ∙ length-replicate (length parts) None;
-    lower_count = ap length f ∙ length-replicate (length parts) None;
-    highest_ = λ x l. subst (IsHighestFollowerBelow net parts part π root x 0) (sym (ap (λ y. get_or y x None) e ∙ get_or-replicate (length parts) x None None l)) (λ r m. absurd (omega arith));
-    lower_ = λ x t l h. absurd (omega arith);
-  }
-
   still : (x i : ℕ) (o : Option ℕ) → (At x i → ⊥) → IsHighestFollowerBelow net parts part π root x i o → IsHighestFollowerBelow net parts part π root x (i + 1) o
   still x i None n h = λ t l a.
       ⊎_elim
@@ -159,14 +150,6 @@ module _ (net : NetLists) (parts : List ℕ) (part : ℕ) (π : Policy) (root : 
             (cases_eq t i);
       }
 
-  pub linked_all : (f : Followers) (n : ℕ) → n ≡ length parts → LinkedTo f.highest.items f.lower.items n → AreFollowers net parts part π root f
-  linked_all f n e h = record {
-    highest_count = h.highest_count;
-    lower_count = h.lower_count;
-    highest = λ x l. subst (λ y. IsHighestFollowerBelow net parts part π root x y (get_or f.highest.items x None)) e (h.highest_ x l);
-    lower = λ x t a. let r = a.member.in_range in h.lower_ x t (omega arith) a;
-  }
-
   -- ---- the members that wait
   -- a member that waits: it has no value, nor has any lower one with its start, and its start has one
   pub record Waits (vs : List (Option ℤ)) (t : ℕ) : Type 0 where
@@ -187,9 +170,6 @@ module _ (net : NetLists) (parts : List ℕ) (part : ℕ) (π : Policy) (root : 
   -- the last that waits
   pub spread_last : (a b : ℕ) (vs : List (Option ℤ)) (rest : List ℕ) (t : ℕ) → Spreading a b vs (rest ++ t ∷ []) → Waits vs t
   spread_last a b vs rest t h = All_last (Waits vs) rest t h.waits
-
-  pub spread_all : (a b : ℕ) (vs : List (Option ℤ)) (waiting : List ℕ) → Spreading a b vs waiting → length waiting ≡ 0 → (u : ℕ) → IsFollower net parts part π vs u → ⊥
-  spread_all a b vs waiting h e u f = let w = h.covered u f in let l = w.2 in omega arith
 
   -- the member that is given its value was a follower
   pub waits_follows : (vs : List (Option ℤ)) (t : ℕ) → Waits vs t → IsFollower net parts part π vs t

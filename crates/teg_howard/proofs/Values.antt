@@ -20,8 +20,9 @@ use Rattle.teg_net.specs.Parts.{IsMember, IsPlaceOfPart, Reaches, to_of}
 use Rattle.teg_howard.specs.Policies.{Policy, IsPolicy, step_back, LeadsBack, first_id, IsRouted, Joins, JoinsNext, IsRouting, AreSums, offer_of}
 use Rattle.teg_net.specs.ReducedTimes.{reduced_time, IsMagnitudeWithin}
 use Rattle.teg_net.specs.Limits.{greatest_scaled_potential, greatest_circuit_time, greatest_hold, most_circuit_tokens}
-use Rattle.teg_howard.specs.FoundCircuits.{policy_of, value_or_zero, value_held, potentials, IsCircuitRatio, IsFollower, IsJoin, IsNextJoin, AreRouted}
+use Rattle.teg_howard.specs.FoundCircuits.{policy_of, value_or_zero, value_held, potentials, IsCircuitRatio, IsFollower, AreRouted}
 use Rattle.teg_howard.specs.Following.{step_bound, filled, HasRootAlone, Valued, Followed}
+use Rattle.teg_howard.proofs.NextJoins.{IsJoin, IsNextJoin}
 use Rattle.teg_howard.proofs.Back.{back_add}
 
 pub cases_option : (o : Option ℤ) → (o ≡ None) ⊎ ((z : ℤ) × (o ≡ Some z))

@@ -9,7 +9,7 @@ use Rattle.teg_net.specs.declared.rounds.Round.{Round}
 use Rattle.teg_net.specs.declared.rounds.Choice.{Choice}
 use Rattle.teg_howard.specs.declared.settling.RoundState.{RoundState}
 use Rattle.teg_parts.specs.Partitions.{AreStrong}
-use Rattle.teg_net.specs.Parts.{IsMember, IsPlaceOfPart, to_of}
+use Rattle.teg_net.specs.Parts.{IsMember, to_of}
 use Rattle.teg_net.specs.ReducedTimes.{IsMagnitudeWithin}
 use Rattle.teg_howard.specs.Policies.{Policy, IsPolicy, Enters, IsPolicyCircuit, IsBestCircuit, IsRouting, AreSums, Improves, IsImprovement, step_back, first_id}
 use Rattle.teg_net.specs.PartAnswers.{first_transition_of}
@@ -101,17 +101,6 @@ pub record IsFirstOn (net : NetLists) (values : List (Option ℤ)) (ids : List P
   pub in_list : rank < length ids
   pub leads : LeadsOn net values (slice_index_or ids rank first_id)
   pub none_before : NoneLeadsOn net values ids rank
-
--- a place in the part from a transition with a value to one without
-pub record IsJoin (net : NetLists) (parts : List ℕ) (part : ℕ) (values : List (Option ℤ)) (p : PlaceId) : Type 0 where
-  pub inside : IsPlaceOfPart net parts part p
-  pub starts : value_held values (from_of net p) ≢ None
-  pub without : value_held values (to_of net p) ≡ None
-
--- the lowest numbered place in the part from a transition with a value to one without
-pub record IsNextJoin (net : NetLists) (parts : List ℕ) (part : ℕ) (values : List (Option ℤ)) (p : PlaceId) : Type 0 where
-  pub join : IsJoin net parts part values p
-  pub lowest : (q : PlaceId) → IsJoin net parts part values q → p.index ≤ q.index
 
 -- the value, and 0 where there is none
 abbrev pub value_or_zero : Option ℤ → ℤ

@@ -20,7 +20,7 @@ use teg_outside::Firing;
 
 /// The token game of a net: the list of its accepted firings, which is a legal run. Contracts see
 /// this list and what is kept beside it; it stands for each net of which that is true (`IsGameOf`).
-#[derive(Drop)]
+#[derive(Debug, Drop)]
 pub struct Game {
     history: History,
     ends: EndLists,

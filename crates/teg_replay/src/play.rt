@@ -1,6 +1,7 @@
 //! The replay of a log.
-ghost use Rattle.std.specs.Prelude.{◌<◌, ◌^◌, ◌≡◌, map, length, IfOk, IfSome, Some};
+ghost use Rattle.std.specs.Prelude.{◌<◌, ◌^◌, ◌≡◌, length, IfOk, IfSome, Some};
 ghost use Rattle.teg_due.specs.RowRules.{IsLogOf};
+ghost use Rattle.teg_outside.specs.Monitors.{lines_by};
 ghost use Rattle.teg_replay.specs.RefusedFirings.{IsFailure, NamesPlaceOf};
 ghost use Rattle.teg_replay.specs.RunsAndLeastDates.{AcceptsLegalRuns, AcceptsEarliestRuns};
 ghost use Rattle.teg_replay.specs.Replays.{Replays};
@@ -47,8 +48,8 @@ pub fn replay(
 ) -> Result<Replayed, OutOfMemory>
     requires few { length log.now < 2 ^ 40 }
     requires rows { IsLogOf net.now log.now }
-    ensures replayed { Replays net.now log.now (λ firings. map (λ m. line_text m firings)
-        monitors.old) (λ firings. map (λ m. line_text m firings) monitors.new) result }
+    ensures replayed { Replays net.now log.now (lines_by line_text monitors.old)
+        (lines_by line_text monitors.new) result }
     ensures named { IfOk result (λ replayed. IfSome replayed.refused
         (λ refused. NamesPlaceOf net.now refused.why)) }
     ensures legal { IfOk result (λ replayed. AcceptsLegalRuns net.now log.now replayed) }

@@ -8,21 +8,14 @@ ghost use Rattle.teg_run.specs.Requests.{asked_for, calc_asked, date_asked, file
 
 use crate::request::{FileCommand, NetCommand, Request};
 use std::alloc::Global;
-use teg_commands::{Expression, Limit, Target, UpTo};
+use teg_commands::{
+    Expression, GREATEST_TARGET_TIME, Limit, MOST_EXPRESSION, MOST_TARGET_TOKENS, Target, UpTo,
+};
 use teg_net::{Label, OutOfMemory};
 use teg_words::{GivenWords, WordsRefusal, number, read_words};
 
-// The most bytes that an expression has.
-const MOST_EXPRESSION: usize = 4096;
-
 // The limit of a settled form where none is given.
 const USUAL_LIMIT: u64 = 20_000;
-
-// The greatest time of a target ratio.
-const GREATEST_TIME: u64 = 1_000_000_000_000;
-
-// The most tokens of a target ratio.
-const MOST_TOKENS: u64 = 1_000_000;
 
 // ---- numbers and options
 
@@ -39,8 +32,8 @@ fn target(word: &str) -> Option<Target>
     ensures { result ≡ target_asked word.now }
 {
     let (time, tokens) = word.split_once('/')?;
-    let time = number(time, 0, GREATEST_TIME)?;
-    let tokens = number(tokens, 1, MOST_TOKENS)?;
+    let time = number(time, 0, GREATEST_TARGET_TIME)?;
+    let tokens = number(tokens, 1, MOST_TARGET_TOKENS)?;
     Some(Target::new(time, tokens))
 }
 

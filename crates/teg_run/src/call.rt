@@ -7,7 +7,7 @@ ghost use Rattle.teg_run.specs.Requests.{request_of, asked_files};
 ghost use Rattle.teg_run.specs.ShownFirings.{ServesAndShows, ShowsAsked, ShowsJust, ShowsTold};
 ghost use Rattle.teg_run.specs.Says.{Said, Asked};
 ghost use Rattle.teg_commands.specs.CommandTexts.{usage};
-ghost use Rattle.teg_commands.specs.Replay.{lines_by};
+ghost use Rattle.teg_outside.specs.Monitors.{lines_by};
 
 use crate::asked::read_request;
 use crate::carry_out::serve_request;

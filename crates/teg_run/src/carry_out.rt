@@ -1,7 +1,7 @@
 //! How a request is carried out: its files are opened one after another, its command answers, and
 //! the answer is written.
 ghost use Rattle.std.specs.Prelude.{[], ◌∷◌};
-ghost use Rattle.teg_commands.specs.Replay.{lines_by};
+ghost use Rattle.teg_outside.specs.Monitors.{lines_by};
 ghost use Rattle.teg_run.specs.CallMeanings.{ended};
 ghost use Rattle.teg_run.specs.Openings.{OpensNet};
 ghost use Rattle.teg_run.specs.Requests.{files_of, second_of};

@@ -1,7 +1,7 @@
 //! The commands on a net and a second file.
 ghost use Rattle.std.specs.Prelude.{◌≡◌, is_ok};
 ghost use Rattle.teg_commands.specs.CommandOutcomes.{Tells, outcome_of};
-ghost use Rattle.teg_commands.specs.Replay.{lines_by};
+ghost use Rattle.teg_outside.specs.Monitors.{lines_by};
 ghost use Rattle.teg_run.specs.Requests.{second_of};
 ghost use Rattle.teg_run.specs.Says.{SaysFiles};
 ghost use Rattle.teg_run.specs.ShownFirings.{ShowsFiles};

@@ -2,8 +2,8 @@ use Rattle.std.proofs.Common.{ℕ, List, ◌≡◌, ◌<◌, ◌≤◌, length, 
 use Rattle.std.proofs.lemmas.List.{get_or_default, take_rest, length-drop}
 use Rattle.std.proofs.lemmas.List.Elements.{All-take}
 use Rattle.teg_critical.specs.declared.endings.Ending.{Ending}
-use Rattle.teg_critical.specs.LossEndings.{no_ending, IsEnding}
-use Rattle.teg_critical.proofs.Ending.{end_in, same_end}
+use Rattle.teg_critical.specs.LossEndings.{IsEnding}
+use Rattle.teg_critical.proofs.Ending.{no_ending, end_in, same_end}
 use Rattle.teg_critical.proofs.EachPlace.{told_begin, told_group, told_end}
 use Rattle.teg_critical.proofs.each_place.tell_all.Goals as goal
 

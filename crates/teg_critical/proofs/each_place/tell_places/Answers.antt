@@ -1,7 +1,8 @@
 use Rattle.std.proofs.Common.{◌<◌, length, get_or, arith}
 use Rattle.std.proofs.lemmas.List.{get_or_default}
 use Rattle.teg_critical.specs.declared.endings.Ending.{Ending}
-use Rattle.teg_critical.specs.LossEndings.{no_ending, IsEnding}
+use Rattle.teg_critical.specs.LossEndings.{IsEnding}
+use Rattle.teg_critical.proofs.Ending.{no_ending}
 use Rattle.teg_critical.proofs.EachPlace.{told_one}
 use Rattle.teg_critical.proofs.each_place.tell_places.Goals as goal
 
