@@ -7,7 +7,8 @@
 Public are the calls, types and traits that a crate's src/lib.rt exports. Their clauses, the ghost members of
 their traits and impls, and the views of their types name definitions of specs/; these name others. Each that
 is reached so must have a row in the section of its crate, with its file. Each that lacks one is told, with the
-line that stands above it; --draft tells it as a row. Laws that proofs alone need are not definitions.
+line that stands above it; --draft tells it as a row. Laws that proofs alone need are not definitions. The last line
+tells how many there are, and the exit status is 0 where none lacks its row and no row is of another.
 
 With --below it tells instead what one definition rests on, itself first, then what it names, and so on: the
 file and line of each, its name, and how many lines it has; at the end how many they are. NAME is the name, as

@@ -5,7 +5,7 @@
 
 An edit's first line is `why: WHAT A WRONG PROGRAM WOULD DO; refused by: CLAUSE`. Then come a line `file: PATH`,
 and pairs of lines `old: TEXT` and `new: TEXT`, each old text once in that file as the pairs before it left it. A crate
-has at most 8 edits, and all have 240 together: each costs a check of its crate. An edit of `specs/` or `proofs/`
+has at most 8 edits, and all together at most 240: each costs a check of its crate. An edit of `specs/` or `proofs/`
 shows nothing of a contract. Each edit that docs/DEFINITIONS*.md name, as `CRATE/NAME`, is there.
 
 There is a line a fault; the last line tells how many edits and faults there are, and the exit status is 0 where

@@ -1,4 +1,5 @@
-"""Inputs within the limits that ask for much work, each with the answer that is due; hostile_run.py runs them.
+"""Inputs within the limits that ask for much work, each with the answer that is due (of two of them the status alone);
+hostile_run.py runs them.
 
 What is due is worked out here, by other ways than the program's: in closed form where the net has one, and
 otherwise by the definitions (circuits by raising a ratio, slacks by the shortest circuit through a place).
@@ -471,7 +472,7 @@ def answered_cases():
 
 
 def dear_cases():
-    """What is known to take longer."""
+    """What may take longer."""
     yield overtaken_inputs(20, 9_900)
     yield overtaken_inputs(200, 9_900)
     yield from dear_series()

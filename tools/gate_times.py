@@ -6,14 +6,15 @@
 
 The first runs the command, `rt ci` say, and passes on what it writes. Each line is also written to LOG, behind the
 seconds since the start. Meanwhile it looks four times a second at the prover's processes below the command, and at
-the end it writes a line for each to LOG: its crate, its kind, its processor seconds, and when it began and ended.
-Then it prints the table, as the second form does of a LOG that is there. The exit status is the command's.
+the end it writes a line for each to LOG: its crate, its kind, its processor seconds, and when it began and ended;
+and a line with the total. Then it prints the table, as the second form does of a LOG that is there. The exit status
+is the command's.
 
-Kinds are `proof`, `tests`, `edits`, and `seed`: a crate with edits is proved once more before they are tried, and
-once more after them, which counts with the edits. What is left of the total is rt itself, the compilers, and the
-runs of tests and programs. What a run takes over from earlier ones costs nothing: `rt ci --anew` proves all.
-The longest chain is that of crates.txt with the greatest sum of seconds by the clock from begin to end of a proof:
-no number of processors ends sooner. It reads /proc, and needs nothing beside python3.
+Kinds are `proof`, `tests`, `edits`, and `seed`: a crate with two edits or more is checked once more before they are
+tried, and once after them, and the table counts both with the edits. What is left of the total is rt itself, the
+compilers, and the runs of tests and programs. What a run takes over from earlier ones costs nothing: `rt ci
+--anew` proves all. The longest chain is that of crates.txt with the greatest sum of seconds by the clock from begin to
+end of a proof: no number of processors ends sooner. It reads /proc, and needs nothing beside python3.
 """
 import os
 import re

@@ -4,16 +4,16 @@
     tools/hostile_run.py [--teg PROGRAM] [--seconds S] [--only WORD] [--dear]
 
 PROGRAM is the built teg; where none is named it is the one that `rt ci` leaves. Files have 4,194,304 bytes,
-as many as a file may have, or nearly so, where nothing else is said. A case whose command the usage does not
-list is skipped, and a line says so. A case passes where its run ends within S seconds (5) of processor time,
-whatever else the machine does, with the status that is due, writes the text that is due, where that is fixed,
-and nothing to standard error. A run that waits for ever is ended by the clock, after twenty times as long. With
---only just the cases whose line has the word. There is a line a case, with its processor seconds and the most
-memory that it held, or that this script held as it began it. The last line is 'N passed, M failed', and the exit
-status 0 where some passed and none failed.
+as many as a file may have, or nearly so, where nothing else is said. A case of `forever` or `timetable` is
+skipped where the usage does not list the command, and a line says so. A case passes where its run ends within
+S seconds (5) of processor time, whatever else the machine does, with the status that is due, writes the text
+that is due, where that is fixed, and nothing to standard error. A run that waits for ever is ended by the
+clock, after twenty times as long. With --only just the cases whose line has the word. There is a line a case,
+with its processor seconds and the most memory that it held, or that this script held as it began it. The last
+line is 'N passed, M failed', and the exit status 0 where some passed and none failed.
 
-Inputs that ask for much work stand in dear_cases.py. With --dear just those of them are run that are known to
-take longer than others may, and S is 60 where it is not given: what fails there is what is left to be done.
+Inputs that ask for much work stand in dear_cases.py. With --dear just those of them are run that may take
+longer than the others, and S is 60 where it is not given: what fails there is what is left to be done.
 """
 import argparse
 import math

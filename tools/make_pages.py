@@ -17,13 +17,14 @@ these lines and ends with the line `<!-- end -->`:
   (docs/ARCHITECTURE.md).
 - `<!-- between crates -->`: for each crate and each crate that it stands on, what of the second its code names and which
   modules of definitions it cites (docs/ARCHITECTURE.md).
-- `<!-- costs -->`: what the docstrings of public calls say of their time and memory (docs/COSTS.md).
+- `<!-- costs -->`: the sentences in which docstrings of public calls speak of their time (docs/COSTS.md).
 - `<!-- to read NAME NAME .. -->`: how much each of these definitions rests on, as tools/check_definitions.py --below
   lists it, and how long it takes to read at two lines a minute (docs/TRUST.md).
 
 With --check it writes nothing and tells each page that differs from what it would write. In both cases it tells
-where the crates of README.md are not those of crates.txt, and each crate with definitions that has no table. The exit
-status is 0 where there is nothing to tell.
+where the crates of README.md are not those of crates.txt, each crate with definitions that has no table, and each
+crate, definition or edit that such a line names and that is not there. The exit status is 0 where there is nothing to
+tell.
 """
 import re
 import sys

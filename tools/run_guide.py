@@ -15,7 +15,7 @@ the program as ./teg and the nets as examples/:
 Each file of examples/ is named by a command of the guide, and each command that takes a net alone, by the
 usage, answers for each net there: with status 0, or, where the net is refused, as `check` does.
 
-A difference is told. The last line is 'N passed, M failed', and the exit status 0 where M is 0.
+A difference is told. The last line is 'N passed, M failed', and the exit status 0 where some passed and none failed.
 """
 import importlib.util
 import os

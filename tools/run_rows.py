@@ -20,7 +20,7 @@ is printed `...` stands for any text. Each run has a new folder, with the files 
 tools/rows/nets stand there for all rows.
 
 A line is told for each run that ends or prints otherwise. The last line is 'N passed, M failed', and the exit status
-0 where M is 0.
+0 where some passed and none failed.
 """
 import argparse
 import re
