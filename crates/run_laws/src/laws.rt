@@ -20,7 +20,7 @@ pub fn earliest_runs_are_legal()
     ensures parts { PartsOfEarliestRunsAreLegal }
 {}
 
-/// A firing that fails in one of the three ways may not follow the run, and fails in no other way.
+/// A firing that fails in one of the three ways may not follow the run, and it fails in one way alone.
 pub fn failures_are_not_legal()
     ensures not_legal { FailuresAreNotLegal }
     ensures one { FailuresAreOne }

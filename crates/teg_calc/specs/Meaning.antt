@@ -49,7 +49,7 @@ Means (left a b) s = IsOfTwo (Means a) (Means b) IsLeftAt s
 
 -- ---- the answers
 
--- the answers that a call on two series may give
+-- the answers that a call for the sum of two series may give
 abbrev pub sum_answers : Form → Form → Result Form SeriesRefused → Type 0
 sum_answers f g = AnswersOf (λ r. HasValues r (sum_at (value_at f) (value_at g))) (need_of (sum_plan f g)) (need_of (sum_plan f g))
 

@@ -19,11 +19,11 @@ pub record IsSeriesOf (tree : Tree) (form : Form) : Type 0 where
   pub series : IsSeries form
   pub evaluated : Evaluates tree (Ok form)
 
--- why a text is no expression is told; it is not want of memory
+-- it is told why a text is no expression; that is not want of memory
 abbrev pub RefusesParse : ParseRefused → Verdict → List ℕ → Type 0
 RefusesParse refusal verdict told = (verdict ≡ VerdictCalc) × (refusal ≢ NoMemory) × (told ≡ parse_text refusal)
 
--- why an operation has no series is told; it is not want of memory
+-- it is told why an operation has no series; that is not want of memory
 abbrev pub RefusesSeries : SeriesRefused → Verdict → List ℕ → Type 0
 RefusesSeries refusal verdict told = (verdict ≡ VerdictCalc) × (refusal ≢ NoRoom) × (told ≡ series_refused_text refusal)
 
@@ -39,7 +39,7 @@ TellsRefusal tree verdict told = (refusal : SeriesRefused) × Evaluates tree (Er
 abbrev pub SaysSeries : Tree → Verdict → List ℕ → Type 0
 SaysSeries tree verdict told = TellsSeries tree verdict told ⊎ TellsRefusal tree verdict told
 
--- where the text is no expression, or too deep, is told
+-- it is told where the text is no expression, or too deep
 abbrev pub TellsFault : List ℕ → Verdict → List ℕ → Type 0
 TellsFault text verdict told = (refusal : ParseRefused) × IsParseOf text (Err refusal) × RefusesParse refusal verdict told
 

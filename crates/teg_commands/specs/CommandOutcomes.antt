@@ -4,7 +4,7 @@ use Rattle.teg_net.specs.declared.memory.OutOfMemory.{OutOfMemory}
 use Rattle.teg_commands.specs.declared.outcome.Outcome.{Outcome}
 use Rattle.teg_commands.specs.declared.outcome.Verdict.{Verdict}
 
--- how it ends and its text, if memory was found
+-- how a command ends and its text, if memory was found
 abbrev pub outcome_of : Result Outcome OutOfMemory → Option (Verdict × List ℕ)
 outcome_of (Ok outcome) = Some (outcome.verdict, outcome.text.items)
 outcome_of (Err e) = None

@@ -103,7 +103,7 @@ fault_text which = written (read_fault_line which ∷ [])
 abbrev pub slack_text : NetLists → Fraction → List PlaceSlack → List ℕ
 slack_text net ratio slacks = written (slack_lines net ratio slacks)
 
--- the line of so many machines: its places, its greatest ratio, how many places are critical, and a late date
+-- the line of so many machines: how many places it has, its greatest ratio, how many places are critical, and a date
 abbrev pub trial_text : ℕ → Fraction → ℕ → Date → List ℕ
 trial_text machines ratio critical last = written (trial_lines machines (length (trial machines).places) ratio critical last)
 

@@ -27,7 +27,7 @@ forever_text net releases = written (answer_lines net (Answered (Ok releases)))
 abbrev pub unreleased_text : NetLists → ForeverRefusal → List ℕ
 unreleased_text net refusal = written (answer_lines net (Answered (Err refusal)))
 
--- why a file says no endless due dates is told; it is not want of memory
+-- it is told why a file says no endless due dates; that is not want of memory
 abbrev pub TellsBadEndless : NetLists → EndlessRefusal → Verdict → List ℕ → Type 0
 TellsBadEndless net fault verdict text = (verdict ≡ VerdictSchedule) × (fault ≢ NoRoom) × (text ≡ endless_text net fault)
 

@@ -22,7 +22,7 @@ use Rattle.teg_commands.specs.declared.outcome.Verdict.{Verdict}
 use Rattle.teg_commands.specs.declared.outcome.Verdict.TheVariants.{Done as VerdictDone, Schedule as VerdictSchedule, Late as VerdictLate}
 use Rattle.teg_commands.specs.CommandTexts.{due_text, jit_text, late_text}
 
--- why a due file says no due dates is told; it is not want of memory
+-- it is told why a due file says no due dates; that is not want of memory
 abbrev pub TellsBadDue : DueRefusal → Verdict → List ℕ → Type 0
 TellsBadDue refusal verdict text = (verdict ≡ VerdictSchedule) × (refusal ≢ NoRoom) × (text ≡ due_text refusal)
 

@@ -17,7 +17,7 @@ use Rattle.teg_commands.specs.declared.outcome.Verdict.{Verdict}
 use Rattle.teg_commands.specs.declared.outcome.Verdict.TheVariants.{Done as VerdictDone, Log as VerdictLog}
 use Rattle.teg_commands.specs.CommandTexts.{log_text, replayed_text, refused_text}
 
--- why a log says no firings is told; it is not want of memory
+-- it is told why a log says no firings; that is not want of memory
 abbrev pub TellsBadLog : LogRefusal → Verdict → List ℕ → Type 0
 TellsBadLog refusal verdict text = (verdict ≡ VerdictLog) × (refusal ≢ NoRoom) × (text ≡ log_text refusal)
 

@@ -18,7 +18,7 @@ use Rattle.teg_commands.specs.declared.outcome.Verdict.TheVariants.{Done as Verd
 abbrev pub timetable_text : NetLists → ToldTimetable → List ℕ
 timetable_text net told = written (told_lines net told)
 
--- why a file says no timetable is told; it is not want of memory, of which nothing is told
+-- it is told why a file says no timetable; that is not want of memory, of which nothing is told
 abbrev pub TellsBadTable : NetLists → TableRefusal → Verdict → List ℕ → Type 0
 TellsBadTable net fault verdict text = (verdict ≡ VerdictSchedule) × IsTimetableText net (table_told fault) text
 

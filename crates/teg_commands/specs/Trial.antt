@@ -26,7 +26,8 @@ critical_count slacks = sum_by one_critical slacks
 abbrev pub trial_number : ℕ
 trial_number = 1000
 
--- of the line of so many machines the greatest ratio is said, how many places are critical, and the least date of a late firing
+-- of the line of so many machines it is said how many places it has, its greatest ratio, how many places are critical, and the
+-- least date of firing 1,000 of its last machine
 abbrev pub SaysTrial : ℕ → Verdict → List ℕ → Type 0
 SaysTrial machines verdict text =
     (verdict ≡ VerdictDone)

@@ -6,7 +6,7 @@ use Rattle.teg_net.specs.Ratios.{Fraction}
 use Rattle.teg_net.specs.Circuits.{from_of, IsPathBetween, time_of, tokens_of}
 use Rattle.teg_net.specs.Parts.{to_of}
 
--- the least that a path back lacks: by so much its time, times the ratio's tokens, is below the ratio's time, times its tokens
+-- the least that a path back lacks, with the place: by so much its time, times the ratio's tokens, is below the ratio's time, times its tokens
 pub record IsGap (net : NetLists) (r : Fraction) (p : PlaceId) (gap : ℕ) : Type 0 where
   pub attained : (ps : List PlaceId) × IsPathBetween net (to_of net p) ps (from_of net p) × (time_of net (p ∷ ps) * r.tokens + gap ≡ r.time * tokens_of net (p ∷ ps))
   pub least : (ps : List PlaceId) → IsPathBetween net (to_of net p) ps (from_of net p) → time_of net (p ∷ ps) * r.tokens + gap ≤ r.time * tokens_of net (p ∷ ps)

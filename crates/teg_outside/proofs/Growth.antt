@@ -1,4 +1,4 @@
--- Reads and bytes that grew twice.
+-- Reads and bytes that are appended, and appended again.
 use Rattle.std.proofs.Common.{ℕ, List, [], ◌++◌, Option, Some, None, refl, sym, ap, subst, ◌∙◌, append_assoc}
 use Rattle.std.proofs.lemmas.List.{append-nil}
 use Rattle.teg_outside.specs.Shelves.{ReadsGrow}

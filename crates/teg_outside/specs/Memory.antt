@@ -22,7 +22,7 @@ pub record FilesInMemory : Type 0 where
   pub faults : ℕ
   pub overlong : ℕ
 
--- what it tells by the meaning of a shelf
+-- what a shelf in memory tells, by the meaning of a shelf
 abbrev pub shelf_told : FilesInMemory → ShelfState
 shelf_told shelf = record {
   files = Some shelf.files;
@@ -89,7 +89,7 @@ pub record BytesInMemory : Type 0 where
   pub calls : ℕ
   pub faults : ℕ
 
--- what it tells by the meaning of a sink
+-- what a sink in memory tells, by the meaning of a sink
 abbrev pub sink_told : BytesInMemory → SinkState
 sink_told sink = record { bytes = Some sink.bytes; faults = sink.faults }
 

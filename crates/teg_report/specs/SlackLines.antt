@@ -34,7 +34,7 @@ abbrev pub slack_lines : NetLists → Fraction → List Slack → List (List (Li
 slack_lines net ratio slacks =
     cycle_time_line ratio ∷ map (λ i. slack_line net i (slice_index_or slacks i NoCircuit)) (range_with_len 0 (length slacks))
 
--- of a net that was made for so many machines: its places, its greatest ratio, how many places are critical, and a late date
+-- of a net that was made for so many machines: how many places it has, its greatest ratio, how many places are critical, and a date
 abbrev pub trial_lines : ℕ → ℕ → Fraction → ℕ → Date → List (List (List ℕ))
 trial_lines machines places ratio critical last =
     word_and_number (codes "trial") machines ∷ word_and_number (codes "places") places ∷ cycle_time_line ratio ∷ word_and_number (codes "critical") critical

@@ -5,7 +5,7 @@ use Rattle.teg_outside.specs.Shelves.{ShelfState}
 use Rattle.teg_outside.specs.Sinks.{SinkState}
 use Rattle.teg_run.specs.declared.status.Status.{Status}
 
--- what it was given, what it did to the shelf and the sink, and how it ended
+-- what a call was given, what it did to the shelf and the sink, and how it ended
 pub record Call : Type 0 where
   -- the words after the name of the program
   pub words : List (List ℕ)

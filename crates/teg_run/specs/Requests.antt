@@ -79,7 +79,7 @@ abbrev pub calc_asked : List (List ℕ) → Option Request
 calc_asked (text ∷ []) = if nat_le (length text) most_expression then Some (ValueOf text) else None
 calc_asked rest = None
 
--- the request of a command with words of its own, or without a file: nothing for a word that is no command
+-- the request of `list`, `size`, `calc` or `trial`; nothing for another word
 abbrev pub further_asked : List ℕ → List (List ℕ) → Option Request
 further_asked command rest =
     if bytes_eq command (codes "list") then list_asked rest
@@ -88,7 +88,7 @@ further_asked command rest =
     else (if bytes_eq command (codes "trial") then trial_asked rest
     else None)))
 
--- the request of a command on a net and a second file, or of one of those
+-- the request of `jit`, `replay` or `forever`, or of one of those
 abbrev pub file_asked : List ℕ → List (List ℕ) → Option Request
 file_asked command rest =
     if bytes_eq command (codes "jit") then net_and_file JitNet rest
@@ -96,7 +96,7 @@ file_asked command rest =
     else (if bytes_eq command (codes "forever") then net_and_file ForeverNet rest
     else further_asked command rest))
 
--- the request of a command that takes no option: of one on a net and nothing else, or of one of those
+-- the request of a command on a net and nothing else that takes no option, or of one of those
 abbrev pub plain_asked : List ℕ → List (List ℕ) → Option Request
 plain_asked command rest =
     if bytes_eq command (codes "check") then only_net CheckNet rest
