@@ -36,7 +36,7 @@ fn tell_no_number(
 
 /// A number past which the dates of a live net are periodic, with the number and the period of its
 /// shortest settled form; or why there is no such bound. It takes the time of the cycle times and
-/// of the search for that form.
+/// of the search for the settled form.
 pub fn tell_bound(alloc: Global, net: &LiveNet) -> Result<Outcome, OutOfMemory>
     ensures { Tells (SaysBound net.now) (outcome_of result) }
 {

@@ -36,7 +36,7 @@ fn tell_too_long(
 }
 
 /// The dates of a live net for ever, as its shortest settled form; or that it is longer than the
-/// limit, where one is given. It takes the time of the search for that form.
+/// limit, where one is given. It takes the time of the search for the settled form.
 pub fn tell_dates(
     alloc: Global,
     net: &LiveNet,
@@ -98,7 +98,7 @@ fn tell_no_transition(alloc: Global, word: &str) -> Result<Outcome, OutOfMemory>
 
 /// The date of one firing of a live net, by the name of its transition and its number; or that no
 /// transition has the name, or that the settled form is longer than the limit, where one is given.
-/// It takes the time of the search for that form.
+/// It takes the time of the search for the settled form.
 pub fn tell_date(
     alloc: Global,
     net: &LiveNet,

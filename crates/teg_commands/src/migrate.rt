@@ -9,7 +9,7 @@ use teg_net::OutOfMemory;
 use teg_reader::write_net;
 
 /// A live net as a file of the second version, without durations. It takes time of order of the
-/// size of that file.
+/// size of the file that is written.
 pub fn tell_migrate(alloc: Global, net: &LiveNet) -> Result<Outcome, OutOfMemory>
     ensures { Tells (SaysMigrate net.now) (outcome_of result) }
 {

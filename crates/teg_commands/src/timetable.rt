@@ -87,7 +87,7 @@ fn tell_delays(
 /// period: the delays left of each transition, and whether they die out or a circuit keeps them; or
 /// that the net is too large for it, that the timetable does not leave a place its time, or that
 /// the settled form is longer than the limit, where one is given; or the first fault of the file.
-/// It takes the time of the search for that form.
+/// It takes the time of the search for the settled form of the delayed dates.
 pub fn tell_timetable(
     alloc: Global,
     net: &LiveNet,
