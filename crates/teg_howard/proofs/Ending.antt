@@ -10,7 +10,7 @@ use Rattle.teg_howard.specs.declared.iteration.Iteration.{Iteration}
 use Rattle.teg_howard.specs.PolicyRounds.{potential}
 use Rattle.teg_net.specs.ReducedTimes.{IsMagnitudeWithin}
 use Rattle.teg_net.specs.Limits.{greatest_circuit_time, most_circuit_tokens}
-use Rattle.teg_howard.specs.RoundStates.{IsRoundState, RisesEach, StandsAt, GoesOn}
+use Rattle.teg_howard.specs.RoundStates.{IsRoundState, RisesEach, IsIteration, GoesOn}
 use Rattle.teg_howard.proofs.Measure.{level, level_rises, level_bound, height, height_rises, height_bound, remaining, falls_by_ratio, falls_by_sum}
 
 abbrev V : ℕ
@@ -23,7 +23,7 @@ left_of r = remaining (greatest_circuit_time * most_circuit_tokens * most_circui
 potential_within : (net : NetLists) (parts : List ℕ) (part : ℕ) (policy : List PlaceId) (st : RoundState) → IsRoundState net parts part policy st → (t : ℕ) → IsMagnitudeWithin V (potential st.round t)
 potential_within net parts part policy st h t = subst (IsMagnitudeWithin V) (sym (h.potential_is t)) (h.within t)
 
-pub falls : (net : NetLists) (parts : List ℕ) (part : ℕ) (old new : Iteration) (before : Round) → StandsAt net parts part old → GoesOn net parts part old new before → left_of new.state.round < left_of old.state.round
+pub falls : (net : NetLists) (parts : List ℕ) (part : ℕ) (old new : Iteration) (before : Round) → IsIteration net parts part old → GoesOn net parts part old new before → left_of new.state.round < left_of old.state.round
 unfolding left_of
 falls net parts part old new before stands goes =
     let st : RoundState = old.state in

@@ -84,14 +84,14 @@ abbrev pub IsLastRound : NetLists → List ℕ → ℕ → Round → Type 0
 IsLastRound net parts part r = (t : ℕ) (p : PlaceId) → Improves net parts part r.ratio.time r.ratio.tokens (potential r) t p → ⊥
 
 -- the rounds stand at one that stands
-pub record StandsAt (net : NetLists) (parts : List ℕ) (part : ℕ) (at : Iteration) : Type 0 where
+pub record IsIteration (net : NetLists) (parts : List ℕ) (part : ℕ) (at : Iteration) : Type 0 where
   pub inner : AreInner net parts part at.inner
   pub standing : IsRoundState net parts part at.policy.items at.state
 
 -- they go on from the round before to the one that follows
 pub record GoesOn (net : NetLists) (parts : List ℕ) (part : ℕ) (old new : Iteration) (before : Round) : Type 0 where
   pub before_is : before ≡ old.state.round
-  pub standing : StandsAt net parts part new
+  pub standing : IsIteration net parts part new
   pub follows : FollowsRound net parts part old.state.round new.state.round
   pub rises : Rises old.state.round new.state.round
 

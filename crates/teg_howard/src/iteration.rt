@@ -5,7 +5,7 @@ ghost use Rattle.teg_howard.specs.PolicyRounds.{IsFirstRound, IsPolicyRun};
 ghost use Rattle.teg_howard.specs.PolicyRuns.{potential_of, IsAnswerOf, IsAnswerOfLast, EndsRun, KeepsLimits, AllRise, RiseByCase};
 ghost use Rattle.teg_howard.specs.FoundCircuits.{AreLowest};
 ghost use Rattle.teg_howard.specs.InnerPlaces.{AreInner};
-ghost use Rattle.teg_howard.specs.RoundStates.{IsRoundState, HasCircuit, SettlesTo, IsFirstState, IsImproved, IsNextRoundState, IsLastRound, StandsAt, GoesOn, StaysAtLast};
+ghost use Rattle.teg_howard.specs.RoundStates.{IsRoundState, HasCircuit, SettlesTo, IsFirstState, IsImproved, IsNextRoundState, IsLastRound, IsIteration, GoesOn, StaysAtLast};
 
 use crate::inside::{InnerPlaces, inner_places};
 use crate::policies::{improve, is_any, lowest_places};
@@ -150,7 +150,7 @@ struct Iteration {
 // The rounds of a part, at the first.
 fn begin(alloc: Global, net: &Net, parts: &[u32], part: u32) -> Result<Iteration, AllocError>
     requires { HasCircuit net.now parts.now part }
-    ensures standing { IfOk result (StandsAt net.now parts.now part) }
+    ensures standing { IfOk result (IsIteration net.now parts.now part) }
     ensures first { IfOk result (λ at. IsFirstRound net.now parts.now part at.state.round) }
 {
     let inner = inner_places(alloc, net, parts, part)?;
@@ -173,7 +173,7 @@ fn advance(
     at: &mut Iteration,
 ) -> Result<Option<Round>, AllocError>
     requires circuit { HasCircuit net.now parts.now part }
-    requires standing { StandsAt net.now parts.now part at.old }
+    requires standing { IsIteration net.now parts.now part at.old }
     ensures some { IfOk result (λ o. IfSome o (GoesOn net.now parts.now part at.old at.new)) }
     ensures none { IfOk result (λ o. IfNone o (StaysAtLast net.now parts.now part at.old at.new)) }
 {

@@ -1,13 +1,13 @@
 use Rattle.std.proofs.Common.{List, ◌++◌, ◌∷◌, []}
 use Rattle.teg_net.specs.declared.rounds.Round.{Round}
 use Rattle.teg_howard.specs.PolicyRounds.{IsRunTo}
-use Rattle.teg_howard.specs.RoundStates.{StandsAt}
+use Rattle.teg_howard.specs.RoundStates.{IsIteration}
 use Rattle.teg_howard.proofs.Ending.{left_of}
 use Rattle.teg_howard.proofs.iteration.last_answer.Given as goal
 
 abbrev pub invariant-rounds : goal.invariant-rounds
 invariant-rounds l = record {
-  standing : StandsAt l.net l.parts l.part l.at;
+  standing : IsIteration l.net l.parts l.part l.at;
   run : (rounds : List Round) × IsRunTo l.net l.parts l.part (rounds ++ l.at.state.round ∷ []);
 }
 

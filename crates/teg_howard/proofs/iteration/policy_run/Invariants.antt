@@ -1,13 +1,13 @@
 use Rattle.std.proofs.Common.{◌++◌, ◌∷◌, []}
 use Rattle.teg_howard.specs.PolicyRounds.{IsRunTo}
 use Rattle.teg_howard.specs.PolicyRuns.{AllRise}
-use Rattle.teg_howard.specs.RoundStates.{StandsAt}
+use Rattle.teg_howard.specs.RoundStates.{IsIteration}
 use Rattle.teg_howard.proofs.Ending.{left_of}
 use Rattle.teg_howard.proofs.iteration.policy_run.Given as goal
 
 abbrev pub invariant-rounds : goal.invariant-rounds
 invariant-rounds l = record {
-  standing : StandsAt l.net l.parts l.part l.at;
+  standing : IsIteration l.net l.parts l.part l.at;
   run : IsRunTo l.net l.parts l.part (l.rounds.items ++ l.at.state.round ∷ []);
   rises : AllRise (l.rounds.items ++ l.at.state.round ∷ []);
 }
