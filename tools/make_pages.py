@@ -202,7 +202,7 @@ def calls_of(crate):
             function = re.match(r"( {4})?(pub )?fn (\w+)(.*)", line)
             if function and (function[2] or is_trait) and (kind if function[1] else function[3]) in names:
                 law = not function[1] and re.fullmatch(r"(<.*>)?\(\)", function[4].strip()) is not None
-                call = Call(kind if function[1] else "", function[3], link_free(" ".join(said)), law)
+                call = Call(kind if function[1] else "", function[3], link_free(" ".join(filter(None, said))), law)
                 found.append(call)
             clause = re.match(r" +ensures (\w+) \{", line)
             if call and clause:

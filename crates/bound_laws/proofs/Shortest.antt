@@ -1,4 +1,4 @@
--- The periods of one dating.
+-- A shortest settled form keeps the bound, and its period divides each period of the dating.
 use Rattle.std.proofs.Common.{ℕ, zero, suc, ◌+◌, ◌*◌, ◌≤◌, ◌≡◌, length, subst, ◌∙◌, arith}
 use Rattle.std.specs.Prelude.{ℤ, pos}
 use Rattle.std.specs.Int.{◌∣◌}

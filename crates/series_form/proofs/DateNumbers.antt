@@ -1,4 +1,4 @@
--- Numbers that fit.
+-- Sums, products and quotients of the numbers of dates fit into their widths.
 use Rattle.std.proofs.Common.{◌≡◌, ap, arith, ℕ, ℤ, pos, negsuc, zero, suc, ◌+◌, ◌*◌, ◌/◌, ◌%◌, ◌≤◌, ◌<◌, ◌+ℤ◌, ◌-ℤ◌, ◌*ℤ◌, sym, ◌∙◌, FitsSigned, to_z, of_z}
 use Rattle.std.specs.Prelude.{◌≤ℤ◌}
 use Rattle.std.specs.Int.{w128}

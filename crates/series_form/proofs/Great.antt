@@ -1,4 +1,4 @@
--- Forms with small numbers have no great one.
+-- A form with small numbers has no great value and no great step.
 use Rattle.std.proofs.Common.{◌<◌, ◌≤◌, ◌⊎◌, inl, inr, ℤ, arith, get_or}
 use Rattle.std.specs.Int.RustNames.{unsigned_abs}
 use Rattle.dioid.specs.declared.dates.Date.TheVariants.{Early}

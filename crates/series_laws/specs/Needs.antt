@@ -14,7 +14,7 @@ use Rattle.series_laws.specs.Pointwise.{sum_at, least_at}
 abbrev pub plan : ℕ → ℕ → NeedPlan
 plan p n = record { from = p; turn = n }
 
--- the need: the shift from which the result repeats, and the period
+-- the need: the shift from which the result repeats plus the period
 abbrev pub need_of : NeedPlan → ℕ
 need_of r = r.from + r.turn
 

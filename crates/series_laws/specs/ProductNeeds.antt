@@ -63,7 +63,7 @@ form_product f g = form_by (product_at (value_at f) (value_at g)) (product_plan 
 
 -- ---- the residual
 
--- the number of offsets that decide: P and the common period
+-- the number of offsets that decide: the later start plus the common period
 abbrev pub offsets_of : Form → Form → ℕ
 offsets_of f g = later_start f g + period_with f g
 

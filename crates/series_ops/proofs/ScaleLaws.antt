@@ -7,7 +7,7 @@ use Rattle.std.specs.Int.RustNames.{unsigned_abs}
 use Rattle.std.proofs.lemmas.Int.{ints, clamps, by_lt_z, to_z-of_z}
 use Rattle.std.proofs.lemmas.Bool.{cases_lt}
 use Rattle.std.proofs.lemmas.Bool.Decides.{nat_tests}
-use Rattle.std.proofs.lemmas.List.{get_or-map, length-map, get_or_push, get_or_append_left, length-append, map-append}
+use Rattle.std.proofs.lemmas.List.{get_or-map, length-map, get_or_push, get_or_append_left, length-append}
 use Rattle.std.proofs.Math.ListN.{get_or-eq_default}
 use Rattle.dioid.specs.Dates.{IsAtMostDate, later_of, date_product}
 use Rattle.dioid.specs.declared.dates.Date.{Date}
@@ -140,9 +140,6 @@ module _ {far bound top : ℕ} {early never : ℤ} {width : Width} (scale : IsSc
       let e : length l ≡ k = omega arith in
       subst (λ (x : ℤ). IsCellBy far bound early never x) (sym (get_or_push l z (pos 0) k e)) c)
       (cases_lt k (length l))
-
-  pub dated_more : (l : List ℤ) (z : ℤ) (d : Date) → date_by_far far z ≡ d → map (date_by_far far) (l ++ z ∷ []) ≡ map (date_by_far far) l ++ d ∷ []
-  dated_more l z d e = map-append (date_by_far far) l (z ∷ []) ∙ ap (λ (x : Date). map (date_by_far far) l ++ x ∷ []) e
 
   -- one more split
   pub split_step : (l r : List ℤ) (k p m : ℕ) (best sum new : ℤ) → AreCellsBy far bound early never l → AreCellsBy far bound early never r → p + m < length l → k - (p + m) < length r

@@ -40,7 +40,7 @@ impl Stream {
     /// The rows follow the places in the order of their turns, which is found here once. They do
     /// not follow the entries of the form: these do not tell the ready dates of tokens, and where
     /// two places join the same transitions, the one that takes less time may have the later token.
-    /// `OutOfMemory` comes only where no memory is found. It takes time of order `p log p + n p`
+    /// `OutOfMemory` comes only where no memory is found. It takes time of order `n^2 + p log p`
     /// for n transitions and p places.
     pub fn new(alloc: Global, net: &Net, form: &Form) -> Result<Stream, OutOfMemory>
         requires live { IsLive net.now }

@@ -18,7 +18,7 @@ pub record IsInputDates (l : InputList) (u : ℕ → Option ℕ) : Type 0 where
   pub listed : (k : ℕ) → 1 ≤ k → k ≤ length l.dates → u k ≡ Some (slice_index l.dates (k - 1))
   pub past : GoOnBy (length l.dates) l.again u
 
--- the date of firing k by the list: some dates are those of the list, and all that are give firing k this one
+-- the date of firing k by the list: dates by the list exist, and all such dates give firing k this one
 pub record IsListDate (l : InputList) (k : ℕ) (date : Option ℕ) : Type 0 where
   pub some : (u : ℕ → Option ℕ) × IsInputDates l u
   pub each : (u : ℕ → Option ℕ) → IsInputDates l u → u k ≡ date
@@ -28,7 +28,7 @@ pub record AreInputDates (net : NetLists) (t : ℕ) (u : ℕ → Option ℕ) : T
   pub by_list : All (λ l. l.transition.index ≡ t → IsInputDates l u) net.inputs
   pub no_list : All (λ l. l.transition.index ≢ t) net.inputs → (k : ℕ) → u k ≡ Some 0
 
--- the date of firing k of the transition: some dates are those that the lists give, and all that are give firing k this one
+-- the date of firing k of the transition: dates by the lists exist, and all such dates give firing k this one
 pub record IsInputDate (net : NetLists) (t k : ℕ) (date : Option ℕ) : Type 0 where
   pub some : (u : ℕ → Option ℕ) × AreInputDates net t u
   pub each : (u : ℕ → Option ℕ) → AreInputDates net t u → u k ≡ date
@@ -58,6 +58,6 @@ date_by_list (Some l) k = list_date l.dates l.again k
 abbrev pub list_of_input : NetLists → ℕ → Option InputList
 list_of_input net t = find (λ l. l.transition.index == t) net.inputs
 
--- the date of firing k of an input transition; none is never
+-- the date of firing k of an input transition; `None` where it never fires
 abbrev pub input_date : NetLists → ℕ → ℕ → Option ℕ
 input_date net t k = date_by_list (list_of_input net t) k

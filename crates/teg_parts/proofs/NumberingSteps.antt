@@ -1,13 +1,13 @@
 -- The loops of the numbering.
 use Rattle.std.proofs.Common.{ℕ, ◌+◌, ◌<◌, ◌≤◌, ◌≡◌, ◌≢◌, List, Option, Some, None, Bool, true, false, length, get_or, set, sym, ap, subst, ◌∙◌, arith, ⊎_elim}
-use Rattle.std.proofs.lemmas.Bool.{cases_lt, cases_Bool}
+use Rattle.std.proofs.lemmas.Bool.{cases_lt}
 use Rattle.std.proofs.lemmas.List.{get_or-set_same, length-set}
 use Rattle.teg_net.specs.declared.entries.PlaceId.{PlaceId}
 use Rattle.teg_net.specs.Nets.{NetLists}
 use Rattle.teg_net.specs.Circuits.{from_of}
 use Rattle.teg_net.specs.Parts.{to_of, IsPlaceOfPart}
-use Rattle.teg_parts.specs.PartNumbers.{component_at, part_number, without, BlocksComponent, AreBlocked, IsFree, IsOpenFor}
-use Rattle.teg_parts.proofs.Marks.{false_not_true, set_flag, set_flag_before}
+use Rattle.teg_parts.specs.PartNumbers.{component_at, part_number, without, BlocksComponent}
+use Rattle.teg_parts.proofs.Marks.{set_flag, set_flag_before}
 use Rattle.teg_net.proofs.Reading.{same_id}
 
 -- ---- which components are blocked
@@ -51,21 +51,6 @@ module _ (net : NetLists) (components : List ℕ) (numbers : List (Option ℕ)) 
         let here : BlocksComponent net components numbers c p = subst (BlocksComponent net components numbers c) same k in
         absurd (none (subst (λ x. BlocksComponent net components numbers x p) (sym here.enters) here)))
         (cases_lt q.index p.index);
-  }
-
-  -- a transition is open for a number exactly where it is free
-  pub open_is_free : (blocked : List Bool) (t : ℕ) → AreBlocked net components numbers blocked → IsOpenFor components numbers blocked t → IsFree net components numbers t
-  open_is_free blocked t h o = record { in_range = o.in_range; unnumbered = o.unnumbered; unblocked = λ p b. false_not_true (get_or blocked (component_at components t) false) o.unmarked (h.complete (component_at components t) p b) }
-
-  pub free_is_open : (blocked : List Bool) (t : ℕ) → AreBlocked net components numbers blocked → IsFree net components numbers t → IsOpenFor components numbers blocked t
-  free_is_open blocked t h f = record {
-    in_range = f.in_range;
-    unnumbered = f.unnumbered;
-    unmarked =
-        ⊎_elim
-        (λ (b : get_or blocked (component_at components t) false ≡ true). let w = h.sound (component_at components t) b in absurd (f.unblocked w.0 w.1))
-        (λ (b : get_or blocked (component_at components t) false ≡ false). b)
-        (cases_Bool (get_or blocked (component_at components t) false));
   }
 
 -- ---- a number is given

@@ -22,7 +22,7 @@ lone_key d =
     if is_there key.Every d && not (is_there key.Gap d) then Some key.Gap
     else if is_there key.Gap d && not (is_there key.Every d) then Some key.Every else None
 
--- an input entry has both `every` and `gap`, or neither
+-- of an input entry, the one of `every` and `gap` that is absent where the other stands; other entries have neither
 abbrev pub half_of_again : Section → Data → Option Key
 half_of_again section.Input d = lone_key d
 half_of_again _ d = None

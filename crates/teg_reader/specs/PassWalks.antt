@@ -13,7 +13,7 @@ use Rattle.teg_reader.specs.DocumentTrees.{array_at, or_else}
 abbrev pub Look : Type 0
 Look = Spot → Data → Option ReadRefusal
 
--- a place in the file: positions count from 1, and the top has 0
+-- a spot in the file: the entries of a section count from 1, and the top has 0
 abbrev pub spot_at : Section → ℕ → Spot
 spot_at section position = record { section = section; position = position }
 

@@ -1,26 +1,20 @@
 -- What is asked of the part of a net that the walks from an input reach, and what it tells of the net.
-use Rattle.std.proofs.Common.{ℕ, ◌<◌, ◌≡◌, true, List, length, get_or, arith}
+use Rattle.std.proofs.Common.{ℕ, List, get_or}
 use Rattle.teg_net.specs.Nets.{NetLists, IsNet, IsInput}
 use Rattle.teg_net.specs.Circuits.{IsLive}
 use Rattle.teg_check.specs.Ranks.{IsRanking}
 use Rattle.periodic_laws.specs.settled_laws.SettledForms.{SettledForm, step_of_form}
 use Rattle.teg_settle.specs.declared.reached.Part.{Part}
 use Rattle.teg_settle.specs.Alone.{IsAloneForm, AloneSettlesPast}
-use Rattle.teg_settle.specs.Reached.{is_marked, IsPartFrom}
+use Rattle.teg_settle.specs.Reached.{IsPartFrom}
 use Rattle.teg_settle.specs.Spread.{IsSpreadOut}
 use Rattle.teg_settle.specs.Transfers.{IsTransferOf, TransferSettlesPast}
 use Rattle.teg_settle.proofs.ReachedPart.{part_is_live, part_input, told_by, told_least, told_shortest, repeats_in_part}
-use Rattle.teg_settle.proofs.Transferring.{alone_times, input_within}
+use Rattle.teg_settle.proofs.Transferring.{alone_times}
 
 module _ (net : NetLists) (input : ℕ) (part : Part) (h : IsPartFrom net input part) (ok : IsNet net) (given : IsInput net input) where
-  pub input_new : get_or part.new.items input 0 < length part.net.transitions
-  input_new = omega (arith, h.transitions.count, h.numbers.found input (input_within net input given) h.closed.begins)
-
   pub input_there : IsInput part.net (get_or part.new.items input 0)
   input_there = part_input net part.marks.items h.old part.new.items h.numbers h.closed.leads_on part.net h.transitions h.places ok h.wide input h.closed.begins given
-
-  pub new_within : (t : ℕ) → t < length part.new.items → is_marked part.marks.items t ≡ true → get_or part.new.items t 0 < length part.net.transitions
-  new_within t l on = omega (arith, h.transitions.count, h.numbers.found t (omega (arith, l, h.numbers.long)) on)
 
   module _ (ranks : List ℕ) (ranking : IsRanking net ranks) where
     pub live_part : IsLive part.net

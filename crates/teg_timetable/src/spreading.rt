@@ -106,7 +106,7 @@ fn left_by(
 /// the lowest numbered such place; `TooLong` exactly where there is a limit, from 1 to 200,000,
 /// that the settling length exceeds. `OutOfMemory` comes only where no memory is found. For n
 /// transitions, p places, r delays and a settling length l it takes time of order
-/// `n r + (n + p) l`, and what the periods that are tried take beside the rows, as in
+/// `n^2 + n r + (n + p) l`, and what the periods that are tried take beside the rows, as in
 /// [`settle_within`](teg_settle::settle_within); the rows are kept, eight bytes a date where dates
 /// are below 2^64 - 2.
 pub fn spread(
