@@ -18,7 +18,7 @@ IsCommon net a b L = (c : ℕ) (ps : List PlaceId) → IsCriticalAt net a b c ps
 abbrev pub AllReadyAtZero : NetLists → Type 0
 AllReadyAtZero net = All (λ p. All (λ d. d ≡ 0) p.ready) net.places
 
--- live, without inputs, each transition reaches each other, a/b is the greatest ratio and above 0, and the numbers keep these limits
+-- live, without inputs, all initial tokens ready at 0, each transition reaches each other, a/b is the greatest ratio and above 0, and the numbers keep these limits
 pub record IsStrong (net : NetLists) (hold tokens a b : ℕ) : Type 0 where
   pub net_rules : IsNet net
   pub live : IsLive net

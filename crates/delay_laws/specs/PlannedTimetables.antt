@@ -54,7 +54,7 @@ delay_given t i s = delay_in t.delays.items i s
 abbrev pub AreDelaysUpTo : ℕ → Timetable → Type 0
 AreDelaysUpTo most t = All (λ d. d.by ≤ most) t.delays.items
 
--- with each delay of transition i that is given, the delayed departure is planned no later than departure `number`
+-- of each delay that is given at transition i, the planned date and the delay together come no later than the planned date of departure `number`
 abbrev pub IsPastDelays : ℕ → Timetable → ℕ → ℕ → Type 0
 IsPastDelays period t i number = All (λ d. d.transition.index ≡ i → period * d.number + d.by ≤ period * number) t.delays.items
 

@@ -91,7 +91,7 @@ first_holding t a (suc m) = cond (t a) a (first_holding t (suc a) m)
 abbrev pub least_period_of : (ℕ → Date) → ℕ → ℕ → ℕ
 least_period_of f p n = first_holding (λ i. repeats_test f i (gap (f p) (f (p + i))) p n) 1 (n - 1)
 
--- the least shift from which n shifts move each value up to p by x
+-- the least shift from which on n shifts move each value below p by x
 abbrev pub least_start_of : (ℕ → Date) → ℕ → ℕ → ℤ → ℕ
 least_start_of f p n x = first_holding (λ q. repeats_test f n x q (p - q)) 0 p
 

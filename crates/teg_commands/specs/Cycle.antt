@@ -16,8 +16,8 @@ abbrev pub HasStrongParts : NetLists → CycleAnswer → Type 0
 HasStrongParts net answer =
     (inner : List Bool) × AreParts net (record { part_of = answer.part_of.items; inner = inner }) × (length answer.parts.items ≡ length inner)
 
--- the cycle times of a net: of each of its strong parts the greatest ratio, a circuit that has it and the greatest sums as potentials, or
--- that no circuit lies in it; the first part of greatest ratio, which is the greatest of the net, or none where the net has no circuit
+-- the cycle times of a net: of each of its strong parts the greatest ratio, a circuit that has it and the greatest reduced times of paths
+-- as potentials, or that no circuit lies in it; the first part of greatest ratio, which is the greatest of the net, or none where the net has no circuit
 pub record IsCycleAnswer (net : NetLists) (answer : CycleAnswer) : Type 0 where
   pub strong : HasStrongParts net answer
   pub parts : ArePartAnswers net answer.part_of.items answer.parts.items

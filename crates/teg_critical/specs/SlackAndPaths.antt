@@ -22,7 +22,7 @@ GapsTellSlacks = (net : NetLists) (r : Fraction) (p : PlaceId) (gap : ℕ) → I
 abbrev pub SlacksAreOne : Type 0
 SlacksAreOne = (net : NetLists) (r : Fraction) (p : PlaceId) (s q : Slack) → IsSlackOf net r p s → IsSlackOf net r p q → s ≡ q
 
--- in a live net it does not depend on how the greatest ratio is written
+-- in a live net the slack of a place does not depend on how the greatest ratio is written
 abbrev pub SlacksAreOfTheNet : Type 0
 SlacksAreOfTheNet = (net : NetLists) → IsLive net → (r q : Fraction) → IsGreatestRatio net IsAnyPlace r → IsGreatestRatio net IsAnyPlace q
     → (p : PlaceId) → p.index < length net.places → (s : Slack) → IsSlackOf net r p s → IsSlackOf net q p s

@@ -32,7 +32,7 @@ AreRunsFrom net part_of k (Best ratio circuit potentials ∷ answers) [] = ⊥
 AreRunsFrom net part_of k (Best ratio circuit potentials ∷ answers) (rounds ∷ runs) =
     IsPolicyRun net part_of k rounds × IsAnswerOfLast rounds (Best ratio circuit potentials) × AreRunsFrom net part_of (k + 1) answers runs
 
--- rounds as the code holds them, a list for each part
+-- the lists of the rounds that the code holds, one for each part with a circuit
 abbrev pub rounds_of_runs : List (Vec Round) → List (List Round)
 rounds_of_runs runs = map (λ run. run.items) runs
 

@@ -68,7 +68,7 @@ pub record IsRouting (net : NetLists) (parts : List ℕ) (part : ℕ) (policy : 
   pub kept : (t : ℕ) → IsMember parts part t → LeadsBack net policy t s → routed t ≡ policy t
   pub joined : All (λ p. routed (to_of net p) ≡ p) joins
 
--- 0 at s, and elsewhere what the policy's place counts, plus the potential of its start
+-- 0 at s, and elsewhere the reduced time of the policy's place plus the potential of its start
 pub record AreSums (net : NetLists) (parts : List ℕ) (part a b : ℕ) (policy : Policy) (s : ℕ) (v : ℕ → ℤ) : Type 0 where
   pub start : v s ≡ pos 0
   pub others : (t : ℕ) → IsMember parts part t → t ≢ s → v t ≡ (reduced_time net a b (policy t) +ℤ v (from_of net (policy t)))

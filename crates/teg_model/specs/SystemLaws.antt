@@ -14,7 +14,7 @@ use Rattle.teg_model.specs.DateBounds.{IsDateWithin, IsBoundedBy}
 abbrev pub SystemsHaveLeast : Type 0
 SystemsHaveLeast = (s : System) → HaveRanks s.places → (x : ℕ → ℕ → Date) × IsLeastIn s x
 
--- no system has two
+-- no system has two least datings
 abbrev pub LeastInAreOne : Type 0
 LeastInAreOne = (s : System) (x y : ℕ → ℕ → Date) → IsLeastIn s x → IsLeastIn s y → (t k : ℕ) → 1 ≤ k → x t k ≡ y t k
 

@@ -23,7 +23,7 @@ pub record IsListDate (l : InputList) (k : ℕ) (date : Option ℕ) : Type 0 whe
   pub some : (u : ℕ → Option ℕ) × IsInputDates l u
   pub each : (u : ℕ → Option ℕ) → IsInputDates l u → u k ≡ date
 
--- u gives each firing of the transition its date: by its list, and 0 where it has none; no date is never
+-- u gives each firing of the transition its date: by its list, and 0 where it has none; `None` stands for never
 pub record AreInputDates (net : NetLists) (t : ℕ) (u : ℕ → Option ℕ) : Type 0 where
   pub by_list : All (λ l. l.transition.index ≡ t → IsInputDates l u) net.inputs
   pub no_list : All (λ l. l.transition.index ≢ t) net.inputs → (k : ℕ) → u k ≡ Some 0

@@ -2,7 +2,7 @@
 use Rattle.std.specs.Prelude.{ℕ, Bool, not, ◌&&◌, ◌==◌, nat_le, List, length}
 use Rattle.std.specs.List.{list_all}
 
--- a byte that a name may have: no blank and no control byte, no quote, no comma
+-- a byte that a name may have: no blank and no control byte, no double quote, no comma
 abbrev pub is_name_byte : ℕ → Bool
 is_name_byte b = ((nat_le 0x21 b && not (b == 0x22)) && not (b == 0x2C)) && not (b == 0x7F)
 

@@ -3,8 +3,9 @@
 //!
 //! The one contract: each trait says what a call did to what the value tells, and which count rose
 //! where it failed. A shelf tells its files and its reads, a sink its bytes, or nothing of them; a
-//! count never falls. `MemoryShelf` and `MemorySink` tell everything and fail exactly at the calls
-//! that they were given. `FileShelf` and `WriterSink` stand before the real files and the real
+//! count never falls. `MemoryShelf` and `MemorySink` tell everything: they fail at the calls that
+//! they were given, at a name that the shelf does not have and where the sink has no room, and
+//! nowhere else. `FileShelf` and `WriterSink` stand before the real files and the real
 //! output: they tell nothing of content. Of the monitors `FiringCount`, `HighWater` and `Lateness`
 //! print a number each of the firings seen, and `NoLine` never finds memory for a line.
 //!

@@ -31,7 +31,7 @@ cycle_lists answer = record { part_of = answer.part_of.items; parts = map part_l
 abbrev pub round_lists : Round → RoundLists
 round_lists r = record { ratio = r.ratio; circuit = r.circuit.places.items; choices = r.choices.items }
 
--- rounds, a list for each part
+-- rounds, a list for each part with a circuit
 abbrev pub runs_lists : List (Vec Round) → List (List RoundLists)
 runs_lists runs = map (λ run. map round_lists run.items) runs
 

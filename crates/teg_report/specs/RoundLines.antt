@@ -125,7 +125,7 @@ round_in net block = record {
 abbrev pub is_first_round : List (List (List ℕ)) → Bool
 is_first_round block = number_in (word 3 (line_at 0 block)) == 1
 
--- the blocks of the rounds, in a list for each part
+-- the blocks of the rounds, in a list for each part with a circuit
 abbrev pub runs_in : List (List (List ℕ)) → List (List (List (List (List ℕ))))
 runs_in lines = (blocks_in is_first_round (those (λ block. not (is_part block)) (told_in lines))).blocks
 

@@ -72,7 +72,7 @@ transfer_line inputs outputs =
 abbrev pub transfer_lines : NetLists → List TimesFrom → List (List (List ℕ))
 transfer_lines net inputs = transfer_line (length inputs) (output_count net) ∷ flat_map (from_lines net) inputs
 
--- an input and outputs of the net
+-- the times lead between transitions of the net
 pub record AreTimesIn (net : NetLists) (times : TimesFrom) : Type 0 where
   pub from : times.from.index < length net.transitions
   pub lines : All (λ l. l.to.index < length net.transitions) times.lines
