@@ -29,7 +29,7 @@ initial_date p k = At (pos (ready_date p k))
 abbrev pub available_at : (ℕ → ℕ → Date) → Place → ℕ → Date
 available_at x p k = available_in initial_date x p k
 
--- the date of an input's firing, where none is never
+-- the date of an input's firing, which `None` says never comes
 abbrev pub as_date : Option ℕ → Date
 as_date None = Never
 as_date (Some d) = At (pos d)

@@ -109,7 +109,8 @@ pub(crate) fn in_order(history: &History, fired: Fired) -> Result<(), FireRefusa
     }
 }
 
-// The date before which this firing of the input transition is not released; none is never.
+// The date before which this firing of the input transition is not released; `None` where it never
+// fires.
 fn release_date(ends: &EndLists, net: &Net, transition: TransitionId, number: u64) -> Option<u128>
     requires ends { AreEnds net.now ends.now }
     requires transition { transition.index < length net.now.transitions }
