@@ -21,7 +21,7 @@ most_place_tokens = 1000
 abbrev pub most_input_dates : ℕ
 most_input_dates = 100000
 
--- an input date, the gap by which a list goes on, and the ready date of a token
+-- an input date, a due date, the gap by which a list of them goes on, and the ready date of a token
 abbrev pub greatest_input_date : ℕ
 greatest_input_date = 1000000000000
 

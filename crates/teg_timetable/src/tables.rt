@@ -80,10 +80,9 @@ fn delays(alloc: Global, entries: &[TableEntry]) -> Result<Vec<Delay>, AllocErro
 /// departure, and rows of three, a transition, a number and by how much the departure of this
 /// number is late. Refused is the first faulty row with the first of its faults in the order of
 /// [`TableRefusal`], and last the lowest numbered transition without a first departure; so an empty
-/// file misses transition
-/// 0. A first record `transition`, `first` is passed over. First departures come in order of
-/// transitions, delays in order of rows. Inputs have departures like others. `OutOfMemory` comes
-/// only where no memory is found.
+/// file misses the first departure of the first transition. A first record `transition`, `first` is
+/// passed over. First departures come in order of transitions, delays in order of rows. Inputs have
+/// departures like others. `OutOfMemory` comes only where no memory is found.
 pub fn read_timetable(alloc: Global, net: &Net, bytes: &[u8]) -> Result<Timetable, TableRefusal>
     requires { length bytes.now ≤ most_file_bytes }
     ensures table { IfOk result (λ table. timetable_of net.now bytes.now
