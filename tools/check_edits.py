@@ -6,7 +6,7 @@
 An edit's first line is `why: WHAT A WRONG PROGRAM WOULD DO; refused by: CLAUSE`. Then come a line `file: PATH`,
 and pairs of lines `old: TEXT` and `new: TEXT`, each old text once in that file as the pairs before it left it. A crate
 has at most 8 edits, and all together at most 240: each costs a check of its crate. An edit of `specs/` or `proofs/`
-shows nothing of a contract. Each edit that docs/DEFINITIONS*.md name, as `CRATE/NAME`, is there.
+shows nothing of a contract. Each edit that a page of docs/ names, as `CRATE/NAME`, is there.
 
 There is a line a fault; the last line tells how many edits and faults there are, and the exit status is 0 where
 there is no fault.
@@ -59,9 +59,9 @@ def main():
     if len(edits) > MOST:
         faults.append(f"there are {len(edits)} edits, more than {MOST}")
     crates = {path.name for path in TOP.glob("crates/*")}
-    for path in sorted(TOP.glob("docs/DEFINITIONS*.md")):
+    for path in sorted(TOP.glob("docs/*.md")):
         for crate, name in re.findall(r"`(\w+)/(\w+)`", path.read_text(encoding="utf-8")):
-            if crate in crates and name not in by_crate.get(crate, []):
+            if crate in crates and name not in [*by_crate.get(crate, []), "specs", "proofs", "src"]:
                 faults.append(f"docs/{path.name} names the edit {crate}/{name}, and there is none")
     print(*faults, sep="\n", end="\n" if faults else "")
     print(f"{len(edits)} edits, {len(faults)} faults")
