@@ -1,19 +1,47 @@
 -- Working definitions of what refutes a period.
-use Rattle.std.specs.Prelude.{ℕ, All}
+use Rattle.std.specs.Prelude.{ℕ, ◌+◌, ◌≤◌, All}
 use Rattle.teg_net.specs.Nets.{NetLists}
 use Rattle.teg_dates.specs.DateTables.{TableDates}
 use Rattle.teg_settle.specs.declared.releases.Releases.{Releases}
 use Rattle.teg_settle.specs.declared.witness.Witness.{Witness}
 use Rattle.teg_settle.specs.declared.witness.Witness.TheVariants.{Fall, Firing, Release}
-use Rattle.teg_settle.specs.ComparedRows.{IsRisingPlace, IsMovedPast, AreReleasedAlike}
+use Rattle.teg_settle.specs.ComparedRows.{IsRisingPlace, IsMovedPast, AreReleasedAlike, AreComparedRows}
 
--- the witness shows that this period fails a test: that the step falls along no place, or that past `after` the dates, or the
--- releases, of the rows move by their steps
-abbrev pub Refutes : NetLists → Releases → TableDates → ℕ → ℕ → Witness → Type 0
-Refutes net r rows period after (Fall place) = All (IsRisingPlace rows period) net.places → ⊥
-Refutes net r rows period after (Firing transition number) = IsMovedPast rows period after → ⊥
-Refutes net r rows period after (Release transition number) = AreReleasedAlike net r rows period after → ⊥
+-- a period that is tested on rows of dates and on releases, past a number
+pub record TestedPeriod : Type 0 where
+  pub net : NetLists
+  pub releases : Releases
+  pub rows : TableDates
+  pub period : ℕ
+  pub after : ℕ
+
+-- the test of this period
+abbrev pub tested_period : NetLists → Releases → TableDates → ℕ → ℕ → TestedPeriod
+tested_period net r rows period after = record { net = net; releases = r; rows = rows; period = period; after = after }
+
+-- the rows have room for the period, past the number too
+pub record IsTestable (net : NetLists) (rows : TableDates) (period after : ℕ) : Type 0 where
+  pub window : AreComparedRows net rows period
+  pub room : after + period ≤ rows.count
+
+-- the step falls along some place
+abbrev pub HasFall : TestedPeriod → Type 0
+HasFall t = All (IsRisingPlace t.rows t.period) t.net.places → ⊥
+
+-- past the number some date does not move by its step
+abbrev pub HasDatesApart : TestedPeriod → Type 0
+HasDatesApart t = IsMovedPast t.rows t.period t.after → ⊥
+
+-- past the number some release does not move by its step
+abbrev pub HasReleasesApart : TestedPeriod → Type 0
+HasReleasesApart t = AreReleasedAlike t.net t.releases t.rows t.period t.after → ⊥
+
+-- the witness shows that the period fails a test
+abbrev pub Refutes : TestedPeriod → Witness → Type 0
+Refutes t (Fall place) = HasFall t
+Refutes t (Firing transition number) = HasDatesApart t
+Refutes t (Release transition number) = HasReleasesApart t
 
 -- something shows it
-abbrev pub IsRefutedPast : NetLists → Releases → TableDates → ℕ → ℕ → Type 0
-IsRefutedPast net r rows period after = (w : Witness) × Refutes net r rows period after w
+abbrev pub IsFailed : TestedPeriod → Type 0
+IsFailed t = (w : Witness) × Refutes t w

@@ -7,13 +7,12 @@ ghost use Rattle.teg_dates.specs.PlaceOrder.{OrdersPlaces};
 ghost use Rattle.teg_settle.specs.InitialReleases.{OnlyInputsWait};
 ghost use Rattle.teg_settle.specs.ShortestForms.{IsFound};
 ghost use Rattle.teg_settle.specs.ComparedRows.{AreRowsOf, IsLeastForm, IsReady, IsRefuted, IsSeen, IsSeenFrom, IsTrial, most_window};
-ghost use Rattle.teg_settle.specs.Witnesses.{Refutes};
 
 use crate::releases::{Releases, Repetition};
 use crate::settled::Settled;
 use crate::shown::SettledDates;
-use crate::window::{are_released_alike, is_rising, moved_past};
-use crate::witness::{Witness, Witnesses, witness_against};
+use crate::window::{FIRST_PAIRS, are_released_alike, is_rising, moved_past};
+use crate::witness::{PeriodTest, Witnesses};
 use std::alloc::Global;
 use teg_check::Live;
 use teg_dates::{PlaceOrder, Rows};
@@ -25,9 +24,6 @@ pub(crate) struct Found {
     pub(crate) rows: Rows,
     pub(crate) form: Repetition,
 }
-
-// The pairs of rows that are compared before the input lists are.
-const FIRST_PAIRS: u64 = 16;
 
 // The least number past which the dates go on in this period, if the rows are enough to see it.
 // What fails soonest is tested first: a few pairs of rows, then the lists, then all other pairs.
@@ -52,39 +48,6 @@ fn seen_from(net: &Net, releases: &Releases, rows: &Rows, most: u64, period: u64
     if after > latest { None } else { Some(after) }
 }
 
-// What refutes this period, where it was refuted.
-fn found_against(
-    net: &Net,
-    releases: &Releases,
-    rows: &Rows,
-    most: u64,
-    period: u64,
-) -> Option<Witness>
-    requires { IsTrial net.now releases.now rows.now most period }
-    ensures { IfSome result (Refutes net.now releases.now rows.now period
-        (rows.now.count - most - period - period)) }
-{
-    let latest = rows.count() - most - period - period;
-    let near = latest.max((rows.count() - period).saturating_sub(FIRST_PAIRS));
-    witness_against(net, releases, rows, period, latest, near)
-}
-
-// The witnesses that refute this period too, with what they lead to.
-fn known_against(
-    net: &Net,
-    releases: &Releases,
-    rows: &Rows,
-    most: u64,
-    period: u64,
-    witnesses: Witnesses,
-) -> Option<Witnesses>
-    requires { IsTrial net.now releases.now rows.now most period }
-    ensures { IfSome result (λ _. IsRefuted net.now releases.now most rows.now.count period) }
-{
-    let latest = rows.count() - most - period - period;
-    witnesses.against(net, releases, rows, period, latest)
-}
-
 // The number from which this period is seen, or the witnesses with what refutes it. Those that
 // there are come first, then another firing of their transitions, and then the tests.
 fn tried(
@@ -99,13 +62,15 @@ fn tried(
     ensures { MatchResult result (IsSeenFrom net.now releases.now rows.now most period)
         (λ _. IsRefuted net.now releases.now most rows.now.count period) }
 {
-    match known_against(net, releases, rows, most, period, witnesses) {
+    let latest = rows.count() - most - period - period;
+    let test = PeriodTest::new(net, releases, rows, period, latest);
+    match witnesses.against(&test) {
         Some(more) => return Err(more),
         None => {}
     }
     match seen_from(net, releases, rows, most, period) {
         Some(after) => Ok(after),
-        None => Err(witnesses.joined(found_against(net, releases, rows, most, period))),
+        None => Err(witnesses.joined(test.witness())),
     }
 }
 

@@ -11,6 +11,9 @@ use dioid::Date;
 use teg_dates::Rows;
 use teg_net::{Net, Place, TransitionId};
 
+// The pairs of rows that are compared before the input lists are.
+pub(crate) const FIRST_PAIRS: u64 = 16;
+
 // The step from one date to the other, 0 where one of them is no number.
 fn step_between(early: Date, late: Date) -> i128
     requires early { IsDateWithin (2 ^ 126) early }

@@ -1,11 +1,11 @@
 //! What refuted the last periods that were tried: it mostly refutes the next one too, so it is
 //! tested first.
-ghost use Rattle.std.specs.Prelude.{◌≡◌, ◌+◌, ◌<◌, ◌≤◌, All, IfSome, IsTrue};
-ghost use Rattle.teg_settle.specs.ComparedRows.{AreReleasedAlike, IsMovedPast, IsRisingPlace, AreComparedRows, most_window};
-ghost use Rattle.teg_settle.specs.Witnesses.{IsRefutedPast, Refutes};
+ghost use Rattle.std.specs.Prelude.{◌≡◌, IfSome, IsTrue};
+ghost use Rattle.teg_settle.specs.Witnesses.{HasDatesApart, HasFall, HasReleasesApart, IsFailed, IsTestable, Refutes, tested_period};
 
 use crate::releases::Releases;
-use crate::window::{is_step, moved_past, rises_along, step_in};
+use crate::window::{FIRST_PAIRS, is_step, moved_past, rises_along, step_in};
+use std::marker::Model;
 use teg_dates::Rows;
 use teg_net::{Net, TransitionId};
 
@@ -33,310 +33,245 @@ const MOST_WINDOW: u64 = 100_000_000_000_000;
 // How many numbers of a transition are looked at for another firing that refutes a period.
 const MOST_LOOKS: u64 = 4_096;
 
-// Whether the step falls along the place of this number.
-fn falls_along(net: &Net, rows: &Rows, period: u64, place: usize) -> bool
-    requires window { AreComparedRows net.now rows.now period }
-    ensures { IsTrue result → All (IsRisingPlace rows.now period) net.now.places → ⊥ }
-{
-    let places = net.places();
-    if place >= places.len() {
-        return false;
-    }
-    !rises_along(net, rows, period, &places[place])
-}
-
-// Whether past `after` the date of this firing does not move by the step.
-fn is_firing_apart(
-    net: &Net,
-    rows: &Rows,
+// A period that is tested on rows of dates, past a number.
+#[derive(Drop)]
+pub(crate) struct PeriodTest<'a> {
+    net: &'a Net,
+    releases: &'a Releases,
+    rows: &'a Rows,
     period: u64,
     after: u64,
-    transition: TransitionId,
-    number: u64,
-) -> bool
-    requires window { AreComparedRows net.now rows.now period }
-    ensures { IsTrue result → IsMovedPast rows.now period after → ⊥ }
-{
-    if transition.index as usize >= net.transitions().len() {
-        return false;
-    }
-    if number <= after || number > rows.count() - period {
-        return false;
-    }
-    let step = step_in(net, rows, period, transition);
-    !is_step(
-        rows.date(transition, number),
-        rows.date(transition, number + period),
-        step,
-    )
 }
 
-// Whether past `after` the release of this firing does not move by the step.
-fn is_release_apart(
-    net: &Net,
-    releases: &Releases,
-    rows: &Rows,
-    period: u64,
-    after: u64,
-    transition: TransitionId,
-    number: u64,
-) -> bool
-    requires window { AreComparedRows net.now rows.now period }
-    ensures { IsTrue result → AreReleasedAlike net.now releases.now rows.now period after → ⊥ }
-{
-    if transition.index as usize >= net.transitions().len() {
-        return false;
-    }
-    if number <= after || number > MOST_WINDOW {
-        return false;
-    }
-    let step = step_in(net, rows, period, transition);
-    let early = releases.date(net, transition, number);
-    let late = releases.date(net, transition, number + period);
-    !is_step(early, late, step)
+impl<'a> Model for PeriodTest<'a> {
+    ghost use Rattle.teg_settle.specs.Witnesses.{IsTestable, TestedPeriod, tested_period};
+
+    ghost Value = { TestedPeriod };
+
+    ghost view = { λ t. tested_period t.net.now t.releases.now t.rows.now t.period t.after };
+
+    ghost invariant = { λ t. IsTestable t.net.now t.rows.now t.period t.after };
 }
 
-// Whether the witness refutes this period.
-fn refutes(
-    net: &Net,
-    releases: &Releases,
-    rows: &Rows,
-    period: u64,
-    after: u64,
-    witness: Witness,
-) -> bool
-    requires window { AreComparedRows net.now rows.now period }
-    ensures { IsTrue result → Refutes net.now releases.now rows.now period after witness }
-{
-    match witness {
-        Witness::Fall(place) => falls_along(net, rows, period, place),
-        Witness::Firing(transition, number) => {
-            is_firing_apart(net, rows, period, after, transition, number)
-        }
-        Witness::Release(transition, number) => {
-            is_release_apart(net, releases, rows, period, after, transition, number)
+impl<'a> PeriodTest<'a> {
+    // The test of this period on these rows.
+    pub(crate) fn new(
+        net: &'a Net,
+        releases: &'a Releases,
+        rows: &'a Rows,
+        period: u64,
+        after: u64,
+    ) -> PeriodTest<'a>
+        requires { IsTestable net.now rows.now period after }
+        ensures { result ≡ tested_period net.now releases.now rows.now period after }
+    {
+        PeriodTest {
+            net,
+            releases,
+            rows,
+            period,
+            after,
         }
     }
-}
 
-// The witness, if it refutes this period.
-fn still(
-    net: &Net,
-    releases: &Releases,
-    rows: &Rows,
-    period: u64,
-    after: u64,
-    witness: Option<Witness>,
-) -> Option<Witness>
-    requires window { AreComparedRows net.now rows.now period }
-    ensures { IfSome result (Refutes net.now releases.now rows.now period after) }
-{
-    let witness = witness?;
-    if refutes(net, releases, rows, period, after, witness) {
-        Some(witness)
-    } else {
+    // Whether the step falls along the place of this number.
+    fn falls_along(&self, place: usize) -> bool
+        ensures { IsTrue result → HasFall self.now }
+    {
+        let places = self.net.places();
+        if place >= places.len() {
+            return false;
+        }
+        !rises_along(self.net, self.rows, self.period, &places[place])
+    }
+
+    // Whether past the number the date of this firing does not move by the step.
+    fn is_firing_apart(&self, transition: TransitionId, number: u64) -> bool
+        ensures { IsTrue result → HasDatesApart self.now }
+    {
+        if transition.index as usize >= self.net.transitions().len() {
+            return false;
+        }
+        if number <= self.after || number > self.rows.count() - self.period {
+            return false;
+        }
+        let step = step_in(self.net, self.rows, self.period, transition);
+        !is_step(
+            self.rows.date(transition, number),
+            self.rows.date(transition, number + self.period),
+            step,
+        )
+    }
+
+    // Whether past the number the release of this firing does not move by the step.
+    fn is_release_apart(&self, transition: TransitionId, number: u64) -> bool
+        ensures { IsTrue result → HasReleasesApart self.now }
+    {
+        if transition.index as usize >= self.net.transitions().len() {
+            return false;
+        }
+        if number <= self.after || number > MOST_WINDOW {
+            return false;
+        }
+        let step = step_in(self.net, self.rows, self.period, transition);
+        let early = self.releases.date(self.net, transition, number);
+        let late = self
+            .releases
+            .date(self.net, transition, number + self.period);
+        !is_step(early, late, step)
+    }
+
+    // Whether the witness refutes the period.
+    fn is_refuted_by(&self, witness: Witness) -> bool
+        ensures { IsTrue result → Refutes self.now witness }
+    {
+        match witness {
+            Witness::Fall(place) => self.falls_along(place),
+            Witness::Firing(transition, number) => self.is_firing_apart(transition, number),
+            Witness::Release(transition, number) => self.is_release_apart(transition, number),
+        }
+    }
+
+    // The witness, if it refutes the period.
+    fn still(&self, witness: Option<Witness>) -> Option<Witness>
+        ensures { IfSome result (Refutes self.now) }
+    {
+        let witness = witness?;
+        if self.is_refuted_by(witness) {
+            Some(witness)
+        } else {
+            None
+        }
+    }
+
+    // The first number past that of the test, of those that are looked at, whose date does not move
+    // by the transition's step: an early one stays in the rows for the most periods.
+    fn first_number_apart(&self, transition: TransitionId) -> Option<u64>
+        ensures { IfSome result (λ _. HasDatesApart self.now) }
+    {
+        let end = (self.rows.count() - self.period).min(self.after + MOST_LOOKS);
+        for number in self.after + 1..end + 1 {
+            if self.is_firing_apart(transition, number) {
+                return Some(number);
+            }
+        }
         None
     }
-}
 
-// The first number past `after`, of those that are looked at, whose date does not move by the
-// transition's step: an early one stays in the rows for the most periods.
-fn first_number_apart(
-    net: &Net,
-    rows: &Rows,
-    period: u64,
-    after: u64,
-    transition: TransitionId,
-) -> Option<u64>
-    requires window { AreComparedRows net.now rows.now period }
-    requires after { after ≤ most_window }
-    ensures { IfSome result (λ number. IsMovedPast rows.now period after → ⊥) }
-{
-    let end = (rows.count() - period).min(after + MOST_LOOKS);
-    for number in after + 1..end + 1 {
-        if is_firing_apart(net, rows, period, after, transition, number) {
-            return Some(number);
+    // A number whose date does not move by the transition's step: the one before `number`, which a
+    // period later by one leads to the same date, or the first of those that are looked at.
+    fn number_apart(&self, transition: TransitionId, number: u64) -> Option<u64>
+        ensures { IfSome result (λ _. HasDatesApart self.now) }
+    {
+        let before = number.saturating_sub(1);
+        if self.is_firing_apart(transition, before) {
+            return Some(before);
+        }
+        self.first_number_apart(transition)
+    }
+
+    // Another firing of the transition that the witness names, if one refutes the period.
+    fn other_number(&self, witness: Option<Witness>) -> Option<Witness>
+        ensures { IfSome result (Refutes self.now) }
+    {
+        match witness {
+            Some(Witness::Firing(transition, number)) => {
+                let number = self.number_apart(transition, number)?;
+                Some(Witness::Firing(transition, number))
+            }
+            _ => None,
         }
     }
-    None
-}
 
-// A number past `after` whose date does not move by the transition's step: the one before `number`,
-// which a period later by one leads to the same date, or the first of those that are looked at.
-fn number_apart(
-    net: &Net,
-    rows: &Rows,
-    period: u64,
-    after: u64,
-    transition: TransitionId,
-    number: u64,
-) -> Option<u64>
-    requires window { AreComparedRows net.now rows.now period }
-    requires after { after ≤ most_window }
-    ensures { IfSome result (λ number. IsMovedPast rows.now period after → ⊥) }
-{
-    let before = number.saturating_sub(1);
-    if is_firing_apart(net, rows, period, after, transition, before) {
-        return Some(before);
-    }
-    first_number_apart(net, rows, period, after, transition)
-}
-
-// Another firing of the transition that the witness names, if one refutes this period.
-fn other_number(
-    net: &Net,
-    releases: &Releases,
-    rows: &Rows,
-    period: u64,
-    after: u64,
-    witness: Option<Witness>,
-) -> Option<Witness>
-    requires window { AreComparedRows net.now rows.now period }
-    requires after { after ≤ most_window }
-    ensures { IfSome result (Refutes net.now releases.now rows.now period after) }
-{
-    match witness {
-        Some(Witness::Firing(transition, number)) => {
-            match number_apart(net, rows, period, after, transition, number) {
-                Some(number) => Some(Witness::Firing(transition, number)),
-                None => None,
+    // The first place along which the step falls.
+    fn first_fall(&self) -> Option<usize>
+        ensures { IfSome result (λ _. HasFall self.now) }
+    {
+        for place in 0..self.net.places().len() {
+            if self.falls_along(place) {
+                return Some(place);
             }
         }
-        _ => None,
+        None
     }
-}
 
-// The first place along which the step falls.
-fn first_fall(net: &Net, rows: &Rows, period: u64) -> Option<usize>
-    requires window { AreComparedRows net.now rows.now period }
-    ensures { IfSome result (λ place. All (IsRisingPlace rows.now period) net.now.places → ⊥) }
-{
-    for place in 0..net.places().len() {
-        if falls_along(net, rows, period, place) {
-            return Some(place);
+    // The first transition whose date of this number does not move by its step.
+    fn first_apart(&self, number: u64) -> Option<TransitionId>
+        ensures { IfSome result (λ _. HasDatesApart self.now) }
+    {
+        for index in 0..self.net.transitions().len() {
+            let id = TransitionId {
+                index: index as u32,
+            };
+            if self.is_firing_apart(id, number) {
+                return Some(id);
+            }
+        }
+        None
+    }
+
+    // The last number of which the transition's release does not move by its step.
+    fn last_release_apart(&self, transition: TransitionId) -> Option<u64>
+        ensures { IfSome result (λ _. HasReleasesApart self.now) }
+    {
+        let span = self.releases.span(self.net, transition);
+        let end = self.after.max(span.after) + span.period;
+        for back in 0..end - self.after {
+            if self.is_release_apart(transition, end - back) {
+                return Some(end - back);
+            }
+        }
+        None
+    }
+
+    // The last release that does not move by its step, of the first transition that has one.
+    fn release_apart(&self) -> Option<Witness>
+        ensures { IfSome result (Refutes self.now) }
+    {
+        for index in 0..self.net.transitions().len() {
+            let id = TransitionId {
+                index: index as u32,
+            };
+            match self.last_release_apart(id) {
+                Some(number) => return Some(Witness::Release(id, number)),
+                None => {}
+            }
+        }
+        None
+    }
+
+    // An early firing that is apart, of the first transition that has one of this number.
+    fn firing_apart(&self, number: u64) -> Option<Witness>
+        ensures { IfSome result (Refutes self.now) }
+    {
+        let transition = self.first_apart(number)?;
+        let witness = Some(Witness::Firing(transition, number));
+        match self.other_number(witness) {
+            Some(early) => Some(early),
+            None => self.still(witness),
         }
     }
-    None
-}
 
-// The first transition whose date of this number does not move by its step.
-fn first_apart(net: &Net, rows: &Rows, period: u64, after: u64, number: u64) -> Option<TransitionId>
-    requires window { AreComparedRows net.now rows.now period }
-    ensures { IfSome result (λ transition. IsMovedPast rows.now period after → ⊥) }
-{
-    for index in 0..net.transitions().len() {
-        let id = TransitionId {
-            index: index as u32,
-        };
-        if is_firing_apart(net, rows, period, after, id, number) {
-            return Some(id);
-        }
-    }
-    None
-}
-
-// The last number past `after` of which the transition's release does not move by its step.
-fn last_release_apart(
-    net: &Net,
-    releases: &Releases,
-    rows: &Rows,
-    period: u64,
-    after: u64,
-    transition: TransitionId,
-) -> Option<u64>
-    requires window { AreComparedRows net.now rows.now period }
-    requires after { after ≤ most_window }
-    ensures { IfSome result (λ number. AreReleasedAlike net.now releases.now rows.now period after
-        → ⊥) }
-{
-    let span = releases.span(net, transition);
-    let end = after.max(span.after) + span.period;
-    for back in 0..end - after {
-        if is_release_apart(net, releases, rows, period, after, transition, end - back) {
-            return Some(end - back);
-        }
-    }
-    None
-}
-
-// The last release past `after` that does not move by its step, of the first transition that has
-// one.
-fn release_apart(
-    net: &Net,
-    releases: &Releases,
-    rows: &Rows,
-    period: u64,
-    after: u64,
-) -> Option<Witness>
-    requires window { AreComparedRows net.now rows.now period }
-    requires after { after ≤ most_window }
-    ensures { IfSome result (Refutes net.now releases.now rows.now period after) }
-{
-    for index in 0..net.transitions().len() {
-        let id = TransitionId {
-            index: index as u32,
-        };
-        match last_release_apart(net, releases, rows, period, after, id) {
-            Some(number) => return Some(Witness::Release(id, number)),
+    // What refutes the period, where it was refuted, found in the order of the tests.
+    pub(crate) fn witness(&self) -> Option<Witness>
+        ensures { IfSome result (Refutes self.now) }
+    {
+        match self.first_fall() {
+            Some(place) => return Some(Witness::Fall(place)),
             None => {}
         }
-    }
-    None
-}
-
-// An early firing that is apart, of the first transition that has one of this number.
-fn firing_apart(
-    net: &Net,
-    releases: &Releases,
-    rows: &Rows,
-    period: u64,
-    after: u64,
-    number: u64,
-) -> Option<Witness>
-    requires window { AreComparedRows net.now rows.now period }
-    requires after { after ≤ most_window }
-    ensures { IfSome result (Refutes net.now releases.now rows.now period after) }
-{
-    match first_apart(net, rows, period, after, number) {
-        Some(transition) => {
-            let witness = Some(Witness::Firing(transition, number));
-            match other_number(net, releases, rows, period, after, witness) {
-                Some(early) => Some(early),
-                None => still(net, releases, rows, period, after, witness),
-            }
+        let near = self.after.max((self.rows.count() - self.period).saturating_sub(FIRST_PAIRS));
+        let first = moved_past(self.net, self.rows, self.period, near);
+        if first > near {
+            return self.firing_apart(first);
         }
-        None => None,
+        match self.release_apart() {
+            Some(witness) => return Some(witness),
+            None => {}
+        }
+        let last = moved_past(self.net, self.rows, self.period, self.after);
+        self.firing_apart(last)
     }
-}
-
-// What refutes a period that was refuted, found in the order of the tests.
-pub(crate) fn witness_against(
-    net: &Net,
-    releases: &Releases,
-    rows: &Rows,
-    period: u64,
-    after: u64,
-    near: u64,
-) -> Option<Witness>
-    requires window { AreComparedRows net.now rows.now period }
-    requires near { near + period ≤ rows.now.count }
-    requires after { after ≤ near }
-    ensures { IfSome result (Refutes net.now releases.now rows.now period after) }
-{
-    match first_fall(net, rows, period) {
-        Some(place) => return Some(Witness::Fall(place)),
-        None => {}
-    }
-    let first = moved_past(net, rows, period, near);
-    if first > near {
-        return firing_apart(net, releases, rows, period, after, first);
-    }
-    match release_apart(net, releases, rows, period, after) {
-        Some(witness) => return Some(witness),
-        None => {}
-    }
-    let last = moved_past(net, rows, period, after);
-    firing_apart(net, releases, rows, period, after, last)
 }
 
 impl Witnesses {
@@ -359,60 +294,34 @@ impl Witnesses {
         }
     }
 
-    // One of them that refutes this period.
-    fn still(
-        self,
-        net: &Net,
-        releases: &Releases,
-        rows: &Rows,
-        period: u64,
-        after: u64,
-    ) -> Option<Witness>
-        requires window { AreComparedRows net.now rows.now period }
-        ensures { IfSome result (Refutes net.now releases.now rows.now period after) }
+    // One of them that refutes the period.
+    fn still(self, test: &PeriodTest<'_>) -> Option<Witness>
+        ensures { IfSome result (Refutes test.now) }
     {
-        match still(net, releases, rows, period, after, self.last) {
+        match test.still(self.last) {
             Some(witness) => Some(witness),
-            None => still(net, releases, rows, period, after, self.before),
+            None => test.still(self.before),
         }
     }
 
-    // Another firing of a transition that one of them names, which refutes this period.
-    fn other(
-        self,
-        net: &Net,
-        releases: &Releases,
-        rows: &Rows,
-        period: u64,
-        after: u64,
-    ) -> Option<Witness>
-        requires window { AreComparedRows net.now rows.now period }
-        requires after { after ≤ most_window }
-        ensures { IfSome result (Refutes net.now releases.now rows.now period after) }
+    // Another firing of a transition that one of them names, which refutes the period.
+    fn other(self, test: &PeriodTest<'_>) -> Option<Witness>
+        ensures { IfSome result (Refutes test.now) }
     {
-        match other_number(net, releases, rows, period, after, self.last) {
+        match test.other_number(self.last) {
             Some(witness) => Some(witness),
-            None => other_number(net, releases, rows, period, after, self.before),
+            None => test.other_number(self.before),
         }
     }
 
     // These, if one of them refutes this period; or with another firing of a transition that one of
     // them names, if that does.
-    pub(crate) fn against(
-        self,
-        net: &Net,
-        releases: &Releases,
-        rows: &Rows,
-        period: u64,
-        after: u64,
-    ) -> Option<Witnesses>
-        requires window { AreComparedRows net.now rows.now period }
-        requires after { after ≤ most_window }
-        ensures { IfSome result (λ _. IsRefutedPast net.now releases.now rows.now period after) }
+    pub(crate) fn against(self, test: &PeriodTest<'_>) -> Option<Witnesses>
+        ensures { IfSome result (λ _. IsFailed test.now) }
     {
-        match self.still(net, releases, rows, period, after) {
+        match self.still(test) {
             Some(_) => Some(self),
-            None => match self.other(net, releases, rows, period, after) {
+            None => match self.other(test) {
                 Some(witness) => Some(self.joined(Some(witness))),
                 None => None,
             },
