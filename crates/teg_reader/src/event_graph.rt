@@ -95,10 +95,7 @@ pub(crate) fn look_at_all_ends(alloc: Global, places: &[Value]) -> Result<(), Re
     ensures { Finds (first_of_entries not_event_graph (map view places.now)) result }
 {
     for place in places {
-        match look_at_ends(alloc, place) {
-            Ok(()) => {}
-            Err(refusal) => return Err(refusal),
-        }
+        look_at_ends(alloc, place)?;
     }
     Ok(())
 }
@@ -184,10 +181,7 @@ pub(crate) fn look_for_entered_inputs(
         result }
 {
     for place in places {
-        match look_at_end(alloc, names, transitions, place) {
-            Ok(()) => {}
-            Err(refusal) => return Err(refusal),
-        }
+        look_at_end(alloc, names, transitions, place)?;
     }
     Ok(())
 }

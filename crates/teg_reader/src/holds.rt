@@ -72,10 +72,7 @@ pub(crate) fn look_for_slow_places(
         result }
 {
     for place in places {
-        match look_at_hold(alloc, names, transitions, place) {
-            Ok(()) => {}
-            Err(refusal) => return Err(refusal),
-        }
+        look_at_hold(alloc, names, transitions, place)?;
     }
     Ok(())
 }

@@ -128,10 +128,7 @@ pub(crate) fn look_for_bad_inputs(
         result }
 {
     for entry in inputs {
-        match look_at_input(alloc, names, transitions, entry) {
-            Ok(()) => {}
-            Err(refusal) => return Err(refusal),
-        }
+        look_at_input(alloc, names, transitions, entry)?;
     }
     Ok(())
 }

@@ -51,10 +51,7 @@ pub(crate) fn look_for_bad_ready(alloc: Global, places: &[Value]) -> Result<(), 
     ensures { Finds (first_of_entries bad_ready (map view places.now)) result }
 {
     for place in places {
-        match look_at_ready(alloc, place) {
-            Ok(()) => {}
-            Err(refusal) => return Err(refusal),
-        }
+        look_at_ready(alloc, place)?;
     }
     Ok(())
 }

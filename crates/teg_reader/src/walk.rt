@@ -33,10 +33,7 @@ pub(crate) fn look_at_each<P: Pass>(
             return Err(ReadRefusal::OutOfMemory);
         };
         let spot = Spot { section, position };
-        match pass.look(alloc, spot, entry) {
-            Ok(()) => {}
-            Err(refusal) => return Err(refusal),
-        }
+        pass.look(alloc, spot, entry)?;
     }
     Ok(())
 }
