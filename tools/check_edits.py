@@ -3,7 +3,7 @@
 
     tools/check_edits.py
 
-An edit's first line is `why: WHAT A WRONG PROGRAM WOULD DO; refused by: CLAUSE`. Then come a line `file: PATH`,
+An edit's first line is `# why: WHAT A WRONG PROGRAM WOULD DO; refused by: CLAUSE`. Then come a line `file: PATH`,
 and pairs of lines `old: TEXT` and `new: TEXT`, each old text once in that file as the pairs before it left it. A crate
 has at most 8 edits, and all together at most 240: each costs a check of its crate. An edit of `specs/` or `proofs/`
 shows nothing of a contract. Each edit that a page of docs/ names, as `CRATE/NAME`, is there.
@@ -17,14 +17,14 @@ from pathlib import Path
 
 TOP = Path(__file__).resolve().parent.parent
 MOST, MOST_OF_A_CRATE = 240, 8
-REASON = re.compile(r"why: \S.*; refused by: \S")
+REASON = re.compile(r"(?:# )?why: \S.*; refused by: \S")
 
 
 def faults_of(path):
     """What is wrong with an edit."""
     lines = path.read_text(encoding="utf-8").splitlines()
     if not lines or not REASON.match(lines[0]):
-        yield "its first line is not 'why: ..; refused by: ..'"
+        yield "its first line is not '# why: ..; refused by: ..'"
     told, text, old = None, "", None
     for line in lines:
         kind, colon, rest = line.partition(":")
