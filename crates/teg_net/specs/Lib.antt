@@ -13,3 +13,4 @@ pub mod ReducedTimes
 pub mod GreatestRatios
 pub mod PartAnswers
 pub mod Certificates
+pub mod Changes

@@ -1,8 +1,8 @@
-//! Copies of the entries of a net, and the net without its input lists.
+//! Copies of the entries of a net, of the whole net, and of the net without its input lists.
 ghost use Rattle.std.specs.Prelude.{◌≡◌, IfOk};
 ghost use Rattle.teg_net.specs.Nets.{without_inputs};
 
-use crate::entries::{Place, Transition};
+use crate::entries::{InputList, Place, Transition};
 use crate::memory::OutOfMemory;
 use crate::names::Name;
 use crate::net::Net;
@@ -60,7 +60,40 @@ fn places_copy(alloc: Global, places: &[Place]) -> Result<Vec<Place>, AllocError
     Ok(copies)
 }
 
+// The same input list once more.
+fn input_copy(alloc: Global, list: &InputList) -> Result<InputList, AllocError>
+    ensures { IfOk result (λ copy. copy ≡ list.now) }
+{
+    let dates = list.dates.copy(alloc)?;
+    Ok(InputList {
+        transition: list.transition,
+        dates,
+        again: list.again,
+    })
+}
+
+// The same input lists once more, in order.
+fn inputs_copy(alloc: Global, inputs: &[InputList]) -> Result<Vec<InputList>, AllocError>
+    ensures { IfOk result (λ copies. copies.items ≡ inputs.now) }
+{
+    let mut copies = Vec::new(alloc);
+    for list in inputs {
+        copies.push(input_copy(alloc, list)?)?;
+    }
+    Ok(copies)
+}
+
 impl Net {
+    /// The same net once more. `OutOfMemory` comes only where no memory is found.
+    pub fn copy(&self, alloc: Global) -> Result<Net, OutOfMemory>
+        ensures { IfOk result (λ net. net ≡ self.now) }
+    {
+        let transitions = transitions_copy(alloc, self.transitions())?;
+        let places = places_copy(alloc, self.places())?;
+        let inputs = inputs_copy(alloc, self.inputs())?;
+        Ok(Net::new(transitions, places, inputs))
+    }
+
     /// The net with the same transitions and the same places, in order, ready dates with them, and
     /// no input list. `OutOfMemory` comes only where no memory is found.
     pub fn without_inputs(&self, alloc: Global) -> Result<Net, OutOfMemory>

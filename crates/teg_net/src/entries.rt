@@ -17,15 +17,47 @@ pub enum Role {
 }
 
 /// The number of a transition, counted from 0 in the order of the file.
-#[derive(Clone, Copy, Debug, PartialEq, Eq)]
+#[derive(Clone, Copy, Debug, PartialEq, Eq, PartialOrd, Ord, Hash)]
 pub struct TransitionId {
     pub index: u32,
 }
 
+impl TransitionId {
+    /// The transition of this number, counted from 0. It takes no memory.
+    pub fn new(index: u32) -> TransitionId
+        ensures { result.index ≡ index }
+    {
+        TransitionId { index }
+    }
+
+    /// The number, counted from 0, to index a list with. It takes no memory.
+    pub fn index(self) -> usize
+        ensures { result ≡ self.index }
+    {
+        self.index as usize
+    }
+}
+
 /// The number of a place, counted from 0 in the order of the file.
-#[derive(Clone, Copy, Debug, PartialEq, Eq)]
+#[derive(Clone, Copy, Debug, PartialEq, Eq, PartialOrd, Ord, Hash)]
 pub struct PlaceId {
     pub index: u32,
+}
+
+impl PlaceId {
+    /// The place of this number, counted from 0. It takes no memory.
+    pub fn new(index: u32) -> PlaceId
+        ensures { result.index ≡ index }
+    {
+        PlaceId { index }
+    }
+
+    /// The number, counted from 0, to index a list with. It takes no memory.
+    pub fn index(self) -> usize
+        ensures { result ≡ self.index }
+    {
+        self.index as usize
+    }
 }
 
 /// A transition (chapter 2).

@@ -8,6 +8,8 @@
 #![tactic(auto)]
 
 mod answers;
+mod bounded;
+mod changes;
 mod circuits;
 mod copies;
 mod entries;
@@ -26,6 +28,8 @@ mod rounds;
 mod walks;
 
 pub use answers::{CycleAnswer, PartAnswer, Potential};
+pub use bounded::{FiringNumber, UpTo};
+pub use changes::{holds_keep_circuits, holds_keep_live_nets, holds_keep_places};
 pub use circuits::Circuit;
 pub use entries::{Again, DateList, InputList, Place, PlaceId, Role, Transition, TransitionId};
 pub use labels::Label;

@@ -1,7 +1,9 @@
-//! Transitions and places by their names.
-ghost use Rattle.std.specs.Prelude.{◌≡◌, ◌≢◌, ◌↔◌, All, Option, None, IfSome, IsSomeAnd, slice_get};
+//! Transitions and places by their names and by their numbers.
+ghost use Rattle.std.specs.Prelude.{◌≡◌, ◌≢◌, ◌↔◌, ◌<◌, All, Option, Some, None, IfSome, IsSomeAnd, IsTrue, length, slice_get};
+ghost use Rattle.teg_net.specs.Circuits.{place_at};
+ghost use Rattle.teg_net.specs.Nets.{IsInput};
 
-use crate::entries::{PlaceId, TransitionId};
+use crate::entries::{Place, PlaceId, Role, Transition, TransitionId};
 use crate::net::Net;
 
 impl Net {
@@ -35,5 +37,45 @@ impl Net {
             }
         }
         None
+    }
+
+    /// Whether the net has a transition of this number. It takes no memory.
+    pub fn contains_transition(&self, id: TransitionId) -> bool
+        ensures { IsTrue result ↔ id.index < length self.now.transitions }
+    {
+        id.index() < self.transitions().len()
+    }
+
+    /// Whether the net has a place of this number. It takes no memory.
+    pub fn contains_place(&self, id: PlaceId) -> bool
+        ensures { IsTrue result ↔ id.index < length self.now.places }
+    {
+        id.index() < self.places().len()
+    }
+
+    /// The transition of this number. It takes no memory.
+    pub fn transition(&self, id: TransitionId) -> &Transition
+        requires { id.index < length self.now.transitions }
+        ensures { slice_get self.now.transitions id.index ≡ Some result.now }
+    {
+        &self.transitions()[id.index()]
+    }
+
+    /// The place of this number. It takes no memory.
+    pub fn place(&self, id: PlaceId) -> &Place
+        requires { id.index < length self.now.places }
+        ensures { result.now ≡ place_at self.now id }
+    {
+        &self.places()[id.index()]
+    }
+
+    /// Whether this is the number of an input transition of the net. It takes no memory.
+    pub fn is_input(&self, id: TransitionId) -> bool
+        ensures { IsTrue result ↔ IsInput self.now id.index }
+    {
+        match self.transitions().get(id.index()) {
+            Some(transition) => transition.role == Role::Input,
+            None => false,
+        }
     }
 }

@@ -4,6 +4,8 @@ ghost use Rattle.std.specs.List.{list_all};
 ghost use Rattle.teg_net.specs.Names.{is_name, is_name_byte};
 
 use std::alloc::{AllocError, Global};
+use std::error::Error;
+use std::fmt;
 use std::marker::Model;
 
 /// A text that can name a transition or a place: 1 to 64 bytes, each at least 0x21 and none of
@@ -32,6 +34,17 @@ pub enum NameRefused {
     /// No memory was found for the copy.
     OutOfMemory,
 }
+
+impl fmt::Display for NameRefused {
+    fn fmt<W: fmt::Write>(&self, f: &mut fmt::Formatter<W>) -> fmt::Result {
+        match self {
+            NameRefused::Bad => f.write_str("the text is no name"),
+            NameRefused::OutOfMemory => f.write_str("out of memory"),
+        }
+    }
+}
+
+impl Error for NameRefused {}
 
 // Whether a name may have the byte.
 fn is_name_byte(byte: u8) -> bool

@@ -1,7 +1,7 @@
 //! The net: its three lists under the rules that they keep.
-ghost use Rattle.std.specs.Prelude.{◌≡◌};
+ghost use Rattle.std.specs.Prelude.{◌≡◌, ◌<◌, ◌≤◌, length};
 
-use crate::entries::{InputList, Place, Transition};
+use crate::entries::{InputList, Place, PlaceId, Transition};
 use std::marker::Model;
 
 /// A timed event graph (chapter 2) whose lists keep the rules of `IsNet`: 1 to 400 transitions and
@@ -27,6 +27,9 @@ impl Model for Net {
 }
 
 impl Net {
+    ghost use Rattle.teg_net.specs.Changes.{MayHaveTokens, with_hold, with_tokens};
+    ghost use Rattle.teg_net.specs.Circuits.{place_at};
+    ghost use Rattle.teg_net.specs.Limits.{greatest_hold};
     ghost use Rattle.teg_net.specs.Nets.{IsNet, lists_of};
 
     /// The net of these lists, which keep the rules of a net. It takes no memory.
@@ -71,5 +74,26 @@ impl Net {
         ensures rules { IsNet self.now }
     {
         &self.inputs
+    }
+
+    /// Gives the place another holding time, in the user's unit; all else stays. The circuits and
+    /// their tokens stay too (`holds_keep_circuits`), so that a live net stays live. It takes no
+    /// memory.
+    pub fn set_hold(&mut self, place: PlaceId, hold: u64)
+        requires place { place.index < length self.old.places }
+        requires hold { hold ≤ greatest_hold }
+        ensures { self.new ≡ with_hold self.old place hold }
+    {
+        self.places[place.index as usize].hold = hold;
+    }
+
+    /// Gives the place another number of initial tokens; all else stays, its ready dates too. The
+    /// net may become live, or live no more. It takes no memory.
+    pub fn set_tokens(&mut self, place: PlaceId, tokens: u32)
+        requires place { place.index < length self.old.places }
+        requires tokens { MayHaveTokens (place_at self.old place) tokens }
+        ensures { self.new ≡ with_tokens self.old place tokens }
+    {
+        self.places[place.index as usize].tokens = tokens;
     }
 }

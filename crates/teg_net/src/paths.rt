@@ -1,5 +1,6 @@
 //! Paths and circuits of a net: which lists of places they are, and their sums (chapter 2).
-ghost use Rattle.std.specs.Prelude.{◌≡◌, ◌↔◌, ◌<◌, ℕ, [], IsTrue, IfNone, IfSome, Any, AllPairs, ◌≢◌};
+ghost use Rattle.std.specs.Prelude.{◌≡◌, ◌↔◌, ◌<◌, ◌≤◌, ◌*◌, ℕ, [], length, IsTrue, IfNone, IfSome, Any, AllPairs, ◌≢◌};
+ghost use Rattle.teg_net.specs.Limits.{greatest_hold, most_place_tokens};
 ghost use Rattle.teg_net.specs.Paths.{IsPathStart};
 ghost use Rattle.teg_net.specs.Circuits.{IsPathBetween, IsPath, IsCircuit, AreInRange, from_of, time_of, tokens_of};
 
@@ -35,9 +36,11 @@ fn path_start(net: &Net, places: &[PlaceId]) -> Option<TransitionId>
 }
 
 /// Whether each number is that of a place of the net, and each place ends where the next begins.
-/// The empty list is a path. It takes no memory.
+/// The empty list is a path. Where it says yes, the places are those of the net (`in_range`), so that
+/// their time and tokens may be asked. It takes no memory.
 pub fn is_path(net: &Net, places: &[PlaceId]) -> bool
-    ensures { IsTrue result ↔ IsPath net.now places.now }
+    ensures is { IsTrue result ↔ IsPath net.now places.now }
+    ensures in_range { IsTrue result → AreInRange net.now places.now }
 {
     match path_start(net, places) {
         Some(start) => path_end(net, places, start).is_some(),
@@ -71,9 +74,11 @@ fn leaves_once(net: &Net, places: &[PlaceId]) -> bool
 }
 
 /// Whether the places are a path that is not empty, ends where it begins, and leaves no transition
-/// twice. It takes no memory.
+/// twice. Where it says yes, the places are those of the net (`in_range`), so that its time and tokens
+/// may be asked. It takes no memory.
 pub fn is_circuit(net: &Net, places: &[PlaceId]) -> bool
-    ensures { IsTrue result ↔ IsCircuit net.now places.now }
+    ensures is { IsTrue result ↔ IsCircuit net.now places.now }
+    ensures in_range { IsTrue result → AreInRange net.now places.now }
 {
     let Some(start) = path_start(net, places) else {
         return false;
@@ -87,7 +92,8 @@ pub fn is_circuit(net: &Net, places: &[PlaceId]) -> bool
 /// The sum of the holding times of places of the net, in the user's unit. It takes no memory.
 pub fn time_of(net: &Net, places: &[PlaceId]) -> u128
     requires { AreInRange net.now places.now }
-    ensures { result ≡ time_of net.now places.now }
+    ensures value { result ≡ time_of net.now places.now }
+    ensures most { result ≤ length places.now * greatest_hold }
 {
     let own = net.places();
     let mut time: u128 = 0;
@@ -100,7 +106,8 @@ pub fn time_of(net: &Net, places: &[PlaceId]) -> u128
 /// The sum of the initial tokens of places of the net. It takes no memory.
 pub fn tokens_of(net: &Net, places: &[PlaceId]) -> u128
     requires { AreInRange net.now places.now }
-    ensures { result ≡ tokens_of net.now places.now }
+    ensures value { result ≡ tokens_of net.now places.now }
+    ensures most { result ≤ length places.now * most_place_tokens }
 {
     let own = net.places();
     let mut tokens: u128 = 0;

@@ -11,12 +11,12 @@ tokens_of-tokens-requires c = let h = c.requires.circuit in IsPathBetween-in_ran
 pub is_ratio_of-requires-clause-time : goal.is_ratio_of-requires-clause-time
 is_ratio_of-requires-clause-time c =
     let s = circuit_sums c.args.net.now c.rules.ensures c.args.places.now c.requires.circuit in
-    rw c.time_of-time.ensures s.0
+    rw c.time_of-time.ensures.value s.0
 
 pub is_ratio_of-requires-clause-tokens : goal.is_ratio_of-requires-clause-tokens
 is_ratio_of-requires-clause-tokens c =
     let s = circuit_sums c.args.net.now c.rules.ensures c.args.places.now c.requires.circuit in
-    rw c.tokens_of-tokens.ensures s.1
+    rw c.tokens_of-tokens.ensures.value s.1
 
 pub returns : goal.returns
-returns c = rw (c.time_of-time.ensures, c.tokens_of-tokens.ensures) at c.is_ratio_of.ensures
+returns c = rw (c.time_of-time.ensures.value, c.tokens_of-tokens.ensures.value) at c.is_ratio_of.ensures

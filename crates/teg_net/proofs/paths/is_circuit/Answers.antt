@@ -11,14 +11,17 @@ no_circuit net ps none h =
     let empty : length ps ≡ 0 = ap length (none (IsPathBetween-in_range net ps h.closed.0 h.closed.0 h.closed.1)) in
     absurd (omega (arith, h.not_empty))
 
-pub returns-in_default : goal.returns-in_default
-returns-in_default c = (λ t. cc, λ h. absurd (no_circuit c.args.net.now c.args.places.now c.in_default.ensures.none h))
+pub returns-in_default-clause-is : goal.returns-in_default-clause-is
+returns-in_default-clause-is c = (λ t. cc, λ h. absurd (no_circuit c.args.net.now c.args.places.now c.in_default.ensures.none h))
 
 pub leaves_once-requires : goal.leaves_once-requires
 leaves_once-requires c = IsPathBetween-in_range c.args.net.now c.args.places.now c.in-Some.start.index c.in-Some-path_end.end.index c.in-Some-path_end.ensures.end
 
-pub returns-else-end-start : goal.returns-else-end-start
-returns-else-end-start c = (
+pub returns-else-end-start-clause-is : goal.returns-else-end-start-clause-is
+returns-else-end-start-clause-is c = (
   λ t. absurd (grind (arith, common_steps)),
   λ h. let same = IsPathBetween-closed c.args.net.now c.args.places.now h.closed.0 c.in-Some.start.index c.in-Some-path_end.end.index h.closed.1 c.in-Some.ensures.start c.in-Some-path_end.ensures.end in grind (arith, common_steps),
 )
+
+pub returns-then-end-start-clause-in_range : goal.returns-then-end-start-clause-in_range
+returns-then-end-start-clause-in_range c = λ t. IsPathBetween-in_range c.args.net.now c.args.places.now c.in-Some.start.index c.in-Some-path_end.end.index c.in-Some-path_end.ensures.end
