@@ -14,6 +14,7 @@ use Rattle.teg_net.specs.Limits.{most_places}
 use Rattle.teg_net.specs.Names.{is_name}
 use Rattle.teg_net.specs.Nets.{NetLists, lists_of, IsPlaceOf, IsInputOf, IsNet}
 use Rattle.teg_net.specs.Circuits.{no_place, place_at, IsPathBetween, IsCircuit, tokens_of}
+use Rattle.teg_net.proofs.NetRules.{place_along, input_along}
 use Rattle.teg_net.specs.Changes.{MayHaveTokens, place_with_hold, place_with_tokens, with_hold, HoldsKeepPlaces, HoldsKeepCircuits, HoldsKeepLiveNets}
 use Rattle.std.proofs.Common.{get_or}
 
@@ -100,27 +101,6 @@ name_at places i p q l is same j d =
     (λ other. ap (λ z. z.name) (get_or-set_other places i j q d other))
     (cases_eq j i)
 
-module _ (transitions : List Transition) (places others : List Place) (inputs : List InputList) where
-  place_along : (p : Place) → IsPlaceOf (lists_of transitions places inputs) p → IsPlaceOf (lists_of transitions others inputs) p
-  place_along p h = record {
-    from_in = h.from_in;
-    to_in = h.to_in;
-    enters_no_input = h.enters_no_input;
-    hold_in = h.hold_in;
-    tokens_in = h.tokens_in;
-    ready_all = h.ready_all;
-    ready_in = h.ready_in;
-  }
-
-  input_along : (l : InputList) → IsInputOf (lists_of transitions places inputs) l → IsInputOf (lists_of transitions others inputs) l
-  input_along l h = record {
-    is_input = h.is_input;
-    few = h.few;
-    dates_in = h.dates_in;
-    never_falls = h.never_falls;
-    again = h.again;
-  }
-
 -- a net with another place of the same name, which may stand in it, keeps the rules
 pub rules_kept :
     (transitions : List Transition) (places : List Place) (inputs : List InputList) (i : ℕ) (p q : Place)
@@ -130,7 +110,7 @@ pub rules_kept :
 rules_kept transitions places inputs i p q ok l is same may =
     let named : IsTrue (is_name p.name) = subst (λ z. IsTrue (is_name z.name)) (sym is) (ok.place_names i p l) in
     let here : IsPlaceOf (lists_of transitions places inputs) p = subst (IsPlaceOf (lists_of transitions places inputs)) (sym is) (ok.each_place i p l) in
-    let along = place_along transitions places (set places i q) inputs in
+    let along = place_along transitions places (set places i q) inputs inputs in
     let long : length (set places i q) ≡ length places = length-set places i q in
     record {
       some_transition = ok.some_transition;
@@ -144,7 +124,7 @@ rules_kept transitions places inputs i p q ok l is same may =
           (sym (name_at places i p q l is same j d) ∙ (equal ∙ name_at places i p q l is same k d));
       each_place = All-set (IsPlaceOf (lists_of transitions (set places i q) inputs)) places i q (along q (may here)) (λ j d m. along (get_or places j d) (ok.each_place j d m));
       one_list = ok.one_list;
-      each_input = λ j d m. input_along transitions places (set places i q) inputs (get_or inputs j d) (ok.each_input j d m);
+      each_input = λ j d m. input_along transitions places (set places i q) inputs inputs (get_or inputs j d) (ok.each_input j d m);
     }
 
 -- a place may have so many tokens

@@ -48,26 +48,3 @@ IsPathBetween-closed net (p ∷ ps) a start end h s w =
 -- what stands past the end of a path
 abbrev pub no_id : PlaceId
 no_id = record { index = 0 }
-
--- a place after the one at i leaves the same transition
-pub leaves_twice :
-    (net : NetLists) (ps : List PlaceId) (i t : ℕ) (e : PlaceId) → i < length ps → from_of net (get_or ps i e) ≡ t
-    → Any (λ p. from_of net p ≡ t) (drop (i + 1) ps) → AllPairs (λ p q. from_of net p ≢ from_of net q) ps → ⊥
-leaves_twice net ps i t e l same (k, x, m, r, s) once =
-    let far : i + 1 + k < length ps = omega (arith, length-drop (i + 1) ps) in
-    let here : from_of net (get_or ps i x) ≡ t = ap (from_of net) (get_or_default ps i x e l) ∙ same in
-    let there : from_of net (get_or ps (i + 1 + k) x) ≡ t = ap (from_of net) (sym (get_or-drop (i + 1) ps k x) ∙ r) ∙ s in
-    once i (i + 1 + k) x (omega arith) far (here ∙ sym there)
-
--- no place after the one at i leaves the same transition
-pub leaves_once_at :
-    (net : NetLists) (ps : List PlaceId) (i t : ℕ) (e : PlaceId) → i < length ps → from_of net (get_or ps i e) ≡ t
-    → (Any (λ p. from_of net p ≡ t) (drop (i + 1) ps) → ⊥) → (k : ℕ) (d : PlaceId) → i < k → k < length ps → from_of net (get_or ps i d) ≢ from_of net (get_or ps k d)
-leaves_once_at net ps i t e l same none k d m n =
-    λ both.
-    let x : PlaceId = get_or ps k d in
-    let place : i + 1 + (k - (i + 1)) ≡ k = omega arith in
-    let read : get_or (drop (i + 1) ps) (k - (i + 1)) x ≡ x =
-    get_or-drop (i + 1) ps (k - (i + 1)) x ∙ (ap (λ j. get_or ps j x) place ∙ get_or_default ps k x d n)
-    in
-    none (k - (i + 1), x, omega (arith, length-drop (i + 1) ps), read, sym both ∙ (ap (from_of net) (get_or_default ps i d e l) ∙ same))

@@ -71,3 +71,7 @@ pub record IsNet (net : NetLists) : Type 0 where
 -- the net with the same transitions and places in order, and no input list
 abbrev pub without_inputs : NetLists → NetLists
 without_inputs net = lists_of net.transitions net.places []
+
+-- the net of these transitions and nothing else
+abbrev pub transitions_alone : List Transition → NetLists
+transitions_alone transitions = lists_of transitions [] []

@@ -25,6 +25,7 @@ mod paths;
 mod ratios;
 mod ready;
 mod rounds;
+mod rules;
 mod walks;
 
 pub use answers::{CycleAnswer, PartAnswer, Potential};
@@ -41,4 +42,5 @@ pub use net::Net;
 pub use paths::{is_circuit, is_path, time_of, tokens_of};
 pub use ratios::Ratio;
 pub use rounds::{Choice, Round};
+pub use rules::is_net;
 pub use walks::{Step, Walk, is_walk, walk_end, walk_time};

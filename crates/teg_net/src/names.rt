@@ -61,7 +61,7 @@ fn has_name_bytes(text: &str) -> bool
 }
 
 // Whether the text can be a name.
-fn is_name(text: &str) -> bool
+pub(crate) fn is_name(text: &str) -> bool
     ensures { result ≡ is_name text.now }
 {
     let size = text.len();
