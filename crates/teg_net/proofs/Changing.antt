@@ -12,7 +12,7 @@ use Rattle.teg_net.specs.declared.entries.Transition.{Transition}
 use Rattle.teg_net.specs.declared.entries.InputList.{InputList}
 use Rattle.teg_net.specs.Limits.{most_places}
 use Rattle.teg_net.specs.Names.{is_name}
-use Rattle.teg_net.specs.Nets.{NetLists, lists_of, IsPlaceOf, IsInputOf, IsNet}
+use Rattle.teg_net.specs.Nets.{NetLists, lists_of, IsPlaceOf, IsNet}
 use Rattle.teg_net.specs.Circuits.{no_place, place_at, IsPathBetween, IsCircuit, tokens_of}
 use Rattle.teg_net.proofs.NetRules.{place_along, input_along}
 use Rattle.teg_net.specs.Changes.{MayHaveTokens, place_with_hold, place_with_tokens, with_hold, HoldsKeepPlaces, HoldsKeepCircuits, HoldsKeepLiveNets}

@@ -1,5 +1,5 @@
 -- The rules of a net, put together from tests of its lists.
-use Rattle.std.proofs.Common.{◌≡◌, ◌≢◌, ◌≤◌, List, [], length, get_or}
+use Rattle.std.proofs.Common.{◌≢◌, ◌≤◌, List, [], length, get_or}
 use Rattle.std.specs.Prelude.{All, AllPairs, IsTrue}
 use Rattle.teg_net.specs.declared.entries.Transition.{Transition}
 use Rattle.teg_net.specs.declared.entries.Place.{Place}

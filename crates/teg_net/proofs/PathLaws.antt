@@ -1,10 +1,8 @@
 -- Paths put together and taken apart.
-use Rattle.std.proofs.Common.{ℕ, zero, suc, ◌+◌, ◌<◌, ◌≡◌, ◌≢◌, List, [], ◌∷◌, ◌++◌, length, get_or, drop, refl, sym, ap, subst, ◌∙◌, arith, ◌-◌}
-use Rattle.std.specs.Prelude.{AllPairs, Any}
-use Rattle.std.proofs.lemmas.List.{length-drop, get_or-drop, get_or_default}
+use Rattle.std.proofs.Common.{ℕ, zero, suc, ◌≡◌, List, [], ◌∷◌, ◌++◌, drop, refl, sym, subst, ◌∙◌, arith}
 use Rattle.teg_net.specs.declared.entries.PlaceId.{PlaceId}
 use Rattle.teg_net.specs.Nets.{NetLists}
-use Rattle.teg_net.specs.Circuits.{place_at, from_of, IsPathBetween, IsPath, AreInRange}
+use Rattle.teg_net.specs.Circuits.{place_at, IsPathBetween, IsPath, AreInRange}
 use Rattle.teg_net.specs.Paths.{IsPathStart}
 
 pub IsPathBetween-append :

@@ -1,4 +1,4 @@
-use Rattle.std.proofs.Common.{◌≡◌, ◌<◌, length, get_or, false, true, sym, ap, ◌∙◌}
+use Rattle.std.proofs.Common.{◌≡◌, get_or, false, true, sym, ap}
 use Rattle.teg_net.specs.declared.entries.InputList.{InputList}
 use Rattle.teg_net.proofs.Distinct.{rest_twice, apart_more, not_both}
 use Rattle.teg_net.proofs.rules.are_distinct_lists.Goals as goal

@@ -17,8 +17,7 @@ returns-then-not-are_entries c =
 pub returns : goal.returns
 returns c =
     let few : c.are_few.result ≡ true = search rules in
-    let entries : c.are_entries.result ≡ true = search rules in
-    (
+    let entries : c.are_entries.result ≡ true = search rules in (
       λ t. rules_hold c.args.transitions.now c.args.places.now c.args.inputs.now (c.are_few.ensures.0 few) (c.are_entries.ensures.0 entries) (c.are_distinct.ensures.0 t),
       λ ok. c.are_distinct.ensures.1 (ok.distinct_transitions, ok.distinct_places, ok.one_list),
     )
