@@ -11,8 +11,10 @@
 mod elimination;
 mod exits;
 mod live;
+mod live_net;
 mod refusal;
 
 pub use elimination::{check, ranks_of};
 pub use live::{Live, ranked_nets_are_live};
+pub use live_net::{LiveNet, NotHeld};
 pub use refusal::CheckRefusal;
