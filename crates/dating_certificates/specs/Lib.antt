@@ -1,0 +1,2 @@
+pub mod TightRows
+pub use Rattle.teg_model.specs as teg_model

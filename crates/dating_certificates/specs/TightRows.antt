@@ -1,0 +1,28 @@
+-- Rows of dates of which each is the latest of what its firing waits for, and that these are the first of the least dating (chapter 2).
+use Rattle.std.specs.Prelude.{ℕ, ◌<◌, ◌≤◌, ◌≡◌, length, All}
+use Rattle.teg_model.specs.dioid.declared.dates.Date.{Date}
+use Rattle.teg_model.specs.dioid.Dates.{IsAtMostDate}
+use Rattle.teg_model.specs.teg_net.Nets.{NetLists, IsInput}
+use Rattle.teg_model.specs.teg_net.Circuits.{IsLive}
+use Rattle.teg_model.specs.LiveRanks.{HasEndsInRange}
+use Rattle.teg_model.specs.Datings.{IsLeastUnder, extended_places, available_at}
+
+-- the date is at most z: each token that the firing takes, and at an input its release, is there by z
+pub record AreThereBy (net : NetLists) (u x : ℕ → ℕ → Date) (t k : ℕ) (z : Date) : Type 0 where
+  pub tokens : All (λ p. p.to.index ≡ t → IsAtMostDate (available_at x p k) z) (extended_places net)
+  pub release : IsInput net t → IsAtMostDate (u t k) z
+
+-- the date of firing k of transition t is the latest of what it waits for
+pub record IsLatestOfWaits (net : NetLists) (u x : ℕ → ℕ → Date) (t k : ℕ) : Type 0 where
+  pub there : AreThereBy net u x t k (x t k)
+  pub least : (z : Date) → AreThereBy net u x t k z → IsAtMostDate (x t k) z
+
+-- so is each date up to this number
+abbrev pub AreTightUpTo : NetLists → (ℕ → ℕ → Date) → (ℕ → ℕ → Date) → ℕ → Type 0
+AreTightUpTo net u x last = (t k : ℕ) → t < length net.transitions → 1 ≤ k → k ≤ last → IsLatestOfWaits net u x t k
+
+-- dates that are so up to a number are those of the least dating of a live net up to there, whatever stands behind
+abbrev pub FirstRowsAreLeast : Type 0
+FirstRowsAreLeast = (net : NetLists) → HasEndsInRange net → IsLive net → (u x y : ℕ → ℕ → Date) (last : ℕ)
+    → AreTightUpTo net u x last → IsLeastUnder net u y
+    → (t k : ℕ) → t < length net.transitions → 1 ≤ k → k ≤ last → x t k ≡ y t k

@@ -1,0 +1,11 @@
+//! What conditions on single dates tell of the least dating.
+ghost use Rattle.dating_certificates.specs.TightRows.{FirstRowsAreLeast};
+
+/// In a live net, dates that up to a number are each the latest of what the firing waits for are
+/// there the least dates, under any releases (chapter 2). It does nothing when it runs.
+///
+/// Liveness is needed: a transition with a place to itself without hold and tokens waits for its
+/// own firing, and then each date from the least on is the latest of what it waits for.
+pub fn first_rows_are_least()
+    ensures { FirstRowsAreLeast }
+{}
