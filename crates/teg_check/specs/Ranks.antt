@@ -1,5 +1,7 @@
 -- What ranks of a net are. A value stands for a net where its list of ranks is a ranking of it.
 use Rattle.std.specs.Prelude.{ℕ, ◌<◌, ◌≡◌, List, length, All, slice_index}
+use Rattle.teg_net.specs.declared.entries.PlaceId.{PlaceId}
+use Rattle.teg_net.specs.Changes.{with_hold}
 use Rattle.teg_net.specs.Nets.{NetLists}
 use Rattle.teg_net.specs.Circuits.{IsLive}
 
@@ -12,3 +14,7 @@ pub record IsRanking (net : NetLists) (ranks : List ℕ) : Type 0 where
 -- a net for which ranks stand is live
 abbrev pub RankedNetsAreLive : Type 0
 RankedNetsAreLive = (net : NetLists) (ranks : List ℕ) → IsRanking net ranks → IsLive net
+
+-- ranks stand for a net with another holding time too
+abbrev pub HoldsKeepRankings : Type 0
+HoldsKeepRankings = (net : NetLists) (ranks : List ℕ) (id : PlaceId) (hold : ℕ) → id.index < length net.places → IsRanking net ranks → IsRanking (with_hold net id hold) ranks

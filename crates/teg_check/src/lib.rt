@@ -15,6 +15,6 @@ mod live_net;
 mod refusal;
 
 pub use elimination::{check, ranks_of};
-pub use live::{Live, ranked_nets_are_live};
+pub use live::{Live, holds_keep_rankings, ranked_nets_are_live};
 pub use live_net::{LiveNet, NotHeld};
 pub use refusal::CheckRefusal;

@@ -1,6 +1,6 @@
 //! Ranks of a live net.
 ghost use Rattle.std.specs.Prelude.{◌≡◌, ◌<◌, length, slice_index};
-ghost use Rattle.teg_check.specs.Ranks.{RankedNetsAreLive};
+ghost use Rattle.teg_check.specs.Ranks.{HoldsKeepRankings, RankedNetsAreLive};
 
 use std::marker::Model;
 use teg_net::TransitionId;
@@ -41,4 +41,10 @@ impl Live {
 /// The law that ranks exist only for live nets (chapter 2). It does nothing when it runs.
 pub fn ranked_nets_are_live()
     ensures { RankedNetsAreLive }
+{}
+
+/// The law that ranks of a net stand for it with another holding time too: they look at places and
+/// tokens alone (chapter 2). It does nothing when it runs.
+pub fn holds_keep_rankings()
+    ensures { HoldsKeepRankings }
 {}

@@ -1,15 +1,17 @@
 //! A live net with its ranks, as one value.
-ghost use Rattle.std.specs.Prelude.{◌≡◌, IfOk, IfErr};
-ghost use Rattle.teg_net.specs.Circuits.{IsLive};
+ghost use Rattle.std.specs.Prelude.{◌≡◌, ◌<◌, ◌≤◌, length, IfOk, IfErr, OnOk, OnErr};
+ghost use Rattle.teg_net.specs.Changes.{MayHaveTokens, with_hold, with_tokens};
+ghost use Rattle.teg_net.specs.Circuits.{IsLive, place_at};
+ghost use Rattle.teg_net.specs.Limits.{greatest_hold};
 ghost use Rattle.teg_check.specs.CheckRefusals.{IsRightCheckRefusal};
 ghost use Rattle.teg_check.specs.Ranks.{IsRanking};
 
 use crate::elimination::check;
-use crate::live::{Live, ranked_nets_are_live};
+use crate::live::{Live, holds_keep_rankings, ranked_nets_are_live};
 use crate::refusal::CheckRefusal;
 use std::alloc::Global;
 use std::marker::Model;
-use teg_net::Net;
+use teg_net::{Net, PlaceId};
 
 /// A live net with its ranks, to be held, changed and asked again (chapter 2). Contracts see the
 /// net.
@@ -78,5 +80,50 @@ impl LiveNet {
     {
         ranked_nets_are_live();
         self.net
+    }
+
+    /// Gives the place another holding time, in the user's unit; all else stays, its ranks too. It
+    /// takes no memory.
+    pub fn set_hold(&mut self, place: PlaceId, hold: u64)
+        requires place { place.index < length self.old.places }
+        requires hold { hold ≤ greatest_hold }
+        ensures { self.new ≡ with_hold self.old place hold }
+    {
+        holds_keep_rankings();
+        self.net.set_hold(place, hold);
+    }
+
+    /// Gives the place another number of initial tokens, where the net stays live with them; all
+    /// else stays.
+    ///
+    /// `TokenFree` comes exactly where some circuit would have no tokens, and names one;
+    /// `OutOfMemory` comes only where no memory is found. A change that is refused leaves the net as
+    /// it was. It takes the time of [`check`].
+    pub fn set_tokens(
+        &mut self,
+        alloc: Global,
+        place: PlaceId,
+        tokens: u32,
+    ) -> Result<(), CheckRefusal>
+        requires place { place.index < length self.old.places }
+        requires tokens { MayHaveTokens (place_at self.old place) tokens }
+        ensures changed { OnOk result (self.new ≡ with_tokens self.old place tokens) }
+        ensures live { OnOk result (IsLive self.new) }
+        ensures kept { OnErr result (self.new ≡ self.old) }
+        ensures refusal { IfErr result (IsRightCheckRefusal (with_tokens self.old place tokens)) }
+    {
+        self.net.rules();
+        let before = self.net.place(place).tokens;
+        self.net.set_tokens(place, tokens);
+        match check(alloc, &self.net) {
+            Ok(live) => {
+                self.live = live;
+                Ok(())
+            }
+            Err(refusal) => {
+                self.net.set_tokens(place, before);
+                Err(refusal)
+            }
+        }
     }
 }
