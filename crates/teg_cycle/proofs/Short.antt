@@ -8,7 +8,7 @@ use Rattle.teg_net.specs.Nets.{NetLists, IsNet}
 use Rattle.teg_net.specs.Circuits.{no_place, place_at, from_of, IsCircuit, AreInRange, time_of, tokens_of}
 use Rattle.teg_net.specs.Limits.{greatest_circuit_time, greatest_hold, most_circuit_tokens}
 use Rattle.teg_net.proofs.PathLaws.{IsPathBetween-in_range}
-use Rattle.teg_howard.proofs.Search.{pigeons}
+use Rattle.teg_howard.proofs.number_laws_proofs.Pigeons.{pigeons}
 
 abbrev none : PlaceId
 none = record { index = 0 }
