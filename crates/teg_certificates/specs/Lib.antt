@@ -1,0 +1,6 @@
+pub mod Weights
+pub mod CircuitsInParts
+pub mod Checks
+pub mod BestRatios
+pub mod CertifiedNets
+pub use Rattle.teg_net.specs as teg_net
