@@ -10,9 +10,8 @@ ghost use Rattle.teg_certificates.specs.Checks.{AreNumbersOf, HasRatio, FitsBest
 use crate::first_best::is_first_best;
 use crate::inner_places::{all_inner, has_no_place};
 use crate::potentials::potentials_fit;
-use teg_net::{
-    CycleAnswer, Net, PartAnswer, Place, PlaceId, Potential, Ratio, is_circuit, time_of, tokens_of,
-};
+use crate::sums::{CircuitSums, circuit_sums};
+use teg_net::{CycleAnswer, Net, PartAnswer, Place, PlaceId, Potential, Ratio, is_circuit};
 
 // The greatest time and the most tokens of a ratio in an answer that is checked.
 const GREATEST_CHECKED_RATIO: u64 = 1_000_000_000_000;
@@ -58,21 +57,21 @@ fn numbers_fit(net: &Net, part_of: &[u32], count: usize) -> bool
 }
 
 // Whether the ratio keeps the limits of an answer that is checked.
-fn is_within(ratio: Ratio) -> bool
+pub(crate) fn is_within(ratio: Ratio) -> bool
     ensures within { IsTrue result ↔ IsRatioWithin ratio }
     ensures terms { IsLowestTerms ratio }
 {
     ratio.time() <= GREATEST_CHECKED_RATIO && ratio.tokens() <= GREATEST_CHECKED_RATIO
 }
 
-// Whether the time and the tokens have the ratio.
-fn is_ratio_of(ratio: Ratio, time: u128, tokens: u128) -> bool
+// Whether the sums have the ratio.
+fn is_ratio_of(ratio: Ratio, sums: CircuitSums) -> bool
     requires limits { IsRatioWithin ratio }
-    requires time { time ≤ greatest_circuit_time }
-    requires tokens { tokens ≤ most_circuit_tokens }
-    ensures { IsTrue result ↔ (time * ratio.tokens ≡ ratio.time * tokens) }
+    requires time { sums.time ≤ greatest_circuit_time }
+    requires tokens { sums.tokens ≤ most_circuit_tokens }
+    ensures { IsTrue result ↔ (sums.time * ratio.tokens ≡ ratio.time * sums.tokens) }
 {
-    time * u128::from(ratio.tokens()) == u128::from(ratio.time()) * tokens
+    sums.time * u128::from(ratio.tokens()) == u128::from(ratio.time()) * sums.tokens
 }
 
 // Whether the circuit has the ratio.
@@ -82,10 +81,7 @@ fn attains(net: &Net, ratio: Ratio, places: &[PlaceId]) -> bool
     ensures { IsTrue result ↔ (time_of net.now places.now * ratio.tokens
         ≡ ratio.time * tokens_of net.now places.now) }
 {
-    net.rules();
-    let time = time_of(net, places);
-    let tokens = tokens_of(net, places);
-    is_ratio_of(ratio, time, tokens)
+    is_ratio_of(ratio, circuit_sums(net, places))
 }
 
 // Whether the places are a circuit in the part that has the ratio.

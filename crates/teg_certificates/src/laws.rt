@@ -1,8 +1,10 @@
-//! What certificates show, and what potentials bound, as laws. Each is a function that does nothing
+//! What certificates, potentials, ranks and circuits show, as laws. Each is a function that does nothing
 //! when it runs: its contract is the law.
 ghost use Rattle.teg_certificates.specs.Weights.{PotentialsBoundWeights};
 ghost use Rattle.teg_certificates.specs.CircuitsInParts.{CircuitsLieInOnePart};
 ghost use Rattle.teg_certificates.specs.CertifiedNets.{CertificatesTellOfNets, CertificatesTellOfParts, PotentialsBoundRatios};
+ghost use Rattle.teg_certificates.specs.RisingRanks.{ListedRanksShowLive, RisingRanksShowLive};
+ghost use Rattle.teg_certificates.specs.Sizes.{AlwaysAboveShowsNone, StillAboveShowsMore, TargetPotentialsShowEnough};
 
 /// Whatever places weigh, a circuit of which no place lifts its end above the potential there
 /// weighs at most 0 (chapter 3).
@@ -29,4 +31,29 @@ pub fn circuits_lie_in_one_part()
 pub fn certificates_tell()
     ensures nets { CertificatesTellOfNets }
     ensures parts { CertificatesTellOfParts }
+{}
+
+/// A net is live where a rank of its transitions rises strictly along each place without tokens,
+/// whatever the ranks are made of (chapter 2).
+pub fn rising_ranks_show_live()
+    ensures function { RisingRanksShowLive }
+    ensures list { ListedRanksShowLive }
+{}
+
+/// Where a circuit that passes a place is still above the target with so many extra tokens of it,
+/// each number that is enough is greater (chapters 2 and 3).
+pub fn still_above_shows_more()
+    ensures { StillAboveShowsMore }
+{}
+
+/// Where a circuit is above the target and extra tokens of a place do not help it, no number of
+/// them is enough (chapters 2 and 3).
+pub fn always_above_shows_none()
+    ensures { AlwaysAboveShowsNone }
+{}
+
+/// Potentials that no place exceeds at a target, where one place has so many extra tokens, show
+/// that these are enough (chapters 2 and 3).
+pub fn target_potentials_show_enough()
+    ensures { TargetPotentialsShowEnough }
 {}

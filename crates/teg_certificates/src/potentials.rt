@@ -1,5 +1,5 @@
 //! Whether the potentials of a part are those of a certificate.
-ghost use Rattle.std.specs.Prelude.{◌≡◌, ◌↔◌, ◌<◌, ◌≤◌, ◌*◌, ◌+ℤ◌, ◌-ℤ◌, ◌≤ℤ◌, ℕ, ℤ, pos, All, AllPairs, IsTrue, length};
+ghost use Rattle.std.specs.Prelude.{◌≡◌, ◌↔◌, ◌<◌, ◌≤◌, ◌*◌, ◌+ℤ◌, ◌-ℤ◌, ◌≤ℤ◌, ◌^◌, ℕ, ℤ, pos, All, AllPairs, IsTrue, length};
 ghost use Rattle.teg_net.specs.Limits.{greatest_hold, most_place_tokens, greatest_checked_potential};
 ghost use Rattle.teg_net.specs.Parts.{IsMember};
 ghost use Rattle.teg_net.specs.ReducedTimes.{IsMagnitudeWithin};
@@ -11,7 +11,7 @@ use crate::inner_places::is_inner;
 use teg_net::{Net, Place, Potential, Ratio};
 
 // The greatest magnitude of a potential in an answer that is checked.
-const GREATEST_CHECKED_POTENTIAL: i128 = 1_000_000_000_000_000_000;
+pub(crate) const GREATEST_CHECKED_POTENTIAL: i128 = 1_000_000_000_000_000_000;
 
 // Whether the transition has the part's number.
 fn is_member(part_of: &[u32], part: usize, transition: usize) -> bool
@@ -119,22 +119,22 @@ fn potential_of(potentials: &[Potential], transition: u32) -> i128
     0
 }
 
-// What a place lifts its end to, where its start has the potential.
-fn lifted(ratio: Ratio, place: &Place, potential: i128) -> i128
+// What a place of this holding time and these tokens lifts its end to, where its start has the
+// potential.
+pub(crate) fn lifted(ratio: Ratio, hold: u64, tokens: u128, potential: i128) -> i128
     requires limits { IsRatioWithin ratio }
-    requires hold { place.now.hold ≤ greatest_hold }
-    requires tokens { place.now.tokens ≤ most_place_tokens }
+    requires hold { hold ≤ greatest_hold }
+    requires tokens { tokens < 2 ^ 65 }
     requires within { IsMagnitudeWithin greatest_checked_potential potential }
-    ensures { result ≡ ((pos (ratio.tokens * place.now.hold) -ℤ pos (ratio.time * place.now.tokens))
-        +ℤ potential) }
+    ensures { result ≡ ((pos (ratio.tokens * hold) -ℤ pos (ratio.time * tokens)) +ℤ potential) }
 {
-    let gain = u128::from(ratio.tokens()) * u128::from(place.hold);
-    let loss = u128::from(ratio.time()) * u128::from(place.tokens);
+    let gain = u128::from(ratio.tokens()) * u128::from(hold);
+    let loss = u128::from(ratio.time()) * tokens;
     gain as i128 - loss as i128 + potential
 }
 
 // Whether the first number is at most the second.
-fn is_at_most(first: i128, second: i128) -> bool
+pub(crate) fn is_at_most(first: i128, second: i128) -> bool
     ensures { IsTrue result ↔ (first ≤ℤ second) }
 {
     first <= second
@@ -162,7 +162,10 @@ fn keeps_potential(
     }
     let from = potential_of(potentials, place.from.index);
     let to = potential_of(potentials, place.to.index);
-    is_at_most(lifted(ratio, place, from), to)
+    is_at_most(
+        lifted(ratio, place.hold, u128::from(place.tokens), from),
+        to,
+    )
 }
 
 // Whether no place of the part lifts its end above the potential there.

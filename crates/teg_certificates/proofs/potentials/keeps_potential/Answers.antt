@@ -16,6 +16,6 @@ returns c =
     let from : to_z w128 (of_z w128 c.potential_of-from.result) ≡ c.potential_of-from.result = read_within c.potential_of-from.result c.potential_of-from.ensures.within in
     let to : to_z w128 (of_z w128 c.potential_of-to.result) ≡ c.potential_of-to.result = read_within c.potential_of-to.result c.potential_of-to.ensures.within in
     let up : to_z w128 (of_z w128 c.lifted.result) ≡ c.lifted.result = to_z-of_z w128 c.lifted.result fits in (
-      λ t f g. rw (up, to, c.lifted.ensures, from, c.potential_of-from.ensures.value, c.potential_of-to.ensures.value) at (c.is_at_most.ensures.0 t),
-      λ h. c.is_at_most.ensures.1 (rw (up, to, c.lifted.ensures, from, c.potential_of-from.ensures.value, c.potential_of-to.ensures.value) (h both.0 both.1)),
+      λ t f g. rw (up, to, c.lifted.ensures, c.from.ensures, from, c.potential_of-from.ensures.value, c.potential_of-to.ensures.value) at (c.is_at_most.ensures.0 t),
+      λ h. c.is_at_most.ensures.1 (rw (up, to, c.lifted.ensures, c.from.ensures, from, c.potential_of-from.ensures.value, c.potential_of-to.ensures.value) (h both.0 both.1)),
     )
