@@ -18,14 +18,6 @@ use Rattle.teg_net.specs.Certificates.{potential_at}
 abbrev pub none_told : Potential
 none_told = record { transition = record { index = 0 }; value = pos 0 }
 
--- what holds below i and at i holds below i + 1
-pub one_more : (P : ℕ → Type 0) (i : ℕ) → ((k : ℕ) → k < i → P k) → P i → (k : ℕ) → k < i + 1 → P k
-one_more P i h here k l =
-    ⊎_elim
-    (λ (q : k < i). h k q)
-    (λ (q : i ≤ k). let e : i ≡ k = omega arith in subst P e here)
-    (cases_lt k i)
-
 -- what holds of each element below i, and of the next as it was read, holds of each below i + 1
 pub next_more : {X : Type 0} (P : X → Type 0) (xs : List X) (i : ℕ) (none : X) → i < length xs → ((k : ℕ) (d : X) → k < i → P (get_or xs k d)) → P (get_or xs i none) → (k : ℕ) (d : X) → k < i + 1 → P (get_or xs k d)
 next_more P xs i none within h here k d l =

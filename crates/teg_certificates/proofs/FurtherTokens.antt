@@ -1,5 +1,5 @@
 -- What circuits above a target and potentials show of further tokens of a place.
-use Rattle.std.proofs.Common.{ℕ, suc, ◌+◌, ◌*◌, ◌<◌, ◌≤◌, ◌≡◌, ◌≢◌, List, [], ◌∷◌, true, false, eqb, get_or, refl, sym, ap, ◌∙◌, arith, ⊎_elim}
+use Rattle.std.proofs.Common.{ℕ, suc, ◌+◌, ◌*◌, ◌<◌, ◌≤◌, ◌≡◌, ◌≢◌, List, [], ◌∷◌, true, false, eqb, get_or, refl, sym, ap, ◌∙◌, arith, inl, inr, ⊎_elim}
 use Rattle.std.specs.Prelude.{ℤ, pos, ◌+ℤ◌, ◌-ℤ◌, All, AllPairs, Contains, sum_by}
 use Rattle.std.proofs.Math.Nat.{mul-le-mul_left}
 use Rattle.std.proofs.lemmas.Int.{ints}
@@ -14,7 +14,7 @@ use Rattle.teg_net.specs.Circuits.{place_at, from_of, IsCircuit, time_of, tokens
 use Rattle.teg_net.proofs.PathLaws.{IsPathBetween-in_range}
 use Rattle.teg_net.proofs.Reading.{same_id}
 use Rattle.teg_certificates.specs.Weights.{weight_of}
-use Rattle.teg_certificates.specs.Sizes.{extra_at, StillAboveShowsMore, AlwaysAboveShowsNone, TargetPotentialsShowEnough}
+use Rattle.teg_certificates.specs.Sizes.{OthersKeepTarget, extra_at, StillAboveShowsMore, AlwaysAboveShowsNone, FewestAreShown, NeverEnoughIsShown, TargetPotentialsShowEnough}
 use Rattle.teg_certificates.proofs.PathSums.{weights_bounded}
 
 -- ---- circuits
@@ -41,6 +41,16 @@ always_above net r p ps h d enough =
     let none : r.time * (tokens_of net ps + d) ≡ 0 = rw zero_time (omega arith) in
     absurd (omega arith)))
     h.by
+
+pub fewest_shown : FewestAreShown
+fewest_shown net r p extra ps h = record { circuit = h.circuit; passes = h.passes; above = h.one_less }
+
+pub never_shown : NeverEnoughIsShown
+never_shown net r p ps h = record {
+  circuit = h.circuit;
+  above = h.above;
+  by = ⊎_elim (λ (off : Contains ps p → ⊥). inl off) (λ (zero_time : (r.time ≡ 0) × OthersKeepTarget net r p). inr zero_time.0) h.by;
+}
 
 -- ---- potentials
 

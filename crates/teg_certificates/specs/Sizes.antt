@@ -71,10 +71,19 @@ StillAboveShowsMore =
     (net : NetLists) (r : Fraction) (p : PlaceId) (extra : ℕ) (ps : List PlaceId) → IsStillAbove net r p extra ps
     → (d : ℕ) → IsEnough net r p d → extra < d
 
+-- the circuit of the least number that is enough shows that one less is too few
+abbrev pub FewestAreShown : Type 0
+FewestAreShown =
+    (net : NetLists) (r : Fraction) (p : PlaceId) (extra : ℕ) (ps : List PlaceId) → IsFewest net r p extra ps → IsStillAbove net r p (extra - 1) ps
+
 -- where a circuit is always above the target, no number is enough
 abbrev pub AlwaysAboveShowsNone : Type 0
 AlwaysAboveShowsNone =
     (net : NetLists) (r : Fraction) (p : PlaceId) (ps : List PlaceId) → IsAlwaysAbove net r p ps → (d : ℕ) → IsEnough net r p d → ⊥
+
+-- the circuit for whose sake no number is enough shows it
+abbrev pub NeverEnoughIsShown : Type 0
+NeverEnoughIsShown = (net : NetLists) (r : Fraction) (p : PlaceId) (ps : List PlaceId) → IsNeverEnough net r p ps → IsAlwaysAbove net r p ps
 
 -- such potentials show that the number is enough
 abbrev pub TargetPotentialsShowEnough : Type 0

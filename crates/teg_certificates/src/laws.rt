@@ -4,7 +4,7 @@ ghost use Rattle.teg_certificates.specs.Weights.{PotentialsBoundWeights};
 ghost use Rattle.teg_certificates.specs.CircuitsInParts.{CircuitsLieInOnePart};
 ghost use Rattle.teg_certificates.specs.CertifiedNets.{CertificatesTellOfNets, CertificatesTellOfParts, PotentialsBoundRatios};
 ghost use Rattle.teg_certificates.specs.RisingRanks.{ListedRanksShowLive, RisingRanksShowLive};
-ghost use Rattle.teg_certificates.specs.Sizes.{AlwaysAboveShowsNone, StillAboveShowsMore, TargetPotentialsShowEnough};
+ghost use Rattle.teg_certificates.specs.Sizes.{AlwaysAboveShowsNone, FewestAreShown, NeverEnoughIsShown, StillAboveShowsMore, TargetPotentialsShowEnough};
 
 /// Whatever places weigh, a circuit of which no place lifts its end above the potential there
 /// weighs at most 0 (chapter 3).
@@ -41,15 +41,18 @@ pub fn rising_ranks_show_live()
 {}
 
 /// Where a circuit that passes a place is still above the target with so many extra tokens of it,
-/// each number that is enough is greater (chapters 2 and 3).
+/// each number that is enough is greater; and the circuit that is told with the least number that
+/// is enough is so with one token less (chapters 2 and 3).
 pub fn still_above_shows_more()
-    ensures { StillAboveShowsMore }
+    ensures more { StillAboveShowsMore }
+    ensures fewest { FewestAreShown }
 {}
 
 /// Where a circuit is above the target and extra tokens of a place do not help it, no number of
-/// them is enough (chapters 2 and 3).
+/// them is enough; and the circuit that is told where no number is enough is so (chapters 2 and 3).
 pub fn always_above_shows_none()
-    ensures { AlwaysAboveShowsNone }
+    ensures none { AlwaysAboveShowsNone }
+    ensures never { NeverEnoughIsShown }
 {}
 
 /// Potentials that no place exceeds at a target, where one place has so many extra tokens, show

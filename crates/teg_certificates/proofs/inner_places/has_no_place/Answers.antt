@@ -1,10 +1,9 @@
-use Rattle.std.proofs.Common.{◌≡◌, ◌<◌, ◌≤◌, true, false, length, refl, arith}
+use Rattle.std.proofs.Common.{◌≡◌, ◌<◌, ◌≤◌, true, false, length, refl, arith, below_more}
 use Rattle.std.proofs.lemmas.Bool.{false≢true, iff_false}
 use Rattle.std.proofs.lemmas.List.{get_or_read}
 use Rattle.teg_net.specs.declared.entries.PlaceId.{PlaceId}
 use Rattle.teg_net.specs.Circuits.{no_place, place_at, from_of}
 use Rattle.teg_net.specs.Parts.{IsMember, IsPlaceOfPart, to_of}
-use Rattle.teg_certificates.proofs.Deciding.{one_more}
 use Rattle.teg_certificates.proofs.inner_places.has_no_place.Goals as goal
 
 pub returns-then-is_inner : goal.returns-then-is_inner
@@ -28,7 +27,7 @@ loop-place-preserved c =
     let p : PlaceId = record { index = i } in
     let own_in = c.loop-place-test.true in
     let item : c.place-item.result ≡ place_at net p = rw c.places-place-items.ensures.value at (get_or_read c.places-place-items.result.now i c.place-item.result own_in c.place-item.is no_place) in
-    one_more (λ k. IsPlaceOfPart net part_of c.args.part (record { index = k }) → ⊥) i c.loop-place.invariant
+    below_more (λ k. IsPlaceOfPart net part_of c.args.part (record { index = k }) → ⊥) i c.loop-place.invariant
     (λ q. iff_false c.is_inner.ensures c.if-is_inner.false (rw item (q.from_member, q.to_member)))
 
 pub returns : goal.returns

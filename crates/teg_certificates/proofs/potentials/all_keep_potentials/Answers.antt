@@ -1,11 +1,10 @@
-use Rattle.std.proofs.Common.{◌≡◌, ◌<◌, ◌≤◌, true, false, length, refl, arith}
+use Rattle.std.proofs.Common.{◌≡◌, ◌<◌, ◌≤◌, true, false, length, refl, arith, below_more}
 use Rattle.std.proofs.lemmas.Bool.{false≢true, iff_false}
 use Rattle.std.proofs.lemmas.List.{get_or_read}
 use Rattle.teg_net.specs.declared.entries.PlaceId.{PlaceId}
 use Rattle.teg_net.specs.Circuits.{no_place, place_at, from_of}
 use Rattle.teg_net.specs.Parts.{IsMember, to_of}
 use Rattle.teg_certificates.specs.Checks.{KeepsPotential}
-use Rattle.teg_certificates.proofs.Deciding.{one_more}
 use Rattle.teg_certificates.proofs.potentials.all_keep_potentials.Goals as goal
 
 pub loop-place-preserved : goal.loop-place-preserved
@@ -17,7 +16,7 @@ loop-place-preserved c =
     let own_in = c.loop-place-test.true in
     let item : c.place-item.result ≡ place_at net p = rw c.places-place-items.ensures.value at (get_or_read c.places-place-items.result.now i c.place-item.result own_in c.place-item.is no_place) in
     let here : KeepsPotential part_of c.args.part c.args.ratio c.args.potentials.now (place_at net p) = rw item at (c.keeps_potential.ensures.0 c.if-not-keeps_potential.false) in
-    one_more (λ k. KeepsPotential part_of c.args.part c.args.ratio c.args.potentials.now (place_at net (record { index = k }))) i c.loop-place.invariant here
+    below_more (λ k. KeepsPotential part_of c.args.part c.args.ratio c.args.potentials.now (place_at net (record { index = k }))) i c.loop-place.invariant here
 
 pub returns-then-not-keeps_potential : goal.returns-then-not-keeps_potential
 returns-then-not-keeps_potential c =
