@@ -11,8 +11,8 @@ use Rattle.teg_net.specs.Circuits.{IsLive, time_of, tokens_of}
 use Rattle.teg_net.specs.GreatestRatios.{IsGreatestRatio, IsAnyPlace}
 use Rattle.teg_net.specs.Limits.{greatest_circuit_time, greatest_hold, most_circuit_tokens, most_place_tokens}
 use Rattle.teg_net.proofs.LowestTerms.{IsRatioOf-divided}
-use Rattle.teg_cycle.proofs.teg_howard_proofs.OneRatio.{one_ratio}
-use Rattle.teg_cycle.proofs.Short.{circuit_sums}
+use Rattle.teg_certificates.proofs.OneRatio.{one_ratio}
+use Rattle.teg_certificates.proofs.Short.{circuit_sums}
 use Rattle.teg_bound.specs.Readings.{AreReadingsWithin}
 
 -- ---- the ratio

@@ -12,9 +12,9 @@ use Rattle.teg_net.specs.GreatestRatios.{IsGreatestRatio, IsAnyPlace, IsCycleTim
 use Rattle.teg_net.specs.Certificates.{IsCertificate, IsPartCertificate}
 use Rattle.teg_net.specs.Limits.{greatest_circuit_time, most_circuit_tokens}
 use Rattle.teg_parts.specs.Partitions.{PartLists, AreParts}
-use Rattle.teg_cycle.specs.BestRatios.{named_ratio, best_ratio_of}
-use Rattle.teg_cycle.proofs.Certified.{tell_of_nets}
-use Rattle.teg_cycle.proofs.FirstBest.{told_in}
+use Rattle.teg_certificates.specs.BestRatios.{named_ratio, best_ratio_of}
+use Rattle.teg_certificates.proofs.Certified.{tell_of_nets}
+use Rattle.teg_certificates.proofs.NamedRatios.{told_in}
 use Rattle.bound_laws.proofs.teg_loops_proofs.Through.{pass_back}
 use Rattle.teg_bound.specs.PeriodicBounds.{EachReachesEach, HasNoWay}
 use Rattle.teg_bound.proofs.Small.{ratio_small}
@@ -78,17 +78,17 @@ named_some : (net : NetLists) (answers : List PartAnswer) (best : Option ℕ) �
 named_some net answers None told e = refl
 named_some net answers (Some k) told e = let r = told.1 in let f : ⊥ = cc in absurd f
 
-pub some_best : (net : NetLists) (answer : CycleAnswer) → IsNet net → IsLive net → IsCertificate net answer → EachReachesEach net → 0 < length net.places → best_ratio_of answer ≢ None
-some_best net answer rules live cert each some none =
+pub some_best : (net : NetLists) (answer : CycleAnswer) → IsNet net → IsCertificate net answer → EachReachesEach net → 0 < length net.places → best_ratio_of answer ≢ None
+some_best net answer rules cert each some none =
     let c = some_circuit net rules each some in
-    let told : IsCycleTime net answer.parts.items answer.best = tell_of_nets net answer rules live cert in
+    let told : IsCycleTime net answer.parts.items answer.best = tell_of_nets net answer rules cert in
     let no : IsCycleTime net answer.parts.items None = subst (IsCycleTime net answer.parts.items) (named_some net answer.parts.items answer.best told none) told in
     no c.0 c.1 (λ i d l. tt)
 
 -- the ratio of the best part is the greatest
-best_greatest : (net : NetLists) (answer : CycleAnswer) (r : Fraction) → IsNet net → IsLive net → IsCertificate net answer → TellsBest answer r → IsGreatestRatio net IsAnyPlace r
-best_greatest net answer r rules live cert h =
-    let told : IsCycleTime net answer.parts.items (Some h.part) = subst (IsCycleTime net answer.parts.items) h.named (tell_of_nets net answer rules live cert) in
+best_greatest : (net : NetLists) (answer : CycleAnswer) (r : Fraction) → IsNet net → IsCertificate net answer → TellsBest answer r → IsGreatestRatio net IsAnyPlace r
+best_greatest net answer r rules cert h =
+    let told : IsCycleTime net answer.parts.items (Some h.part) = subst (IsCycleTime net answer.parts.items) h.named (tell_of_nets net answer rules cert) in
     let both : Some told.0 ≡ Some r = sym told.1 ∙ h.told in
     let is : told.0 ≡ r = cc in
     subst (IsGreatestRatio net IsAnyPlace) is told.2
@@ -110,6 +110,6 @@ pub record IsBest (net : NetLists) (r : Fraction) : Type 0 where
 
 pub best_is : (net : NetLists) (answer : CycleAnswer) (r : Fraction) → IsNet net → IsLive net → IsCertificate net answer → TellsBest answer r → IsBest net r
 best_is net answer r rules live cert h =
-    let greatest = best_greatest net answer r rules live cert h in
+    let greatest = best_greatest net answer r rules cert h in
     let terms = best_terms net answer r cert h in
     record { greatest = greatest; terms = terms; small = ratio_small net r rules live greatest terms }

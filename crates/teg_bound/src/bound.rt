@@ -6,8 +6,8 @@ ghost use Rattle.teg_bound.specs.PeriodicBounds.{IsRightBound};
 
 use crate::numbers::bound_number;
 use crate::readings::{has_input, has_late_token};
+use teg_certificates::best_ratio;
 use teg_check::Live;
-use teg_cycle::best_ratio;
 use teg_net::{CycleAnswer, Net};
 use teg_parts::Parts;
 

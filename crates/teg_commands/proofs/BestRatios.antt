@@ -7,8 +7,8 @@ use Rattle.teg_net.specs.GreatestRatios.{IsCycleTime, IsGreatestRatio, IsAnyPlac
 use Rattle.teg_net.specs.Nets.{NetLists}
 use Rattle.teg_net.specs.PartAnswers.{ArePartAnswers, IsPartAnswer}
 use Rattle.teg_net.specs.Ratios.{Fraction, IsLowestTerms}
-use Rattle.teg_cycle.specs.BestRatios.{named_ratio}
-use Rattle.teg_cycle.proofs.FirstBest.{told_in}
+use Rattle.teg_cycle.specs.teg_certificates.BestRatios.{named_ratio}
+use Rattle.teg_cycle.proofs.teg_certificates_proofs.NamedRatios.{told_in}
 use Rattle.teg_commands.specs.Slack.{IsBestRatio}
 
 -- where no ratio is told the net has no circuit

@@ -13,8 +13,7 @@ use Rattle.teg_net.specs.GreatestRatios.{IsFirstGreatest, ratio_at}
 use Rattle.teg_net.specs.Nets.{NetLists, IsNet}
 use Rattle.teg_net.specs.PartAnswers.{ArePartAnswers, IsPartAnswer}
 use Rattle.teg_net.specs.Ratios.{Fraction}
-use Rattle.teg_parts.specs.CircuitsAndParts.{PartsAreOne}
-use Rattle.teg_parts.specs.Partitions.{PartLists as Partition}
+use Rattle.teg_parts.specs.Partitions.{PartsAreOne, PartLists as Partition}
 use Rattle.teg_howard.specs.OnePolicyRun.{PolicyRunsAreOne, AreSameRounds, AreSameRuns}
 use Rattle.teg_howard.specs.PolicyRuns.{IsAnswerOf, IsAnswerOfLast, potential_of}
 use Rattle.teg_howard.specs.PolicyRounds.{last_policy_round}

@@ -13,7 +13,7 @@ use Rattle.teg_net.specs.Circuits.{from_of, IsLive}
 use Rattle.teg_net.specs.Parts.{to_of}
 use Rattle.teg_net.specs.GreatestRatios.{IsGreatestRatio, IsAnyPlace, HasNoCircuit, IsFirstGreatest, ratio_at}
 use Rattle.teg_net.specs.Certificates.{IsCertificate}
-use Rattle.teg_cycle.specs.BestRatios.{named_ratio, best_ratio_of}
+use Rattle.teg_certificates.specs.BestRatios.{named_ratio, best_ratio_of}
 use Rattle.teg_critical.specs.declared.endings.Ending.{Ending}
 use Rattle.teg_critical.specs.declared.losses.Loss.{Loss}
 use Rattle.teg_critical.specs.LossEndings.{ending_at, IsEnding, AreEndings}

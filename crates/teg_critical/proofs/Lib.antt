@@ -13,5 +13,4 @@ pub mod LossFacts
 pub mod Ending
 pub mod Telling
 pub mod EachPlace
-pub use Rattle.teg_cycle.proofs.teg_howard_proofs as teg_howard_proofs
-pub use Rattle.teg_cycle.proofs as teg_cycle_proofs
+pub use Rattle.teg_certificates.proofs as teg_certificates_proofs

@@ -21,7 +21,7 @@ use Rattle.teg_net.specs.Parts.{to_of, IsPlaceOfPart}
 use Rattle.teg_net.specs.ReducedTimes.{IsMagnitudeWithin, reduced_time_of_place}
 use Rattle.teg_net.specs.GreatestRatios.{ratio_in, ratio_at, IsFirstGreatest}
 use Rattle.teg_net.specs.Certificates.{potential_at, IsBestCertificate, IsPartCertificate, IsCertificate}
-use Rattle.teg_cycle.specs.BestRatios.{named_ratio, best_ratio_of}
+use Rattle.teg_certificates.specs.BestRatios.{named_ratio, best_ratio_of}
 use Rattle.teg_critical.specs.declared.losses.Loss.{Loss}
 use Rattle.teg_critical.specs.Losses.{most_lost, IsLost, CanLose, CanLoseIn, IsLossIn, answer_of_part, part_of_transition, IsPlaceLoss}
 use Rattle.teg_critical.proofs.Listed.{potential_within}

@@ -15,7 +15,7 @@ use Rattle.teg_net.specs.ReducedTimes.{reduced_time_of}
 use Rattle.teg_net.specs.GreatestRatios.{IsGreatestRatio, IsAnyPlace}
 use Rattle.teg_net.specs.Certificates.{potential_at, IsCertificate}
 use Rattle.teg_critical.proofs.Certified.{closed_inside}
-use Rattle.teg_cycle.proofs.teg_howard_proofs.Sums.{weight_is}
+use Rattle.teg_certificates.proofs.PathSums.{weight_is}
 use Rattle.teg_critical.specs.declared.losses.Loss.{Loss}
 use Rattle.teg_critical.specs.Losses.{ratio_of, potentials_of, IsLossOf, IsLossIn, answer_of_part, loss_at, AreLosses}
 use Rattle.teg_critical.specs.LeastLosses.{amount_in, loss_of_path, IsWay}

@@ -1,7 +1,7 @@
 -- Slacks do not depend on how the greatest ratio is written, and a place has one.
 use Rattle.std.proofs.Common.{ℕ, ◌*◌, ◌≤◌, ◌≡◌, refl, sym, ap, arith}
 use Rattle.std.proofs.Math.Nat.{mul-le-mul_left, le_of_mul-le-mul_left}
-use Rattle.teg_cycle.proofs.number_laws_proofs.Numbers.{some_of}
+use Rattle.teg_certificates.proofs.number_laws_proofs.Numbers.{some_of}
 use Rattle.teg_net.specs.declared.entries.PlaceId.{PlaceId}
 use Rattle.teg_net.specs.Nets.{NetLists}
 use Rattle.teg_net.specs.Ratios.{Fraction}

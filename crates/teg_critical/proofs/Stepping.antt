@@ -3,7 +3,9 @@ use Rattle.std.proofs.Common.{ℕ, ◌+◌, ◌<◌, ◌≤◌, ◌≡◌, ◌�
 use Rattle.std.specs.Prelude.{All, Any, IsSome}
 use Rattle.std.specs.Option.{is_some}
 use Rattle.std.proofs.lemmas.Bool.{cases_eq, cases_lt}
-use Rattle.std.proofs.lemmas.List.{length-append, length-set, length-replicate, get_or_append_left, get_or-append-add, get_or_read, get_or-set_same, get_or-set_other, get_or-replicate}
+use Rattle.std.proofs.lemmas.List.{length-append, length-set, length-replicate, get_or_append_left, get_or_read, get_or-set_same, get_or-set_other, get_or-replicate}
+use Rattle.std.proofs.lemmas.List.Elements.{All-push}
+use Rattle.std.proofs.lemmas.List.Quantifiers.{Any-push}
 use Rattle.teg_net.specs.declared.entries.PlaceId.{PlaceId}
 use Rattle.teg_net.specs.declared.entries.Place.{Place}
 use Rattle.teg_net.specs.Nets.{NetLists, IsNet, IsPlaceOf}
@@ -26,24 +28,11 @@ pub record StepsUpTo (net : NetLists) (losses : List (Option Loss)) (t : ℕ) (s
   pub ends : All (λ s. s.to < length net.transitions) steps
   pub small : All (λ s. s.loss ≤ most_loss) steps
 
-one_more : {X : Type 0} (P : X → Type 0) (xs : List X) (x : X) → All P xs → P x → All P (xs ++ (x ∷ []))
-one_more P xs x all here i d l = ⊎_elim
-    (λ (m : i < length xs). subst P (sym (get_or_append_left xs (x ∷ []) d i m)) (all i d m))
-    (λ (m : length xs ≤ i).
-    let long = length-append xs (x ∷ []) in
-    let is : i ≡ length xs + 0 = omega arith in
-    let read : get_or (xs ++ (x ∷ [])) i d ≡ x = ap (λ (z : ℕ). get_or (xs ++ (x ∷ [])) z d) is ∙ get_or-append-add xs (x ∷ []) 0 d in
-    subst P (sym read) here)
-    (cases_lt i (length xs))
-
 still_any : {X : Type 0} (P : X → Type 0) (xs : List X) (x : X) → Any P xs → Any P (xs ++ (x ∷ []))
 still_any P xs x any =
     let long = length-append xs (x ∷ []) in
     let low = any.2 in
     (any.0, any.1, omega arith, get_or_append_left xs (x ∷ []) any.1 any.0 any.2 ∙ any.3, any.4)
-
-last_any : {X : Type 0} (P : X → Type 0) (xs : List X) (x : X) → P x → Any P (xs ++ (x ∷ []))
-last_any P xs x here = let long = length-append xs (x ∷ []) in (length xs + 0, x, omega arith, get_or-append-add xs (x ∷ []) 0 x, here)
 
 -- a place that is no step
 pub steps_past : (net : NetLists) (losses : List (Option Loss)) (t : ℕ) (steps : List LossStep) (k : ℕ) → StepsUpTo net losses t steps k
@@ -62,16 +51,16 @@ steps_past net losses t steps k h none = record {
 pub steps_more : (net : NetLists) (losses : List (Option Loss)) (t : ℕ) (steps : List LossStep) (k : ℕ) (s : LossStep) → StepsUpTo net losses t steps k
     → IsStepBy net losses t (record { index = k }) s → s.to < length net.transitions → s.loss ≤ most_loss → StepsUpTo net losses t (steps ++ (s ∷ [])) (k + 1)
 steps_more net losses t steps k s h by end_in low = record {
-  sound = one_more (λ x. (p : PlaceId) × IsStepBy net losses t p x) steps s h.sound (record { index = k }, by);
+  sound = All-push (λ x. (p : PlaceId) × IsStepBy net losses t p x) steps s h.sound (record { index = k }, by);
   complete = λ p l e f. ⊎_elim
       (λ (m : p.index < k). still_any (IsStep net losses p) steps s (h.complete p m e f))
       (λ (m : k ≤ p.index).
       let same : record { index = k } ≡ p = ap (λ (z : ℕ). record { index = z }) (let is : k ≡ p.index = omega arith in is) in
       let is : IsStepBy net losses t p s = subst (λ (z : PlaceId). IsStepBy net losses t z s) same by in
-      last_any (IsStep net losses p) steps s (sym is.to, sym is.loss))
+      Any-push (IsStep net losses p) steps s (sym is.to, sym is.loss))
       (cases_lt p.index k);
-  ends = one_more (λ x. x.to < length net.transitions) steps s h.ends end_in;
-  small = one_more (λ x. x.loss ≤ most_loss) steps s h.small low;
+  ends = All-push (λ x. x.to < length net.transitions) steps s h.ends end_in;
+  small = All-push (λ x. x.loss ≤ most_loss) steps s h.small low;
 }
 
 -- an amount is no more than the most

@@ -5,6 +5,4 @@ pub mod Losses
 pub mod LossEndings
 pub mod LeastLosses
 pub mod Told
-pub use Rattle.teg_cycle.specs.teg_parts as teg_parts
-pub use Rattle.teg_cycle.specs.teg_howard as teg_howard
-pub use Rattle.teg_cycle.specs as teg_cycle
+pub use Rattle.teg_certificates.specs as teg_certificates

@@ -5,7 +5,7 @@ ghost use Rattle.teg_net.specs.Nets.{IsNet};
 ghost use Rattle.teg_net.specs.Circuits.{IsLive};
 ghost use Rattle.teg_net.specs.GreatestRatios.{IsGreatestRatio, IsAnyPlace, HasNoCircuit};
 ghost use Rattle.teg_net.specs.Certificates.{IsCertificate};
-ghost use Rattle.teg_cycle.specs.BestRatios.{best_ratio_of};
+ghost use Rattle.teg_certificates.specs.BestRatios.{best_ratio_of};
 ghost use Rattle.teg_critical.specs.declared.slacks.Slack.TheVariants.{NoCircuit};
 ghost use Rattle.teg_critical.specs.Slacks.{IsSlackOf, AreSlacks};
 ghost use Rattle.teg_critical.specs.LossEndings.{IsEnding};
@@ -18,7 +18,7 @@ use crate::losses::{Loss, losses_of};
 use crate::searches::{Steps, all_steps, least_losses};
 use crate::slacks::{Slack, Slacks};
 use std::alloc::{AllocError, Global};
-use teg_cycle::best_ratio;
+use teg_certificates::best_ratio;
 use teg_net::{CycleAnswer, Net, OutOfMemory, Ratio};
 
 // The slack that a loss of the whole round tells.

@@ -5,8 +5,9 @@
 //! ratio passes it, or else by how much its hold may rise, and no more, so that the net with that
 //! hold raised has the same greatest ratio, or that no circuit passes it. The condition is an
 //! answer on cycle times that `check_cycle` accepts; its potentials turn the search for the best
-//! paths back into a search for shortest paths. The crate stands on `teg_net`, on `teg_cycle` for
-//! the ratio that an answer tells, and on `teg_loops` for the laws of paths and circuits.
+//! paths back into a search for shortest paths. The crate stands on `teg_net`, on
+//! `teg_certificates` for the ratio that an answer tells, and on `teg_loops` for the laws of paths
+//! and circuits.
 //! Its examples stand in `worked_examples`.
 #![tactic(auto)]
 

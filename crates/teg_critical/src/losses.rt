@@ -6,7 +6,7 @@ ghost use Rattle.teg_net.specs.Certificates.{potential_at, IsCertificate};
 ghost use Rattle.teg_net.specs.Parts.{IsPlaceOfPart};
 ghost use Rattle.teg_net.specs.ReducedTimes.{reduced_time_of_place};
 ghost use Rattle.teg_net.specs.Ratios.{IsRatioWithin};
-ghost use Rattle.teg_cycle.specs.BestRatios.{best_ratio_of};
+ghost use Rattle.teg_certificates.specs.BestRatios.{best_ratio_of};
 ghost use Rattle.teg_critical.specs.Losses.{most_lost, most_loss, IsLost, CanLose, CanLoseBy, CanLoseIn, loss_at_best, IsLossOf, IsLossIn, part_of_transition, IsBetweenParts, IsPlaceLoss, AreLosses};
 
 use std::alloc::{AllocError, Global};

@@ -1,24 +1,14 @@
 -- The first part of greatest ratio.
-use Rattle.std.proofs.Common.{ℕ, ◌+◌, ◌*◌, ◌<◌, ◌≤◌, ◌≡◌, List, Option, Some, None, length, refl, ap, subst, ◌∙◌, arith, inl, inr, ⊎_elim}
+use Rattle.std.proofs.Common.{ℕ, ◌+◌, ◌*◌, ◌<◌, ◌≤◌, ◌≡◌, List, Option, Some, None, refl, ap, subst, ◌∙◌, arith, inl, inr, ⊎_elim}
 use Rattle.std.specs.Prelude.{◌⊎◌}
 use Rattle.std.proofs.lemmas.Bool.{cases_lt}
-use Rattle.std.proofs.lemmas.List.{get_or_past}
 use Rattle.teg_net.specs.Ratios.{Fraction}
 use Rattle.teg_net.specs.declared.answers.PartAnswer.{PartAnswer}
-use Rattle.teg_net.specs.declared.answers.PartAnswer.TheVariants.{NoCircuit}
-use Rattle.teg_net.specs.GreatestRatios.{ratio_in, ratio_at, IsFirstGreatest}
+use Rattle.teg_net.specs.GreatestRatios.{ratio_at, IsFirstGreatest}
 use Rattle.teg_cycle.specs.declared.best_parts.BestPart.{BestPart}
 use Rattle.teg_cycle.specs.BestParts.{IsRatioAbove, HaveTokens}
-use Rattle.teg_howard.proofs.Ratios.{ratio_trans_less}
+use Rattle.teg_certificates.proofs.Ratios.{ratio_trans_less}
 use Rattle.teg_cycle.proofs.BestBelow.{IsFirstBelow, IsBestBelow}
-
--- past the end no ratio is told
-pub told_in : (answers : List PartAnswer) (j : ℕ) (q : Fraction) → ratio_at answers j ≡ Some q → j < length answers
-told_in answers j q e =
-    ⊎_elim
-    (λ (l : j < length answers). l)
-    (λ (l : length answers ≤ j). let w : ratio_at answers j ≡ None = ap ratio_in (get_or_past answers j NoCircuit l) in let f : ⊥ = cc in absurd f)
-    (cases_lt j (length answers))
 
 module _ (answers : List PartAnswer) (i : ℕ) where
   step_cases : (j : ℕ) → j < i + 1 → (j < i) ⊎ (j ≡ i)

@@ -12,9 +12,9 @@ use Rattle.teg_net.specs.Certificates.{IsCertificate}
 use Rattle.teg_parts.specs.Partitions.{PartLists, AreParts}
 use Rattle.teg_howard.specs.PolicyRounds.{IsPolicyRun}
 use Rattle.teg_howard.specs.PolicyRuns.{HasInnerPlace, IsAnswerOfLast}
-use Rattle.teg_cycle.specs.Checks.{ArePartCertificates}
+use Rattle.teg_certificates.specs.Checks.{ArePartCertificates}
 use Rattle.teg_cycle.specs.LastRounds.{IsLastOfRun, IsRunOf, AreRunsFrom, some_run}
-use Rattle.teg_cycle.proofs.Telling.{no_place_no_circuit}
+use Rattle.teg_certificates.proofs.Certified.{no_place_no_circuit}
 
 -- the mark of a part tells whether a place lies in it
 module _ (net : NetLists) (parts : PartLists) (ok : AreParts net parts) (part : ℕ) (l : part < length parts.inner) (mark : Bool) (is : mark ≡ get_or parts.inner part false) where

@@ -13,7 +13,6 @@ use Rattle.teg_net.specs.Ratios.{Fraction}
 use Rattle.teg_net.specs.Circuits.{from_of, IsPathBetween}
 use Rattle.teg_net.specs.Parts.{to_of, IsPlaceOfPart}
 use Rattle.teg_net.specs.ReducedTimes.{IsGreatestPathTime}
-use Rattle.teg_net.specs.GreatestRatios.{HasNoCircuit}
 use Rattle.teg_net.specs.PartAnswers.{first_transition_of, transitions_of, IsBestOfPart, IsPartAnswer}
 use Rattle.teg_net.specs.Certificates.{potential_at, ArePotentials, IsPartCertificate}
 use Rattle.teg_net.proofs.PathLaws.{IsPathBetween-append}
@@ -24,9 +23,9 @@ use Rattle.teg_net.specs.GreatestRatios.{ratio_in}
 use Rattle.teg_net.specs.PartAnswers.{ArePartAnswers}
 use Rattle.teg_howard.specs.PolicyRounds.{IsPolicyRun}
 use Rattle.teg_cycle.specs.BestParts.{HaveTokens}
-use Rattle.teg_cycle.proofs.FirstBest.{told_in}
+use Rattle.teg_certificates.proofs.NamedRatios.{told_in}
 use Rattle.teg_howard.specs.PolicyRuns.{KeepsLimits, IsAnswerOfLast}
-use Rattle.teg_howard.proofs.Sums.{weight-append}
+use Rattle.teg_certificates.proofs.PathSums.{weight-append}
 
 -- what holds of each potential told holds of that of each transition told of
 pub told_at : (P : ℕ → ℤ → Type 0) (vs : List Potential) (t : ℕ) → All (λ v. P v.transition.index v.value) vs → Contains (transitions_of vs) t → P t (potential_at vs t)
@@ -75,10 +74,6 @@ answer_certifies net part_of part (Best ratio circuit potentials) h k n = record
   within = λ i d l. let w = k.2 i d l in let low = w.low in let high = w.high in record { low = omega (arith, ints); high = omega (arith, ints) };
   potentials = sums_are_potentials net part_of part ratio circuit.places.items potentials.items h;
 }
-
--- a part without a place in it has no circuit
-pub no_place_no_circuit : (net : NetLists) (part_of : List ℕ) (part : ℕ) → ((p : PlaceId) → IsPlaceOfPart net part_of part p → ⊥) → HasNoCircuit net (IsPlaceOfPart net part_of part)
-no_place_no_circuit net part_of part none ps c inside = let p : PlaceId = get_or ps 0 (record { index = 0 }) in none p (inside 0 (record { index = 0 }) c.not_empty)
 
 -- a part with a policy run is not told to have no circuit
 pub run_tells : (net : NetLists) (part_of : List ℕ) (part : ℕ) (rounds : List Round) (answer : PartAnswer) → IsPolicyRun net part_of part rounds → IsAnswerOfLast rounds answer → answer ≢ NoCircuit

@@ -1,5 +1,5 @@
 //! The cycle time of a net and of its parts: the answer alone, or with the rounds that led to it.
-ghost use Rattle.std.specs.Prelude.{◌≡◌, ◌<◌, ◌≤◌, ◌++◌, ◌∷◌, [], length, IfOk, OnOk};
+ghost use Rattle.std.specs.Prelude.{◌≡◌, ◌<◌, ◌≤◌, ◌++◌, ◌∷◌, [], All, length, IfOk, OnOk};
 ghost use Rattle.teg_net.specs.Nets.{IsNet};
 ghost use Rattle.teg_net.specs.PartAnswers.{IsPartAnswer, ArePartAnswers};
 ghost use Rattle.teg_net.specs.GreatestRatios.{IsFirstGreatest, IsCycleTime};
@@ -7,7 +7,8 @@ ghost use Rattle.teg_net.specs.Certificates.{IsCertificate, IsPartCertificate};
 ghost use Rattle.teg_check.specs.Ranks.{IsRanking};
 ghost use Rattle.teg_parts.specs.Partitions.{AreParts};
 ghost use Rattle.std.specs.Option.{option_map};
-ghost use Rattle.teg_cycle.specs.Checks.{ArePartCertificates};
+ghost use Rattle.teg_certificates.specs.Checks.{ArePartCertificates};
+ghost use Rattle.teg_howard.specs.PolicyRuns.{KeepsLimits};
 ghost use Rattle.teg_cycle.specs.LastRounds.{IsLastOfRun, AreLastOfRuns, IsRunOf, AreRunsFrom, rounds_of_runs, some_run};
 
 use crate::best_parts::best_number;
@@ -30,6 +31,7 @@ fn part_answer(
     requires part { part < length parts.now.inner }
     ensures answer { IfOk result (λ a. IsPartAnswer net.now parts.now.part_of part a) }
     ensures certificate { IfOk result (λ a. IsPartCertificate net.now parts.now.part_of part a) }
+    ensures limits { IfOk result (λ a. KeepsLimits a) }
     ensures run { IfOk result (λ a. IsLastOfRun net.now parts.now.part_of part a) }
 {
     if !parts.has_circuit(part) {
@@ -52,6 +54,7 @@ fn part_run(
     requires part { part < length parts.now.inner }
     ensures answer { IfOk result (λ w. IsPartAnswer net.now parts.now.part_of part w.0) }
     ensures certificate { IfOk result (λ w. IsPartCertificate net.now parts.now.part_of part w.0) }
+    ensures limits { IfOk result (λ w. KeepsLimits w.0) }
     ensures run { IfOk result (λ w. IsRunOf net.now parts.now.part_of part w.0
         (option_map (λ r. r.items) w.1)) }
 {
@@ -82,15 +85,8 @@ fn keep_run(runs: &mut Vec<Vec<Round>>, rounds: Option<Vec<Round>>) -> Result<()
 }
 
 // The answer on the net that has these answers of its parts.
-fn gathered(
-    net: &Net,
-    live: &Live,
-    parts: &Parts,
-    part_of: Vec<u32>,
-    answers: Vec<PartAnswer>,
-) -> CycleAnswer
+fn gathered(net: &Net, parts: &Parts, part_of: Vec<u32>, answers: Vec<PartAnswer>) -> CycleAnswer
     requires rules { IsNet net.now }
-    requires live { IsRanking net.now live.now }
     requires parts { AreParts net.now parts.now }
     requires numbers { part_of.items ≡ parts.now.part_of }
     requires count { length answers.items ≡ length parts.now.inner }
@@ -103,7 +99,6 @@ fn gathered(
     ensures certificate { IsCertificate net.now result }
 {
     let _net = net;
-    let _ranks = live;
     let _count = parts.count();
     let best = best_number(&answers);
     CycleAnswer {
@@ -122,8 +117,9 @@ fn gathered(
 /// paths in the part that lead there from where the circuit begins: a place with holding time h and
 /// m tokens has the reduced time b h - a m at the ratio a/b. It is the last round of the part's
 /// policy run. `best` is the first part of greatest ratio, none exactly where the net has no
-/// circuit. The answer is a certificate. Values stand for the net. It answers `OutOfMemory` only
-/// where no memory is found.
+/// circuit. The answer is a certificate; each ratio has a time of at most 4 x 10^11 and at most
+/// 400,000 tokens, and no potential passes 4 x 10^17 in magnitude. Values stand for the net. It
+/// answers `OutOfMemory` only where no memory is found.
 pub fn cycle(
     alloc: Global,
     net: &Net,
@@ -136,6 +132,7 @@ pub fn cycle(
     ensures count { IfOk result (λ a. length a.parts.items ≡ length parts.now.inner) }
     ensures parts { IfOk result (λ a. ArePartAnswers net.now parts.now.part_of a.parts.items) }
     ensures runs { IfOk result (λ a. AreLastOfRuns net.now parts.now.part_of a.parts.items) }
+    ensures limits { IfOk result (λ a. All KeepsLimits a.parts.items) }
     ensures best { IfOk result (λ a. IsFirstGreatest a.parts.items a.best) }
     ensures net { IfOk result (λ a. IsCycleTime net.now a.parts.items a.best) }
     ensures certificate { IfOk result (λ a. IsCertificate net.now a) }
@@ -147,7 +144,7 @@ pub fn cycle(
         let answer = part_answer(alloc, net, live, parts, part)?;
         keep(&mut answers, answer)?;
     }
-    Ok(gathered(net, live, parts, part_of, answers))
+    Ok(gathered(net, parts, part_of, answers))
 }
 
 /// The cycle times as `cycle` gives them (chapters 2 and 3), and of each part with a circuit, in
@@ -165,6 +162,7 @@ pub fn cycle_with_runs(
     ensures part_of { IfOk result (λ w. w.0.part_of.items ≡ parts.now.part_of) }
     ensures count { IfOk result (λ w. length w.0.parts.items ≡ length parts.now.inner) }
     ensures parts { IfOk result (λ w. ArePartAnswers net.now parts.now.part_of w.0.parts.items) }
+    ensures limits { IfOk result (λ w. All KeepsLimits w.0.parts.items) }
     ensures best { IfOk result (λ w. IsFirstGreatest w.0.parts.items w.0.best) }
     ensures net { IfOk result (λ w. IsCycleTime net.now w.0.parts.items w.0.best) }
     ensures certificate { IfOk result (λ w. IsCertificate net.now w.0) }
@@ -180,5 +178,5 @@ pub fn cycle_with_runs(
         keep(&mut answers, answer)?;
         keep_run(&mut runs, rounds)?;
     }
-    Ok((gathered(net, live, parts, part_of, answers), runs))
+    Ok((gathered(net, parts, part_of, answers), runs))
 }

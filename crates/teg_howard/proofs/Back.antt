@@ -8,7 +8,8 @@ use Rattle.teg_net.specs.Circuits.{IsPathBetween, from_of}
 use Rattle.teg_net.specs.Parts.{IsMember, IsPlaceOfPart, to_of}
 use Rattle.teg_howard.specs.Policies.{Policy, IsPolicy, IsPolicyCircuit, step_back}
 use Rattle.teg_howard.specs.FoundCircuits.{IsOnPolicy}
-use Rattle.teg_howard.proofs.Search.{FirstBelow, first_below, pigeons}
+use Rattle.teg_howard.proofs.Search.{FirstBelow, first_below}
+use Rattle.teg_check.proofs.number_laws_proofs.Pigeons.{pigeons}
 
 -- the places passed by following m places backwards from t, in the order of a path to t
 abbrev pub trail : NetLists → Policy → ℕ → ℕ → List PlaceId

@@ -19,7 +19,7 @@ use Rattle.teg_howard.proofs.Turns.{circuit_trail, root_member}
 use Rattle.teg_howard.proofs.Walks.{same_circuit, circuit_short}
 use Rattle.teg_howard.proofs.First.{low_turn}
 use Rattle.teg_howard.proofs.Optimum.{some_token}
-use Rattle.teg_howard.proofs.Ratios.{ratio_trans_less}
+use Rattle.teg_certificates.proofs.Ratios.{ratio_trans_less}
 
 abbrev pub Passes : NetLists → List Bool → List PlaceId → Type 0
 Passes net marked d = Any (λ p. IsMarked marked (to_of net p)) d

@@ -6,7 +6,6 @@ pub mod InnerPlaces
 pub mod Routing
 pub mod Optimum
 pub mod Measure
-pub mod Ratios
 pub mod Lowest
 pub mod Walks
 pub mod First
@@ -24,9 +23,9 @@ pub mod Runs
 pub mod Rising
 pub mod Exits
 pub mod Unique
-pub mod OneRatio
 pub mod OneRun
 pub use Rattle.teg_check.proofs.number_laws_proofs as number_laws_proofs
 pub use Rattle.teg_net.proofs as teg_net_proofs
 pub use Rattle.teg_check.proofs as teg_check_proofs
+pub use Rattle.teg_certificates.proofs as teg_certificates_proofs
 pub use Rattle.teg_parts.proofs as teg_parts_proofs

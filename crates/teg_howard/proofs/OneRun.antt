@@ -20,7 +20,7 @@ use Rattle.teg_howard.proofs.Optimum.{some_token}
 use Rattle.teg_howard.proofs.Listing.{only_members}
 use Rattle.teg_howard.proofs.RoundStates.{same_functions, any_kind, best_kind}
 use Rattle.teg_howard.proofs.Unique.{one_improvement, leads_agrees, circuit_agrees, one_best, one_routing, one_sums}
-use Rattle.teg_howard.proofs.OneRatio.{one_ratio}
+use Rattle.teg_certificates.proofs.OneRatio.{one_ratio}
 
 pub record Equal (r q : Round) : Type 0 where
   pub choices : chosen r ≡ chosen q

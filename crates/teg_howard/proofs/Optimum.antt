@@ -11,7 +11,8 @@ use Rattle.teg_howard.specs.Policies.{Policy, IsPolicy, step_back, LeadsBack, of
 use Rattle.teg_net.specs.ReducedTimes.{reduced_time_of}
 use Rattle.teg_howard.proofs.Search.{FirstBelow, first_below}
 use Rattle.teg_howard.proofs.Back.{trail, trail_leads, trail_inside}
-use Rattle.teg_howard.proofs.Sums.{weight_is, above_along, sum_back}
+use Rattle.teg_certificates.proofs.PathSums.{weight_is, above_along}
+use Rattle.teg_howard.proofs.Sums.{sum_back}
 
 module _ (net : NetLists) (parts : List ℕ) (part a b : ℕ) (v : ℕ → ℤ) (none : (t : ℕ) (p : PlaceId) → Improves net parts part a b v t p → ⊥) where
   -- no place offers its end more than the potential there

@@ -2,6 +2,8 @@
 use Rattle.std.proofs.Common.{ℕ, ◌+◌, ◌<◌, ◌≤◌, ◌≡◌, ◌≢◌, List, [], ◌∷◌, ◌++◌, AllPairs, Option, Some, None, cond, is_none, count_by, length, get_or, set, refl, sym, ap, subst, ◌∙◌, arith, inl, inr, ⊎_elim}
 use Rattle.std.specs.Prelude.{ℤ, pos, All, Any, ◌⊎◌}
 use Rattle.std.proofs.lemmas.List.Sums.{sum_by-set}
+use Rattle.std.proofs.lemmas.List.Elements.{All-push}
+use Rattle.std.proofs.lemmas.List.Quantifiers.{Any-push}
 use Rattle.std.proofs.lemmas.Bool.{cases_eq, cases_lt}
 use Rattle.std.proofs.lemmas.List.{get_or-set_same, get_or-set_other, length-set, length_push, get_or_push, get_or_append_left}
 use Rattle.std.proofs.lemmas.List.{append-nil}
@@ -25,13 +27,6 @@ spread_less vs t z l none =
     omega (arith, s, one)
 
 -- ---- lists with one element more
-pub All_push : {A : Type 0} (P : A → Type 0) (xs : List A) (x : A) → All P xs → P x → All P (xs ++ x ∷ [])
-All_push P xs x h p i d l =
-    ⊎_elim
-    (λ (q : i < length xs). subst P (sym (get_or_append_left xs (x ∷ []) d i q)) (h i d q))
-    (λ (q : length xs ≤ i). let at : length xs ≡ i = omega (arith, length_push xs x) in subst P (sym (get_or_push xs x d i at)) p)
-    (cases_lt i (length xs))
-
 pub Pairs_push : {A : Type 0} (R : A → A → Type 0) (xs : List A) (x : A) → AllPairs R xs → All (λ y. R y x) xs → AllPairs R (xs ++ x ∷ [])
 Pairs_push R xs x h p i j d l m =
     let long = length_push xs x in
@@ -66,9 +61,6 @@ Pairs_last R xs x h i d l =
 
 Any_push : {A : Type 0} (P : A → Type 0) (xs : List A) (x : A) → Any P xs → Any P (xs ++ x ∷ [])
 Any_push P xs x w = let l = w.2 in (w.0, w.1, omega (arith, length_push xs x), get_or_append_left xs (x ∷ []) w.1 w.0 w.2 ∙ w.3, w.4)
-
-Any_new : {A : Type 0} (P : A → Type 0) (xs : List A) (x : A) → P x → Any P (xs ++ x ∷ [])
-Any_new P xs x p = (length xs, x, omega (arith, length_push xs x), get_or_push xs x x (length xs) refl, p)
 
 Any_split : {A : Type 0} (P : A → Type 0) (xs : List A) (x : A) → Any P (xs ++ x ∷ []) → P x ⊎ Any P xs
 Any_split P xs x w =
@@ -187,7 +179,7 @@ module _ (net : NetLists) (parts : List ℕ) (part : ℕ) (π : Policy) (root : 
   add_waits vs old (Some t) x bound h w =
       let e = h.link.1.starts in
       let low = h.link.0 in
-      All_push (Waits vs) old t w (record {
+      All-push (Waits vs) old t w (record {
         at = subst (λ y. At y t) (sym e) h.link.1;
         starts = subst (λ y. value_held vs y ≢ None) (sym e) h.valued;
         without = λ u l m. h.free u (omega arith) (subst (λ y. At y u) e m);
@@ -208,12 +200,12 @@ module _ (net : NetLists) (parts : List ℕ) (part : ℕ) (π : Policy) (root : 
   add_covers vs old (Some t) x bound h u l m =
       ⊎_elim
       (λ (q : t < u). absurd (h.link.2 u q l m))
-      (λ (q : u ≤ t). Any_new (Covers u) old t (q, m.starts ∙ sym h.link.1.starts))
+      (λ (q : u ≤ t). Any-push (Covers u) old t (q, m.starts ∙ sym h.link.1.starts))
       (cases_lt t u)
 
   add_all : (P : ℕ → Type 0) (old : List ℕ) (o : Option ℕ) → All P old → ((t : ℕ) → o ≡ Some t → P t) → All P (old ++ listed_member o)
   add_all P old None h p = subst (All P) (sym (append-nil old)) h
-  add_all P old (Some t) h p = All_push P old t h (p t refl)
+  add_all P old (Some t) h p = All-push P old t h (p t refl)
 
   link_at : (x bound : ℕ) (o : Option ℕ) → IsHighestFollowerBelow net parts part π root x bound o → (t : ℕ) → o ≡ Some t → start_of t ≡ x
   link_at x bound None h t e = let f : ⊥ = cc in absurd f

@@ -1,34 +1,18 @@
--- What the places of a path count together, and potentials along it.
-use Rattle.std.proofs.Common.{ℕ, zero, suc, ◌+◌, ◌*◌, ◌<◌, ◌≡◌, ◌≢◌, List, [], ◌∷◌, ◌++◌, length, get_or, refl, sym, ap, ◌∙◌, arith}
+-- Potentials along paths, and paths of a policy's own places.
+use Rattle.std.proofs.Common.{ℕ, zero, suc, ◌+◌, ◌<◌, ◌≡◌, ◌≢◌, List, [], ◌∷◌, ◌++◌, length, get_or, refl, sym, ap, ◌∙◌, arith}
 use Rattle.std.specs.Prelude.{ℤ, pos, ◌+ℤ◌, ◌≤ℤ◌, ◌<ℤ◌, All}
 use Rattle.std.proofs.lemmas.Int.{ints}
-use Rattle.std.proofs.lemmas.List.Sums.{sum_by-cons}
 use Rattle.std.proofs.lemmas.List.Elements.{All-tail}
 use Rattle.teg_net.specs.declared.entries.PlaceId.{PlaceId}
 use Rattle.teg_net.specs.Nets.{NetLists}
-use Rattle.teg_net.specs.Circuits.{place_at, IsPathBetween, time_of, tokens_of, from_of}
+use Rattle.teg_net.specs.Circuits.{IsPathBetween, from_of}
 use Rattle.teg_net.specs.Parts.{IsMember, to_of}
 use Rattle.teg_howard.specs.Policies.{Policy, IsPolicy, step_back, offer_of, AreSums}
 use Rattle.teg_net.specs.ReducedTimes.{reduced_time_of}
 use Rattle.teg_howard.proofs.Back.{trail, back_add, back_member}
 
-pub weight_is : (net : NetLists) (a b : ℕ) (ps : List PlaceId) → (reduced_time_of net a b ps +ℤ pos (a * tokens_of net ps)) ≡ pos (b * time_of net ps)
-weight_is net a b [] = let e : a * 0 ≡ b * 0 = omega arith in rw e (omega (arith, ints))
-weight_is net a b (p ∷ ps) =
-    let rest = weight_is net a b ps in
-    let time : b * time_of net (p ∷ ps) ≡ b * (place_at net p).hold + b * time_of net ps = rw (sum_by-cons (λ q. (place_at net q).hold) p ps) (grind arith) in
-    let tokens : a * tokens_of net (p ∷ ps) ≡ a * (place_at net p).tokens + a * tokens_of net ps = rw (sum_by-cons (λ q. (place_at net q).tokens) p ps) (grind arith) in
-    rw (time, tokens) (omega (arith, ints, rest))
-
-pub weight-append : (net : NetLists) (a b : ℕ) (ps qs : List PlaceId) → reduced_time_of net a b (ps ++ qs) ≡ (reduced_time_of net a b ps +ℤ reduced_time_of net a b qs)
-weight-append net a b [] qs = omega (arith, ints)
-weight-append net a b (p ∷ ps) qs = omega (arith, ints, weight-append net a b ps qs)
-
 below_zero : (x y : ℤ) → x ≡ y → y ≤ℤ (pos 0 +ℤ x)
 below_zero x y e = omega (arith, ints)
-
-above_zero : (x y : ℤ) → x ≡ y → (pos 0 +ℤ x) ≤ℤ y
-above_zero x y e = omega (arith, ints)
 
 -- where each place offers its end at least the potential there, the path does so too
 pub below_along :
@@ -54,17 +38,6 @@ above_by_one net a b v (p ∷ ps) s t zero d h l n m =
 above_by_one net a b v (p ∷ ps) s t (suc k) d h l n m =
     let here = h 0 p (omega arith) in
     let rest = above_by_one net a b v ps (to_of net p) t k d (All-tail (λ q. v (to_of net q) ≤ℤ offer_of net a b v q) p ps h) l.2 (omega arith) m in
-    let from : v (from_of net p) ≡ v s = ap v l.1 in
-    omega (arith, ints, here, rest, from)
-
--- where no place offers its end more than the potential there, no path does
-pub above_along :
-    (net : NetLists) (a b : ℕ) (v : ℕ → ℤ) (ps : List PlaceId) (s t : ℕ) → All (λ p. offer_of net a b v p ≤ℤ v (to_of net p)) ps → IsPathBetween net s ps t
-    → (reduced_time_of net a b ps +ℤ v s) ≤ℤ v t
-above_along net a b v [] s t h l = above_zero (v s) (v t) (ap v l)
-above_along net a b v (p ∷ ps) s t h l =
-    let here = h 0 p (omega arith) in
-    let rest = above_along net a b v ps (to_of net p) t (All-tail (λ q. offer_of net a b v q ≤ℤ v (to_of net q)) p ps h) l.2 in
     let from : v (from_of net p) ≡ v s = ap v l.1 in
     omega (arith, ints, here, rest, from)
 

@@ -12,7 +12,8 @@ use Rattle.teg_net.specs.PartAnswers.{first_transition_of}
 use Rattle.teg_net.specs.ReducedTimes.{reduced_time, reduced_time_of}
 use Rattle.teg_howard.proofs.Search.{FirstBelow, first_below}
 use Rattle.teg_howard.proofs.Back.{trail, length-trail, back_add, get_or-trail, back_member, trail_leads, trail_inside, trail_own, trail_circuit, first_return, to_a_circuit}
-use Rattle.teg_howard.proofs.Sums.{weight_is, weight-append, below_along, above_by_one, trail_add, own_trail, sum_back}
+use Rattle.teg_certificates.proofs.PathSums.{weight_is, weight-append}
+use Rattle.teg_howard.proofs.Sums.{below_along, above_by_one, trail_add, own_trail, sum_back}
 use Rattle.teg_net.proofs.Reading.{same_id}
 
 pub cases_id : (p q : PlaceId) → (p ≡ q) ⊎ (p ≢ q)

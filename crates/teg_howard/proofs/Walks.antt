@@ -13,7 +13,7 @@ use Rattle.teg_howard.specs.Policies.{Policy, IsPolicy, IsPolicyCircuit, step_ba
 use Rattle.teg_net.specs.PartAnswers.{first_transition_of}
 use Rattle.teg_net.specs.Limits.{greatest_circuit_time, greatest_hold, most_circuit_tokens}
 use Rattle.teg_howard.specs.FoundCircuits.{IsOnPolicy, IsFoundAt, GoesBelow}
-use Rattle.teg_howard.proofs.Search.{pigeons}
+use Rattle.teg_check.proofs.number_laws_proofs.Pigeons.{pigeons}
 use Rattle.teg_howard.proofs.Back.{trail, back_add, back_member, trail_circuit}
 use Rattle.teg_howard.proofs.Turns.{circuit_trail, root_member, no_early}
 

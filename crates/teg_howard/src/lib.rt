@@ -4,7 +4,8 @@
 //! holding time to tokens, a circuit that has it, and potentials. The rounds are a policy run
 //! (`IsPolicyRun`), and the answer tells what `IsPartAnswer` says of circuits and paths alone.
 //! [`last_round`] gives the answer alone, and keeps one round at a time.
-//! The crate stands on `teg_parts` for parts, on `teg_check` for ranks, and on `teg_net` for nets.
+//! The crate stands on `teg_parts` for parts, on `teg_check` for ranks, on `teg_certificates` for
+//! lemmas on what paths weigh, and on `teg_net` for nets.
 //! Its examples stand in `worked_examples`.
 #![tactic(auto)]
 

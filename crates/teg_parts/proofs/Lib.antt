@@ -4,5 +4,4 @@ pub mod Reaching
 pub mod Ordering
 pub mod Rooted
 pub mod NumberingSteps
-pub mod Inside
 pub mod OneParts

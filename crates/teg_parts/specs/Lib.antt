@@ -2,4 +2,3 @@ pub mod Partitions
 pub mod PlacesAlong
 pub mod Components
 pub mod PartNumbers
-pub mod CircuitsAndParts

@@ -36,3 +36,7 @@ pub record AreParts (net : NetLists) (p : PartLists) : Type 0 where
   pub rises : All (λ q. slice_index p.part_of q.from.index ≤ slice_index p.part_of q.to.index) net.places
   pub order : AreInOrder net p.part_of (length p.inner)
   pub inner : (k : ℕ) → k < length p.inner → (slice_index_or p.inner k false ≡ true) ↔ ((q : PlaceId) × IsPlaceOfPart net p.part_of k q)
+
+-- a net has one list of strong parts in their order
+abbrev pub PartsAreOne : Type 0
+PartsAreOne = (net : NetLists) (p q : PartLists) → AreParts net p → AreParts net q → p ≡ q

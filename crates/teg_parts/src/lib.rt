@@ -15,6 +15,6 @@ mod parts;
 mod places_along;
 mod strong_parts;
 
-pub use laws::{circuits_lie_in_one_part, parts_are_one};
+pub use laws::parts_are_one;
 pub use parts::Parts;
 pub use strong_parts::split;

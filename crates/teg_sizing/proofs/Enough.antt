@@ -13,7 +13,8 @@ use Rattle.teg_net.specs.Ratios.{Fraction}
 use Rattle.teg_net.specs.Circuits.{time_of, tokens_of}
 use Rattle.teg_sizing.specs.ValueRounds.{reduced_time_of_path, Avoids}
 use Rattle.teg_sizing.specs.Surpluses.{NoneIsAbove, IsAboveApart, NonePasses, IsBestThrough}
-use Rattle.teg_sizing.specs.Sizings.{OthersKeepTarget, IsEnough, IsFewest, IsNeverEnough, IsTurnedLowest}
+use Rattle.teg_certificates.specs.Sizes.{OthersKeepTarget, IsEnough, IsFewest, IsNeverEnough}
+use Rattle.teg_sizing.specs.Sizings.{IsTurnedLowest}
 use Rattle.teg_sizing.proofs.Values.{contains_or_avoids, not_both, all_first, all_second}
 
 -- a value of at most so much, in products

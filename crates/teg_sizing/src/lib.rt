@@ -5,8 +5,9 @@
 //! token less leaves above it; or that no number is enough, with a circuit that shows it.
 //! [`sizing_text`] is the text of an answer, [`no_place_text`] that of a name that no place has,
 //! and different answers have different texts. The best paths are found in rounds over the places,
-//! with no regard to the limit on tokens. The crate stands on `teg_net`, on `teg_check` for nets
-//! that are live, on `teg_loops` for the laws of paths and circuits, and on `teg_text` for texts.
+//! with no regard to the limit on tokens. The crate stands on `teg_net`, on `teg_certificates` for
+//! what is enough and what shows it, on `teg_check` for nets that are live, on `teg_loops` for the
+//! laws of paths and circuits, and on `teg_text` for texts.
 //! Its examples stand in `worked_examples`.
 #![tactic(auto)]
 

@@ -33,9 +33,8 @@ unreachable-requires c =
     let net = c.args.net.now in
     let none = iff_false c.has_input.ensures c.if-has_input.false in
     let places = alone net c.places.result.now none c.places.ensures.value (sym c.is_empty.ensures ∙ c.if-is_empty.false) in
-    let live = ranking_is_live net c.args._live.now c.requires.live in
     let each = one_part net c.args.parts.now c.requires.parts (omega arith) in
-    some_best net c.args.answer.now c.places.ensures.rules live c.requires.certificate each places.some_place (sym c.best_ratio.ensures ∙ c.in_default.is)
+    some_best net c.args.answer.now c.places.ensures.rules c.requires.certificate each places.some_place (sym c.best_ratio.ensures ∙ c.in_default.is)
 
 pub bound_number-requires : goal.bound_number-requires
 bound_number-requires c =

@@ -1,7 +1,9 @@
 use Rattle.std.proofs.Common.{◌≡◌, length, sym, subst, arith}
 use Rattle.std.proofs.lemmas.List.{length_push}
+use Rattle.std.proofs.lemmas.List.Elements.{All-push}
 use Rattle.teg_net.specs.PartAnswers.{IsPartAnswer}
 use Rattle.teg_net.specs.Certificates.{IsPartCertificate}
+use Rattle.teg_howard.specs.PolicyRuns.{KeepsLimits}
 use Rattle.teg_cycle.specs.LastRounds.{IsLastOfRun}
 use Rattle.teg_cycle.proofs.Telling.{each_push}
 use Rattle.teg_cycle.proofs.cycle_time.cycle.Goals as goal
@@ -21,6 +23,7 @@ loop-part-preserved c =
     (record {
       count = omega arith;
       are = each_push (IsPartAnswer net part_of) old x h.are (subst (λ k. IsPartAnswer net part_of k x) at e.answer);
+      limits = All-push KeepsLimits old x h.limits e.limits;
       runs = each_push (IsLastOfRun net part_of) old x h.runs (subst (λ k. IsLastOfRun net part_of k x) at e.run);
       certificates = each_push (IsPartCertificate net part_of) old x h.certificates (subst (λ k. IsPartCertificate net part_of k x) at e.certificate);
     })

@@ -1,8 +1,10 @@
 use Rattle.std.proofs.Common.{◌≡◌, ◌++◌, ◌∷◌, [], length, sym, subst, arith}
 use Rattle.std.specs.Option.{option_map}
 use Rattle.std.proofs.lemmas.List.{length_push}
+use Rattle.std.proofs.lemmas.List.Elements.{All-push}
 use Rattle.teg_net.specs.PartAnswers.{IsPartAnswer}
 use Rattle.teg_net.specs.Certificates.{IsPartCertificate}
+use Rattle.teg_howard.specs.PolicyRuns.{KeepsLimits}
 use Rattle.teg_cycle.specs.LastRounds.{IsRunOf, AreRunsFrom, rounds_of_runs}
 use Rattle.teg_cycle.proofs.Telling.{each_push}
 use Rattle.teg_cycle.proofs.Gathering.{one_more}
@@ -24,6 +26,7 @@ loop-part-preserved c =
     (record {
       count = omega arith;
       are = each_push (IsPartAnswer net part_of) old x h.are (subst (λ k. IsPartAnswer net part_of k x) at e.answer);
+      limits = All-push KeepsLimits old x h.limits e.limits;
       certificates = each_push (IsPartCertificate net part_of) old x h.certificates (subst (λ k. IsPartCertificate net part_of k x) at e.certificate);
       runs = subst (AreRunsFrom net part_of 0 (old ++ x ∷ [])) (sym c.in_ok-keep_run.ensures) runs;
     })

@@ -1,0 +1,26 @@
+use Rattle.std.proofs.Common.{◌≡◌, ◌<◌, true, false, length, get_or, refl, arith, below_more}
+use Rattle.std.proofs.lemmas.Bool.{false≢true, iff_false}
+use Rattle.std.proofs.lemmas.List.{get_or_read}
+use Rattle.teg_net.specs.declared.answers.PartAnswer.TheVariants.{NoCircuit}
+use Rattle.teg_net.specs.Certificates.{IsPartCertificate}
+use Rattle.teg_certificates.proofs.certificate.parts_fit.Goals as goal
+
+pub loop-index-preserved : goal.loop-index-preserved
+loop-index-preserved c =
+    let answers = c.args.answers.now in
+    let i = c.loop-index.index in
+    let within : i < length answers = c.loop-index-test.true in
+    let read : c.index-answers-index.result ≡ get_or answers i NoCircuit = get_or_read answers i c.index-answers-index.result within c.index-answers-index.is NoCircuit in
+    let here : IsPartCertificate c.args.net.now c.args.part_of.now i (get_or answers i NoCircuit) = rw read at (c.part_fits.ensures.0 c.if-not-part_fits.false) in
+    below_more (λ k. IsPartCertificate c.args.net.now c.args.part_of.now k (get_or answers k NoCircuit)) i c.loop-index.invariant here
+
+pub returns-then-not-part_fits : goal.returns-then-not-part_fits
+returns-then-not-part_fits c =
+    let answers = c.args.answers.now in
+    let i = c.loop-index.index in
+    let within : i < length answers = c.loop-index-test.true in
+    let read : c.index-answers-index.result ≡ get_or answers i NoCircuit = get_or_read answers i c.index-answers-index.result within c.index-answers-index.is NoCircuit in
+    (λ (e : false ≡ true). absurd (false≢true e), λ h. absurd (iff_false c.part_fits.ensures c.if-not-part_fits.true (rw read (h i within))))
+
+pub returns : goal.returns
+returns c = (λ t k l. c.loop-index.invariant k (omega arith), λ h. refl)

@@ -1,0 +1,5 @@
+use Rattle.teg_certificates.proofs.Inside.{circuit_in_part}
+use Rattle.teg_certificates.proofs.laws.circuits_lie_in_one_part.Goals as goal
+
+pub returns : goal.returns
+returns c = λ net part_of kept count rises ps h. circuit_in_part net kept part_of count rises ps h

@@ -1,0 +1,28 @@
+use Rattle.std.proofs.Common.{◌≡◌, ◌<◌, true, false, length, below_more}
+use Rattle.std.proofs.lemmas.Bool.{false≢true, iff_false}
+use Rattle.teg_net.specs.declared.entries.PlaceId.{PlaceId}
+use Rattle.teg_net.specs.Circuits.{place_at}
+use Rattle.teg_net.proofs.Reading.{read_place}
+use Rattle.teg_certificates.specs.Sizes.{LiftsNone, extra_at}
+use Rattle.teg_certificates.proofs.sizes.none_lifts.Goals as goal
+
+pub returns-then-not-lifts_none : goal.returns-then-not-lifts_none
+returns-then-not-lifts_none c =
+    let net = c.args.net.now in
+    let p : PlaceId = record { index = c.loop-number.number } in
+    let own_in : p.index < length net.places = rw c.places-own-items.ensures.value at c.loop-number-test.true in
+    let item : c.own-item.result ≡ place_at net p = read_place net c.places-own-items.result.now p c.own-item.result c.places-own-items.ensures.value own_in c.own-item.is in (
+      λ (e : false ≡ true). absurd (false≢true e),
+      λ h. absurd (iff_false c.lifts_none.ensures c.if-not-lifts_none.true (rw (c.extra_at.ensures, item) (h p own_in))),
+    )
+
+pub loop-number-preserved : goal.loop-number-preserved
+loop-number-preserved c =
+    let net = c.args.net.now in
+    let r = c.args.target in
+    let vs = c.args.potentials.now in
+    let p : PlaceId = record { index = c.loop-number.number } in
+    let own_in : p.index < length net.places = rw c.places-own-items.ensures.value at c.loop-number-test.true in
+    let item : c.own-item.result ≡ place_at net p = read_place net c.places-own-items.result.now p c.own-item.result c.places-own-items.ensures.value own_in c.own-item.is in
+    let here : LiftsNone r vs (extra_at c.args.place c.args.extra p) (place_at net p) = rw (c.extra_at.ensures, item) at (c.lifts_none.ensures.0 c.if-not-lifts_none.false) in
+    below_more (λ k. LiftsNone r vs (extra_at c.args.place c.args.extra (record { index = k })) (place_at net (record { index = k }))) c.loop-number.number c.loop-number.invariant here

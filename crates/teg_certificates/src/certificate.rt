@@ -1,0 +1,173 @@
+//! Whether an answer is a certificate: a short check of the answer and the net alone.
+ghost use Rattle.std.specs.Prelude.{◌≡◌, ◌↔◌, ◌<◌, ◌≤◌, ◌*◌, All, IsTrue, length, slice_index};
+ghost use Rattle.teg_net.specs.Ratios.{IsLowestTerms, IsRatioWithin};
+ghost use Rattle.teg_net.specs.Circuits.{IsCircuit, time_of, tokens_of};
+ghost use Rattle.teg_net.specs.GreatestRatios.{IsFirstGreatest};
+ghost use Rattle.teg_net.specs.Certificates.{IsPartCertificate, IsCertificate};
+ghost use Rattle.teg_net.specs.Limits.{greatest_circuit_time, most_circuit_tokens};
+ghost use Rattle.teg_certificates.specs.Checks.{AreNumbersOf, HasRatio, FitsBest, ArePartCertificates, FitsLists};
+
+use crate::first_best::is_first_best;
+use crate::inner_places::{all_inner, has_no_place};
+use crate::potentials::potentials_fit;
+use crate::sums::{CircuitSums, circuit_sums};
+use teg_net::{CycleAnswer, Net, PartAnswer, Place, PlaceId, Potential, Ratio, is_circuit};
+
+// The greatest time and the most tokens of a ratio in an answer that is checked.
+const GREATEST_CHECKED_RATIO: u64 = 1_000_000_000_000;
+
+// Whether each number is below the count.
+fn all_below(part_of: &[u32], count: usize) -> bool
+    ensures { IsTrue result ↔ All (λ k. k < count) part_of.now }
+{
+    part_of.iter().all(|part| (*part as usize) < count)
+}
+
+// Whether the number does not fall along the place.
+fn rises_along(part_of: &[u32], place: &Place) -> bool
+    requires from_in { place.now.from.index < length part_of.now }
+    requires to_in { place.now.to.index < length part_of.now }
+    ensures { IsTrue result ↔ (slice_index part_of.now place.now.from.index ≤ slice_index
+        part_of.now place.now.to.index) }
+{
+    part_of[place.from.index as usize] <= part_of[place.to.index as usize]
+}
+
+// Whether the numbers never fall along a place.
+fn never_fall(net: &Net, part_of: &[u32]) -> bool
+    requires { length part_of.now ≡ length net.now.transitions }
+    ensures { IsTrue result ↔ All (λ p. slice_index part_of.now p.from.index ≤ slice_index
+        part_of.now p.to.index) net.now.places }
+{
+    for place in net.places() {
+        if !rises_along(part_of, place) {
+            return false;
+        }
+    }
+    true
+}
+
+// Whether the numbers of transitions are those of parts, and never fall along a place.
+fn numbers_fit(net: &Net, part_of: &[u32], count: usize) -> bool
+    ensures { IsTrue result ↔ AreNumbersOf net.now part_of.now count }
+{
+    part_of.len() == net.transitions().len()
+        && all_below(part_of, count)
+        && never_fall(net, part_of)
+}
+
+// Whether the ratio keeps the limits of an answer that is checked.
+pub(crate) fn is_within(ratio: Ratio) -> bool
+    ensures within { IsTrue result ↔ IsRatioWithin ratio }
+    ensures terms { IsLowestTerms ratio }
+{
+    ratio.time() <= GREATEST_CHECKED_RATIO && ratio.tokens() <= GREATEST_CHECKED_RATIO
+}
+
+// Whether the sums have the ratio.
+fn is_ratio_of(ratio: Ratio, sums: CircuitSums) -> bool
+    requires limits { IsRatioWithin ratio }
+    requires time { sums.time ≤ greatest_circuit_time }
+    requires tokens { sums.tokens ≤ most_circuit_tokens }
+    ensures { IsTrue result ↔ (sums.time * ratio.tokens ≡ ratio.time * sums.tokens) }
+{
+    sums.time * u128::from(ratio.tokens()) == u128::from(ratio.time()) * sums.tokens
+}
+
+// Whether the circuit has the ratio.
+fn attains(net: &Net, ratio: Ratio, places: &[PlaceId]) -> bool
+    requires limits { IsRatioWithin ratio }
+    requires circuit { IsCircuit net.now places.now }
+    ensures { IsTrue result ↔ (time_of net.now places.now * ratio.tokens
+        ≡ ratio.time * tokens_of net.now places.now) }
+{
+    is_ratio_of(ratio, circuit_sums(net, places))
+}
+
+// Whether the places are a circuit in the part that has the ratio.
+fn has_ratio(net: &Net, part_of: &[u32], part: usize, ratio: Ratio, places: &[PlaceId]) -> bool
+    requires count { length part_of.now ≡ length net.now.transitions }
+    requires limits { IsRatioWithin ratio }
+    ensures { IsTrue result ↔ HasRatio net.now part_of.now part ratio places.now }
+{
+    is_circuit(net, places) && all_inner(net, part_of, part, places) && attains(net, ratio, places)
+}
+
+// Whether ratio, circuit and potentials are a certificate of the part.
+fn best_fits(
+    net: &Net,
+    part_of: &[u32],
+    part: usize,
+    ratio: Ratio,
+    places: &[PlaceId],
+    potentials: &[Potential],
+) -> bool
+    requires { length part_of.now ≡ length net.now.transitions }
+    ensures fits { IsTrue result ↔ FitsBest net.now part_of.now part ratio places.now
+        potentials.now }
+    ensures terms { IsLowestTerms ratio }
+{
+    is_within(ratio)
+        && has_ratio(net, part_of, part, ratio, places)
+        && potentials_fit(net, part_of, part, ratio, potentials)
+}
+
+// Whether the answer is a certificate of the part.
+fn part_fits(net: &Net, part_of: &[u32], part: usize, answer: &PartAnswer) -> bool
+    requires { length part_of.now ≡ length net.now.transitions }
+    ensures { IsTrue result ↔ IsPartCertificate net.now part_of.now part answer.now }
+{
+    match answer {
+        PartAnswer::NoCircuit => has_no_place(net, part_of, part),
+        PartAnswer::Best {
+            ratio,
+            circuit,
+            potentials,
+        } => best_fits(net, part_of, part, *ratio, &circuit.places, potentials),
+    }
+}
+
+// Whether each answer is a certificate of its part.
+fn parts_fit(net: &Net, part_of: &[u32], answers: &[PartAnswer]) -> bool
+    requires { length part_of.now ≡ length net.now.transitions }
+    ensures { IsTrue result ↔ ArePartCertificates net.now part_of.now answers.now }
+{
+    for (index, answer) in answers.iter().enumerate() {
+        if !part_fits(net, part_of, index, answer) {
+            return false;
+        }
+    }
+    true
+}
+
+// Whether the parts of an answer on the net are a certificate.
+fn lists_fit(net: &Net, part_of: &[u32], answers: &[PartAnswer], best: Option<u32>) -> bool
+    ensures { IsTrue result ↔ FitsLists net.now part_of.now answers.now best }
+{
+    if !numbers_fit(net, part_of, answers.len()) {
+        return false;
+    }
+    if !parts_fit(net, part_of, answers) {
+        return false;
+    }
+    is_first_best(answers, best)
+}
+
+/// Whether an answer is a certificate (`IsCertificate`, chapter 3): exactly where each transition
+/// has the number of a part, numbers never fall along a place, each part's answer is certified, and
+/// `best` is the first part of greatest ratio.
+///
+/// A part that is `NoCircuit` has no place with both ends in it. In any other part the ratio a/b
+/// has time and tokens of at most 10^12, the circuit is one in the part that has the ratio, the
+/// potentials are those of the members in order, each of magnitude at most 10^18, and each place of
+/// the part with holding time h and m tokens lifts the potential of its start by b h - a m to no
+/// more than the potential of its end.
+///
+/// It takes any answer over any net and no memory, and stands on nothing but the two. It is true of
+/// each answer of `cycle`, by that call's clause `certificate`; what it shows is the law
+/// `certificates_tell`.
+pub fn check_cycle(net: &Net, answer: &CycleAnswer) -> bool
+    ensures { IsTrue result ↔ IsCertificate net.now answer.now }
+{
+    lists_fit(net, &answer.part_of, &answer.parts, answer.best)
+}

@@ -1,0 +1,38 @@
+//! Checkers of answers: each is given an answer with what shows it, a circuit, potentials or ranks,
+//! and the net, and tells whether it is shown.
+//!
+//! | Answer | What shows it | Call |
+//! |---|---|---|
+//! | the cycle time | a circuit and potentials for each part | [`check_cycle`] |
+//! | a net is not live | a circuit without tokens | [`shows_deadlock`] |
+//! | a net is live | ranks | [`is_ranking`] |
+//! | so many tokens are enough for a target | potentials | [`check_enough`] |
+//! | they are too few | a circuit | [`shows_too_few`] |
+//! | no number is enough | a circuit | [`shows_never_enough`] |
+//!
+//! None takes memory, and none takes more time than what it reads has pairs. That what is shown is
+//! so are laws: so a reader may distrust whatever found an answer and still believe it.
+//! [`best_ratio`] reads the ratio of the net off an answer on cycle times.
+//! The crate stands on `teg_net` alone.
+//! Its examples stand in `worked_examples`.
+#![tactic(auto)]
+
+mod best_ratios;
+mod certificate;
+mod first_best;
+mod inner_places;
+mod laws;
+mod liveness;
+mod potentials;
+mod sizes;
+mod sums;
+
+pub use best_ratios::best_ratio;
+pub use certificate::check_cycle;
+pub use laws::{
+    always_above_shows_none, certificates_tell, circuits_lie_in_one_part, potentials_bound_ratios,
+    potentials_bound_weights, rising_ranks_show_live, still_above_shows_more,
+    target_potentials_show_enough,
+};
+pub use liveness::{is_ranking, shows_deadlock};
+pub use sizes::{check_enough, shows_never_enough, shows_too_few};

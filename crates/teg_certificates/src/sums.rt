@@ -1,0 +1,28 @@
+//! The sums of a circuit.
+ghost use Rattle.std.specs.Prelude.{◌≡◌, ◌≤◌};
+ghost use Rattle.teg_net.specs.Circuits.{IsCircuit, time_of, tokens_of};
+ghost use Rattle.teg_net.specs.Limits.{greatest_circuit_time, most_circuit_tokens};
+
+use teg_net::{Net, PlaceId, time_of, tokens_of};
+
+// The holding time and the tokens of a circuit.
+#[derive(Clone, Copy, Debug, PartialEq, Eq)]
+pub(crate) struct CircuitSums {
+    pub(crate) time: u128,
+    pub(crate) tokens: u128,
+}
+
+// The sums of the circuit, which passes each transition once at most, so that they are small.
+pub(crate) fn circuit_sums(net: &Net, circuit: &[PlaceId]) -> CircuitSums
+    requires { IsCircuit net.now circuit.now }
+    ensures time { result.time ≡ time_of net.now circuit.now }
+    ensures tokens { result.tokens ≡ tokens_of net.now circuit.now }
+    ensures short { result.time ≤ greatest_circuit_time }
+    ensures few { result.tokens ≤ most_circuit_tokens }
+{
+    net.rules();
+    CircuitSums {
+        time: time_of(net, circuit),
+        tokens: tokens_of(net, circuit),
+    }
+}

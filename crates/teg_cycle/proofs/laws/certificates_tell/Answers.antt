@@ -1,5 +1,0 @@
-use Rattle.teg_cycle.proofs.Certified.{tell_of_nets, tell_of_parts}
-use Rattle.teg_cycle.proofs.laws.certificates_tell.Goals as goal
-
-pub returns : goal.returns
-returns c = record { nets = tell_of_nets; parts = tell_of_parts }

@@ -1,7 +1,0 @@
-use Rattle.std.proofs.Common.{ℕ, ◌<◌}
-use Rattle.teg_net.specs.Circuits.{place_at}
-use Rattle.teg_cycle.specs.Checks.{KeepsPotential}
-use Rattle.teg_cycle.proofs.potentials.all_keep_potentials.Given as goal
-
-abbrev pub invariant-loop-place : goal.invariant-loop-place
-invariant-loop-place l = (k : ℕ) → k < l.place-index → KeepsPotential l.part_of l.part l.ratio l.potentials (place_at l.net (record { index = k }))

@@ -1,5 +1,0 @@
-use Rattle.teg_parts.proofs.Inside.{circuit_in_part}
-use Rattle.teg_parts.proofs.laws.circuits_lie_in_one_part.Goals as goal
-
-pub returns : goal.returns
-returns c = λ net part_of kept count rises ps h. circuit_in_part net kept part_of count rises ps h
