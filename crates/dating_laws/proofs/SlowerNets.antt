@@ -20,7 +20,7 @@ use Rattle.teg_model.proofs.Tokens.{available_after, available_first, place_keep
 use Rattle.dating_laws.specs.SlowerNets.{IsSlowerPlace, IsSlowerNet, SlowerNetsAreLater}
 
 -- the dates of a feasible dating rise over any numbers
-climb : (net : NetLists) (u x : Dating) → IsFeasibleUnder net u x → (t k : ℕ) → t < length net.transitions → 1 ≤ k → (n : ℕ) → IsAtMostDate (x t k) (x t (k + n))
+pub climb : (net : NetLists) (u x : Dating) → IsFeasibleUnder net u x → (t k : ℕ) → t < length net.transitions → 1 ≤ k → (n : ℕ) → IsAtMostDate (x t k) (x t (k + n))
 climb net u x f t k l o zero = let e : k + 0 ≡ k = omega arith in rw e (at_most_refl (x t k))
 climb net u x f t k l o (suc n) =
     let e : k + suc n ≡ k + n + 1 = omega arith in

@@ -6,7 +6,7 @@ use Rattle.std.proofs.lemmas.List.Sums.{sum_by-cons}
 use Rattle.teg_model.specs.dioid.declared.dates.Date.{Date}
 use Rattle.teg_model.specs.dioid.declared.dates.Date.TheVariants.{At, Never}
 use Rattle.teg_model.specs.dioid.Dates.{IsAtMostDate, delayed}
-use Rattle.teg_model.proofs.dioid_proofs.DateOrder.{at_least_never, same_by_at_most}
+use Rattle.teg_model.proofs.dioid_proofs.DateOrder.{at_most_trans, at_least_never, never_last, same_by_at_most}
 use Rattle.teg_model.specs.teg_net.declared.entries.Place.{Place}
 use Rattle.teg_model.specs.teg_net.Nets.{NetLists}
 use Rattle.teg_model.specs.teg_net.Circuits.{no_place, place_at}
@@ -16,11 +16,12 @@ use Rattle.teg_model.specs.teg_net.Walks.{Walks, step_time, walk_time}
 use Rattle.teg_model.specs.LiveRanks.{HasEndsInRange}
 use Rattle.teg_model.proofs.Delays.{delayed_twice, delayed_not}
 use Rattle.teg_model.proofs.OfNet.{net_ends}
-use Rattle.teg_model.proofs.WalkSteps.{Keeps}
+use Rattle.teg_model.proofs.WalkSteps.{Keeps, walk_below}
 use Rattle.teg_model.proofs.DateFunctions.{Dating}
+use Rattle.due_laws.specs.MeetingDueDates.{KeepsDues}
 use Rattle.due_laws.specs.LatestDates.{IsDateToDue, AreLatestDates}
 use Rattle.latest_laws.specs.BackwardEquations.{AreInTime, IsDueThen, IsHoldBefore, LatestDatesAreLeastAhead, LatestDatesAreLastInTime, LatestDatesAreGreatestInTime}
-use Rattle.due_laws.proofs.LatestDates.{Dues, delayed_back, never_or_not, latest_keeps, latest_keeps_dues, kept_by}
+use Rattle.due_laws.proofs.LatestDates.{Dues, delayed_back, never_or_not, latest_keeps, latest_keeps_dues, walk_ends_in}
 
 -- a date is one of those ahead
 abbrev IsOneAhead : NetLists → Dues → Dating → ℕ → ℕ → Date → Type 0
@@ -100,6 +101,23 @@ in_time_keeps net due z ok h = record {
   next = λ t s m o. (h t s m o).next;
 }
 
+-- what keeps each step and the due dates is at most the date that a walk to a due firing gives
+pub below_walk : (net : NetLists) (due : Dues) (z : Dating) → HasEndsInRange net → Keeps net z → KeepsDues net due z → (t k : ℕ) (d : Date) → t < length net.transitions → 1 ≤ k
+    → IsDateToDue net due t k d → IsAtMostDate (z t k) d
+below_walk net due z ok steps keeps t k d in' o w =
+    let time : ℕ = walk_time net w.steps in
+    let end = walk_ends_in net ok w.steps t k w.to w.number in' o w.walk in
+    let along = walk_below net z ok steps w.steps t k w.to w.number in' o w.walk in
+    let late = at_most_trans (delayed time (z t k)) (z w.to w.number) (At (pos w.due_date)) along (keeps w.to w.number w.due_date end.0 end.1 w.is_due) in
+    delayed_back time (z t k) d (rw (← w.is) at late)
+
+pub in_time_keeps_dues : (net : NetLists) (due : Dues) (z : Dating) → AreInTime net due z → KeepsDues net due z
+in_time_keeps_dues net due z h t k d in' o e = (h t k in' o).due_date d e
+
 pub greatest_in_time : LatestDatesAreGreatestInTime
 greatest_in_time net ok due y z l h t k in' o =
-    kept_by net due z (net_ends net ok) (in_time_keeps net due z (net_ends net ok) h) (λ s j d m one e. (h s j m one).due_date d e) t k (y t k) in' o (l t k in' o)
+    let ends = net_ends net ok in
+    ⊎_elim
+    (λ (e : y t k ≡ Never). rw e (never_last (z t k)))
+    (λ (e : y t k ≢ Never). below_walk net due z ends (in_time_keeps net due z ends h) (in_time_keeps_dues net due z h) t k (y t k) in' o ((l t k in' o).attained e))
+    (never_or_not (y t k))

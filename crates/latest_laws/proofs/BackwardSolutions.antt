@@ -11,17 +11,15 @@ use Rattle.teg_model.specs.teg_net.declared.entries.PlaceId.{PlaceId}
 use Rattle.teg_model.specs.teg_net.declared.entries.Place.{Place}
 use Rattle.teg_model.specs.teg_net.Nets.{NetLists}
 use Rattle.teg_model.specs.teg_net.Circuits.{no_place, place_at}
-use Rattle.teg_model.specs.teg_net.Walks.{walk_time}
 use Rattle.teg_model.specs.LiveRanks.{AreRanks, HasEndsInRange}
 use Rattle.teg_model.proofs.LiveRanks.{live_is_ranked}
 use Rattle.teg_model.proofs.OfNet.{net_ends}
-use Rattle.teg_model.proofs.WalkSteps.{walk_below}
 use Rattle.teg_model.proofs.DateFunctions.{Dating}
 use Rattle.due_laws.specs.LatestDates.{IsDateToDue}
 use Rattle.latest_laws.specs.BackwardEquations.{AreInTime, IsDueThen, IsHoldBefore}
 use Rattle.latest_laws.specs.BackwardSolutions.{SolveBackwards, SolutionsAreLatestDates}
-use Rattle.due_laws.proofs.LatestDates.{Dues, delayed_back, walk_ends_in, due_here, due_by, due_next}
-use Rattle.latest_laws.proofs.BackwardEquations.{in_time_keeps}
+use Rattle.due_laws.proofs.LatestDates.{Dues, due_here, due_by, due_next}
+use Rattle.latest_laws.proofs.BackwardEquations.{in_time_keeps, in_time_keeps_dues, below_walk}
 
 -- a place leads to a greater number, or to the same and a higher rank
 pub climbs : (bound k m r s : ℕ) → r < bound → (m ≡ 0 → r < s) → k * bound + r < (k + m) * bound + s
@@ -92,11 +90,5 @@ solutions_are_latest net ok live due last y h t k in' o =
     let in_time : AreInTime net due y = λ s j m one. (h.equations s j m one).in_time in
     record {
       attained = attained net due last y ranked.0 ranked.1 ends ranked.2 h ((last + 1) * ranked.0) t k (omega arith) in' o;
-      least = λ d w.
-          let time : ℕ = walk_time net w.steps in
-          let end = walk_ends_in net ends w.steps t k w.to w.number in' o w.walk in
-          let along = walk_below net y ends (in_time_keeps net due y ends in_time) w.steps t k w.to w.number in' o w.walk in
-          let kept = (in_time w.to w.number end.0 end.1).due_date w.due_date w.is_due in
-          let late = at_most_trans (delayed time (y t k)) (y w.to w.number) (At (pos w.due_date)) along kept in
-          delayed_back time (y t k) d (rw (← w.is) at late);
+      least = λ d w. below_walk net due y ends (in_time_keeps net due y ends in_time) (in_time_keeps_dues net due y in_time) t k d in' o w;
     }

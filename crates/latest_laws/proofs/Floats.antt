@@ -1,12 +1,24 @@
 -- The latest dates are a feasible dating, the greatest that keeps the due dates; and inputs meet where no float is negative.
+use Rattle.std.proofs.Common.{ℕ, ◌<◌, ◌≤◌, length, ⊎_elim}
 use Rattle.std.specs.Prelude.{pos}
+use Rattle.std.proofs.lemmas.Bool.{cases_lt}
+use Rattle.std.proofs.lemmas.Option.{slice_get_past}
 use Rattle.teg_model.specs.dioid.declared.dates.Date.TheVariants.{At}
 use Rattle.teg_model.proofs.dioid_proofs.DateOrder.{at_most_trans}
+use Rattle.teg_model.specs.teg_net.Nets.{NetLists, IsInput}
 use Rattle.teg_model.proofs.OfNet.{net_ends}
 use Rattle.teg_model.proofs.DateFunctions.{Dating}
 use Rattle.latest_laws.specs.Floats.{LatestDatesAreFeasible, LatestDatesAreGreatest, InputsMeetByFloats}
 use Rattle.due_laws.proofs.LatestDates.{kept_below, latest_keeps_dues}
-use Rattle.due_laws.proofs.LatestInputs.{input_in, latest_is_feasible}
+use Rattle.due_laws.proofs.LatestInputs.{latest_is_feasible}
+
+-- an input is a transition of the net
+pub input_in : (net : NetLists) (t : ℕ) → IsInput net t → t < length net.transitions
+input_in net t i =
+    ⊎_elim
+    (λ (l : t < length net.transitions). l)
+    (λ (l : length net.transitions ≤ t). absurd (rw (slice_get_past net.transitions t l) at i))
+    (cases_lt t (length net.transitions))
 
 pub latest_are_greatest : LatestDatesAreGreatest
 latest_are_greatest net ok due u x y f keeps l t k in' o = kept_below net due u x (net_ends net ok) f keeps t k (y t k) in' o (l t k in' o)

@@ -12,7 +12,8 @@ use Rattle.dating_laws.proofs.OrderOfDatings.{least_join, later_dates}
 use Rattle.teg_model.proofs.DateFunctions.{Dating}
 use Rattle.latest_laws.specs.JointInputs.{LaterInputsAreInputs, LaterInputsMeet, EarlierInputsMeet, InputsMeetUpToLatest}
 use Rattle.due_laws.proofs.LatestDates.{kept_below}
-use Rattle.due_laws.proofs.LatestInputs.{input_in, latest_dates_are_inputs}
+use Rattle.due_laws.proofs.LatestInputs.{latest_dates_are_inputs}
+use Rattle.latest_laws.proofs.Floats.{input_in}
 
 pub later_inputs : LaterInputsAreInputs
 later_inputs net v w a b = record {

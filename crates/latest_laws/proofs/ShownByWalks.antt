@@ -12,21 +12,18 @@ use Rattle.teg_model.proofs.WalkSteps.{walk_below}
 use Rattle.teg_model.proofs.GreatestWalks.{not_before_ready}
 use Rattle.teg_model.proofs.DateFunctions.{Dating}
 use Rattle.latest_laws.specs.ShownByWalks.{TightWalksBound, LateWalksRefuse}
-use Rattle.due_laws.proofs.LatestDates.{feasible_keeps, walk_ends_in, delayed_back}
+use Rattle.due_laws.specs.LatestDates.{IsDateToDue}
+use Rattle.due_laws.proofs.LatestDates.{feasible_keeps, walk_ends_in}
+use Rattle.latest_laws.proofs.BackwardEquations.{below_walk}
 
 pub tight_walks_bound : TightWalksBound
 tight_walks_bound net ok due t k date w h u x f keeps =
     let ends = net_ends net ok in
     let here : t < length net.transitions = rw h.from at h.is_walk.start_in in
     let one : 1 ≤ k = rw h.number at h.is_walk.number_in in
-    let b : ℕ = h.leads.0 in
-    let n : ℕ = h.leads.1 in
-    let d : ℕ = h.leads.2 in
-    let walks = h.leads.3 in
-    let end = walk_ends_in net ends w.steps.items t k b n here one walks in
-    let along = walk_below net x ends (feasible_keeps net u x f) w.steps.items t k b n here one walks in
-    let late = at_most_trans (delayed (walk_time net w.steps.items) (x t k)) (x b n) (At (pos d)) along (keeps b n d end.0 end.1 h.leads.4) in
-    delayed_back (walk_time net w.steps.items) (x t k) date (rw (← h.leads.5) at late)
+    let d = h.leads in
+    let to : IsDateToDue net due t k date = record { to = d.0; number = d.1; due_date = d.2; steps = w.steps.items; walk = d.3; is_due = d.4; is = d.5 } in
+    below_walk net due x ends (feasible_keeps net u x f) keeps t k date here one to
 
 pub late_walks_refuse : LateWalksRefuse
 late_walks_refuse net ok due t k start date d w h is_due past v meets =
