@@ -1,5 +1,5 @@
 -- The least dating of a slower net is feasible in the net.
-use Rattle.std.proofs.Common.{ℕ, zero, suc, ◌+◌, ◌-◌, ◌<◌, ◌≤◌, ◌≡◌, length, get_or, refl, sym, ap, subst, ◌∙◌, arith, ⊎_elim}
+use Rattle.std.proofs.Common.{ℕ, zero, suc, ◌+◌, ◌-◌, ◌<◌, ◌≤◌, ◌≡◌, length, get_or, refl, ap, subst, arith, ⊎_elim}
 use Rattle.std.specs.Prelude.{pos}
 use Rattle.std.proofs.lemmas.Bool.{cases_lt}
 use Rattle.std.proofs.lemmas.Int.{ints}
@@ -9,15 +9,15 @@ use Rattle.teg_model.specs.dioid.declared.dates.Date.TheVariants.{At}
 use Rattle.teg_model.specs.dioid.Dates.{IsAtMostDate, delayed}
 use Rattle.teg_model.proofs.dioid_proofs.DateOrder.{at_most_refl, at_most_trans, delayed_rises, delayed_later}
 use Rattle.teg_model.specs.teg_net.declared.entries.Place.{Place}
-use Rattle.teg_model.specs.teg_net.Nets.{NetLists, IsNet, IsInput}
+use Rattle.teg_model.specs.teg_net.Nets.{NetLists, IsNet}
 use Rattle.teg_model.specs.teg_net.Circuits.{no_place}
 use Rattle.teg_model.specs.teg_net.ReadyDates.{ready_date}
-use Rattle.teg_model.specs.Datings.{implicit_place, available_at, initial_date, IsFeasibleUnder}
+use Rattle.teg_model.specs.Datings.{available_at, initial_date, IsFeasibleUnder}
 use Rattle.teg_model.proofs.DateFunctions.{Dating}
 use Rattle.teg_model.proofs.Delays.{delayed_twice}
 use Rattle.teg_model.proofs.OfNet.{all_extended_in}
 use Rattle.teg_model.proofs.Tokens.{available_after, available_first, place_keeps, implicit_keeps, dates_climb, not_before_zero}
-use Rattle.dating_laws.specs.SlowerNets.{IsSlowerPlace, IsSlowerNet, SlowerNetsAreLater}
+use Rattle.dating_laws.specs.SlowerNets.{IsSlowerPlace, SlowerNetsAreLater}
 
 -- the dates of a feasible dating rise over any numbers
 pub climb : (net : NetLists) (u x : Dating) → IsFeasibleUnder net u x → (t k : ℕ) → t < length net.transitions → 1 ≤ k → (n : ℕ) → IsAtMostDate (x t k) (x t (k + n))

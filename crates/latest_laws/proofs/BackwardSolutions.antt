@@ -6,7 +6,7 @@ use Rattle.std.proofs.lemmas.Bool.{cases_lt}
 use Rattle.teg_model.specs.dioid.declared.dates.Date.{Date}
 use Rattle.teg_model.specs.dioid.declared.dates.Date.TheVariants.{Early, At, Never}
 use Rattle.teg_model.specs.dioid.Dates.{delayed}
-use Rattle.teg_model.proofs.dioid_proofs.DateOrder.{at_most_is, at_most_trans}
+use Rattle.teg_model.proofs.dioid_proofs.DateOrder.{at_most_is}
 use Rattle.teg_model.specs.teg_net.declared.entries.PlaceId.{PlaceId}
 use Rattle.teg_model.specs.teg_net.declared.entries.Place.{Place}
 use Rattle.teg_model.specs.teg_net.Nets.{NetLists}

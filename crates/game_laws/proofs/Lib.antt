@@ -1,0 +1,7 @@
+pub mod Comparing
+pub mod Gathering
+pub mod Living
+pub mod Numbering
+pub mod OnCircuits
+pub mod Reaching
+pub mod Sorting

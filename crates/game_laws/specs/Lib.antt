@@ -1,0 +1,4 @@
+pub mod DatesByTheGame
+pub mod EarliestRunsExist
+pub mod LiveByTheGame
+pub mod TokensOnCircuits
