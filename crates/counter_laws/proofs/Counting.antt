@@ -11,7 +11,7 @@ use Rattle.teg_model.specs.teg_net.Nets.{NetLists}
 use Rattle.teg_model.specs.Datings.{IsFeasibleUnder}
 use Rattle.teg_model.proofs.DateFunctions.{Dating}
 use Rattle.dating_laws.proofs.SlowerNets.{climb}
-use Rattle.counter_laws.specs.Counters.{IsUpTo, AreCounts, AreCounters}
+use Rattle.counter_laws.specs.Counters.{IsUpTo, AreCounters}
 use Rattle.counter_laws.specs.CounterEquations.{CountersExist, CountersAreOne}
 
 by_then : (a : Date) (d : ℕ) → IsAtMostDate a (At (pos d)) ⊎ (IsAtMostDate a (At (pos d)) → ⊥)

@@ -1,5 +1,5 @@
 -- The counters of a least dating are the greatest counts within the tokens and the releases.
-use Rattle.std.proofs.Common.{ℕ, zero, suc, ◌+◌, ◌-◌, ◌*◌, ◌<◌, ◌≤◌, ◌≡◌, Option, Some, None, true, false, length, get_or, refl, sym, ap, subst, arith, ⊎_elim}
+use Rattle.std.proofs.Common.{ℕ, zero, suc, ◌+◌, ◌-◌, ◌*◌, ◌<◌, ◌≤◌, ◌≡◌, Option, Some, None, true, false, length, get_or, refl, ap, arith, ⊎_elim}
 use Rattle.std.specs.Prelude.{pos, negsuc, nat_le, All}
 use Rattle.std.proofs.lemmas.Bool.{cases_lt, cases_Bool}
 use Rattle.std.proofs.lemmas.Bool.Decides.{nat_tests}
@@ -10,7 +10,7 @@ use Rattle.teg_model.specs.dioid.declared.dates.Date.TheVariants.{Early, At, Nev
 use Rattle.teg_model.specs.dioid.Dates.{IsAtMostDate, delayed}
 use Rattle.teg_model.proofs.dioid_proofs.DateOrder.{at_most_trans, delayed_rises}
 use Rattle.teg_model.specs.teg_net.declared.entries.Place.{Place}
-use Rattle.teg_model.specs.teg_net.Nets.{NetLists, IsNet, IsInput}
+use Rattle.teg_model.specs.teg_net.Nets.{NetLists, IsInput}
 use Rattle.teg_model.specs.teg_net.Circuits.{no_place}
 use Rattle.teg_model.specs.teg_net.ReadyDates.{ready_date}
 use Rattle.teg_model.specs.Datings.{implicit_place, available_at, initial_date}

@@ -3,5 +3,6 @@ pub mod Gathering
 pub mod Living
 pub mod Numbering
 pub mod OnCircuits
+pub mod Outcomes
 pub mod Reaching
 pub mod Sorting

@@ -2,8 +2,22 @@
 //! the law.
 ghost use Rattle.game_laws.specs.DatesByTheGame.{LeastDatesAreEarliest, NeverIsInNoRun};
 ghost use Rattle.game_laws.specs.EarliestRunsExist.{EachRankHasAnEarliestRun, EarliestRunsAreAlike, EarliestRunsAreFirst, EarliestRunsAreOne, EarliestRunsAreWhole, EarliestRunsExist};
+ghost use Rattle.game_laws.specs.FiringOutcomes.{EarliestDatesExist, FiringsAreLegalOrFail};
 ghost use Rattle.game_laws.specs.LiveByTheGame.{FiringEachShowsLife, LiveNetsFireOn, TokenFreeCircuitsNeverFire};
 ghost use Rattle.game_laws.specs.TokensOnCircuits.{TokensOnCircuitsStay};
+
+/// Each firing of a transition of the net may follow a run, or fails in one of the three ways, so
+/// that nothing else keeps one back: a token that is not there, a date that goes back, a release
+/// that is later (chapter 2). No firing does two of these, by the laws of failures.
+pub fn firings_are_legal_or_fail()
+    ensures { FiringsAreLegalOrFail }
+{}
+
+/// Where a firing may follow a legal run, there is an earliest date for it, at most its own (chapter
+/// 2). Where none may, there need be none: a token that is missing has no date.
+pub fn earliest_dates_exist()
+    ensures { EarliestDatesExist }
+{}
 
 /// The tokens of a circuit stay: their number never changes along a legal run (chapter 2). On a path
 /// that is not closed it does: a firing of its last transition takes one away.

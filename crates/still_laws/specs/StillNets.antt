@@ -1,5 +1,5 @@
 -- Nets whose circuits take no time (chapter 3, cyclicity of ratio 0).
-use Rattle.std.specs.Prelude.{ℕ, ◌<◌, ◌≤◌, ◌≡◌, ◌↔◌, List, length}
+use Rattle.std.specs.Prelude.{ℕ, ◌<◌, ◌≡◌, ◌↔◌, List, length}
 use Rattle.bound_laws.specs.teg_net.declared.entries.PlaceId.{PlaceId}
 use Rattle.bound_laws.specs.teg_net.Nets.{NetLists, IsNet, IsInput}
 use Rattle.bound_laws.specs.teg_net.Circuits.{IsPathBetween, IsCircuit, IsLive, time_of}
