@@ -1,0 +1,21 @@
+//! The laws of counters. Each is a function that does nothing when it runs: its contract is the law.
+ghost use Rattle.counter_laws.specs.CounterEquations.{CountersAreGreatest, CountersAreLeastOfTokens, CountersAreOne, CountersExist};
+
+/// The min-plus equations: of a live net whose initial tokens are ready at 0, under any releases,
+/// the count of firings up to a date is the least of the tokens that each place into the transition
+/// has had up to then, its initial ones and the firings before it up to a hold earlier, and of the
+/// releases of an input; and no counts within that least are greater (chapter 5). The equations
+/// alone do not tell the counters: around a circuit without tokens and without hold each count
+/// solves them, so liveness is asked for. With ready dates a place would have had fewer tokens.
+pub fn counters_solve_min_plus_equations()
+    ensures equations { CountersAreLeastOfTokens }
+    ensures greatest { CountersAreGreatest }
+{}
+
+/// Counters exist where each transition has a firing after each date, and a dating has but one
+/// counter of each transition (chapter 5). Where a transition has no firing after some date, its
+/// count has no end from there on, as that of a transition without a place before it from 0 on.
+pub fn counters_exist()
+    ensures exist { CountersExist }
+    ensures one { CountersAreOne }
+{}

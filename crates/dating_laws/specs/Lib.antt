@@ -1,0 +1,2 @@
+pub mod OrderOfDatings
+pub mod SlowerNets

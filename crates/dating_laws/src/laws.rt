@@ -1,0 +1,43 @@
+//! The laws of datings beside each other. Each is a function that does nothing when it runs: its
+//! contract is the law.
+ghost use Rattle.dating_laws.specs.OrderOfDatings.{FeasibleDatingsJoin, FeasibleDatingsMeet, LaterReleasesLaterDates, LeastDatingsJoin, NoShiftGrows};
+ghost use Rattle.dating_laws.specs.SlowerNets.{SlowerNetsAreLater};
+
+/// Later releases lead to later dates: where each input is released no later under u than under v,
+/// no least date under u comes after that under v (chapter 2). Releases of inputs alone are
+/// compared, and from firing 1 on, since nothing else is released.
+pub fn later_releases_lead_to_later_dates()
+    ensures { LaterReleasesLaterDates }
+{}
+
+/// Releases superpose: the least dating under the later of two releases is the later of the least
+/// datings under each, so a net is a max-plus linear system (chapter 2). The later is taken date by
+/// date; the law needs no liveness, as it says where both are there what the third is.
+pub fn releases_are_superposed()
+    ensures { LeastDatingsJoin }
+{}
+
+/// Feasible datings meet and join: the earlier of two datings that are feasible under the same
+/// releases is feasible under them, which is why one of them can be the least, and the later of two
+/// is feasible under the later of their releases (chapter 2).
+pub fn feasible_datings_meet()
+    ensures meet { FeasibleDatingsMeet }
+    ensures join { FeasibleDatingsJoin }
+{}
+
+/// No shift grows: releases that come at most so much later lead to dates that come at most so much
+/// later (chapter 2). A net so never widens a delay; it may swallow one, where a firing waits for
+/// another token anyway.
+pub fn no_shift_grows()
+    ensures { NoShiftGrows }
+{}
+
+/// Dates rise with the net: where a net has the places of another between the same transitions, none
+/// with a shorter holding time, none with more tokens and none whose tokens are ready earlier, none
+/// of its least dates is earlier, also under later releases (chapter 2). A token that the quicker
+/// net has beyond those of the slower one has to be ready at 0: one more token, ready at 5, before a
+/// transition that had one token, ready at 0, on a place of hold 1 that comes from an input
+/// released at 0, puts off its second firing from 1 to 5.
+pub fn dates_rise_with_the_net()
+    ensures { SlowerNetsAreLater }
+{}

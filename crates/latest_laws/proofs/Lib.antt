@@ -1,0 +1,7 @@
+pub mod BackwardEquations
+pub mod BackwardSolutions
+pub mod Floats
+pub mod JointInputs
+pub mod LatestExist
+pub mod ShiftedDues
+pub mod ShownByWalks

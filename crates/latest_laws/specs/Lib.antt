@@ -1,0 +1,6 @@
+pub mod BackwardEquations
+pub mod BackwardSolutions
+pub mod Floats
+pub mod JointInputs
+pub mod ShiftedDues
+pub mod ShownByWalks

@@ -1,0 +1,25 @@
+-- Nets whose circuits take no time (chapter 3, cyclicity of ratio 0).
+use Rattle.std.specs.Prelude.{ℕ, ◌<◌, ◌≡◌, ◌↔◌, List, length}
+use Rattle.bound_laws.specs.teg_net.declared.entries.PlaceId.{PlaceId}
+use Rattle.bound_laws.specs.teg_net.Nets.{NetLists, IsNet, IsInput}
+use Rattle.bound_laws.specs.teg_net.Circuits.{IsPathBetween, IsCircuit, IsLive, time_of}
+use Rattle.bound_laws.specs.teg_net.GreatestRatios.{IsGreatestRatio, IsAnyPlace}
+use Rattle.bound_laws.specs.teg_net.Ratios.{Fraction}
+use Rattle.bound_laws.specs.settled_laws.SettledForms.{SettledForm, IsSettledFormOf}
+use Rattle.bound_laws.specs.Critical.{AllReadyAtZero}
+
+-- no circuit takes time
+abbrev pub IsStill : NetLists → Type 0
+IsStill net = (ps : List PlaceId) → IsCircuit net ps → time_of net ps ≡ 0
+
+-- the greatest ratio of a live net is 0 just where no circuit takes time
+abbrev pub StillByRatio : Type 0
+StillByRatio = (net : NetLists) (r : Fraction) → IsLive net → IsGreatestRatio net IsAnyPlace r → r.time ≡ 0 ↔ IsStill net
+
+-- then the settled form of a strongly connected live net without inputs, whose tokens are all ready at 0, is periodic from the
+-- first firing on, with period 1
+abbrev pub StillNetsSettleAtOnce : Type 0
+StillNetsSettleAtOnce = (net : NetLists) → IsNet net → IsLive net → ((t : ℕ) → IsInput net t → ⊥)
+    → ((s t : ℕ) → s < length net.transitions → t < length net.transitions → (ps : List PlaceId) × IsPathBetween net s ps t)
+    → IsStill net → AllReadyAtZero net
+    → (f : SettledForm) → IsSettledFormOf net f → (f.after ≡ 0) × (f.period ≡ 1)
