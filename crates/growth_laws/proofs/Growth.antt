@@ -28,7 +28,7 @@ use Rattle.growth_laws.specs.Growth.{IsNearLine, GrowBy, IsEndless, DatesGrowByS
 
 -- ---- one fraction
 
-cancel : (a b k : ℕ) → 0 < k → a * k ≤ b * k → a ≤ b
+pub cancel : (a b k : ℕ) → 0 < k → a * k ≤ b * k → a ≤ b
 cancel a b k p h = ⊎_elim
     (λ (l : b < a).
     let m : (b + 1) * k ≤ a * k = mul-le-mul_right k (let l : b + 1 ≤ a = omega arith in l) in
@@ -76,7 +76,7 @@ slopes_are_one net ok live t a b c d one two h k =
 -- ---- numbers that repeat by steps
 
 -- a bound of the first n values
-bound : (m : ℕ → ℕ) (n : ℕ) → (k : ℕ) × ((t : ℕ) → t < n → m t ≤ k)
+pub bound : (m : ℕ → ℕ) (n : ℕ) → (k : ℕ) × ((t : ℕ) → t < n → m t ≤ k)
 bound m zero = (0, λ t l. absurd (omega arith))
 bound m (suc n) =
     let w = bound m n in (
@@ -106,7 +106,7 @@ periods_on after period k some l =
     }
 
 module _ (m : ℕ → ℕ) (after period units : ℕ) (some : 1 ≤ period) (again : (k : ℕ) → after < k → m (k + period) ≡ m k + units) where
-  on : (rounds base : ℕ) → after < base → m (base + rounds * period) ≡ m base + rounds * units
+  pub on : (rounds base : ℕ) → after < base → m (base + rounds * period) ≡ m base + rounds * units
   on zero base l =
       let is : base + 0 * period ≡ base = omega arith in
       let none : m base + 0 * units ≡ m base = omega arith in
@@ -117,14 +117,14 @@ module _ (m : ℕ → ℕ) (after period units : ℕ) (some : 1 ≤ period) (aga
       let more : (m base + rounds * units) + units ≡ m base + suc rounds * units = grind arith in
       ap m is ∙ again (base + rounds * period) (omega (arith, l)) ∙ ap (λ z. z + units) rest ∙ more
 
-  abbrev most : ℕ
+  abbrev pub most : ℕ
   most = (bound m (after + period + 1)).0
 
   first_below : (k : ℕ) → k ≤ after + period → m k ≤ most
   first_below k l = (bound m (after + period + 1)).1 k (omega (arith, l))
 
   -- period times a number stays near units times its index
-  near : (k : ℕ) → (units * k ≤ period * m k + units * (after + period)) × (period * m k ≤ units * k + period * most)
+  pub near : (k : ℕ) → (units * k ≤ period * m k + units * (after + period)) × (period * m k ≤ units * k + period * most)
   near k = ⊎_elim
       (λ (past : after < k).
       let p : IsSomePeriodsOn after period k = periods_on after period k some past in
@@ -181,7 +181,7 @@ times_pos zero x = let e : 0 * x ≡ 0 = omega arith in rw e (omega (arith, ints
 times_pos (suc n) x = let rest = times_pos n x in let e : suc n * x ≡ n * x + x = grind arith in rw e (omega (arith, ints, rest))
 
 -- the number of a date
-abbrev unit : Date → ℕ
+abbrev pub unit : Date → ℕ
 unit Early = 0
 unit (At (pos a)) = a
 unit (At (negsuc a)) = 0
@@ -218,10 +218,10 @@ module _ (repeat : LeastDatingsRepeat) (net : NetLists) (ok : IsNet net) (live :
   abbrev values : ℕ → ℕ
   values k = unit (x t k)
 
-  is_number : (k : ℕ) → 1 ≤ k → x t k ≡ At (pos (values k))
+  pub is_number : (k : ℕ) → 1 ≤ k → x t k ≡ At (pos (values k))
   is_number k one = let w = number k one in let e : values k ≡ w.0 = ap unit w.1 in w.1 ∙ ap (λ z. At (pos z)) (sym e)
 
-  on_by : (k : ℕ) → after < k → values (k + period) ≡ values k + slope_of.0
+  pub on_by : (k : ℕ) → after < k → values (k + period) ≡ values k + slope_of.0
   on_by k l =
       let one : 1 ≤ k = omega (arith, l) in
       let is = is_number k one in
