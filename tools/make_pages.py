@@ -17,6 +17,9 @@ these lines and ends with the line `<!-- end -->`:
   (docs/ARCHITECTURE.md).
 - `<!-- between crates -->`: for each crate and each crate that it stands on, what of the second its code names and which
   modules of definitions it cites (docs/ARCHITECTURE.md).
+- `<!-- laws CRATE::NAME CRATE::NAME .. -->`: a table of these laws, each with the first paragraph of its docstring;
+  `<!-- laws of CRATE -->` of all of a crate, and `<!-- all other laws -->` of those that no such block before it names
+  (docs/LAWS.md).
 - `<!-- costs -->`: the sentences in which docstrings of public calls speak of their time (docs/COSTS.md).
 - `<!-- to read NAME NAME .. -->`: how much each of these definitions rests on, as tools/check_definitions.py --below
   lists it, and how long it takes to read at two lines a minute (docs/TRUST.md).
@@ -28,12 +31,17 @@ tell.
 """
 import re
 import sys
+from functools import cache
+from itertools import takewhile
 
 from check_definitions import TOP, Specs, definitions_named, direct, exported, public_definitions
 
 NOTHING = re.compile(r" (It does|They do|which does) nothing when (it|they) runs?\.")
 TIME = re.compile(r"time of (the )?order|time in proportion|time linear|takes (the )?time of")
-KINDS = r"head of (\w+)|heads of all others|definitions of (\w+)|cited proofs|between crates|costs|to read ([\w .]+)|edits((?: \w+/\w+)*)"
+KINDS = (
+    r"head of (\w+)|heads of all others|definitions of (\w+)|cited proofs|between crates|costs|to read ([\w .]+)"
+    r"|edits((?: \w+/\w+)*)|laws((?: \w+::\w+)+)|laws of (\w+)|all other laws"
+)
 BLOCK = re.compile(rf"^<!-- ({KINDS}) -->\n.*?^<!-- end -->\n", re.M | re.S)
 
 
@@ -174,8 +182,10 @@ def between_crates():
 class Call:
     """A public function of a crate: its name, with its type, its docstring, the names of its clauses, and whether it is a law."""
 
-    def __init__(self, kind, name, doc, law):
-        self.kind, self.name, self.doc, self.law, self.clauses = kind, name, doc, law, []
+    def __init__(self, kind, name, said, law):
+        self.kind, self.name, self.law, self.clauses = kind, name, law, []
+        self.doc = link_free(" ".join(filter(None, said)))
+        self.first = link_free(" ".join(takewhile(bool, said)))
 
     def told(self):
         clauses = ", ".join(f"`{it}`" for it in self.clauses)
@@ -202,7 +212,7 @@ def calls_of(crate):
             function = re.match(r"( {4})?(pub )?fn (\w+)(.*)", line)
             if function and (function[2] or is_trait) and (kind if function[1] else function[3]) in names:
                 law = not function[1] and re.fullmatch(r"(<.*>)?\(\)", function[4].strip()) is not None
-                call = Call(kind if function[1] else "", function[3], link_free(" ".join(filter(None, said))), law)
+                call = Call(kind if function[1] else "", function[3], said, law)
                 found.append(call)
             clause = re.match(r" +ensures (\w+) \{", line)
             if call and clause:
@@ -227,6 +237,23 @@ def told_calls(crate):
     lines = [f"Calls: {'; '.join(others)}."] if others else []
     laws = [f"- `{call.name}`: {re.sub(NOTHING, '', call.doc)}" for call in calls if call.law]
     return lines + (["Laws:\n\n" + "\n".join(laws)] if laws else [])
+
+
+@cache
+def all_laws():
+    """The laws of all crates in the order of crates.txt, each by its crate and name."""
+    return {f"{crate}::{call.name}": call for crate in crates() for call in calls_of(crate) if call.law}
+
+
+def laws(names):
+    """A table of these laws."""
+    found = all_laws()
+    rows = ["| Law | Crate | What it says |", "|---|---|---|"]
+    for name in names:
+        crate, _, call = name.partition("::")
+        said = re.sub(NOTHING, "", found[name].first) if name in found else ""
+        rows.append(f"| `{call}` | `{crate}` | {cell(said)} |")
+    return "\n".join(rows) + "\n"
 
 
 def costs():
@@ -263,7 +290,13 @@ class Pages:
     def __init__(self):
         self.specs = Specs()
         self.reached = set(self.specs.below(public_definitions(self.specs)))
-        self.heads, self.tables, self.told = set(), set(), []
+        self.heads, self.tables, self.told, self.laws = set(), set(), [], set()
+
+    def table_of_laws(self, names):
+        """A table of the laws of these names, which are told from then on."""
+        self.told += [f"{name} is to be told, and no law" for name in names if name not in all_laws()]
+        self.laws.update(names)
+        return laws(names)
 
     def block(self, found):
         if found[2]:
@@ -286,6 +319,14 @@ class Pages:
             names = found[5].split()
             self.told += [f"{name} is to be tried, and no edit" for name in names if name not in all_edits()]
             body = edits(names)
+        elif found[6]:
+            body = self.table_of_laws(found[6].split())
+        elif found[7]:
+            if found[7] not in crates():
+                self.told.append(f"the laws of {found[7]} are to be told, and it is no crate")
+            body = self.table_of_laws([it for it in all_laws() if it.startswith(f"{found[7]}::")])
+        elif found[1] == "all other laws":
+            body = laws([it for it in all_laws() if it not in self.laws])
         else:
             others = (crate for crate in crates() if crate not in self.heads)
             body = "\n".join(f"#### `{crate}`\n\n{head_of(crate)}" for crate in others)

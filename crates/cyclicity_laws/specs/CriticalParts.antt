@@ -1,0 +1,54 @@
+-- The strong parts of the critical graph of a strongly connected net, and the period of its dates (chapter 3, cyclicity).
+use Rattle.std.specs.Prelude.{ℕ, ◌*◌, ◌<◌, ◌≤◌, ◌≡◌, List, ◌++◌, length, All}
+use Rattle.std.specs.Int.{◌∣◌}
+use Rattle.bound_laws.specs.dioid.declared.dates.Date.{Date}
+use Rattle.bound_laws.specs.teg_net.declared.entries.PlaceId.{PlaceId}
+use Rattle.bound_laws.specs.teg_net.Nets.{NetLists, IsNet, IsInput}
+use Rattle.bound_laws.specs.teg_net.Circuits.{IsPathBetween, IsCircuit, IsLive, time_of, tokens_of}
+use Rattle.bound_laws.specs.teg_net.Parts.{Reaches}
+use Rattle.bound_laws.specs.teg_net.GreatestRatios.{IsGreatestRatio, IsAnyPlace}
+use Rattle.bound_laws.specs.teg_model.Datings.{IsLeastDating}
+use Rattle.bound_laws.specs.settled_laws.SettledForms.{SettledForm, IsShortestForm}
+use Rattle.bound_laws.specs.Critical.{IsCriticalAt, IsCommon}
+
+-- live, without inputs, each transition reaches each other, and the greatest ratio is a / b and above 0
+pub record IsStronglyConnected (net : NetLists) (a b : ℕ) : Type 0 where
+  pub net_rules : IsNet net
+  pub live : IsLive net
+  pub no_input : (t : ℕ) → IsInput net t → ⊥
+  pub reaches : (s t : ℕ) → s < length net.transitions → t < length net.transitions → Reaches net s t
+  pub ratio : IsGreatestRatio net IsAnyPlace (record { time = a; tokens = b })
+  pub time_some : 1 ≤ a
+
+-- a circuit of the strong part of the critical graph in which transition c is: it has the ratio, and so has a way that
+-- leads from c to it and back
+pub record IsCircuitOfCriticalPart (net : NetLists) (a b c : ℕ) (ps : List PlaceId) : Type 0 where
+  pub circuit : IsCircuit net ps
+  pub at : ℕ
+  pub round : IsPathBetween net at ps at
+  pub critical : b * time_of net ps ≡ a * tokens_of net ps
+  pub there : List PlaceId
+  pub back : List PlaceId
+  pub to : IsPathBetween net c there at
+  pub from : IsPathBetween net at back c
+  pub way : b * time_of net (there ++ back) ≡ a * tokens_of net (there ++ back)
+
+-- L is a multiple of the greatest common divisor of the tokens of the circuits: what divides each of them divides L
+abbrev pub IsMultipleOfGcd : NetLists → List (List PlaceId) → ℕ → Type 0
+IsMultipleOfGcd net circuits L = (d : ℕ) → All (λ ps. d ∣ tokens_of net ps) circuits → d ∣ L
+
+-- of each strong part of the critical graph, L is a multiple of the greatest common divisor of the tokens of some of its circuits
+abbrev pub IsCommonByParts : NetLists → ℕ → ℕ → ℕ → Type 0
+IsCommonByParts net a b L =
+    (c : ℕ) (ps : List PlaceId) → IsCriticalAt net a b c ps
+    → (circuits : List (List PlaceId)) × All (IsCircuitOfCriticalPart net a b c) circuits × IsMultipleOfGcd net circuits L
+
+-- the period of the shortest settled form of the least dating divides each such number
+abbrev pub PeriodsDivideByParts : Type 0
+PeriodsDivideByParts =
+    (net : NetLists) (a b : ℕ) → IsStronglyConnected net a b → (x : ℕ → ℕ → Date) → IsLeastDating net x
+    → (f : SettledForm) → IsShortestForm (length net.transitions) f x → (L : ℕ) → 1 ≤ L → IsCommonByParts net a b L → f.period ∣ L
+
+-- each common multiple of single critical circuits is such a number
+abbrev pub CommonMultiplesAreByParts : Type 0
+CommonMultiplesAreByParts = (net : NetLists) (a b L : ℕ) → IsCommon net a b L → IsCommonByParts net a b L

@@ -1,0 +1,9 @@
+pub mod Commuting
+pub mod CommutingGains
+pub mod OrderFacts
+pub mod ResidualFacts
+pub mod SquareStars
+pub mod Squares
+pub mod StarFacts
+pub mod StarResidualFacts
+pub mod Totals

@@ -1,0 +1,6 @@
+pub mod Commuting
+pub mod DioidOrder
+pub mod ResidualIdentities
+pub mod SquareMatrices
+pub mod StarIdentities
+pub mod StarResiduals

@@ -1,0 +1,3 @@
+pub mod CertifiedLines
+pub mod DateLines
+pub mod Growth

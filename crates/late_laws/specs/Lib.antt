@@ -1,0 +1,2 @@
+pub mod LateLines
+pub mod SlowDues

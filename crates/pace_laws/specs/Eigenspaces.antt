@@ -1,0 +1,94 @@
+-- All tight potentials of a part, its eigenspace: those that begin at critical transitions span it (chapter 3).
+use Rattle.std.specs.Prelude.{ℕ, ℤ, ◌*◌, ◌<◌, ◌≡◌, ◌⊎◌, ◌+ℤ◌, ◌≤ℤ◌, List, ◌++◌, length, All}
+use Rattle.teg_net.specs.declared.entries.PlaceId.{PlaceId}
+use Rattle.teg_net.specs.Nets.{NetLists, IsNet}
+use Rattle.teg_net.specs.Ratios.{Fraction}
+use Rattle.teg_net.specs.Circuits.{IsPathBetween, time_of, tokens_of}
+use Rattle.teg_net.specs.Parts.{IsMember, IsPlaceOfPart}
+use Rattle.teg_net.specs.ReducedTimes.{IsGreatestPathTime}
+use Rattle.teg_net.specs.GreatestRatios.{IsGreatestRatio}
+use Rattle.teg_parts.specs.Partitions.{AreStrong}
+use Rattle.pace_laws.specs.TightPotentials.{AreTightPotentials}
+
+-- a way in the part from transition s round to it that has the ratio: a critical circuit, or several in one another
+pub record IsCriticalRound (net : NetLists) (part_of : List ℕ) (part a b s : ℕ) (c : List PlaceId) : Type 0 where
+  pub not_empty : 0 < length c
+  pub closed : IsPathBetween net s c s
+  pub inside : All (IsPlaceOfPart net part_of part) c
+  pub attains : time_of net c * b ≡ a * tokens_of net c
+
+-- the transition is critical: such a way leads from it
+abbrev pub IsCriticalTransition : NetLists → List ℕ → ℕ → ℕ → ℕ → ℕ → Type 0
+IsCriticalTransition net part_of part a b s = (c : List PlaceId) × IsCriticalRound net part_of part a b s c
+
+-- the transitions are in one critical part: such a way leads from the first to the second and back
+pub record AreInOneCriticalPart (net : NetLists) (part_of : List ℕ) (part a b s t : ℕ) : Type 0 where
+  pub there : List PlaceId
+  pub back : List PlaceId
+  pub to : IsPathBetween net s there t
+  pub from : IsPathBetween net t back s
+  pub round : IsCriticalRound net part_of part a b s (there ++ back)
+
+-- x is the greater of y and z
+pub record IsGreaterOf (y z x : ℤ) : Type 0 where
+  pub left : y ≤ℤ x
+  pub right : z ≤ℤ x
+  pub met : (x ≡ y) ⊎ (x ≡ z)
+
+-- the greatest reduced times of the paths in the part from transition s
+abbrev pub AreBegunAt : NetLists → List ℕ → ℕ → ℕ → ℕ → ℕ → (ℕ → ℤ) → Type 0
+AreBegunAt net part_of part a b s v = (t : ℕ) → IsMember part_of part t → IsGreatestPathTime net part_of part a b s t (v t)
+
+-- tight potentials moved by one number are tight
+abbrev pub MovedPotentialsAreTight : Type 0
+MovedPotentialsAreTight =
+    (net : NetLists) (part_of : List ℕ) (part a b : ℕ) (v : ℕ → ℤ) (n : ℤ) → AreTightPotentials net part_of part a b v → AreTightPotentials net part_of part a b (λ t. v t +ℤ n)
+
+-- the greater of two tight potentials at each member are tight
+abbrev pub GreaterPotentialsAreTight : Type 0
+GreaterPotentialsAreTight =
+    (net : NetLists) (part_of : List ℕ) (part a b : ℕ) (v w x : ℕ → ℤ) → AreTightPotentials net part_of part a b v → AreTightPotentials net part_of part a b w
+    → ((t : ℕ) → IsMember part_of part t → IsGreaterOf (v t) (w t) (x t)) → AreTightPotentials net part_of part a b x
+
+-- those that begin at a critical transition are tight
+abbrev pub BegunPotentialsAreTight : Type 0
+BegunPotentialsAreTight =
+    (net : NetLists) (part_of : List ℕ) (part a b s : ℕ) (v : ℕ → ℤ) → IsCriticalTransition net part_of part a b s → AreBegunAt net part_of part a b s v
+    → AreTightPotentials net part_of part a b v
+
+-- from each member of a strong part some begin, at its greatest ratio
+abbrev pub BegunPotentialsExist : Type 0
+BegunPotentialsExist =
+    (net : NetLists) (part_of : List ℕ) (part s : ℕ) (r : Fraction) → IsNet net → AreStrong net part_of → IsGreatestRatio net (IsPlaceOfPart net part_of part) r → IsMember part_of part s
+    → (v : ℕ → ℤ) × AreBegunAt net part_of part r.time r.tokens s v
+
+-- the potential of the transition is the greatest of those that begin anywhere, each moved by the potential of where it
+-- begins, and it is met by one that begins at a critical transition
+pub record IsSpannedAt (net : NetLists) (part_of : List ℕ) (part a b : ℕ) (v : ℕ → ℤ) (t : ℕ) : Type 0 where
+  pub none_above : (s : ℕ) (z : ℤ) → IsGreatestPathTime net part_of part a b s t z → (z +ℤ v s) ≤ℤ v t
+  pub met : (s : ℕ) × IsCriticalTransition net part_of part a b s × (z : ℤ) × IsGreatestPathTime net part_of part a b s t z × (v t ≡ (z +ℤ v s))
+
+-- tight potentials are so at each member
+abbrev pub PotentialsAreSpanned : Type 0
+PotentialsAreSpanned =
+    (net : NetLists) (part_of : List ℕ) (part a b : ℕ) (v : ℕ → ℤ) → IsNet net → AreTightPotentials net part_of part a b v
+    → (t : ℕ) → IsMember part_of part t → IsSpannedAt net part_of part a b v t
+
+-- in one critical part all tight potentials differ by the same from transition to transition
+abbrev pub CriticalPartsMoveAsOne : Type 0
+CriticalPartsMoveAsOne =
+    (net : NetLists) (part_of : List ℕ) (part a b s t : ℕ) (v w : ℕ → ℤ) → AreInOneCriticalPart net part_of part a b s t
+    → AreTightPotentials net part_of part a b v → AreTightPotentials net part_of part a b w → (v t +ℤ w s) ≡ (w t +ℤ v s)
+
+-- those that begin at two transitions of one critical part differ by one number
+abbrev pub OneBeginsForEachPart : Type 0
+OneBeginsForEachPart =
+    (net : NetLists) (part_of : List ℕ) (part a b s t : ℕ) (v w : ℕ → ℤ) → AreInOneCriticalPart net part_of part a b s t
+    → AreBegunAt net part_of part a b s v → AreBegunAt net part_of part a b t w → (n : ℤ) × ((u : ℕ) → IsMember part_of part u → w u ≡ (v u +ℤ n))
+
+-- where the critical transitions are in one critical part, any two tight potentials differ by one number
+abbrev pub OneCriticalPartTellsAll : Type 0
+OneCriticalPartTellsAll =
+    (net : NetLists) (part_of : List ℕ) (part a b m : ℕ) (v w : ℕ → ℤ) → IsNet net → IsMember part_of part m
+    → ((s t : ℕ) → IsCriticalTransition net part_of part a b s → IsCriticalTransition net part_of part a b t → AreInOneCriticalPart net part_of part a b s t)
+    → AreTightPotentials net part_of part a b v → AreTightPotentials net part_of part a b w → (n : ℤ) × ((t : ℕ) → IsMember part_of part t → v t ≡ (w t +ℤ n))

@@ -1,0 +1,4 @@
+pub mod SlowerNets
+pub mod TightPotentials
+pub mod RatiosExist
+pub mod Eigenspaces

@@ -1,0 +1,87 @@
+//! The laws of the pace. Each is a function that does nothing when it runs: its contract is the law.
+ghost use Rattle.pace_laws.specs.Eigenspaces.{BegunPotentialsAreTight, BegunPotentialsExist, CriticalPartsMoveAsOne, GreaterPotentialsAreTight, MovedPotentialsAreTight, OneBeginsForEachPart, OneCriticalPartTellsAll, PotentialsAreSpanned};
+ghost use Rattle.pace_laws.specs.RatiosExist.{NetsHaveRatios, PartsHaveRatios, StrongPartsHaveAPace};
+ghost use Rattle.pace_laws.specs.SlowerNets.{LiveBySlower, SlowerNetsHaveMore, SlowerPartsHaveMore};
+ghost use Rattle.pace_laws.specs.TightPotentials.{BestPotentialsAreTight, CriticalPlacesAreTight, CriticalTransitionsTell, TightJustAtTheRatio, TightPotentialsArePaced, TightPotentialsExist, TightPotentialsTellTheRatio, TightRatiosAreOne};
+
+/// A live net has no circuit, or a greatest ratio, and so does each part of it; and a strong part
+/// with a circuit has with its ratio potentials that are tight at it (chapters 2 and 3).
+///
+/// The net has to be live: a circuit with time and without tokens has no ratio.
+pub fn greatest_ratios_exist()
+    ensures nets { NetsHaveRatios }
+    ensures parts { PartsHaveRatios }
+    ensures potentials { StrongPartsHaveAPace }
+{}
+
+/// Where a net has the places of another with the same ends, none of them with a longer holding
+/// time and none with fewer tokens, its greatest ratio is at most that of the other, and so is that
+/// of each part; and it is live where the other is (chapter 2).
+///
+/// The first net has to be live: a circuit without time and without tokens has every ratio, so a
+/// net that is one such circuit has a greater one than itself.
+pub fn pace_rises_with_the_net()
+    ensures nets { SlowerNetsHaveMore }
+    ensures parts { SlowerPartsHaveMore }
+    ensures live { LiveBySlower }
+{}
+
+/// The potentials told of a part are tight at its greatest ratio: that of each member is the
+/// greatest that a place of the part offers it, so they are an eigenvector of the part. Any tight
+/// potentials at a ratio, told or not, tell that it is the greatest of the part, as some circuit
+/// has it, so a part of a live net has them at one ratio only; and the dates that go on from them
+/// by the ratio keep each place of the part, and for each member just keep one place into it, at
+/// every firing (chapters 2 and 3).
+///
+/// The part needs a member, as one without has tight potentials at every ratio. For the one ratio
+/// the net has to be live, since a circuit without time and without tokens has every ratio.
+pub fn tight_potentials_tell_the_ratio()
+    ensures best { BestPotentialsAreTight }
+    ensures tell { TightPotentialsTellTheRatio }
+    ensures one { TightRatiosAreOne }
+    ensures paced { TightPotentialsArePaced }
+{}
+
+/// The spectral theorem: a strong part has tight potentials at its greatest ratio, and at no other
+/// ratio (chapter 3).
+///
+/// The part has to be strong: two transitions with a place from each to itself, of one token, that
+/// hold for 1 and for 2, have the greatest ratio 2, at which the first has no tight potential.
+pub fn tight_potentials_exist()
+    ensures exist { TightPotentialsExist }
+    ensures just { TightJustAtTheRatio }
+{}
+
+/// Potentials that no place exceeds are just met by each place of a critical circuit, one that has
+/// the ratio. Tight potentials that are equal at the transitions of critical circuits are equal
+/// (chapter 3).
+pub fn critical_circuits_tell_potentials()
+    ensures places { CriticalPlacesAreTight }
+    ensures transitions { CriticalTransitionsTell }
+{}
+
+/// The eigenspace: tight potentials moved by a number are tight, and so are the greater of two; and
+/// all of a part are told by those that begin at its critical transitions, the greatest reduced
+/// times of paths from there: each is the greatest of them, each of these moved by the potential of
+/// where it begins (chapter 3). A strong part has them from each member.
+pub fn potentials_are_spanned()
+    ensures moved { MovedPotentialsAreTight }
+    ensures greater { GreaterPotentialsAreTight }
+    ensures begun { BegunPotentialsAreTight }
+    ensures exist { BegunPotentialsExist }
+    ensures spanned { PotentialsAreSpanned }
+{}
+
+/// One begins for each critical part, the transitions between which ways there and back have the
+/// ratio: those that begin at two of its transitions differ by one number, and from transition to
+/// transition of it all tight potentials of the part differ by the same. So where the critical
+/// transitions are in one critical part, there is one potential up to a number (chapter 3).
+///
+/// With two critical parts there may be more: of two transitions with a place from each to itself
+/// that holds for 1, and from each to the other that holds for 0, all of one token, both 0, 0 and
+/// 0, 1 are tight at the ratio 1.
+pub fn critical_parts_tell_potentials()
+    ensures as_one { CriticalPartsMoveAsOne }
+    ensures begun { OneBeginsForEachPart }
+    ensures one { OneCriticalPartTellsAll }
+{}

@@ -1,0 +1,3 @@
+pub mod OneRound
+pub mod Kept
+pub mod Counting

@@ -1,0 +1,15 @@
+//! The law of the number of rounds. It is a function that does nothing when it runs: its contract
+//! is the law.
+ghost use Rattle.policy_laws.specs.RoundCounts.{RoundsAreFew, RoundsOfOneRatioAreFew};
+
+/// Rounds are few: a policy run of a part of a live net has at most as many rounds of one ratio as
+/// the net has transitions `n`, and as its ratio never falls, at most `n (n h (n m)^2 + 1)` rounds,
+/// where no place holds for more than `h` or has more than `m` tokens (chapter 3).
+///
+/// As long as the circuit stays, the potentials of each round are at least what the places offered
+/// in the round before, so after as many rounds as there are transitions no path without a loop has
+/// more.
+pub fn rounds_are_few()
+    ensures of_one_ratio { RoundsOfOneRatioAreFew }
+    ensures all { RoundsAreFew }
+{}
