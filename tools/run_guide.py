@@ -4,12 +4,14 @@
     tools/run_guide.py [PROGRAM]
 
 PROGRAM is the built teg; where none is named it is the one that `rt ci` leaves. The commands of README.md, of
-docs/GUIDE*.md and of the other files of docs/ are run by bash, file after file in this order, in a folder that has
-the program as ./teg and the nets as examples/:
+docs/GUIDE*.md, of tools/recipe_rows.md, which has what the recipes make of other files, and of the other files of
+docs/ are run by bash, file after file in this order, in a folder that has the program as ./teg and the nets as
+examples/:
 
 - In a fenced block, a line that begins with `$ ` is a command. The lines below it, up to the next
   command or the end of the block, are what it prints.
-- A fenced block of toml whose first line is `# NAME.toml` is a file of that name for the commands below.
+- A fenced block of toml, sed or awk whose first line is `# NAME` with that ending is a file of that name for the
+  commands below.
 - A command that calls python3's reader of TOML is left out where this python3 has none (before version 3.11).
 
 Each file of examples/ is named by a command of the guide, and each command that takes a net alone, by the
@@ -59,9 +61,9 @@ def indented(text):
 def run_blocks(name, text, folder):
     """Runs the commands of a document, and tells for each whether it prints what the document shows."""
     for block in blocks_of(text):
-        net = re.fullmatch(r"# (\w+\.toml)", block[2][0]) if block[2] else None
-        if block[1] == "toml" and net:
-            with open(f"{folder}/{net[1]}", "w", encoding="utf-8") as file:
+        named = re.fullmatch(r"# (\w+)\.(toml|sed|awk)", block[2][0]) if block[2] else None
+        if named and named[2] == block[1]:
+            with open(f"{folder}/{named[1]}.{named[2]}", "w", encoding="utf-8") as file:
                 file.write("".join(f"{line}\n" for line in block[2]))
         for number, command, wanted in commands_of(block):
             if "tomllib" in command and not importlib.util.find_spec("tomllib"):
@@ -99,7 +101,7 @@ def documents():
     """The documents by name, in the order in which their commands are run."""
     guide = sorted(Path(TOP, "docs").glob("GUIDE*.md"))
     others = sorted(path for path in Path(TOP, "docs").glob("*.md") if path not in guide)
-    paths = [Path(TOP, "README.md"), *guide, *others]
+    paths = [Path(TOP, "README.md"), *guide, Path(TOP, "tools", "recipe_rows.md"), *others]
     return {str(path.relative_to(TOP)): path.read_text(encoding="utf-8") for path in paths}
 
 
