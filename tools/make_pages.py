@@ -13,7 +13,8 @@ these lines and ends with the line `<!-- end -->`:
   comment above it (docs/DEFINITIONS.md).
 - `<!-- edits -->`: the must-fail edits, each with what its first line says, crate by crate (docs/WRONG_BODIES.md); and
   `<!-- edits CRATE/NAME CRATE/NAME .. -->` a table of these alone.
-- `<!-- costs -->`: the sentences in which docstrings of public calls speak of their time (docs/COSTS.md).
+- `<!-- costs -->`: the sentences in which docstrings of public calls speak of their time, but for those of commands
+  (docs/COSTS.md).
 - `<!-- to read NAME NAME .. -->`: how much each of these definitions rests on, as tools/check_definitions.py --below
   lists it, and how long it takes to read at two lines a minute (docs/TRUST.md).
 
@@ -174,7 +175,8 @@ def told_calls(crate):
 def costs():
     """What docstrings say of time and memory, crate by crate."""
     rows = ["| Crate | Call | What it takes |", "|---|---|---|"]
-    for crate in crates():
+    # (a command takes what its answer takes)
+    for crate in (it for it in crates() if it != "teg_commands"):
         for call in calls_of(crate):
             told = " ".join(it for it in re.split(r"(?<=\.) +(?=[A-Z`])", call.doc) if TIME.search(it))
             if told:

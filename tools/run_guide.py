@@ -4,7 +4,7 @@
     tools/run_guide.py [PROGRAM]
 
 PROGRAM is the built teg; where none is named it is the one that `rt ci` leaves. The commands of README.md, of
-docs/GUIDE*.md, of tools/recipe_rows.md, which has what the recipes make of other files, and of the other files of
+docs/GUIDE*.md, of tools/recipe_rows.md, which has what these commands make of other files, and of the other files of
 docs/ are run by bash, file after file in this order, in a folder that has the program as ./teg and the nets as
 examples/:
 
