@@ -19,9 +19,9 @@ It reads by text, not by the grammar of Rattle: what it tells is to be looked at
 """
 import re
 import sys
-from pathlib import Path
 
-TOP = Path(__file__).resolve().parent.parent
+from common import TOP
+
 WORD = re.compile(r"[^\W\d][\w'\-]*")
 DEFINED = re.compile(r"^ *(?:pub )?(abbrev|unfoldable|record|data) (?:pub )?([^\W\d][\w'\-]*)(.*)$")
 MUTUAL = re.compile(r"^(?:abbrev |unfoldable )?mutual$")

@@ -27,7 +27,8 @@ import re
 import sys
 from itertools import groupby
 
-from check_definitions import TOP, Specs, definitions_named, exported
+from check_definitions import Specs, definitions_named, exported
+from common import TOP
 from page_links import leads_nowhere
 
 NOTHING = re.compile(r" (It does|They do|which does) nothing when (it|they) runs?\.")

@@ -24,9 +24,9 @@ import os
 import re
 import sys
 import tempfile
-from pathlib import Path
 
-from built_program import BUILT, TOP, is_there, run, summed_up
+from built_program import BUILT, is_there, run, summed_up
+from common import TOP, Status
 
 
 def blocks_of(text):
@@ -79,7 +79,7 @@ def odd_commands(commands, net, folder):
     """The commands that end otherwise than they should on a net of examples/, each told."""
     first = run(["./teg", "check", f"examples/{net}"], folder)
     others = {command: run(["./teg", command, f"examples/{net}"], folder) for command in commands}
-    odd = [command for command, said in others.items() if said != first and (said[0] or first[0])]
+    odd = [command for command, said in others.items() if said != first and (said[0], first[0]) != (Status.DONE, Status.DONE)]
     for command in odd:
         print(f"examples/{net}: {command} ends with {others[command][0]}, and check with {first[0]}")
     return odd
@@ -99,9 +99,9 @@ def run_nets(guides, folder):
 
 def documents():
     """The documents by name, in the order in which their commands are run."""
-    guide = sorted(Path(TOP, "docs").glob("GUIDE*.md"))
-    others = sorted(path for path in Path(TOP, "docs").glob("*.md") if path not in guide)
-    paths = [Path(TOP, "README.md"), *guide, Path(TOP, "tools", "recipe_rows.md"), *others]
+    guide = sorted(TOP.glob("docs/GUIDE*.md"))
+    others = sorted(path for path in TOP.glob("docs/*.md") if path not in guide)
+    paths = [TOP / "README.md", *guide, TOP / "tools/recipe_rows.md", *others]
     return {str(path.relative_to(TOP)): path.read_text(encoding="utf-8") for path in paths}
 
 

@@ -1,5 +1,6 @@
 #!/usr/bin/env python3
-"""Tests of check_definitions.py, make_pages.py and page_links.py over a small repository that is made for them.
+"""Tests of check_definitions.py, make_pages.py and page_links.py over a small repository that is made for them, and of
+common.py against the sources.
 
     tools/test_pages.py
 
@@ -7,12 +8,14 @@ The exit status is 0 where all pass.
 """
 import contextlib
 import io
+import re
 import sys
 import tempfile
 import unittest
 from pathlib import Path
 
 import check_definitions
+import common
 import make_pages
 import page_links
 
@@ -165,6 +168,17 @@ class Pages(unittest.TestCase):
         self.assertEqual(told.count("\n"), 2)
         for part in ("leads to NONE.md", "leads to PAGE.md#not-there", "names lost_name"):
             self.assertIn(part, told)
+
+
+class Shared(unittest.TestCase):
+    def test_statuses_are_those_of_the_program(self):
+        text = (common.TOP / "crates/teg_run/src/status.rt").read_text()
+        codes = {re.sub(r"(?<=[a-z])(?=[A-Z])", "_", name).upper(): int(code) for name, code in re.findall(r"Status::(\w+) => (\d+),", text)}
+        self.assertEqual(codes, {status.name: status.value for status in common.Status})
+
+    def test_nets_are_there(self):
+        for name in ("loop", "driven", "kanban"):
+            self.assertIn("[[place]]", common.net(name))
 
 
 if __name__ == "__main__":
