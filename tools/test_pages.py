@@ -1,6 +1,6 @@
 #!/usr/bin/env python3
-"""Tests of check_definitions.py, make_pages.py and page_links.py over a small repository that is made for them, and of
-common.py against the sources.
+"""Tests of check_definitions.py, make_pages.py and page_links.py over a small repository that is made for them, of what
+run_guide.py finds in a page, and of common.py against the sources.
 
     tools/test_pages.py
 
@@ -18,6 +18,7 @@ import check_definitions
 import common
 import make_pages
 import page_links
+import run_guide
 
 FILES = {
     "crates.txt": "low:\nhigh: low\n",
@@ -168,6 +169,21 @@ class Pages(unittest.TestCase):
         self.assertEqual(told.count("\n"), 2)
         for part in ("leads to NONE.md", "leads to PAGE.md#not-there", "names lost_name"):
             self.assertIn(part, told)
+
+
+class Guide(unittest.TestCase):
+    def run_page(self, text):
+        with tempfile.TemporaryDirectory(prefix="teg-pages-") as folder:
+            return printed(lambda: list(run_guide.run_blocks("PAGE", text, folder)))
+
+    def test_commands_find_the_files_that_the_page_shows(self):
+        page = "```awk\n# first.awk\n{ print $1 }\n```\n\n```\n$ echo a b | awk -f first.awk\na\n$ true\n```\n"
+        self.assertEqual(self.run_page(page), ("", [True, True]))
+
+    def test_another_text_is_told(self):
+        text, well = self.run_page("```\n$ echo a\nb\n```\n")
+        self.assertEqual(well, [False])
+        self.assertIn("PAGE:2: echo a\n  it shows\n    b\n  it prints\n    a\n", text)
 
 
 class Shared(unittest.TestCase):
