@@ -56,14 +56,16 @@ def link_free(text):
 
 
 def head_of(crate):
-    """The comment at the head of a crate's root file, as paragraphs of one line each, and then its public calls."""
+    """The comment at the head of a crate's root file, as paragraphs of one line each but for tables and lists, and then its
+    public calls."""
     root = next((path for path in (TOP / f"crates/{crate}/src/{name}.rt" for name in ("lib", "main")) if path.is_file()), None)
     lines = []
     for line in root.read_text().splitlines() if root else []:
         if not line.startswith("//!"):
             break
         lines.append(line[3:].strip())
-    paragraphs = " ".join(line or "\n\n" for line in lines)
+    paragraphs = " ".join("\n" + line if line.startswith(("|", "- ")) else line or "\n\n" for line in lines)
+    paragraphs = re.sub(r" +\n", "\n", paragraphs)
     texts = [re.sub(STANDS, "", link_free(it.strip())).strip() for it in paragraphs.split("\n\n")]
     return "\n\n".join([it for it in texts if it] + told_calls(crate)) + "\n"
 

@@ -27,7 +27,7 @@ FILES = {
     "<!-- head of low -->\n<!-- end -->\n\n<!-- to read IsFew -->\n<!-- end -->\n",
     "docs/WRONG_BODIES.md": "# Edits\n\n<!-- edits -->\n<!-- end -->\n",
     "docs/DEFINITIONS.md": "# Definitions\n\n<!-- definitions IsFew -->\n<!-- end -->\n",
-    "crates/low/src/lib.rt": "//! Counts things.\n//!\n//! One call. It stands on std alone. Its examples stand in `high`.\npub use crate::count::{count, counts_are_few};\n",
+    "crates/low/src/lib.rt": "//! Counts things.\n//!\n//! One call. It stands on std alone. Its examples stand in `high`.\n//!\n//! | A | B |\n//! |---|---|\n//! | 1 | 2 |\npub use crate::count::{count, counts_are_few};\n",
     "crates/low/src/count.rt": """ghost use Rattle.low.specs.Few.{IsFew, CountsAreFew};
 
 /// How many there are. It takes time of order n for n things.
@@ -134,7 +134,7 @@ class Pages(unittest.TestCase):
         self.assertEqual(printed(make_pages.main, True), ("", 0))
         page = (self.top / "docs/PAGE.md").read_text()
         self.assertIn("By hand, of `low_limit`.\n", page)
-        self.assertIn("Counts things.\n\nOne call.\n\nCalls: `count` (`few`).\n\nLaws:\n\n- `counts_are_few`: Counts are few (chapter 2).\n", page)
+        self.assertIn("Counts things.\n\nOne call.\n\n| A | B |\n|---|---|\n| 1 | 2 |\n\nCalls: `count` (`few`).\n\nLaws:\n\n- `counts_are_few`: Counts are few (chapter 2).\n", page)
         edits = (self.top / "docs/WRONG_BODIES.md").read_text()
         self.assertIn("`low`:\n\n- `one_more`: one more is told (`count few`)\n\n1 edits.\n", edits)
         self.assertIn("| `IsFew` | `low/specs/Few.antt` | 2 | 4 | 2 minutes |\n", page)
