@@ -1,26 +1,27 @@
 #!/usr/bin/env python3
-"""Tells whether docs/DEFINITIONS*.md list each definition that a public contract rests on, and no other.
+"""Tells what definitions rest on, and whether docs/DEFINITIONS.md names definitions that promises rest on.
 
-    tools/check_definitions.py [--draft]
+    tools/check_definitions.py
     tools/check_definitions.py --below NAME
 
 Public are the calls, types and traits that a crate's src/lib.rt exports. Their clauses, the ghost members of
-their traits and impls, and the views of their types name definitions of specs/; these name others. Each that
-is reached so must have a row in the section of its crate, with its file. Each that lacks one is told, with the
-line that stands above it; --draft tells it as a row. Laws that proofs alone need are not definitions. The last line
-tells how many there are, and the exit status is 0 where none lacks its row and no row is of another.
+their traits and impls, and the views of their types name definitions of specs/; these name others. Laws that proofs
+alone need are not definitions. Each definition that is reached so has a comment above it, which says what it says; and
+each name of docs/DEFINITIONS.md is that of one of them, and of one alone. What fails is told. The last line tells how
+many there are, and the exit status is 0 where nothing fails.
 
 With --below it tells instead what one definition rests on, itself first, then what it names, and so on: the
-file and line of each, its name, and how many lines it has; at the end how many they are. NAME is the name, as
-IsNet, or with its crate, as teg_net.IsNet. What is of std, or is a struct or an enum of the code, is left out.
+file and line of each, its name, how many lines it has, and the comment above it; at the end how many they are. NAME is
+the name, as IsNet, or with its crate, as teg_net.IsNet. What is of std, or is a struct or an enum of the code, is left
+out.
 
 It reads by text, not by the grammar of Rattle: what it tells is to be looked at.
 """
 import re
 import sys
-from pathlib import Path
 
-TOP = Path(__file__).resolve().parent.parent
+from common import TOP
+
 WORD = re.compile(r"[^\W\d][\w'\-]*")
 DEFINED = re.compile(r"^ *(?:pub )?(abbrev|unfoldable|record|data) (?:pub )?([^\W\d][\w'\-]*)(.*)$")
 MUTUAL = re.compile(r"^(?:abbrev |unfoldable )?mutual$")
@@ -143,17 +144,10 @@ def public_text(crate, text):
 
 
 def listed():
-    """The rows of the documents: for each crate and name the files that its rows give."""
-    found, crates = {}, []
-    for line in "".join(path.read_text() for path in sorted(TOP.glob("docs/DEFINITIONS*.md"))).splitlines():
-        if line.startswith("#"):
-            crates = re.findall(r"`(\w+)`", line)
-        elif line.startswith("| `"):
-            cells = [it.strip() for it in re.split(r"(?<!\\)\|", line)[1:-1]]
-            for name in re.findall(r"`([^`]+)`", cells[0]):
-                for crate in crates:
-                    found.setdefault((crate, name), set()).update(re.split(r", *", cells[1]))
-    return found
+    """The names of docs/DEFINITIONS.md, in the lines that tools/make_pages.py goes by."""
+    page = TOP / "docs/DEFINITIONS.md"
+    text = page.read_text() if page.is_file() else ""
+    return [name for names in re.findall(r"^<!-- definitions ([^>]*) -->$", text, re.M) for name in names.split()]
 
 
 def definitions_named(specs, name):
@@ -180,27 +174,29 @@ def tell_below(name):
         return 1
     reached = specs.below(roots)
     for at in reached:
-        print(f"crates/{at[0]}/specs/{at[1]}.antt:{specs.lines[at]} {at[2]} ({specs.length(at)} lines)")
+        where = f"crates/{at[0]}/specs/{at[1]}.antt:{specs.lines[at]} {at[2]} ({specs.length(at)} lines)"
+        print(where + (f": {specs.words[at]}" if specs.words[at] else ""))
     crates = {at[0] for at in reached}
     print(f"{len(reached)} definitions of {len(crates)} crates, {sum(map(specs.length, reached))} lines")
     return 0
 
 
-def main(is_draft):
+def main():
     specs = Specs()
-    reached, rows = specs.below(public_definitions(specs)), listed()
-    lacking = sorted(at for at in reached if at[1] not in rows.get((at[0], at[2]), ()))
-    odd = sorted(at for at in rows if not any((it[0], it[2]) == at for it in reached))
-    for crate, file, name in lacking:
-        words = specs.words[crate, file, name]
-        print(f"| `{name}` | {file} | {words} | |" if is_draft else f"{crate}: {name} of {file} has no row: {words}")
-    for crate, name in odd:
-        print(f"{crate}: no public contract rests on {name}")
-    print(f"{len(reached)} definitions; {len(lacking)} without a row, {len(odd)} rows of others")
-    return 1 if lacking or odd else 0
+    reached, names = specs.below(public_definitions(specs)), listed()
+    told = [f"{at[0]}: {at[2]} of {at[1]} has no comment" for at in sorted(reached) if not specs.words[at]]
+    for name in names:
+        count = sum(at in reached for at in definitions_named(specs, name))
+        if count != 1:
+            told.append(f"docs/DEFINITIONS.md names {name}: {count} definitions of that name that a public contract rests on")
+    told += [f"docs/DEFINITIONS.md names {name} twice" for name in sorted(set(names)) if names.count(name) > 1]
+    for line in told:
+        print(line)
+    print(f"{len(reached)} definitions, {len(names)} of them in docs/DEFINITIONS.md; {len(told)} faults")
+    return 1 if told else 0
 
 
 if __name__ == "__main__":
     if sys.argv[1:2] == ["--below"] and len(sys.argv) == 3:
         sys.exit(tell_below(sys.argv[2]))
-    sys.exit(main("--draft" in sys.argv[1:]))
+    sys.exit(main())

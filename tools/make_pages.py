@@ -6,41 +6,42 @@
 A page has paragraphs written by hand, and between them blocks that this script writes. A block begins with one of
 these lines and ends with the line `<!-- end -->`:
 
-- `<!-- head of CRATE -->`: the comment at the head of the crate's root file, then its public calls with the names of
-  their clauses, and its laws with what they say (docs/PROVED.md).
+- `<!-- head of CRATE -->`: the comment at the head of the crate's root file, but for what it stands on and where its
+  tests are, then its public calls with the names of their clauses, and its laws with what they say (docs/PROVED.md).
 - `<!-- heads of all others -->`: those of the crates that have no such block, in the order of crates.txt.
-- `<!-- definitions of CRATE -->`: a table of the definitions of the crate that a public contract rests on, as
-  tools/check_definitions.py finds them: name, file of specs/, and the comment above it (docs/DEFINITIONS*.md).
-- `<!-- edits -->`: a table of the must-fail edits, each with what its first line says (docs/WRONG_BODIES.md); and
-  `<!-- edits CRATE/NAME CRATE/NAME .. -->` of these alone.
-- `<!-- cited proofs -->`: the modules of proofs/ that proofs of other crates cite, with what their first comment says
-  (docs/ARCHITECTURE.md).
-- `<!-- between crates -->`: for each crate and each crate that it stands on, what of the second its code names and which
-  modules of definitions it cites (docs/ARCHITECTURE.md).
+- `<!-- definitions NAME NAME .. -->`: of each of these definitions its name, its crate and file of specs/, and the
+  comment above it (docs/DEFINITIONS.md).
+- `<!-- edits -->`: the must-fail edits, each with what its first line says, crate by crate (docs/WRONG_BODIES.md); and
+  `<!-- edits CRATE/NAME CRATE/NAME .. -->` a table of these alone.
 - `<!-- laws CRATE::NAME CRATE::NAME .. -->`: a table of these laws, each with the first paragraph of its docstring;
   `<!-- laws of CRATE -->` of all of a crate, and `<!-- all other laws -->` of those that no such block before it names
   (docs/LAWS.md).
-- `<!-- costs -->`: the sentences in which docstrings of public calls speak of their time (docs/COSTS.md).
+- `<!-- costs -->`: the sentences in which docstrings of public calls speak of their time, but for those of commands
+  (docs/COSTS.md).
 - `<!-- to read NAME NAME .. -->`: how much each of these definitions rests on, as tools/check_definitions.py --below
   lists it, and how long it takes to read at two lines a minute (docs/TRUST.md).
 
 With --check it writes nothing and tells each page that differs from what it would write. In both cases it tells
-where the crates of README.md are not those of crates.txt, each crate with definitions that has no table, and each
-crate, definition or edit that such a line names and that is not there. The exit status is 0 where there is nothing to
-tell.
+each crate of crates.txt that the map of README.md does not name, and each crate, definition or edit that such a line
+names and that is not there; and each link, and each name of code in a page, that leads nowhere (tools/page_links.py).
+The exit status is 0 where there is nothing to tell.
 """
 import re
 import sys
 from functools import cache
-from itertools import takewhile
+from itertools import groupby, takewhile
 
-from check_definitions import TOP, Specs, definitions_named, direct, exported, public_definitions
+from check_definitions import Specs, definitions_named, exported
+from common import TOP
+from page_links import leads_nowhere
 
 NOTHING = re.compile(r" (It does|They do|which does) nothing when (it|they) runs?\.")
+# What crates.txt says too, and where tests stand.
+STANDS = re.compile(r" ?\b(The crate|It) stands on (?!`[A-Z]).*?\.(?= |$)| ?\bIts examples stand in .*?\.(?= |$)")
 TIME = re.compile(r"time of (the )?order|time in proportion|time linear|takes (the )?time of")
 KINDS = (
-    r"head of (\w+)|heads of all others|definitions of (\w+)|cited proofs|between crates|costs|to read ([\w .]+)"
-    r"|edits((?: \w+/\w+)*)|laws((?: \w+::\w+)+)|laws of (\w+)|all other laws"
+    r"head of (\w+)|heads of all others|definitions ([\w .]+)|costs|to read ([\w .]+)|edits((?: \w+/\w+)*)"
+    r"|laws((?: \w+::\w+)+)|laws of (\w+)|all other laws"
 )
 BLOCK = re.compile(rf"^<!-- ({KINDS}) -->\n.*?^<!-- end -->\n", re.M | re.S)
 
@@ -62,15 +63,17 @@ def link_free(text):
 
 
 def head_of(crate):
-    """The comment at the head of a crate's root file, as paragraphs of one line each, and then its public calls."""
+    """The comment at the head of a crate's root file, as paragraphs of one line each but for tables and lists, and then its
+    public calls."""
     root = next((path for path in (TOP / f"crates/{crate}/src/{name}.rt" for name in ("lib", "main")) if path.is_file()), None)
     lines = []
     for line in root.read_text().splitlines() if root else []:
         if not line.startswith("//!"):
             break
         lines.append(line[3:].strip())
-    paragraphs = " ".join(line or "\n\n" for line in lines)
-    texts = [link_free(it.strip()) for it in paragraphs.split("\n\n")]
+    paragraphs = " ".join("\n" + line if line.startswith(("|", "- ")) else line or "\n\n" for line in lines)
+    paragraphs = re.sub(r" +\n", "\n", paragraphs)
+    texts = [re.sub(STANDS, "", link_free(it.strip())).strip() for it in paragraphs.split("\n\n")]
     return "\n\n".join([it for it in texts if it] + told_calls(crate)) + "\n"
 
 
@@ -80,31 +83,10 @@ def number_of(body):
     return f": {int(found[1]):,}" if found else ""
 
 
-def in_order(specs, crate, reached):
-    """The definitions of a crate that are reached: a file behind those of the crate that it uses, and as they stand in it."""
-    files, placed = [], set()
-
-    def place(file):
-        if file not in placed:
-            placed.add(file)
-            for other in sorted(it[1] for it in specs.imports[crate, file].values() if it[0] == crate):
-                if (crate, other) in specs.imports:
-                    place(other)
-            files.append(file)
-
-    for file in sorted(it[1] for it in specs.imports if it[0] == crate):
-        place(file)
-    order = {file: number for number, file in enumerate(files)}
-    found = [at for at in specs.words if at[0] == crate and at in reached]
-    return sorted(found, key=lambda at: order[at[1]])
-
-
-def table_of(specs, crate, reached):
-    rows = ["| Name | File | What it says |", "|---|---|---|"]
-    for at in in_order(specs, crate, reached):
-        words = specs.words[at] + number_of(specs.body[at])
-        rows.append(f"| `{at[2]}` | {at[1]} | {cell(words)} |")
-    return "\n".join(rows) + "\n"
+def list_of(specs, names):
+    """The definitions of these names, one a line."""
+    told = [(at, specs.words[at] + number_of(specs.body[at])) for name in names for at in definitions_named(specs, name)]
+    return "".join(f"- `{at[2]}` (`{at[0]}` {at[1]}): {words}\n" for at, words in told)
 
 
 def all_edits():
@@ -119,64 +101,18 @@ def all_edits():
 
 
 def edits(names):
-    """A table of these edits, by name; of all where none is named."""
+    """A table of these edits, by name; where none is named a list of all, crate by crate."""
     found = all_edits()
-    rows = ["| Edit | What goes wrong | Refused by |", "|---|---|---|"]
-    for name in names or found:
-        why, clause = found.get(name, ("", ""))
-        clause = clause if "`" in clause or not clause else f"`{clause}`"
-        rows.append(f"| `{name}` | {cell(why)} | {cell(clause)} |")
-    return "\n".join(rows + ([] if names else ["", f"{len(found)} edits."])) + "\n"
-
-
-def first_comment(path):
-    """The comment at the head of a file of antt."""
-    lines = []
-    for line in path.read_text().splitlines():
-        if not line.startswith("--"):
-            break
-        lines.append(line.strip("- "))
-    return " ".join(lines)
-
-
-def cited_proofs():
-    """The modules of proofs/ that other crates cite, crate by crate."""
-    cited = {}
-    # (out/ may hold what was proved of earlier sources)
-    own = (it for part in ("src", "specs", "proofs") for kind in ("antt", "rt") for it in TOP.glob(f"crates/*/{part}/**/*.{kind}"))
-    for path in sorted(own):
-        own = path.relative_to(TOP).parts[1]
-        for crate, module in re.findall(r"use Rattle\.(\w+)\.proofs\.(\w+)\.", direct(path.read_text())):
-            if crate != own and (TOP / f"crates/{crate}/proofs/{module}.antt").is_file():
-                cited.setdefault((crate, module), set()).add(own)
-    rows = ["| Crate | Module | What it says | Cited by |", "|---|---|---|---|"]
-    order = crates()
-    for crate, module in sorted(cited, key=lambda it: (order.index(it[0]), it[1])):
-        words = first_comment(TOP / f"crates/{crate}/proofs/{module}.antt")
-        by = ", ".join(f"`{it}`" for it in sorted(cited[crate, module]))
-        rows.append(f"| `{crate}` | `{module}` | {cell(words)} | {by} |")
-    return "\n".join(rows) + "\n"
-
-
-def stands_on():
-    """The pairs of a crate and a crate that it stands on, in the order of crates.txt."""
-    order = crates()
-    lines = (line.partition(":") for line in (TOP / "crates.txt").read_text().splitlines() if not line.startswith("#"))
-    return [(name.strip(), low) for name, _, lows in lines for low in lows.split() if low in order]
-
-
-def between_crates():
-    """What each crate takes of each crate that it stands on: what its code names, and the modules of definitions that it cites."""
-    rows = ["| Crate | Stands on | Its code names | It cites |", "|---|---|---|---|"]
-    for crate, low in stands_on():
-        code = "\n".join(path.read_text() for path in sorted((TOP / f"crates/{crate}/src").glob("**/*.rt")))
-        lists = re.findall(rf"^(?:pub )?use {low}::(?:\{{([^}}]*)\}}|(\w+);)", code, re.M)
-        items = {it.strip().partition(" ")[0] for many, one in lists for it in (many or one).split(",")} - {""}
-        specs = (path.read_text() for path in sorted((TOP / f"crates/{crate}/specs").glob("**/*.antt")))
-        cited = set(re.findall(rf"use Rattle\.{low}\.specs\.([A-Z]\w*)\.", direct("\n".join([code, *specs]))))
-        told = [", ".join(f"`{it}`" for it in sorted(names)) for names in (items, cited)]
-        rows.append(f"| `{crate}` | `{low}` | {told[0]} | {told[1]} |")
-    return "\n".join(rows) + "\n"
+    named = [(name, *found.get(name, ("", ""))) for name in names or found]
+    told = [(name, cell(why), clause if "`" in clause or not clause else f"`{clause}`") for name, why, clause in named]
+    if names:
+        head = ["| Edit | What goes wrong | Refused by |", "|---|---|---|"]
+        return "\n".join(head + [f"| `{name}` | {why} | {cell(clause)} |" for name, why, clause in told]) + "\n"
+    blocks = []
+    for crate, of_crate in groupby(told, lambda it: it[0].partition("/")[0]):
+        lines = [f"- `{name.partition('/')[2]}`: {why} ({clause})" for name, why, clause in of_crate]
+        blocks.append(f"`{crate}`:\n\n" + "\n".join(lines) + "\n")
+    return "\n".join([*blocks, f"{len(found)} edits.\n"])
 
 
 class Call:
@@ -230,13 +166,22 @@ def calls_of(crate):
     return found
 
 
+def laws_told():
+    """The names that the page of laws tells, where there is one: what they say is not said twice."""
+    page = TOP / "docs/LAWS.md"
+    return set(re.findall(r"`(\w+)`", page.read_text())) if page.is_file() else set()
+
+
 def told_calls(crate):
-    """A crate's public calls with their clauses, and its laws with what they say."""
+    """A crate's public calls with their clauses, and its laws with what they say, where docs/LAWS.md does not."""
     calls = calls_of(crate)
     others = [call.told() for call in calls if not call.law]
     lines = [f"Calls: {'; '.join(others)}."] if others else []
-    laws = [f"- `{call.name}`: {re.sub(NOTHING, '', call.doc)}" for call in calls if call.law]
-    return lines + (["Laws:\n\n" + "\n".join(laws)] if laws else [])
+    laws = [call for call in calls if call.law]
+    elsewhere = [f"`{call.name}`" for call in laws if call.name in laws_told()]
+    here = [f"- `{call.name}`: {re.sub(NOTHING, '', call.doc)}" for call in laws if call.name not in laws_told()]
+    lines += [f"Laws, which [LAWS](LAWS.md) tells: {', '.join(elsewhere)}."] if elsewhere else []
+    return lines + (["Laws:\n\n" + "\n".join(here)] if here else [])
 
 
 @cache
@@ -259,7 +204,8 @@ def laws(names):
 def costs():
     """What docstrings say of time and memory, crate by crate."""
     rows = ["| Crate | Call | What it takes |", "|---|---|---|"]
-    for crate in crates():
+    # (a command takes what its answer takes)
+    for crate in (it for it in crates() if it != "teg_commands"):
         for call in calls_of(crate):
             told = " ".join(it for it in re.split(r"(?<=\.) +(?=[A-Z`])", call.doc) if TIME.search(it))
             if told:
@@ -289,8 +235,12 @@ class Pages:
 
     def __init__(self):
         self.specs = Specs()
-        self.reached = set(self.specs.below(public_definitions(self.specs)))
-        self.heads, self.tables, self.told, self.laws = set(), set(), [], set()
+        self.heads, self.told, self.laws = set(), [], set()
+
+    def is_there(self, names):
+        """Tells each of these names that no definition has."""
+        self.told += [f"{name} is to be shown, and no definition" for name in names if not definitions_named(self.specs, name)]
+        return names
 
     def table_of_laws(self, names):
         """A table of the laws of these names, which are told from then on."""
@@ -303,16 +253,9 @@ class Pages:
             self.heads.add(found[2])
             body = head_of(found[2])
         elif found[3]:
-            self.tables.add(found[3])
-            body = table_of(self.specs, found[3], self.reached)
+            body = list_of(self.specs, self.is_there(found[3].split()))
         elif found[4]:
-            names = found[4].split()
-            self.told += [f"{name} is to be read, and no definition" for name in names if not definitions_named(self.specs, name)]
-            body = reading(self.specs, names)
-        elif found[1] == "cited proofs":
-            body = cited_proofs()
-        elif found[1] == "between crates":
-            body = between_crates()
+            body = reading(self.specs, self.is_there(found[4].split()))
         elif found[1] == "costs":
             body = costs()
         elif found[5] is not None:
@@ -342,16 +285,11 @@ class Pages:
                 path.write_text(new)
 
     def look_for_missing(self):
-        table = (TOP / "README.md").read_text().partition("\n| Crate |")[2].partition("\n\n")[0]
-        told = {name for row in re.findall(r"^\| (`[^|]*)\|", table, re.M) for name in re.findall(r"`(\w+)`", row)}
-        for crate in crates():
-            if crate not in told:
-                self.told.append(f"README.md has no line of {crate}")
-        self.told += [f"README.md has a line of {crate}, which crates.txt does not name" for crate in sorted(told - set(crates()))]
-        for crate in sorted({at[0] for at in self.reached} - self.tables):
-            self.told.append(f"docs/DEFINITIONS*.md have no table of {crate}")
-        for crate in sorted((self.heads | self.tables) - set(crates())):
-            self.told.append(f"docs/ have a block of {crate}, which crates.txt does not name")
+        shown = (TOP / "README.md").read_text().partition("## The house")[2].partition("```\n")[2].partition("```")[0]
+        on_map = set(re.findall(r"\w+", shown))
+        self.told += [f"the map of README.md does not name {crate}" for crate in crates() if crate not in on_map]
+        self.told += [f"docs/ have a block of {crate}, which crates.txt does not name" for crate in sorted(self.heads - set(crates()))]
+        self.told += leads_nowhere(TOP)
 
 
 def main(is_check):

@@ -4,12 +4,14 @@
     tools/run_guide.py [PROGRAM]
 
 PROGRAM is the built teg; where none is named it is the one that `rt ci` leaves. The commands of README.md, of
-docs/GUIDE*.md and of the other files of docs/ are run by bash, file after file in this order, in a folder that has
-the program as ./teg and the nets as examples/:
+docs/GUIDE*.md, of tools/recipe_rows.md, which has what these commands make of other files, and of the other files of
+docs/ are run by bash, file after file in this order, in a folder that has the program as ./teg and the nets as
+examples/:
 
 - In a fenced block, a line that begins with `$ ` is a command. The lines below it, up to the next
   command or the end of the block, are what it prints.
-- A fenced block of toml whose first line is `# NAME.toml` is a file of that name for the commands below.
+- A fenced block of toml, sed or awk whose first line is `# NAME` with that ending is a file of that name for the
+  commands below.
 - A command that calls python3's reader of TOML is left out where this python3 has none (before version 3.11).
 
 Each file of examples/ is named by a command of the guide, and each command that takes a net alone, by the
@@ -22,9 +24,9 @@ import os
 import re
 import sys
 import tempfile
-from pathlib import Path
 
-from built_program import BUILT, TOP, is_there, run, summed_up
+from built_program import BUILT, is_there, run, summed_up
+from common import TOP, Status
 
 
 def blocks_of(text):
@@ -59,9 +61,9 @@ def indented(text):
 def run_blocks(name, text, folder):
     """Runs the commands of a document, and tells for each whether it prints what the document shows."""
     for block in blocks_of(text):
-        net = re.fullmatch(r"# (\w+\.toml)", block[2][0]) if block[2] else None
-        if block[1] == "toml" and net:
-            with open(f"{folder}/{net[1]}", "w", encoding="utf-8") as file:
+        named = re.fullmatch(r"# (\w+)\.(toml|sed|awk)", block[2][0]) if block[2] else None
+        if named and named[2] == block[1]:
+            with open(f"{folder}/{named[1]}.{named[2]}", "w", encoding="utf-8") as file:
                 file.write("".join(f"{line}\n" for line in block[2]))
         for number, command, wanted in commands_of(block):
             if "tomllib" in command and not importlib.util.find_spec("tomllib"):
@@ -77,7 +79,7 @@ def odd_commands(commands, net, folder):
     """The commands that end otherwise than they should on a net of examples/, each told."""
     first = run(["./teg", "check", f"examples/{net}"], folder)
     others = {command: run(["./teg", command, f"examples/{net}"], folder) for command in commands}
-    odd = [command for command, said in others.items() if said != first and (said[0] or first[0])]
+    odd = [command for command, said in others.items() if said != first and (said[0], first[0]) != (Status.DONE, Status.DONE)]
     for command in odd:
         print(f"examples/{net}: {command} ends with {others[command][0]}, and check with {first[0]}")
     return odd
@@ -97,9 +99,9 @@ def run_nets(guides, folder):
 
 def documents():
     """The documents by name, in the order in which their commands are run."""
-    guide = sorted(Path(TOP, "docs").glob("GUIDE*.md"))
-    others = sorted(path for path in Path(TOP, "docs").glob("*.md") if path not in guide)
-    paths = [Path(TOP, "README.md"), *guide, *others]
+    guide = sorted(TOP.glob("docs/GUIDE*.md"))
+    others = sorted(path for path in TOP.glob("docs/*.md") if path not in guide)
+    paths = [TOP / "README.md", *guide, TOP / "tools/recipe_rows.md", *others]
     return {str(path.relative_to(TOP)): path.read_text(encoding="utf-8") for path in paths}
 
 

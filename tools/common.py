@@ -1,0 +1,29 @@
+"""What the tools share: the top of the repository, the exit statuses of the program, and small nets to try it with."""
+from enum import IntEnum
+from pathlib import Path
+
+TOP = Path(__file__).resolve().parent.parent
+
+
+class Status(IntEnum):
+    """How a call of the program ends, as `Status::code` of `teg_run` has it (tools/test_pages.py compares the two)."""
+
+    DONE = 0
+    WORDS = 2
+    TEXT = 3
+    NET = 4
+    SCHEDULE = 5
+    LATE = 6
+    TOO_LONG = 7
+    LOG = 8
+    CALC = 9
+    NAME = 10
+    READ_FAULT = 64
+    WRITE_FAULT = 65
+    NO_MEMORY = 70
+
+
+def net(name):
+    """The text of a net of tools/rows/nets: `loop` (two transitions), `driven` (an input, a machine and an output),
+    `kanban` (three machines with cards) and others, each with a comment that says what it is."""
+    return (TOP / f"tools/rows/nets/{name}.toml").read_text(encoding="utf-8")

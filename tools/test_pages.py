@@ -1,0 +1,201 @@
+#!/usr/bin/env python3
+"""Tests of check_definitions.py, make_pages.py and page_links.py over a small repository that is made for them, of what
+run_guide.py finds in a page, and of common.py against the sources.
+
+    tools/test_pages.py
+
+The exit status is 0 where all pass.
+"""
+import contextlib
+import io
+import re
+import sys
+import tempfile
+import unittest
+from pathlib import Path
+
+import check_definitions
+import common
+import make_pages
+import page_links
+import run_guide
+
+FILES = {
+    "crates.txt": "low:\nhigh: low\n",
+    "README.md": "# T\n\n## The house\n\n```\nhigh > low\n```\n\nSee [the page](docs/PAGE.md#what-is-there).\n",
+    "docs/PAGE.md": "# Page\n\n## What is there\n\nBy hand, of `low_limit`.\n\n"
+    "<!-- head of low -->\n<!-- end -->\n\n<!-- to read IsFew -->\n<!-- end -->\n",
+    "docs/WRONG_BODIES.md": "# Edits\n\n<!-- edits -->\n<!-- end -->\n",
+    "docs/DEFINITIONS.md": "# Definitions\n\n<!-- definitions IsFew -->\n<!-- end -->\n",
+    "crates/low/src/lib.rt": "//! Counts things.\n//!\n//! One call. It stands on std alone. Its examples stand in `high`.\n//!\n//! | A | B |\n//! |---|---|\n//! | 1 | 2 |\npub use crate::count::{count, counts_are_few};\n",
+    "crates/low/src/count.rt": """ghost use Rattle.low.specs.Few.{IsFew, CountsAreFew};
+
+/// How many there are. It takes time of order n for n things.
+pub fn count(things: &[u8]) -> usize
+    ensures few { IsFew result }
+{
+    0
+}
+
+/// Counts are few (chapter 2). It does nothing when it runs.
+pub fn counts_are_few()
+    ensures { CountsAreFew }
+{
+}
+
+// A private one.
+fn other() -> usize
+    ensures { IsOther result }
+{
+    0
+}
+""",
+    "crates/low/specs/Few.antt": """-- What few is.
+use Rattle.std.specs.Prelude.{ℕ}
+
+-- the greatest number that is few
+abbrev pub low_limit : ℕ
+low_limit = 1000
+
+-- a number that is few
+abbrev pub IsFew : ℕ → Type 0
+IsFew n = n < low_limit
+
+-- each count is few
+abbrev pub CountsAreFew : Type 0
+CountsAreFew = (n : ℕ) → IsFew n
+
+-- what only a private call says
+abbrev pub IsOther : ℕ → Type 0
+IsOther n = n ≡ 0
+""",
+    "crates/low/must-fail/one_more.edit": "# why: one more is told; refused by: count few\nfile: src/count.rt\nold: 0\nnew: 1\n",
+    "crates/high/src/main.rt": "//! The program.\nfn main() {}\n",
+}
+
+
+def printed(call, *words):
+    """What a call prints, and what it returns."""
+    out = io.StringIO()
+    with contextlib.redirect_stdout(out):
+        status = call(*words)
+    return out.getvalue(), status
+
+
+class Pages(unittest.TestCase):
+    def setUp(self):
+        room = tempfile.TemporaryDirectory(prefix="teg-pages-")
+        self.addCleanup(room.cleanup)
+        self.top = Path(room.name)
+        for name, text in FILES.items():
+            self.write(name, text)
+        for module in (check_definitions, make_pages):
+            self.addCleanup(setattr, module, "TOP", module.TOP)
+            module.TOP = self.top
+
+    def write(self, name, text):
+        path = self.top / name
+        path.parent.mkdir(parents=True, exist_ok=True)
+        path.write_text(text)
+
+    def test_what_a_definition_rests_on(self):
+        text, status = printed(check_definitions.tell_below, "IsFew")
+        self.assertEqual(status, 0)
+        lines = text.splitlines()
+        self.assertEqual(lines[0], "crates/low/specs/Few.antt:9 IsFew (2 lines): a number that is few")
+        self.assertEqual(lines[1], "crates/low/specs/Few.antt:5 low_limit (2 lines): the greatest number that is few")
+        self.assertEqual(lines[2:], ["2 definitions of 1 crates, 4 lines"])
+        self.assertEqual(printed(check_definitions.tell_below, "IsMany")[1], 1)
+
+    def test_public_contracts_alone_count(self):
+        text, status = printed(check_definitions.main)
+        self.assertEqual((text, status), ("3 definitions, 1 of them in docs/DEFINITIONS.md; 0 faults\n", 0))
+
+    def test_a_definition_without_a_comment_is_told(self):
+        path = "crates/low/specs/Few.antt"
+        self.write(path, FILES[path].replace("-- a number that is few\n", ""))
+        text, status = printed(check_definitions.main)
+        self.assertEqual(status, 1)
+        self.assertIn("low: IsFew of Few has no comment\n", text)
+
+    def test_a_listed_name_is_one_of_a_public_contract(self):
+        self.write("docs/DEFINITIONS.md", "<!-- definitions IsFew IsOther IsMany IsFew -->\n<!-- end -->\n")
+        text, status = printed(check_definitions.main)
+        self.assertEqual(status, 1)
+        self.assertIn("names IsOther: 0 definitions", text)
+        self.assertIn("names IsMany: 0 definitions", text)
+        self.assertIn("names IsFew twice", text)
+
+    def test_pages_are_written_once(self):
+        text, status = printed(make_pages.main, True)
+        self.assertEqual(status, 1)
+        self.assertIn("docs/PAGE.md is not what the sources say", text)
+        self.assertEqual(printed(make_pages.main, False), ("", 0))
+        self.assertEqual(printed(make_pages.main, True), ("", 0))
+        page = (self.top / "docs/PAGE.md").read_text()
+        self.assertIn("By hand, of `low_limit`.\n", page)
+        self.assertIn("Counts things.\n\nOne call.\n\n| A | B |\n|---|---|\n| 1 | 2 |\n\nCalls: `count` (`few`).\n\nLaws:\n\n- `counts_are_few`: Counts are few (chapter 2).\n", page)
+        edits = (self.top / "docs/WRONG_BODIES.md").read_text()
+        self.assertIn("`low`:\n\n- `one_more`: one more is told (`count few`)\n\n1 edits.\n", edits)
+        self.assertIn("| `IsFew` | `low/specs/Few.antt` | 2 | 4 | 2 minutes |\n", page)
+        self.assertIn("- `IsFew` (`low` Few): a number that is few\n", (self.top / "docs/DEFINITIONS.md").read_text())
+
+    def test_a_changed_source_is_told(self):
+        printed(make_pages.main, False)
+        path = "crates/low/src/lib.rt"
+        self.write(path, FILES[path].replace("Counts things.", "Counts all."))
+        self.assertIn("docs/PAGE.md is not what", printed(make_pages.main, True)[0])
+
+    def test_a_law_of_the_page_of_laws_is_not_told_twice(self):
+        self.write("docs/LAWS.md", "# Laws\n\n- `counts_are_few`\n")
+        printed(make_pages.main, False)
+        page = (self.top / "docs/PAGE.md").read_text()
+        self.assertIn("Laws, which [LAWS](LAWS.md) tells: `counts_are_few`.\n", page)
+        self.assertNotIn("Counts are few", page)
+
+    def test_what_is_missing_is_told(self):
+        self.write("crates.txt", "low:\nhigh: low\nmiddle: low\n")
+        self.write("docs/MORE.md", "<!-- edits low/none -->\n<!-- end -->\n\n<!-- to read IsMany -->\n<!-- end -->\n")
+        text, status = printed(make_pages.main, False)
+        self.assertEqual(status, 1)
+        self.assertIn("the map of README.md does not name middle\n", text)
+        self.assertIn("low/none is to be tried, and no edit\n", text)
+        self.assertIn("IsMany is to be shown, and no definition\n", text)
+
+    def test_links_and_names_lead_somewhere(self):
+        self.assertEqual(page_links.leads_nowhere(self.top), [])
+        self.write("docs/MORE.md", "[a](NONE.md) [b](PAGE.md#not-there) [c](https://example.org) `lost_name` `IsFew`\n")
+        told = "\n".join(page_links.leads_nowhere(self.top))
+        self.assertEqual(told.count("\n"), 2)
+        for part in ("leads to NONE.md", "leads to PAGE.md#not-there", "names lost_name"):
+            self.assertIn(part, told)
+
+
+class Guide(unittest.TestCase):
+    def run_page(self, text):
+        with tempfile.TemporaryDirectory(prefix="teg-pages-") as folder:
+            return printed(lambda: list(run_guide.run_blocks("PAGE", text, folder)))
+
+    def test_commands_find_the_files_that_the_page_shows(self):
+        page = "```awk\n# first.awk\n{ print $1 }\n```\n\n```\n$ echo a b | awk -f first.awk\na\n$ true\n```\n"
+        self.assertEqual(self.run_page(page), ("", [True, True]))
+
+    def test_another_text_is_told(self):
+        text, well = self.run_page("```\n$ echo a\nb\n```\n")
+        self.assertEqual(well, [False])
+        self.assertIn("PAGE:2: echo a\n  it shows\n    b\n  it prints\n    a\n", text)
+
+
+class Shared(unittest.TestCase):
+    def test_statuses_are_those_of_the_program(self):
+        text = (common.TOP / "crates/teg_run/src/status.rt").read_text()
+        codes = {re.sub(r"(?<=[a-z])(?=[A-Z])", "_", name).upper(): int(code) for name, code in re.findall(r"Status::(\w+) => (\d+),", text)}
+        self.assertEqual(codes, {status.name: status.value for status in common.Status})
+
+    def test_nets_are_there(self):
+        for name in ("loop", "driven", "kanban"):
+            self.assertIn("[[place]]", common.net(name))
+
+
+if __name__ == "__main__":
+    sys.exit(not unittest.main(exit=False, verbosity=0).result.wasSuccessful())
