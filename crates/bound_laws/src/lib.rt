@@ -6,6 +6,9 @@
 //! one contract: each law is the contract of a function that does nothing when it runs. The crate
 //! stands on `settled_laws` for settled forms, on `teg_loops` for loops of paths, on `teg_model`
 //! for datings, on `teg_net` for nets, and on `dioid` for dates.
+//!
+//! With n transitions, holds at most H, tokens at most M (at least 1) and greatest ratio a/b above
+//! 0, let T = (n - 1) M, C = n M and P = (n - 1) H: the bound is T + C (b P + a (T + C)) + 1.
 #![tactic(auto)]
 
 mod laws;

@@ -6,6 +6,8 @@
 //! used here alone. [`read_rows`] reads a file of any kind of rows: the kind is a [`RowFile`],
 //! which gives the header, the row of a record and its faults, and may keep a [`Seen`] of what was
 //! read. The crate stands on `csv`. Its examples stand in `library_examples`.
+//!
+//! A number is one decimal digit or more and nothing else, of any length.
 #![tactic(auto)]
 
 mod fields;

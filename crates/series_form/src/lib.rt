@@ -4,6 +4,8 @@
 //! refusals come exactly where the need or a number is too great. The crate stands
 //! on `series_laws` for the definitions and their laws, on `dioid` for dates, and on `thiserror`.
 //! Its examples stand in `series_examples`.
+//!
+//! A [`Series`] has at most 20,000 values, and numbers of a magnitude up to 10^18.
 #![tactic(auto)]
 
 mod forms;

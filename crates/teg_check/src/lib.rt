@@ -6,6 +6,8 @@
 //! ask. [`ranks_of`] gives them of a net that is known to be live. The crate stands on `teg_net`
 //! alone.
 //! Its examples stand in `worked_examples`.
+//!
+//! A circuit without tokens is told from its lowest numbered transition on.
 #![tactic(auto)]
 
 mod elimination;

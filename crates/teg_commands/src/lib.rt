@@ -8,6 +8,11 @@
 //! `teg_report` for the texts, on `teg_reader` for nets in the newer form, and on `teg_outside` for
 //! monitors.
 //! Its examples stand in `worked_examples`.
+//!
+//! [`LiveNet`] holds a net and its ranks. The numbers and the text that commands take are types
+//! with their bounds: [`UpTo`] is a number from 1 on, [`Target`] a time of at most 10^12 to tokens
+//! from 1 to 10^6, [`Expression`] a text of at most 4,096 bytes. Each case of what a command says
+//! has its cause, so no two hold of one net.
 #![tactic(auto)]
 
 mod bound;

@@ -12,6 +12,10 @@
 //! rows, on `teg_text` for texts, on `teg_model` for datings, on `teg_net` and `teg_check` for
 //! nets, and on `dioid` for dates.
 //! Its examples stand in `worked_examples`.
+//!
+//! A refusal is told by its first cause: the first row that is late; then, of the first input that
+//! is not fine, walk times without a settled form of at most 20,000 numbers, or else the first row
+//! of which a residual, or its meet with those before, does not fit.
 #![tactic(auto)]
 
 mod alike;

@@ -7,6 +7,8 @@
 //! The crate stands on `teg_parts` for parts, on `teg_check` for ranks, on `teg_certificates` for
 //! lemmas on what paths weigh, and on `teg_net` for nets.
 //! Its examples stand in `worked_examples`.
+//!
+//! From round to round the ratio rises, or the circuit stays and the sum of potentials rises.
 #![tactic(auto)]
 
 mod circuit_starts;

@@ -5,6 +5,9 @@
 //! What speaks of dates of firings stands in crates above it. The crate stands on `number_laws` for
 //! divisors and fractions in lowest terms.
 //! Its examples stand in `library_examples`.
+//!
+//! The checkers (`is_path`, `is_circuit`, `is_walk`) are true exactly by their definitions. What
+//! answers on parts and cycle times mean stands here too.
 #![tactic(auto)]
 
 mod answers;

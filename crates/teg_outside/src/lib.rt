@@ -11,6 +11,10 @@
 //!
 //! It stands on std alone.
 //! Its examples stand in `worked_examples`.
+//!
+//! Of `FileShelf::read` and `WriterSink::write` each failure raises its own count by one, and
+//! nothing else raises one (`counts`). Where a writer tells its bytes, what the sink took was
+//! appended to them, and of a failed write some first part.
 #![tactic(auto)]
 
 mod file_shelf;

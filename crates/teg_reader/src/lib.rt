@@ -5,6 +5,10 @@
 //! stands on `teg_net` for the net, on `toml` for the grammar and on `indexmap` for the numbers of
 //! names.
 //! Its examples stand in `library_examples`.
+//!
+//! A file is judged in fourteen passes: the first reads TOML, each other is one statement over the
+//! whole tree, and the first finding is the refusal. The hold of a place is that of its entry and
+//! the duration of its upstream transition.
 #![tactic(auto)]
 
 mod bad_names;

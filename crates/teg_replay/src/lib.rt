@@ -9,6 +9,8 @@
 //! `teg_due` for the rows of a log, on `teg_outside` for monitors, and on `teg_model` and `dioid`
 //! for the least dating.
 //! Its examples stand in `worked_examples`.
+//!
+//! A call of [`Game::fire`] that is refused, for want of memory too, changes nothing.
 #![tactic(auto)]
 
 mod column;

@@ -10,6 +10,9 @@
 //! `settled_laws` for settled forms, on `teg_due` and `csv_records` for the reader of rows, on
 //! `teg_text` for texts, on `teg_net` and `teg_check` for nets, and on `dioid` for dates.
 //! Its examples stand in `worked_examples`.
+//!
+//! A refusal of [`spread`] is told by its first cause: a net that is too large, the lowest numbered
+//! place that does not get its time, a form that is longer than the limit.
 #![tactic(auto)]
 
 mod circuits;
