@@ -285,9 +285,12 @@ class Pages:
                 path.write_text(new)
 
     def look_for_missing(self):
-        shown = (TOP / "README.md").read_text().partition("## The house")[2].partition("```\n")[2].partition("```")[0]
+        table = (TOP / "README.md").read_text().partition("## The house")[2].partition("## Read it")[0]
+        told = set(re.findall(r"`(\w+)`", table))
+        shown = (TOP / "docs/ARCHITECTURE.md").read_text().partition("## Crates")[2].partition("```\n")[2].partition("```")[0]
         on_map = set(re.findall(r"\w+", shown))
-        self.told += [f"the map of README.md does not name {crate}" for crate in crates() if crate not in on_map]
+        self.told += [f"the table of README.md does not name {crate}" for crate in crates() if crate not in told]
+        self.told += [f"the map of docs/ARCHITECTURE.md does not name {crate}" for crate in crates() if crate not in on_map]
         self.told += [f"docs/ have a block of {crate}, which crates.txt does not name" for crate in sorted(self.heads - set(crates()))]
         self.told += leads_nowhere(TOP)
 

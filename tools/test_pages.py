@@ -22,7 +22,8 @@ import run_guide
 
 FILES = {
     "crates.txt": "low:\nhigh: low\n",
-    "README.md": "# T\n\n## The house\n\n```\nhigh > low\n```\n\nSee [the page](docs/PAGE.md#what-is-there).\n",
+    "README.md": "# T\n\n## The house\n\n| Crate | By |\n|---|---|\n| `high` | |\n| `low` | |\n\n## Read it\n\nSee [the page](docs/PAGE.md#what-is-there).\n",
+    "docs/ARCHITECTURE.md": "# How it is built\n\n## Crates\n\n```\nhigh > low\n```\n",
     "docs/PAGE.md": "# Page\n\n## What is there\n\nBy hand, of `low_limit`.\n\n"
     "<!-- head of low -->\n<!-- end -->\n\n<!-- to read IsFew -->\n<!-- end -->\n",
     "docs/WRONG_BODIES.md": "# Edits\n\n<!-- edits -->\n<!-- end -->\n",
@@ -158,7 +159,8 @@ class Pages(unittest.TestCase):
         self.write("docs/MORE.md", "<!-- edits low/none -->\n<!-- end -->\n\n<!-- to read IsMany -->\n<!-- end -->\n")
         text, status = printed(make_pages.main, False)
         self.assertEqual(status, 1)
-        self.assertIn("the map of README.md does not name middle\n", text)
+        self.assertIn("the table of README.md does not name middle\n", text)
+        self.assertIn("the map of docs/ARCHITECTURE.md does not name middle\n", text)
         self.assertIn("low/none is to be tried, and no edit\n", text)
         self.assertIn("IsMany is to be shown, and no definition\n", text)
 
