@@ -100,11 +100,11 @@ def faults_of(page, decisions):
     sources, names = Sources(), set()
     for crate, name, item in listed(page):
         names.add(f"{crate}::{name}")
-        found = [plain(it) for it in sources.found(crate, name)]
+        found = sources.found(crate, name)
         if not found:
             yield f"{crate} hands on no {name}"
-        elif plain(item) not in found:
-            yield f"{crate}: {name} reads {' or '.join(found)}, not {plain(item)}"
+        elif plain(item) not in map(plain, found):
+            yield f"{crate}: {name} reads otherwise: {' '.join(found[0].split())}"
     entries = set(re.findall(r"^- \*\*(.*?)\*\*", decisions, re.M))
     for item, _, entry in re.findall(r"^\| `([\w:]+)` \| (.*) \| (.*?) \|$", page, re.M):
         if item not in names:
