@@ -16,9 +16,9 @@ the last line tells how many items and faults there are, and the exit status is 
 """
 import re
 import sys
-from pathlib import Path
 
-TOP = Path(__file__).resolve().parent.parent
+from common import TOP
+
 ITEM = re.compile(r"(?:pub (?:fn|struct|enum|trait)|impl) (\w+ for \w+|\w+(?:::\w+)?)")
 SIGNATURE = r"fn (\w+).*?(?=\s(?:requires|ensures)\b|\s*\{|;)"
 

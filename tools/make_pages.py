@@ -226,9 +226,9 @@ def reading(specs, names):
     """How much each of these definitions rests on. Where the first of them rests on all the others, a line tells what it
     rests on without these, its frame, and a column how much is to be read of each with that."""
     types, roots = Types(), {at: name for name in names for at in definitions_named(specs, name)}
-    first, *others = roots
     below = {at: specs.below([at]) for at in roots}
-    frame = set(specs.below([first], but=others)) if others and set(others) <= set(below[first]) else set()
+    first, others = list(roots)[:1], list(roots)[1:]
+    frame = set(specs.below(first, but=others)) if others and set(others) <= set(below[first[0]]) else set()
 
     def size_of(reached):
         declared = types.below(specs.types_of(reached))
