@@ -11,9 +11,9 @@ each name of docs/DEFINITIONS.md is that of one of them, and of one alone. What 
 many there are, and the exit status is 0 where nothing fails.
 
 With --below it tells instead what one definition rests on, itself first, then what it names, and so on: the
-file and line of each, its name, how many lines it has, and the comment above it; at the end how many they are. NAME is
-the name, as IsNet, or with its crate, as teg_net.IsNet. What is of std, or is a struct or an enum of the code, is left
-out.
+file and line of each, its name, how many lines it has, and the comment above it; then the structs, enums, traits and
+constants of the code that these name, and those of their fields; at the end how many they are. NAME is the name, as
+IsNet, or with its crate, as teg_net.IsNet. What is of std is left out.
 
 It reads by text, not by the grammar of Rattle: what it tells is to be looked at.
 """
@@ -26,6 +26,7 @@ WORD = re.compile(r"[^\W\d][\w'\-]*")
 DEFINED = re.compile(r"^ *(?:pub )?(abbrev|unfoldable|record|data) (?:pub )?([^\W\d][\w'\-]*)(.*)$")
 MUTUAL = re.compile(r"^(?:abbrev |unfoldable )?mutual$")
 IN_MUTUAL = re.compile(r"^  (pub )([^\W\d][\w'\-]*)( :.*)$")
+TYPE = re.compile(r"^pub (?:struct|enum|trait|const) (\w+).*?(?:;$|^\};?$|\};?$|^\];$)", re.M | re.S)
 LAW = re.compile(r"^ {0,2}(?:pub )?([^\W\d][\w'\-]*) :(.*)$")
 
 
@@ -50,16 +51,55 @@ def imports_of(text):
     return found
 
 
+def declared_by(text):
+    """The types and constants of the code that a file's `use` lines bring in: for each name its crate and the name there."""
+    found = {}
+    for crate, path, names in re.findall(r"use Rattle\.(\w+)\.specs\.declared\.([\w.]+)\.\{([^}]*)\}", direct(text)):
+        kind = re.search(r"\b[A-Z]\w*", path)[0]
+        for name in filter(None, (it.strip() for it in names.split(","))):
+            there, _, here = name.partition(" as ")
+            found[here.strip() or there] = (crate, there if kind == "TheConstants" else kind)
+    return found
+
+
+class Types:
+    """The structs, enums, traits and constants of the code, by crate and name: where each stands, and its lines."""
+
+    def __init__(self):
+        self.lines, self.places, self.named = {}, {}, {}
+        for path in sorted(TOP.glob("crates/*/src/**/*.rt")):
+            self.read(path.relative_to(TOP), path.read_text())
+
+    def read(self, path, text):
+        crate, imports = path.parts[1], {}
+        for other, many, one in re.findall(r"^(?:pub )?use (\w+)(?:::\w+)*::(?:\{([^}]*)\}|(\w+));", text, re.M):
+            for name in filter(None, (it.strip() for it in (many or one).split(","))):
+                imports[name] = crate if other in ("crate", "self", "super") else other
+        for found in TYPE.finditer(text):
+            lines = [line for line in found[0].splitlines() if not re.match(r"\s*(//|#\[|$)", line)]
+            self.lines[crate, found[1]] = len(lines)
+            self.places[crate, found[1]] = f"{path}:{text.count(chr(10), 0, found.start()) + 1}"
+            self.named[crate, found[1]] = {(imports.get(it, crate), it) for it in re.findall(r"\b[A-Z]\w*", "\n".join(lines))}
+
+    def below(self, roots):
+        """These types, and all that their fields are of."""
+        reached, level = set(), set(roots) & self.lines.keys()
+        while level:
+            reached |= level
+            level = {it for at in level for it in self.named[at] & self.lines.keys() if it not in reached}
+        return sorted(reached)
+
+
 class Specs:
     """The definitions of all crates, by crate, file and name: of each the line above it, and what it names."""
 
     def __init__(self):
-        self.words, self.body, self.imports, self.made_by, self.lines = {}, {}, {}, {}, {}
+        self.words, self.body, self.imports, self.made_by, self.lines, self.declared = {}, {}, {}, {}, {}, {}
         for path in sorted(TOP.glob("crates/*/specs/*.antt")):
             self.read(path.parts[-3], path.stem, path.read_text())
 
     def read(self, crate, file, text):
-        self.imports[crate, file] = imports_of(text)
+        self.imports[crate, file], self.declared[crate, file] = imports_of(text), declared_by(text)
         above, at, is_data, block = [], None, False, None
         for number, line in enumerate(text.splitlines(), 1):
             bare = line.strip()
@@ -97,14 +137,22 @@ class Specs:
         """How many lines the definition has, without the words above it."""
         return 1 + sum(bool(line.strip()) for line in self.body[at].split("\n")[1:])
 
-    def below(self, roots):
-        """All that these definitions rest on, with them, level by level."""
+    def below(self, roots, but=()):
+        """All that these definitions rest on, with them, level by level; without these others, and what they alone rest on."""
         reached, level = {}, sorted(roots)
         while level:
             reached.update(dict.fromkeys(level))
             named = [self.named(self.body[at], self.imports[at[:2]], *at[:2]) for at in level]
-            level = list(dict.fromkeys(at for it in named for at in sorted(it) if at not in reached))
+            level = list(dict.fromkeys(at for it in named for at in sorted(it) if at not in reached and at not in but))
         return list(reached)
+
+    def types_of(self, reached):
+        """The types and constants of the code that these definitions name."""
+        found = set()
+        for at in reached:
+            there = self.declared[at[:2]]
+            found |= {there[name] for name in set(WORD.findall(self.body[at])) if name in there}
+        return found
 
 
 def exported(crate):
@@ -176,8 +224,13 @@ def tell_below(name):
     for at in reached:
         where = f"crates/{at[0]}/specs/{at[1]}.antt:{specs.lines[at]} {at[2]} ({specs.length(at)} lines)"
         print(where + (f": {specs.words[at]}" if specs.words[at] else ""))
+    types = Types()
+    declared = types.below(specs.types_of(reached))
+    for at in declared:
+        print(f"{types.places[at]} {at[1]} ({types.lines[at]} lines)")
     crates = {at[0] for at in reached}
     print(f"{len(reached)} definitions of {len(crates)} crates, {sum(map(specs.length, reached))} lines")
+    print(f"{len(declared)} types and constants of the code, {sum(map(types.lines.get, declared))} lines")
     return 0
 
 

@@ -13,9 +13,9 @@ there is no fault.
 """
 import re
 import sys
-from pathlib import Path
 
-TOP = Path(__file__).resolve().parent.parent
+from common import TOP
+
 MOST, MOST_OF_A_CRATE = 240, 8
 REASON = re.compile(r"(?:# )?why: \S.*; refused by: \S")
 

@@ -19,7 +19,8 @@ these lines and ends with the line `<!-- end -->`:
 - `<!-- costs -->`: the sentences in which docstrings of public calls speak of their time, but for those of commands
   (docs/COSTS.md).
 - `<!-- to read NAME NAME .. -->`: how much each of these definitions rests on, as tools/check_definitions.py --below
-  lists it, and how long it takes to read at two lines a minute (docs/TRUST.md).
+  lists it, and how long it takes to read at two lines a minute, ten of a type; and where the first rests on all the
+  others, what it rests on without them, and how much each is with that (docs/TRUST.md).
 
 With --check it writes nothing and tells each page that differs from what it would write. In both cases it tells
 each crate of crates.txt that the map of README.md does not name, and each crate, definition or edit that such a line
@@ -31,7 +32,7 @@ import sys
 from functools import cache
 from itertools import groupby, takewhile
 
-from check_definitions import Specs, definitions_named, exported
+from check_definitions import Specs, Types, definitions_named, exported
 from common import TOP
 from page_links import leads_nowhere
 
@@ -214,19 +215,35 @@ def costs():
     return "\n".join(rows) + "\n"
 
 
-def time_of(lines):
-    """How long so many lines take at two a minute: in minutes up to an hour and a half, and else in hours."""
-    return f"{max(1, round(lines / 2))} minutes" if lines < 180 else f"{round(lines / 120)} hours"
+def time_of(lines, of_types):
+    """How long so many lines of definitions take at two a minute, with so many of types at ten a minute: in minutes up to
+    an hour and a half, and else in hours."""
+    minutes = lines / 2 + of_types / 10
+    return f"{max(1, round(minutes))} minutes" if minutes < 90 else f"{round(minutes / 60)} hours"
 
 
 def reading(specs, names):
-    """How much each of these definitions rests on."""
-    rows = ["| Definition | File | Definitions | Lines | Time |", "|---|---|---|---|---|"]
-    for name in names:
-        for at in definitions_named(specs, name):
-            below = specs.below([at])
-            lines = sum(specs.length(it) for it in below)
-            rows.append(f"| `{at[2]}` | `{at[0]}/specs/{at[1]}.antt` | {len(below):,} | {lines:,} | {time_of(lines)} |")
+    """How much each of these definitions rests on. Where the first of them rests on all the others, a line tells what it
+    rests on without these, its frame, and a column how much is to be read of each with that."""
+    types, roots = Types(), {at: name for name in names for at in definitions_named(specs, name)}
+    below = {at: specs.below([at]) for at in roots}
+    first, others = list(roots)[:1], list(roots)[1:]
+    frame = set(specs.below(first, but=others)) if others and set(others) <= set(below[first[0]]) else set()
+
+    def size_of(reached):
+        declared = types.below(specs.types_of(reached))
+        return sum(map(specs.length, reached)), sum(map(types.lines.get, declared)), len(declared)
+
+    def row(name, file, reached):
+        (lines, of_types, kinds), whole = size_of(reached), size_of(frame | set(reached))
+        counts = [len(reached), kinds, lines + of_types, *([whole[0] + whole[1]] if frame else [])]
+        return f"| {' | '.join([name, file, *(f'{it:,}' for it in counts), time_of(*whole[:2])])} |"
+
+    columns = ["Definition", "File", "Definitions", "Types", "Lines", *(["With the frame"] if frame else []), "Time"]
+    rows = [f"| {' | '.join(columns)} |", "|---" * len(columns) + "|"]
+    rows += [row(f"`{at[2]}`", f"`{at[0]}/specs/{at[1]}.antt`", below[at]) for at in roots]
+    if frame:
+        rows.insert(3, row("its frame", "", frame))
     return "\n".join(rows) + "\n"
 
 

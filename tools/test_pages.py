@@ -105,8 +105,35 @@ class Pages(unittest.TestCase):
         lines = text.splitlines()
         self.assertEqual(lines[0], "crates/low/specs/Few.antt:9 IsFew (2 lines): a number that is few")
         self.assertEqual(lines[1], "crates/low/specs/Few.antt:5 low_limit (2 lines): the greatest number that is few")
-        self.assertEqual(lines[2:], ["2 definitions of 1 crates, 4 lines"])
+        self.assertEqual(lines[2:], ["2 definitions of 1 crates, 4 lines", "0 types and constants of the code, 0 lines"])
         self.assertEqual(printed(check_definitions.tell_below, "IsMany")[1], 1)
+
+    def write_types(self):
+        self.write("crates/low/src/kinds.rt", "use crate::part::Part;\n\n/// A kind.\npub struct Kind {\n    // one\n    pub part: Part,\n}\n")
+        self.write("crates/low/src/part.rt", "pub enum Part {\n    None,\n}\n\nenum Other {\n    Kind(Kind),\n}\n")
+        self.write("crates/low/specs/Kinds.antt", """-- Kinds.
+use Rattle.low.specs.declared.kinds.Kind.{Kind as CodedKind}
+use Rattle.low.specs.Few.{IsFew}
+
+-- it is few and of this kind
+abbrev pub IsKind : CodedKind → Type 0
+IsKind k = IsFew k.part
+""")
+
+    def test_types_of_the_code_count(self):
+        self.write_types()
+        lines = printed(check_definitions.tell_below, "IsKind")[0].splitlines()
+        self.assertEqual(lines[3:5], ["crates/low/src/kinds.rt:4 Kind (3 lines)", "crates/low/src/part.rt:1 Part (3 lines)"])
+        self.assertEqual(lines[6], "2 types and constants of the code, 6 lines")
+
+    def test_what_is_read_with_others_is_told(self):
+        self.write_types()
+        self.write("docs/MORE.md", "<!-- to read IsKind IsFew -->\n<!-- end -->\n")
+        printed(make_pages.main, False)
+        rows = (self.top / "docs/MORE.md").read_text().splitlines()[3:6]
+        self.assertEqual(rows[0], "| `IsKind` | `low/specs/Kinds.antt` | 3 | 2 | 12 | 12 | 4 minutes |")
+        self.assertEqual(rows[1], "| its frame |  | 1 | 2 | 8 | 8 | 2 minutes |")
+        self.assertEqual(rows[2], "| `IsFew` | `low/specs/Few.antt` | 2 | 0 | 4 | 12 | 4 minutes |")
 
     def test_public_contracts_alone_count(self):
         text, status = printed(check_definitions.main)
@@ -138,7 +165,7 @@ class Pages(unittest.TestCase):
         self.assertIn("Counts things.\n\nOne call.\n\n| A | B |\n|---|---|\n| 1 | 2 |\n\nCalls: `count` (`few`).\n\nLaws:\n\n- `counts_are_few`: Counts are few (chapter 2).\n", page)
         edits = (self.top / "docs/WRONG_BODIES.md").read_text()
         self.assertIn("`low`:\n\n- `one_more`: one more is told (`count few`)\n\n1 edits.\n", edits)
-        self.assertIn("| `IsFew` | `low/specs/Few.antt` | 2 | 4 | 2 minutes |\n", page)
+        self.assertIn("| `IsFew` | `low/specs/Few.antt` | 2 | 0 | 4 | 2 minutes |\n", page)
         self.assertIn("- `IsFew` (`low` Few): a number that is few\n", (self.top / "docs/DEFINITIONS.md").read_text())
 
     def test_a_changed_source_is_told(self):

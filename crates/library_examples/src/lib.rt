@@ -1,17 +1,24 @@
 //! Examples of the library where the program does not show it: net files that are read, copied and
 //! written, rows of dates as a stream, latest inputs with the standard form, the texts of two
 //! answers at once, the usage by the table of commands, words of texts, records of files, matrices
-//! of flags and of dates through the bounds, and the advice of a small crate on the library. The
-//! crate has tests alone: they show what no contract says, that memory is found, also at the
-//! limits. It stands on `teg_report` and `pace_example`, and on what these stand on.
+//! of flags and of dates through the bounds, answers that were worked out by hand, a settled form
+//! by rows of one's own, and the advice of a small crate on the library. The crate has tests alone:
+//! they show what no contract says, that memory is found, also at the limits. It stands on
+//! `teg_report` and `pace_example`, and on what these stand on.
 #![tactic(auto)]
 
 #[cfg(test)]
 mod advice;
 #[cfg(test)]
+mod by_hand;
+#[cfg(test)]
 mod matrices;
 #[cfg(test)]
 mod net_files;
+#[cfg(test)]
+mod nets;
+#[cfg(test)]
+mod own_rows;
 #[cfg(test)]
 mod plans;
 #[cfg(test)]

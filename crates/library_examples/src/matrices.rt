@@ -20,8 +20,8 @@ fn holds<D: Dioid>(matrix: &Matrix<D>, wanted: &[D]) -> bool {
     wanted.next().is_none()
 }
 
-// Whether the answer is a matrix with these entries.
-fn is<D: Dioid>(answer: Result<Matrix<D>, MatrixRefused>, wanted: &[D]) -> bool {
+/// Whether the answer is a matrix with these entries.
+pub fn is<D: Dioid>(answer: Result<Matrix<D>, MatrixRefused>, wanted: &[D]) -> bool {
     match answer {
         Ok(matrix) => holds(&matrix, wanted),
         Err(_) => false,
@@ -44,8 +44,8 @@ fn solves<D: Kleene>(alloc: Global, a: &Matrix<D>, b: &Matrix<D>, star: &[D], le
     is(a.star(alloc), star) && is(a.solve_least(alloc, b), least)
 }
 
-// The square of four entries.
-fn square<D: Dioid + Copy>(alloc: Global, entries: &[D; 4]) -> Option<Matrix<D>> {
+/// The square of four entries.
+pub fn square<D: Dioid + Copy>(alloc: Global, entries: &[D; 4]) -> Option<Matrix<D>> {
     let entries = Vec::from_slice(alloc, entries).ok()?;
     Matrix::new(2, 2, entries).ok()
 }

@@ -1,4 +1,5 @@
 //! Latest inputs by the call for those who have the standard form.
+use crate::nets::LOOP;
 use std::alloc::Global;
 use std::test::Fail;
 use teg_check::check;
@@ -7,10 +8,6 @@ use teg_form::standard_form;
 use teg_jit::{LatestDate, Onward, latest};
 use teg_net::{Net, PlaceId, TransitionId};
 use teg_reader::read_net;
-
-// A loop from a to b with hold 3, and back with hold 2 and a token.
-const LOOP: &[u8] =
-    b"transition = [{name = 'a'}, {name = 'b'}]\nplace = [{name = 'ab', from = 'a', to = 'b', hold = 3}, {name = 'ba', from = 'b', to = 'a', hold = 2, tokens = 1}]\n";
 
 // The latest date of a's first firing, where b's second is due at 20.
 fn first_of_a(alloc: Global, net: &Net) -> Result<Option<LatestDate>, Fail> {

@@ -1,9 +1,10 @@
-//! A small net whose dates are plain to see.
+//! Small nets whose dates are plain to see.
 ghost use Rattle.std.specs.Prelude.{◌≡◌, ◌+◌, ◌<◌, length};
 ghost use Rattle.teg_net.specs.Limits.{greatest_firing_number};
 ghost use Rattle.teg_form.specs.StandardForms.{IsStandardFormOf};
 ghost use Rattle.teg_dates.specs.Streams.{IsStreamOf};
 
+use crate::nets::{LOOP, MANY_TOKENS};
 use dioid::Date;
 use std::alloc::Global;
 use std::test::Fail;
@@ -12,10 +13,6 @@ use teg_dates::Stream;
 use teg_form::{Form, standard_form};
 use teg_net::Net;
 use teg_reader::read_net;
-
-// Two transitions in a loop: a place from a to b with hold 3, and one back with hold 2 and a token.
-const LOOP: &[u8] =
-    b"transition = [{name = 'a'}, {name = 'b'}]\nplace = [{name = 'ab', from = 'a', to = 'b', hold = 3}, {name = 'ba', from = 'b', to = 'a', hold = 2, tokens = 1}]\n";
 
 // The row that comes next, of two transitions.
 fn next_of(stream: &mut Stream, net: &Net, form: &Form) -> (Date, Date)
@@ -45,10 +42,12 @@ fn two_rows(alloc: Global, net: &Net) -> Result<[(Date, Date); 2], Fail>
 
 #[test]
 fn a_stream_gives_row_after_row(rt: HostRuntime) -> Result<(), Fail> {
-    let net = read_net(rt.alloc(), LOOP)?;
-    assert!(rt; net.transitions().len() == 2);
     let first = (Date::At(0), Date::At(3));
     let second = (Date::At(5), Date::At(8));
-    assert!(rt; two_rows(rt.alloc(), &net)? == [first, second]);
+    for file in [LOOP, MANY_TOKENS] {
+        let net = read_net(rt.alloc(), file)?;
+        assert!(rt; net.transitions().len() == 2);
+        assert!(rt; two_rows(rt.alloc(), &net)? == [first, second]);
+    }
     Ok(())
 }

@@ -3,6 +3,7 @@ use dioid::{Date, Dioid, Kleene, Refused, Residuated};
 use series_form::{Series, SeriesRefused};
 use series_ops::{Gain, star};
 use std::alloc::Global;
+use teg_calc::print;
 
 // Whether the answer is the series with these values, period and step.
 fn is_series(
@@ -40,16 +41,72 @@ fn is_closed<D: Kleene + Residuated>(alloc: Global, a: &D) -> Result<bool, Refus
     Ok(star.same(a) && rest.same(&a.meet(alloc, a)?))
 }
 
-// The star of the monomial of shift 1 and date 2.
-fn line(alloc: Global) -> Option<Gain> {
-    let part = Series::monomial(alloc, 1, 2).ok()?;
+// The star of the monomial of shift 1 and this date.
+fn line(alloc: Global, date: i32) -> Option<Gain> {
+    let part = Series::monomial(alloc, 1, i128::from(date)).ok()?;
     let series = star(alloc, &part).ok()?;
     Some(Gain { series })
 }
 
+// The one date at every shift.
+fn level(alloc: Global, date: i32) -> Option<Gain> {
+    let series = Series::constant(alloc, Date::At(i128::from(date))).ok()?;
+    Some(Gain { series })
+}
+
+// Whether the answer is printed so.
+fn reads(alloc: Global, answer: Result<Gain, Refused>, line: &[u8]) -> bool {
+    let Ok(gain) = answer else {
+        return false;
+    };
+    match print(alloc, &gain.series) {
+        Ok(text) => text.as_slice() == line,
+        Err(_) => false,
+    }
+}
+
+// Whether each operation on these lines of steps 2 and 3, on this level of 5 and on its star has
+// the value that was worked out.
+fn are_worked_out(alloc: Global, two: &Gain, three: &Gain, five: &Gain) -> bool {
+    reads(
+        alloc,
+        two.times(alloc, three),
+        b"series 0 period 1 step 3\n",
+    ) && reads(
+        alloc,
+        two.plus(alloc, five),
+        b"series 5 5 5 6 period 1 step 2\n",
+    ) && reads(
+        alloc,
+        two.meet(alloc, five),
+        b"series 0 2 4 5 period 1 step 0\n",
+    ) && reads(
+        alloc,
+        three.left(alloc, two),
+        b"series epsilon period 1 step 0\n",
+    ) && reads(alloc, five.star(alloc), b"series never period 1 step 0\n")
+        && reads(alloc, five.duplicate(alloc), b"series 5 period 1 step 0\n")
+        && reads(
+            alloc,
+            Gain::zero(alloc),
+            b"series epsilon period 1 step 0\n",
+        )
+        && reads(alloc, Gain::one(alloc), b"series 0 period 1 step 0\n")
+}
+
+#[test]
+fn gains_that_were_worked_out(rt: HostRuntime) {
+    let alloc = rt.alloc();
+    let (Some(two), Some(three), Some(five)) = (line(alloc, 2), line(alloc, 3), level(alloc, 5))
+    else {
+        panic!(rt; "memory is found");
+    };
+    assert!(rt; are_worked_out(alloc, &two, &three, &five));
+}
+
 #[test]
 fn gains_through_the_bounds(rt: HostRuntime) {
-    let Some(gain) = line(rt.alloc()) else {
+    let Some(gain) = line(rt.alloc(), 2) else {
         panic!(rt; "memory is found");
     };
     assert!(rt; keeps(rt.alloc(), &gain) == Ok(true));

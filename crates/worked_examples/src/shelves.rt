@@ -55,3 +55,26 @@ fn a_real_file_is_read_whole_up_to_its_limit(rt: HostRuntime) -> Result<(), Fail
     fs::remove_file(&rt, "other")?;
     Ok(())
 }
+
+// So many bytes of all kinds, none like the one before it.
+fn mixed(alloc: Global, count: u32) -> Result<Vec<u8>, Fail> {
+    let mut bytes = Vec::new(alloc);
+    for number in 0..count {
+        bytes.push((number % 251) as u8)?;
+    }
+    Ok(bytes)
+}
+
+#[test]
+fn a_long_file_is_read_as_it_stands(rt: HostRuntime) -> Result<(), Fail> {
+    let bytes = mixed(rt.alloc(), 70_000)?;
+    fs::write(&rt, "mixed", bytes.as_slice())?;
+    let mut shelf = FileShelf::new(&rt);
+    let is_right = match read_from(&mut shelf, rt.alloc(), "mixed", 70_000) {
+        Ok(read) => read.as_slice() == bytes.as_slice(),
+        Err(_) => false,
+    };
+    assert!(rt; is_right);
+    fs::remove_file(&rt, "mixed")?;
+    Ok(())
+}

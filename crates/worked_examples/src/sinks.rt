@@ -2,18 +2,22 @@
 use std::io::{Cursor, Result as Written, Write};
 use teg_outside::{Sink, SinkFault, WriterSink};
 
-// A writer that takes all it is given, and counts its flushes.
+// A writer that takes all it is given. It knows how many bytes came since its last flush, and how
+// often it was flushed.
 #[derive(Drop)]
 struct FlushCount {
+    unflushed: usize,
     flushes: u64,
 }
 
 impl Write for FlushCount {
     fn write(&mut self, piece: &[u8]) -> Written<usize> {
+        self.unflushed = self.unflushed.saturating_add(piece.len());
         Ok(piece.len())
     }
 
     fn flush(&mut self) -> Written<()> {
+        self.unflushed = 0;
         self.flushes = self.flushes.saturating_add(1);
         Ok(())
     }
@@ -26,12 +30,18 @@ fn written<W: Sink>(sink: &mut W, piece: &[u8]) -> Result<usize, SinkFault> {
 
 #[test]
 fn each_write_is_flushed(rt: HostRuntime) {
-    let mut writer = FlushCount { flushes: 0 };
-    let mut sink = WriterSink::new(&mut writer);
-    for (piece, answer) in [(b"abc".as_slice(), 3), (b"", 0), (b"d", 1)] {
+    let mut writer = FlushCount {
+        unflushed: 0,
+        flushes: 0,
+    };
+    for (piece, answer, flushes) in [(b"abc".as_slice(), 3, 1), (b"", 0, 1), (b"d", 1, 2)] {
+        let mut sink = WriterSink::new(&mut writer);
         assert!(rt; written(&mut sink, piece) == Ok(answer), "of {piece:?}");
+        assert!(rt;
+            writer.unflushed == 0 && writer.flushes == flushes,
+            "of {piece:?}"
+        );
     }
-    assert!(rt; writer.flushes == 2);
 }
 
 #[test]

@@ -1,0 +1,50 @@
+//! A settled form by rows of one's own: rows of a net by its own dates, and what they show.
+ghost use Rattle.std.specs.Prelude.{◌≡◌, ◌+◌, ◌<◌, IfOk};
+ghost use Rattle.teg_net.specs.Limits.{most_rows};
+ghost use Rattle.teg_dates.specs.PlaceOrder.{OrdersPlaces};
+ghost use Rattle.teg_dates.specs.KeptRows.{AreLeastRows};
+ghost use Rattle.teg_dates.specs.teg_model.Datings.{listed_releases, system_of};
+
+use crate::nets::LOOP;
+use std::alloc::Global;
+use std::test::Fail;
+use teg_check::check;
+use teg_dates::{NetInputs, PlaceOrder, Rows, nets_keep_bounds};
+use teg_net::{Net, OutOfMemory};
+use teg_reader::read_net;
+use teg_settle::{Repetition, own_releases, shown_form};
+
+// The rows with one more.
+fn with_next(net: &Net, order: &PlaceOrder, rows: Rows) -> Result<Rows, OutOfMemory>
+    requires order { OrdersPlaces net.now order.now }
+    requires few { rows.count < most_rows }
+    requires rows { AreLeastRows net.now (system_of net.now (listed_releases net.now)) rows }
+    ensures count { IfOk result (λ more. more.count ≡ rows.count + 1) }
+    ensures rows { IfOk result
+        (AreLeastRows net.now (system_of net.now (listed_releases net.now))) }
+{
+    net.rules();
+    nets_keep_bounds();
+    rows.with_next(net, order, &NetInputs)
+}
+
+// The form that the first rows of a net show.
+fn form_of(alloc: Global, net: &Net) -> Result<Option<Repetition>, Fail> {
+    let live = check(alloc, net)?;
+    let order = PlaceOrder::new(alloc, net, &live)?;
+    let releases = own_releases(alloc, net)?;
+    let one = with_next(net, &order, Rows::new(alloc, net))?;
+    let two = with_next(net, &order, one)?;
+    let three = with_next(net, &order, two)?;
+    Ok(shown_form(net, &live, &releases, &three))
+}
+
+#[test]
+fn rows_show_a_form(rt: HostRuntime) -> Result<(), Fail> {
+    let net = read_net(rt.alloc(), LOOP)?;
+    let Some(form) = form_of(rt.alloc(), &net)? else {
+        panic!(rt; "three rows are enough");
+    };
+    assert!(rt; form.after == 0 && form.period == 1);
+    Ok(())
+}
