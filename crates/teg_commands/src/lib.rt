@@ -45,7 +45,7 @@ pub use numbers::{
     Count, FiringNumber, GREATEST_TARGET_TIME, Limit, MOST_TARGET_TOKENS, Machines, Period, Target,
     UpTo,
 };
-pub use outcome::{Outcome, Verdict};
+pub use outcome::{CommandOutcome, Verdict};
 pub use replay::tell_replay;
 pub use size::tell_size;
 pub use slack::tell_slack;

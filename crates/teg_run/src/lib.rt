@@ -20,6 +20,7 @@ mod carry_out;
 mod ending;
 mod fetching;
 mod file_commands;
+mod laws;
 mod listing;
 mod net_commands;
 mod net_file;
@@ -31,6 +32,7 @@ mod watched;
 mod writing;
 
 pub use call::{serve, workbench};
+pub use laws::commands_are_those_of_the_usage;
 pub use status::Status;
 pub use trial_net::make_trial;
 pub use watched::run_watched;
