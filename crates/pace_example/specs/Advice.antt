@@ -45,18 +45,21 @@ IsAdvice net due line plan =
     × IsPaceOf lists ratio × (line ≡ pace_line ratio)
     × IsGreatestNumber rows plan.numbers × IsPlanFor lists (due_in rows) plan × AreLatestInputs lists (due_in rows) (dates_of_plan plan)
 
--- the refusals of the four calls as they are told: each as itself, but for want of memory
+-- the refusal of a net file as it is told: itself, or want of memory
 abbrev pub of_read : ReadRefusal → NoAdvice
 of_read refusal = if is_memory refusal then OutOfMemory else NoNet refusal
 
+-- the refusal of a net that is not live, likewise
 abbrev pub of_check : CheckRefusal → NoAdvice
 of_check check_memory = OutOfMemory
 of_check refusal = NotLive refusal
 
+-- the refusal of a due file, likewise
 abbrev pub of_due : DueRefusal → NoAdvice
 of_due due_memory = OutOfMemory
 of_due refusal = NoDue refusal
 
+-- the refusal of due dates that cannot be met, likewise
 abbrev pub of_jit : JitRefusal → NoAdvice
 of_jit jit_memory = OutOfMemory
 of_jit refusal = Late refusal
