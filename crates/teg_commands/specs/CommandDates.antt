@@ -14,6 +14,7 @@ use Rattle.teg_report.specs.SettledTexts.{IsSettledKept, settled_lines}
 use Rattle.teg_report.specs.ShortAnswers.{date_line, no_transition_line}
 use Rattle.teg_report.specs.teg_text.WordsOfNames.{name_of_transition}
 use Rattle.teg_report.specs.teg_text.Lines.{written}
+use Rattle.teg_report.specs.teg_text.ValueWords.{IsDate}
 
 -- the form is within the limit, where there is one
 abbrev pub IsFormWithinLimit : Option ℕ → SettledForm → Type 0
@@ -47,7 +48,8 @@ HasName net t word = IsSomeAnd (slice_get net.transitions t.index) (λ transitio
 -- the date of the firing of this number of a transition of this name is said, or that the settled form is longer than the limit
 abbrev pub SaysDateOf : TransitionId → ℕ → Option ℕ → NetLists → Verdict → List ℕ → Type 0
 SaysDateOf t number limit net verdict text =
-    ((verdict ≡ VerdictDone) × ((x : ℕ → ℕ → Date) × IsLeastDating net x × SettlesWithin limit net × (text ≡ written (date_line (name_of_transition net t) number (x t.index number) ∷ []))))
+    ((verdict ≡ VerdictDone) × ((x : ℕ → ℕ → Date) × IsLeastDating net x × SettlesWithin limit net × IsDate (x t.index number)
+    × (text ≡ written (date_line (name_of_transition net t) number (x t.index number) ∷ []))))
     ⊎ SaysTooLong (NetSettlesPast net) limit verdict text
 
 -- that no transition has this name is said

@@ -22,7 +22,7 @@ use Rattle.teg_commands.specs.declared.outcome.Verdict.{Verdict}
 use Rattle.teg_commands.specs.declared.outcome.Verdict.TheVariants.{Done as VerdictDone, Schedule as VerdictSchedule, Late as VerdictLate}
 use Rattle.teg_commands.specs.CommandOutcomes.{TellsWhy}
 use Rattle.teg_report.specs.FileRows.{due_line}
-use Rattle.teg_report.specs.PlanLines.{late_lines, plan_lines}
+use Rattle.teg_report.specs.PlanLines.{AreLatestKept, late_lines, plan_lines}
 use Rattle.teg_report.specs.AnswerMeanings.{late_lists}
 use Rattle.teg_report.specs.teg_text.Lines.{written}
 
@@ -51,7 +51,7 @@ NoInputsMeet net due = (v : ℕ → ℕ → Date) → InputsMeet net due v → �
 
 -- of a due list the plan is said
 abbrev pub SaysPlan : NetLists → List DueRow → Verdict → List ℕ → Type 0
-SaysPlan net rows verdict text = (verdict ≡ VerdictDone) × ((plan : PlanDates) × IsPlanOf net rows plan × (text ≡ written (plan_lines net plan)))
+SaysPlan net rows verdict text = (verdict ≡ VerdictDone) × ((plan : PlanDates) × IsPlanOf net rows plan × AreLatestKept plan × (text ≡ written (plan_lines net plan)))
 
 -- of a due list the first row is said that the least dating with all inputs at 0 exceeds, and a walk that shows it; no inputs meet the list
 abbrev pub SaysLate : NetLists → List DueRow → Verdict → List ℕ → Type 0

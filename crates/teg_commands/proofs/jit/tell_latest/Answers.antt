@@ -13,4 +13,4 @@ returns-in_ok-text-in-Ok c =
     let sizes : KeepsSizes c.in-Ok.plan = rw (← c.plan.view_is) c.plan.invariant in
     let plan = plan_of c.args.net.now c.args.due.now.rows.items c.in-Ok.plan ok c.plans_lead.ensures sizes has.numbers has.plan has.inputs has.in_time in
     let text_is = c.in_ok-text-in-Ok.ensures.text ∙ ap (λ (net : NetLists). written (plan_lines net c.in-Ok.plan)) c.net-in-Ok.ensures in
-    inl (refl, (c.in-Ok.plan, plan, text_is))
+    inl (refl, (c.in-Ok.plan, plan, (c.in_ok-text-in-Ok.ensures.told tt).kept, text_is))
