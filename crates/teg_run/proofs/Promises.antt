@@ -306,7 +306,6 @@ own_only call runs files told own = own_with (request_of call.words) call files 
 pub keeps_promises : (call : Call) → Runs call → KeepsPromises call
 keeps_promises call runs =
     record {
-      run = runs;
       words = words_refused call runs;
       words_only = words_only_for (request_of call.words) call runs refl;
       text = fault_follows Text _ text_is_fault call runs;
@@ -331,5 +330,5 @@ keeps_promises call runs =
     }
 
 -- a call that found no memory before it began: nothing was read, and nothing written
-pub lost_keeps_promises : (call : Call) → call.shelf_after ≡ call.shelf_before → call.sink_after ≡ call.sink_before → call.status ≡ NoMemory → KeepsPromises call
-lost_keeps_promises call unread unwritten status = keeps_promises call (Lost, ([], unread), (status, unwritten))
+pub lost_runs : (call : Call) → call.shelf_after ≡ call.shelf_before → call.sink_after ≡ call.sink_before → call.status ≡ NoMemory → Runs call
+lost_runs call unread unwritten status = (Lost, ([], unread), (status, unwritten))

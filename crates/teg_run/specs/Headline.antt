@@ -1,4 +1,4 @@
--- What the whole call promises its caller, one promise at a time.
+-- What follows of every call of the workbench, one promise at a time.
 use Rattle.std.specs.Prelude.{ℕ, ◌≡◌, ◌≢◌, ◌≤◌, ◌<◌, ◌⊎◌, List, [], ◌∷◌, ◌++◌, length, take, map, Some, None, Ok, Err, Result, ⊤}
 use Rattle.teg_net.specs.declared.entries.PlaceId.{PlaceId}
 use Rattle.teg_net.specs.Nets.{NetLists}
@@ -244,10 +244,8 @@ SaysOfWords call =
 
 -- ---- the promises
 
--- all that a call promises
+-- the promises of a call
 pub record KeepsPromises (call : Call) : Type 0 where
-  -- From the words by what the reads gave to what was written. The other promises follow from it.
-  pub run : Runs call
   -- Words that ask for nothing: no file is read, and the usage is written.
   pub words : request_of call.words ≡ None → (call.shelf_after ≡ call.shelf_before) × Ends call Words usage
   pub words_only : call.status ≡ Words → request_of call.words ≡ None
@@ -278,3 +276,7 @@ pub record KeepsPromises (call : Call) : Type 0 where
   pub write_fault : call.status ≡ WriteFault → Rose call.sink_before.faults call.sink_after.faults
   -- Accepted words and files, and no fault: no other ending than the command's own, or want of memory.
   pub complete : EndsAsSaid call
+
+-- a call that runs as the workbench does keeps all of them
+abbrev pub RunsKeepPromises : Type 0
+RunsKeepPromises = (call : Call) → Runs call → KeepsPromises call
