@@ -22,4 +22,4 @@ pub use settling::{
     delays_settle, forms_of_delays_are_one, forms_tell_delays, release_nets_tell_delays,
     steps_are_the_plan,
 };
-pub use table::{Delay, DelayOutcome, Timetable};
+pub use table::{Delay, Outcome, Timetable};

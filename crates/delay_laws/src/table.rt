@@ -24,7 +24,7 @@ pub struct Timetable {
 
 /// What becomes of the delays.
 #[derive(Debug, Drop)]
-pub enum DelayOutcome {
+pub enum Outcome {
     /// No delay is left after this number of departures, the least such number.
     Recovered { after: u64 },
     /// There is no such number. The circuit takes just the time that the plan gives it, and each of

@@ -1,16 +1,23 @@
 -- What a planner is told of a net and of due dates, in the words of the library (chapters 2 and 5).
-use Rattle.std.specs.Prelude.{ℕ, ◌≡◌, ◌≢◌, ◌++◌, List, Option, Some, None, Ok, Err, codes, ⊤}
+use Rattle.std.specs.Prelude.{ℕ, false, if◌then◌else◌, ◌≡◌, ◌≢◌, ◌++◌, List, Option, Some, None, Ok, Err, codes, ⊤}
 use Rattle.teg_net.specs.Nets.{NetLists}
 use Rattle.teg_net.specs.Ratios.{Fraction}
 use Rattle.teg_net.specs.GreatestRatios.{IsGreatestRatio, HasNoCircuit, IsAnyPlace}
-use Rattle.teg_reader.specs.Documents.{document, AnswersAsMeant}
+use Rattle.teg_reader.specs.Documents.{document}
+use Rattle.teg_reader.specs.PassWalks.{is_memory}
+use Rattle.teg_reader.specs.declared.refusals.ReadRefusal.{ReadRefusal}
 use Rattle.teg_check.specs.CheckRefusals.{IsRightCheckRefusal}
+use Rattle.teg_check.specs.declared.refusal.CheckRefusal.{CheckRefusal}
+use Rattle.teg_check.specs.declared.refusal.CheckRefusal.TheVariants.{OutOfMemory as check_memory}
 use Rattle.teg_text.specs.ValueWords.{ratio_word}
 use Rattle.teg_due.specs.declared.rows.DueRow.{DueRow}
-use Rattle.teg_due.specs.declared.rows.DueRefusal.TheVariants.{OutOfMemory as no_memory}
+use Rattle.teg_due.specs.declared.rows.DueRefusal.{DueRefusal}
+use Rattle.teg_due.specs.declared.rows.DueRefusal.TheVariants.{OutOfMemory as due_memory}
 use Rattle.teg_due.specs.DueFileRows.{due_of}
 use Rattle.teg_jit.specs.due_laws.MeetingDueDates.{AreLatestInputs}
-use Rattle.teg_jit.specs.DueDates.{due_in}
+use Rattle.teg_jit.specs.DueDates.{due_in, IsGreatestNumber}
+use Rattle.teg_jit.specs.declared.answers.JitRefusal.{JitRefusal}
+use Rattle.teg_jit.specs.declared.answers.JitRefusal.TheVariants.{OutOfMemory as jit_memory}
 use Rattle.teg_jit.specs.Plans.{PlanDates, dates_of_plan, IsPlanFor}
 use Rattle.teg_jit.specs.LateRefusals.{LateIsRight}
 use Rattle.pace_example.specs.declared.no_advice.NoAdvice.{NoAdvice}
@@ -30,17 +37,38 @@ pace_line (Some r) = codes "pace " ++ ratio_word r.time r.tokens
 abbrev pub Say : List ℕ → List ℕ → NetLists → List DueRow → Type 0
 Say net due lists rows = (document net ≡ Ok lists) × (due_of lists due ≡ Ok rows)
 
--- the line is that of the pace of the net that the bytes say, and the plan is one for its due dates and has at the inputs the latest dates that meet them
+-- the line is that of the pace of the net that the bytes say, and the plan is one for its due dates, up to the greatest number that is due,
+-- and has at the inputs the latest dates that meet them
 abbrev pub IsAdvice : List ℕ → List ℕ → List ℕ → PlanDates → Type 0
 IsAdvice net due line plan =
     (lists : NetLists) × (rows : List DueRow) × (ratio : Option Fraction) × Say net due lists rows
     × IsPaceOf lists ratio × (line ≡ pace_line ratio)
-    × IsPlanFor lists (due_in rows) plan × AreLatestInputs lists (due_in rows) (dates_of_plan plan)
+    × IsGreatestNumber rows plan.numbers × IsPlanFor lists (due_in rows) plan × AreLatestInputs lists (due_in rows) (dates_of_plan plan)
 
--- why there is no advice: the refusal tells its cause in the bytes, but for want of memory
+-- the refusal of a net file as it is told: itself, or want of memory
+abbrev pub of_read : ReadRefusal → NoAdvice
+of_read refusal = if is_memory refusal then OutOfMemory else NoNet refusal
+
+-- the refusal of a net that is not live, likewise
+abbrev pub of_check : CheckRefusal → NoAdvice
+of_check check_memory = OutOfMemory
+of_check refusal = NotLive refusal
+
+-- the refusal of a due file, likewise
+abbrev pub of_due : DueRefusal → NoAdvice
+of_due due_memory = OutOfMemory
+of_due refusal = NoDue refusal
+
+-- the refusal of due dates that cannot be met, likewise
+abbrev pub of_jit : JitRefusal → NoAdvice
+of_jit jit_memory = OutOfMemory
+of_jit refusal = Late refusal
+
+-- why there is no advice: the refusal tells its cause in the bytes, and is never want of memory, which is told as itself
 abbrev pub IsWhyNot : List ℕ → List ℕ → NoAdvice → Type 0
-IsWhyNot net due (NoNet refusal) = AnswersAsMeant (document net) (Err refusal)
-IsWhyNot net due (NotLive refusal) = (lists : NetLists) × (document net ≡ Ok lists) × IsRightCheckRefusal lists refusal
-IsWhyNot net due (NoDue refusal) = (lists : NetLists) × (document net ≡ Ok lists) × (refusal ≢ no_memory → due_of lists due ≡ Err refusal)
-IsWhyNot net due (Late refusal) = (lists : NetLists) × (rows : List DueRow) × Say net due lists rows × LateIsRight lists rows refusal
+IsWhyNot net due (NoNet refusal) = (is_memory refusal ≡ false) × (document net ≡ Err refusal)
+IsWhyNot net due (NotLive refusal) = (lists : NetLists) × (refusal ≢ check_memory) × (document net ≡ Ok lists) × IsRightCheckRefusal lists refusal
+IsWhyNot net due (NoDue refusal) = (lists : NetLists) × (refusal ≢ due_memory) × (document net ≡ Ok lists) × (due_of lists due ≡ Err refusal)
+IsWhyNot net due (Late refusal) =
+    (lists : NetLists) × (rows : List DueRow) × (refusal ≢ jit_memory) × Say net due lists rows × LateIsRight lists rows refusal
 IsWhyNot net due OutOfMemory = ⊤

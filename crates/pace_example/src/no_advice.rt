@@ -1,6 +1,7 @@
 //! Why there is no advice.
 ghost use Rattle.std.specs.Prelude.{◌≡◌};
-ghost use Rattle.pace_example.specs.declared.no_advice.NoAdvice.TheVariants.{NoNet, NotLive, NoDue, Late, OutOfMemory};
+ghost use Rattle.pace_example.specs.declared.no_advice.NoAdvice.TheVariants.{OutOfMemory};
+ghost use Rattle.pace_example.specs.Advice.{of_read, of_check, of_due, of_jit};
 
 use std::alloc::AllocError;
 use teg_check::CheckRefusal;
@@ -9,7 +10,8 @@ use teg_jit::JitRefusal;
 use teg_net::OutOfMemory;
 use teg_reader::ReadRefusal;
 
-/// Why [`crate::advise`] gives no advice: the refusal of the first call that gave one.
+/// Why [`crate::advise`] gives no advice: the refusal of the first call that gave one. A refusal
+/// here is never want of memory, which is `OutOfMemory` whichever call found none.
 #[derive(Debug, Drop)]
 pub enum NoAdvice {
     /// The net file says no net.
@@ -41,33 +43,49 @@ impl From<OutOfMemory> for NoAdvice {
 }
 
 impl From<ReadRefusal> for NoAdvice {
-    ghost from_gives = { λ refusal e. e ≡ NoNet refusal };
+    ghost from_gives = { λ refusal e. e ≡ of_read refusal };
 
     fn from(refusal: ReadRefusal) -> NoAdvice {
-        NoAdvice::NoNet { refusal }
+        match refusal {
+            ReadRefusal::OutOfMemory => NoAdvice::OutOfMemory,
+            _ => NoAdvice::NoNet { refusal },
+        }
     }
 }
 
 impl From<CheckRefusal> for NoAdvice {
-    ghost from_gives = { λ refusal e. e ≡ NotLive refusal };
+    ghost from_gives = { λ refusal e. e ≡ of_check refusal };
 
     fn from(refusal: CheckRefusal) -> NoAdvice {
-        NoAdvice::NotLive { refusal }
+        match refusal {
+            CheckRefusal::OutOfMemory => NoAdvice::OutOfMemory,
+            CheckRefusal::TokenFree { .. } => NoAdvice::NotLive { refusal },
+        }
     }
 }
 
 impl From<DueRefusal> for NoAdvice {
-    ghost from_gives = { λ refusal e. e ≡ NoDue refusal };
+    ghost from_gives = { λ refusal e. e ≡ of_due refusal };
 
     fn from(refusal: DueRefusal) -> NoAdvice {
-        NoAdvice::NoDue { refusal }
+        match refusal {
+            DueRefusal::OutOfMemory => NoAdvice::OutOfMemory,
+            DueRefusal::BadRow { .. }
+            | DueRefusal::UnknownTransition { .. }
+            | DueRefusal::NotDue { .. }
+            | DueRefusal::RepeatedDue { .. }
+            | DueRefusal::OutOfRange { .. } => NoAdvice::NoDue { refusal },
+        }
     }
 }
 
 impl From<JitRefusal> for NoAdvice {
-    ghost from_gives = { λ refusal e. e ≡ Late refusal };
+    ghost from_gives = { λ refusal e. e ≡ of_jit refusal };
 
     fn from(refusal: JitRefusal) -> NoAdvice {
-        NoAdvice::Late { refusal }
+        match refusal {
+            JitRefusal::OutOfMemory => NoAdvice::OutOfMemory,
+            JitRefusal::Late { .. } => NoAdvice::Late { refusal },
+        }
     }
 }

@@ -8,6 +8,7 @@ pub mod Replayed
 pub mod Rounds
 pub mod RoundsAfter
 pub mod Telling
+pub mod ToldAnswers
 pub mod Transferred
 pub mod TrialLaws
 pub use Rattle.teg_outside.proofs as teg_outside_proofs

@@ -1,5 +1,5 @@
 -- What is said of an expression: its series, or its refusal.
-use Rattle.std.specs.Prelude.{ℕ, ◌≡◌, ◌≢◌, ◌⊎◌, List, Ok, Err}
+use Rattle.std.specs.Prelude.{ℕ, ◌≡◌, ◌⊎◌, List, Ok, Err, ◌∷◌, []}
 use Rattle.series_form.specs.declared.forms.SeriesRefused.{SeriesRefused}
 use Rattle.series_form.specs.declared.forms.SeriesRefused.TheVariants.{OutOfMemory as NoRoom}
 use Rattle.series_form.specs.NumberBounds.{IsSeries}
@@ -11,7 +11,10 @@ use Rattle.teg_calc.specs.ParseAnswers.{IsParsed, IsParseOf}
 use Rattle.teg_calc.specs.ExpressionTrees.{Tree}
 use Rattle.teg_commands.specs.declared.outcome.Verdict.{Verdict}
 use Rattle.teg_commands.specs.declared.outcome.Verdict.TheVariants.{Done as VerdictDone, Calc as VerdictCalc}
-use Rattle.teg_commands.specs.CommandTexts.{series_text, parse_text, series_refused_text}
+use Rattle.teg_commands.specs.CommandOutcomes.{TellsWhy}
+use Rattle.teg_report.specs.Series.{parse_line, series_refused_line}
+use Rattle.teg_calc.specs.Printing.{series_line}
+use Rattle.teg_report.specs.teg_text.Lines.{written}
 
 -- this is the canonical form of what the tree means at every shift
 pub record IsSeriesOf (tree : Tree) (form : Form) : Type 0 where
@@ -19,21 +22,13 @@ pub record IsSeriesOf (tree : Tree) (form : Form) : Type 0 where
   pub series : IsSeries form
   pub evaluated : Evaluates tree (Ok form)
 
--- it is told why a text is no expression; that is not want of memory
-abbrev pub RefusesParse : ParseRefused → Verdict → List ℕ → Type 0
-RefusesParse refusal verdict told = (verdict ≡ VerdictCalc) × (refusal ≢ NoMemory) × (told ≡ parse_text refusal)
-
--- it is told why an operation has no series; that is not want of memory
-abbrev pub RefusesSeries : SeriesRefused → Verdict → List ℕ → Type 0
-RefusesSeries refusal verdict told = (verdict ≡ VerdictCalc) × (refusal ≢ NoRoom) × (told ≡ series_refused_text refusal)
-
 -- of a tree its series is told
 abbrev pub TellsSeries : Tree → Verdict → List ℕ → Type 0
-TellsSeries tree verdict told = (verdict ≡ VerdictDone) × ((form : Form) × IsSeriesOf tree form × (told ≡ series_text form))
+TellsSeries tree verdict told = (verdict ≡ VerdictDone) × ((form : Form) × IsSeriesOf tree form × (told ≡ written (series_line form ∷ [])))
 
 -- of a tree the first refusal of its operations is told
 abbrev pub TellsRefusal : Tree → Verdict → List ℕ → Type 0
-TellsRefusal tree verdict told = (refusal : SeriesRefused) × Evaluates tree (Err refusal) × RefusesSeries refusal verdict told
+TellsRefusal tree verdict told = (refusal : SeriesRefused) × Evaluates tree (Err refusal) × TellsWhy (λ r. series_refused_line r ∷ []) NoRoom VerdictCalc refusal verdict told
 
 -- of a tree its series is told, or the first refusal of its operations
 abbrev pub SaysSeries : Tree → Verdict → List ℕ → Type 0
@@ -41,7 +36,7 @@ SaysSeries tree verdict told = TellsSeries tree verdict told ⊎ TellsRefusal tr
 
 -- it is told where the text is no expression, or too deep
 abbrev pub TellsFault : List ℕ → Verdict → List ℕ → Type 0
-TellsFault text verdict told = (refusal : ParseRefused) × IsParseOf text (Err refusal) × RefusesParse refusal verdict told
+TellsFault text verdict told = (refusal : ParseRefused) × IsParseOf text (Err refusal) × TellsWhy (λ r. parse_line r ∷ []) NoMemory VerdictCalc refusal verdict told
 
 -- what the tree of the text says, or why there is none
 abbrev pub SaysCalc : List ℕ → Verdict → List ℕ → Type 0

@@ -1,5 +1,5 @@
 -- What is said of the dates of a live net for ever, and of one of them.
-use Rattle.std.specs.Prelude.{ℕ, ◌≤◌, ◌≡◌, ◌≢◌, ◌⊎◌, List, All, Option, Some, None, slice_get, IsSomeAnd, ⊤}
+use Rattle.std.specs.Prelude.{ℕ, ◌≤◌, ◌≡◌, ◌≢◌, ◌⊎◌, List, All, Option, Some, None, slice_get, IsSomeAnd, ◌∷◌, ⊤, []}
 use Rattle.teg_report.specs.dioid.declared.dates.Date.{Date}
 use Rattle.settled_laws.specs.SettledForms.{SettledForm, settled_length, IsSettledFormOf, NetSettlesPast}
 use Rattle.teg_report.specs.teg_model.Datings.{IsLeastDating}
@@ -9,7 +9,12 @@ use Rattle.teg_settle.specs.declared.refusals.SettleRefusal.{SettleRefusal}
 use Rattle.teg_settle.specs.declared.refusals.SettleRefusal.TheVariants.{TooLong, OutOfMemory}
 use Rattle.teg_commands.specs.declared.outcome.Verdict.{Verdict}
 use Rattle.teg_commands.specs.declared.outcome.Verdict.TheVariants.{Done as VerdictDone, TooLong as VerdictTooLong, Name as VerdictName}
-use Rattle.teg_commands.specs.CommandTexts.{settled_text, date_text, too_long_text, no_transition_text}
+use Rattle.teg_commands.specs.CommandTexts.{too_long_text}
+use Rattle.teg_report.specs.SettledTexts.{IsSettledKept, settled_lines}
+use Rattle.teg_report.specs.ShortAnswers.{date_line, no_transition_line}
+use Rattle.teg_report.specs.teg_text.WordsOfNames.{name_of_transition}
+use Rattle.teg_report.specs.teg_text.Lines.{written}
+use Rattle.teg_report.specs.teg_text.ValueWords.{IsDate}
 
 -- the form is within the limit, where there is one
 abbrev pub IsFormWithinLimit : Option ℕ → SettledForm → Type 0
@@ -29,7 +34,7 @@ SaysTooLong exceeds (Some limit) verdict text = (verdict ≡ VerdictTooLong) × 
 -- of a live net the shortest settled form of the least dating is said, or that it is longer than the limit
 abbrev pub SaysDates : Option ℕ → NetLists → Verdict → List ℕ → Type 0
 SaysDates limit net verdict text =
-    ((verdict ≡ VerdictDone) × ((f : SettledForm) × IsSettledFormOf net f × IsFormWithinLimit limit f × (text ≡ settled_text net f)))
+    ((verdict ≡ VerdictDone) × ((f : SettledForm) × IsSettledFormOf net f × IsFormWithinLimit limit f × IsSettledKept f × (text ≡ written (settled_lines net f))))
     ⊎ SaysTooLong (NetSettlesPast net) limit verdict text
 
 -- the least dating has a settled form within the limit, where there is one
@@ -43,12 +48,13 @@ HasName net t word = IsSomeAnd (slice_get net.transitions t.index) (λ transitio
 -- the date of the firing of this number of a transition of this name is said, or that the settled form is longer than the limit
 abbrev pub SaysDateOf : TransitionId → ℕ → Option ℕ → NetLists → Verdict → List ℕ → Type 0
 SaysDateOf t number limit net verdict text =
-    ((verdict ≡ VerdictDone) × ((x : ℕ → ℕ → Date) × IsLeastDating net x × SettlesWithin limit net × (text ≡ date_text net t number (x t.index number))))
+    ((verdict ≡ VerdictDone) × ((x : ℕ → ℕ → Date) × IsLeastDating net x × SettlesWithin limit net × IsDate (x t.index number)
+    × (text ≡ written (date_line (name_of_transition net t) number (x t.index number) ∷ []))))
     ⊎ SaysTooLong (NetSettlesPast net) limit verdict text
 
 -- that no transition has this name is said
 abbrev pub TellsNoTransition : List ℕ → Verdict → List ℕ → Type 0
-TellsNoTransition word verdict text = (verdict ≡ VerdictName) × (text ≡ no_transition_text word)
+TellsNoTransition word verdict text = (verdict ≡ VerdictName) × (text ≡ written (no_transition_line word ∷ []))
 
 -- of a live net the least date of one firing is said, or that no transition has the name
 abbrev pub SaysDate : List ℕ → ℕ → Option ℕ → NetLists → Verdict → List ℕ → Type 0

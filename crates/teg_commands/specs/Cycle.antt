@@ -1,5 +1,5 @@
 -- What is said of the circuits of a net: its parts, the greatest ratio of each and of the net, and the rounds that led to them.
-use Rattle.std.specs.Prelude.{ℕ, ◌≡◌, Bool, List, None, length}
+use Rattle.std.specs.Prelude.{ℕ, ◌≡◌, Bool, List, None, length, Some, map}
 use Rattle.teg_cycle.specs.LastRounds.{AreLastOfRuns, AreRunsFrom}
 use Rattle.teg_net.specs.declared.answers.CycleAnswer.{CycleAnswer}
 use Rattle.teg_net.specs.declared.rounds.Round.{Round}
@@ -9,7 +9,8 @@ use Rattle.teg_net.specs.PartAnswers.{ArePartAnswers}
 use Rattle.teg_parts.specs.Partitions.{AreParts}
 use Rattle.teg_commands.specs.declared.outcome.Verdict.{Verdict}
 use Rattle.teg_commands.specs.declared.outcome.Verdict.TheVariants.{Done as VerdictDone}
-use Rattle.teg_commands.specs.CommandTexts.{cycle_text, runs_text}
+use Rattle.teg_commands.specs.CommandTexts.{cycle_text}
+use Rattle.teg_report.specs.AnswerMeanings.{round_lists}
 
 -- the numbers are those of the strong parts of the net in their order, with an answer for each
 abbrev pub HasStrongParts : NetLists → CycleAnswer → Type 0
@@ -42,4 +43,4 @@ SaysCycle net verdict text =
 abbrev pub SaysRounds : NetLists → Verdict → List ℕ → Type 0
 SaysRounds net verdict text =
     (verdict ≡ VerdictDone)
-    × ((answer : CycleAnswer) × (runs : List (List Round)) × IsCycleAnswer net answer × AreRuns net answer runs × (text ≡ runs_text net answer runs))
+    × ((answer : CycleAnswer) × (runs : List (List Round)) × IsCycleAnswer net answer × AreRuns net answer runs × (text ≡ cycle_text net answer (Some (map (map round_lists) runs))))

@@ -1,5 +1,5 @@
 -- What is said of the latest inputs of a live net for a file of due dates without end.
-use Rattle.std.specs.Prelude.{ℕ, ◌≡◌, ◌≢◌, ◌⊎◌, List, Ok, Err}
+use Rattle.std.specs.Prelude.{ℕ, ◌≡◌, ◌⊎◌, List, Ok, Err}
 use Rattle.teg_forever.specs.forever_laws.declared.rows.EndlessRow.{EndlessRow}
 use Rattle.teg_forever.specs.forever_laws.EndlessRows.{IsEndlessOf}
 use Rattle.teg_forever.specs.declared.releases.ForeverRefusal.{ForeverRefusal}
@@ -14,31 +14,16 @@ use Rattle.teg_net.specs.Nets.{NetLists}
 use Rattle.teg_report.specs.teg_text.Lines.{written}
 use Rattle.teg_commands.specs.declared.outcome.Verdict.{Verdict}
 use Rattle.teg_commands.specs.declared.outcome.Verdict.TheVariants.{Done as VerdictDone, Late as VerdictLate, Schedule as VerdictSchedule, TooLong as VerdictTooLong}
-
--- the text of the first fault of a file
-abbrev pub endless_text : NetLists → EndlessRefusal → List ℕ
-endless_text net fault = written (answer_lines net (Faulty fault))
-
--- the text of the releases of the inputs
-abbrev pub forever_text : NetLists → List Release → List ℕ
-forever_text net releases = written (answer_lines net (Answered (Ok releases)))
-
--- the text of why they are not told
-abbrev pub unreleased_text : NetLists → ForeverRefusal → List ℕ
-unreleased_text net refusal = written (answer_lines net (Answered (Err refusal)))
-
--- it is told why a file says no endless due dates; that is not want of memory
-abbrev pub TellsBadEndless : NetLists → EndlessRefusal → Verdict → List ℕ → Type 0
-TellsBadEndless net fault verdict text = (verdict ≡ VerdictSchedule) × (fault ≢ NoRoom) × (text ≡ endless_text net fault)
+use Rattle.teg_commands.specs.CommandOutcomes.{TellsWhy}
 
 -- the first fault of the file is said
 abbrev pub SaysBadEndless : NetLists → List ℕ → Verdict → List ℕ → Type 0
-SaysBadEndless net bytes verdict text = (fault : EndlessRefusal) × (endless_of net bytes ≡ Err fault) × TellsBadEndless net fault verdict text
+SaysBadEndless net bytes verdict text = (fault : EndlessRefusal) × (endless_of net bytes ≡ Err fault) × TellsWhy (λ f. answer_lines net (Faulty f)) NoRoom VerdictSchedule fault verdict text
 
 -- of endless due dates the latest releases of the inputs are said
 abbrev pub SaysReleases : NetLists → List EndlessRow → Verdict → List ℕ → Type 0
 SaysReleases net rows verdict text =
-    (verdict ≡ VerdictDone) × ((releases : List Release) × AreEndlessReleases net rows releases × (text ≡ forever_text net releases))
+    (verdict ≡ VerdictDone) × ((releases : List Release) × AreEndlessReleases net rows releases × (text ≡ written (answer_lines net (Answered (Ok releases)))))
 
 -- how a command ends whose releases are not told; it does not end so for want of memory
 abbrev pub EndsUnreleased : ForeverRefusal → Verdict → Type 0
@@ -50,7 +35,7 @@ EndsUnreleased OutOfMemory verdict = ⊥
 -- of endless due dates is said why the releases are not told: a late firing, or an input whose series are too long
 abbrev pub SaysUnreleased : NetLists → List EndlessRow → Verdict → List ℕ → Type 0
 SaysUnreleased net rows verdict text =
-    (refusal : ForeverRefusal) × EndsUnreleased refusal verdict × ForeverRefused net rows refusal × (text ≡ unreleased_text net refusal)
+    (refusal : ForeverRefusal) × EndsUnreleased refusal verdict × ForeverRefused net rows refusal × (text ≡ written (answer_lines net (Answered (Err refusal))))
 
 -- of endless due dates the latest releases are said, or why they are not told
 abbrev pub SaysEndless : NetLists → List EndlessRow → Verdict → List ℕ → Type 0

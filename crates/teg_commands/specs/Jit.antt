@@ -1,5 +1,5 @@
 -- What is said of the latest inputs of a live net for a due file.
-use Rattle.std.specs.Prelude.{ℕ, pos, ◌<◌, ◌≤◌, ◌≡◌, ◌≢◌, ◌⊎◌, List, Option, Some, Ok, Err}
+use Rattle.std.specs.Prelude.{ℕ, pos, ◌<◌, ◌≤◌, ◌≡◌, ◌≢◌, ◌⊎◌, List, Option, Some, Ok, Err, ◌∷◌, []}
 use Rattle.teg_report.specs.dioid.declared.dates.Date.{Date}
 use Rattle.teg_report.specs.dioid.declared.dates.Date.TheVariants.{At as on_date}
 use Rattle.teg_report.specs.dioid.Dates.{delayed}
@@ -20,15 +20,15 @@ use Rattle.teg_net.specs.Nets.{NetLists}
 use Rattle.teg_net.specs.Walks.{Walks, walk_time}
 use Rattle.teg_commands.specs.declared.outcome.Verdict.{Verdict}
 use Rattle.teg_commands.specs.declared.outcome.Verdict.TheVariants.{Done as VerdictDone, Schedule as VerdictSchedule, Late as VerdictLate}
-use Rattle.teg_commands.specs.CommandTexts.{due_text, jit_text, late_text}
-
--- it is told why a due file says no due dates; that is not want of memory
-abbrev pub TellsBadDue : DueRefusal → Verdict → List ℕ → Type 0
-TellsBadDue refusal verdict text = (verdict ≡ VerdictSchedule) × (refusal ≢ NoRoom) × (text ≡ due_text refusal)
+use Rattle.teg_commands.specs.CommandOutcomes.{TellsWhy}
+use Rattle.teg_report.specs.FileRows.{due_line}
+use Rattle.teg_report.specs.PlanLines.{AreLatestKept, late_lines, plan_lines}
+use Rattle.teg_report.specs.AnswerMeanings.{late_lists}
+use Rattle.teg_report.specs.teg_text.Lines.{written}
 
 -- the first fault of the due file is said
 abbrev pub SaysBadDue : NetLists → List ℕ → Verdict → List ℕ → Type 0
-SaysBadDue net bytes verdict text = (refusal : DueRefusal) × (due_of net bytes ≡ Err refusal) × TellsBadDue refusal verdict text
+SaysBadDue net bytes verdict text = (refusal : DueRefusal) × (due_of net bytes ≡ Err refusal) × TellsWhy (λ r. due_line r ∷ []) NoRoom VerdictSchedule refusal verdict text
 
 -- from each firing that is not free the steps of the plan lead to one that is due, and their walk is tight
 abbrev pub StepsLead : NetLists → (ℕ → ℕ → Option ℕ) → PlanDates → Type 0
@@ -51,13 +51,13 @@ NoInputsMeet net due = (v : ℕ → ℕ → Date) → InputsMeet net due v → �
 
 -- of a due list the plan is said
 abbrev pub SaysPlan : NetLists → List DueRow → Verdict → List ℕ → Type 0
-SaysPlan net rows verdict text = (verdict ≡ VerdictDone) × ((plan : PlanDates) × IsPlanOf net rows plan × (text ≡ jit_text net plan))
+SaysPlan net rows verdict text = (verdict ≡ VerdictDone) × ((plan : PlanDates) × IsPlanOf net rows plan × AreLatestKept plan × (text ≡ written (plan_lines net plan)))
 
 -- of a due list the first row is said that the least dating with all inputs at 0 exceeds, and a walk that shows it; no inputs meet the list
 abbrev pub SaysLate : NetLists → List DueRow → Verdict → List ℕ → Type 0
 SaysLate net rows verdict text =
     (verdict ≡ VerdictLate)
-    × ((refusal : JitRefusal) × (refusal ≢ OutOfMemory) × LateIsRight net rows refusal × NoInputsMeet net (due_in rows) × (text ≡ late_text net refusal))
+    × ((refusal : JitRefusal) × (refusal ≢ OutOfMemory) × LateIsRight net rows refusal × NoInputsMeet net (due_in rows) × (text ≡ written (late_lines net (late_lists refusal))))
 
 -- of a due list the plan is said, or the first row that comes late
 abbrev pub SaysLatest : NetLists → List DueRow → Verdict → List ℕ → Type 0

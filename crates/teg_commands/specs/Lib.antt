@@ -16,6 +16,7 @@ pub mod Size
 pub mod Slack
 pub mod CommandTexts
 pub mod Timetable
+pub mod ToldAnswers
 pub mod Transfer
 pub mod Trial
 pub use Rattle.teg_report.specs.dioid as dioid

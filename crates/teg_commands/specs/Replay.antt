@@ -1,5 +1,5 @@
 -- What is said of a recorded run of a live net.
-use Rattle.std.specs.Prelude.{ℕ, Bool, true, false, ◌<◌, ◌≡◌, ◌≢◌, ◌⊎◌, List, [], length, ⊤, Option, Some, None, Result, Ok, Err}
+use Rattle.std.specs.Prelude.{ℕ, Bool, true, false, ◌<◌, ◌≡◌, ◌⊎◌, List, length, Option, Some, None, Result, Ok, Err, ◌∷◌, ⊤, []}
 use Rattle.teg_due.specs.declared.rows.LogRefusal.{LogRefusal}
 use Rattle.teg_due.specs.declared.rows.LogRefusal.TheVariants.{OutOfMemory as NoRoom}
 use Rattle.teg_due.specs.declared.rows.LogRow.{LogRow}
@@ -15,15 +15,13 @@ use Rattle.teg_report.specs.declared.answer.Failure.{Failure}
 use Rattle.teg_report.specs.declared.answer.Failure.TheVariants.{Illegal as ToldIllegal, BackInTime as ToldBackInTime, BeforeRelease as ToldBeforeRelease}
 use Rattle.teg_commands.specs.declared.outcome.Verdict.{Verdict}
 use Rattle.teg_commands.specs.declared.outcome.Verdict.TheVariants.{Done as VerdictDone, Log as VerdictLog}
-use Rattle.teg_commands.specs.CommandTexts.{log_text, replayed_text, refused_text}
-
--- it is told why a log says no firings; that is not want of memory
-abbrev pub TellsBadLog : LogRefusal → Verdict → List ℕ → Type 0
-TellsBadLog refusal verdict text = (verdict ≡ VerdictLog) × (refusal ≢ NoRoom) × (text ≡ log_text refusal)
+use Rattle.teg_commands.specs.CommandOutcomes.{TellsWhy}
+use Rattle.teg_report.specs.FileRows.{log_line, refused_lines, replayed_lines}
+use Rattle.teg_report.specs.teg_text.Lines.{written}
 
 -- the first fault of the log is said
 abbrev pub SaysBadLog : NetLists → List ℕ → Verdict → List ℕ → Type 0
-SaysBadLog net bytes verdict text = (refusal : LogRefusal) × (log_of net bytes ≡ Err refusal) × TellsBadLog refusal verdict text
+SaysBadLog net bytes verdict text = (refusal : LogRefusal) × (log_of net bytes ≡ Err refusal) × TellsWhy (λ r. log_line r ∷ []) NoRoom VerdictLog refusal verdict text
 
 -- why a firing is refused, as it is told; want of memory refuses none
 abbrev pub IsToldAs : FireRefusal → Failure → Type 0
@@ -41,9 +39,9 @@ CanTellRefusal net OutOfMemory = ⊥
 
 -- how many firings were accepted is said where none was refused, and otherwise the first refused row and why; then a line of each monitor
 abbrev pub SaysEnd : NetLists → Option Refused → ℕ → List (List ℕ) → Verdict → List ℕ → Type 0
-SaysEnd net None accepted lines verdict text = (verdict ≡ VerdictDone) × (text ≡ replayed_text accepted lines)
+SaysEnd net None accepted lines verdict text = (verdict ≡ VerdictDone) × (text ≡ written (replayed_lines accepted lines))
 SaysEnd net (Some refused) accepted lines verdict text =
-    (verdict ≡ VerdictLog) × ((failure : Failure) × IsToldAs refused.why failure × (text ≡ refused_text net refused.row failure lines))
+    (verdict ≡ VerdictLog) × ((failure : Failure) × IsToldAs refused.why failure × (text ≡ written (refused_lines net refused.row failure lines)))
 
 -- of the rows of a log is said how they were replayed, with the lines of the monitors after just the accepted firings
 abbrev pub SaysRun : (List Firing → List (List ℕ)) → NetLists → List LogRow → Verdict → List ℕ → Type 0

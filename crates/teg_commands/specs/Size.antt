@@ -10,25 +10,17 @@ use Rattle.teg_report.specs.teg_text.Lines.{written}
 use Rattle.teg_commands.specs.declared.outcome.Verdict.{Verdict}
 use Rattle.teg_commands.specs.declared.outcome.Verdict.TheVariants.{Done as VerdictDone, Name as VerdictName}
 
--- the text that no place has this name
-abbrev pub no_place_text : List ℕ → List ℕ
-no_place_text word = written (no_place_lines word)
-
--- the text of an answer about a place and a target
-abbrev pub sizing_text : NetLists → PlaceId → Fraction → Sizing → List ℕ
-sizing_text net p r sizing = written (sizing_lines net p r (told_sizing sizing))
-
 -- the place has this name
 abbrev pub HasPlaceName : NetLists → PlaceId → List ℕ → Type 0
 HasPlaceName net p word = IsSomeAnd (slice_get net.places p.index) (λ place. place.name ≡ word)
 
 -- what is right to tell of the place and the target is said
 abbrev pub SaysSizeOf : PlaceId → Fraction → NetLists → Verdict → List ℕ → Type 0
-SaysSizeOf p r net verdict text = (verdict ≡ VerdictDone) × ((sizing : Sizing) × IsSizing net r p sizing × (text ≡ sizing_text net p r sizing))
+SaysSizeOf p r net verdict text = (verdict ≡ VerdictDone) × ((sizing : Sizing) × IsSizing net r p sizing × (text ≡ written (sizing_lines net p r (told_sizing sizing))))
 
 -- that no place has this name is said
 abbrev pub TellsNoPlace : List ℕ → Verdict → List ℕ → Type 0
-TellsNoPlace word verdict text = (verdict ≡ VerdictName) × (text ≡ no_place_text word)
+TellsNoPlace word verdict text = (verdict ≡ VerdictName) × (text ≡ written (no_place_lines word))
 
 -- of a live net the fewest further tokens of the place of this name are said, for the ratio of this time to these tokens; or that no
 -- place has the name

@@ -1,5 +1,5 @@
 -- What is said of the slack of the places of a live net.
-use Rattle.std.specs.Prelude.{ℕ, ◌≡◌, ◌⊎◌, List}
+use Rattle.std.specs.Prelude.{All, ℕ, ◌≡◌, ◌⊎◌, List}
 use Rattle.teg_critical.specs.declared.slacks.Slack.{Slack}
 use Rattle.teg_critical.specs.Slacks.{AreSlacks}
 use Rattle.teg_net.specs.GreatestRatios.{IsGreatestRatio, IsAnyPlace, HasNoCircuit}
@@ -7,7 +7,9 @@ use Rattle.teg_net.specs.Nets.{NetLists}
 use Rattle.teg_net.specs.Ratios.{Fraction, IsLowestTerms}
 use Rattle.teg_commands.specs.declared.outcome.Verdict.{Verdict}
 use Rattle.teg_commands.specs.declared.outcome.Verdict.TheVariants.{Done as VerdictDone}
-use Rattle.teg_commands.specs.CommandTexts.{no_circuit_text, slack_text}
+use Rattle.teg_commands.specs.CommandTexts.{no_circuit_text}
+use Rattle.teg_report.specs.SlackLines.{IsRatioKept, IsSlackKept, slack_lines}
+use Rattle.teg_report.specs.teg_text.Lines.{written}
 
 -- the greatest ratio of the net, in lowest terms
 pub record IsBestRatio (net : NetLists) (r : Fraction) : Type 0 where
@@ -16,7 +18,9 @@ pub record IsBestRatio (net : NetLists) (r : Fraction) : Type 0 where
 
 -- of a live net with a circuit the greatest ratio is said, and of each place its slack
 abbrev pub SaysSlacks : NetLists → List ℕ → Type 0
-SaysSlacks net text = (r : Fraction) × (slacks : List Slack) × IsBestRatio net r × AreSlacks net r slacks × (text ≡ slack_text net r slacks)
+SaysSlacks net text =
+    (r : Fraction) × (slacks : List Slack) × IsBestRatio net r × AreSlacks net r slacks × IsRatioKept r × All IsSlackKept slacks
+    × (text ≡ written (slack_lines net r slacks))
 
 -- of a live net the slack of its places is said, or that it has no circuit
 abbrev pub SaysSlack : NetLists → Verdict → List ℕ → Type 0

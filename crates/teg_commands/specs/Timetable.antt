@@ -10,13 +10,9 @@ use Rattle.teg_timetable.specs.declared.refusals.TableRefusal.{TableRefusal}
 use Rattle.teg_timetable.specs.DelayAnswers.{IsDelayRefusal, IsSpread}
 use Rattle.teg_timetable.specs.Spreads.{Spread}
 use Rattle.teg_timetable.specs.TimetableFiles.{lists_of_table, timetable_of}
-use Rattle.teg_timetable.specs.TimetableTexts.{ToldTimetable, IsTimetableText, delay_told, spread_told, table_told, told_lines}
+use Rattle.teg_timetable.specs.TimetableTexts.{IsTimetableText, delay_told, spread_told, table_told, told_lines}
 use Rattle.teg_commands.specs.declared.outcome.Verdict.{Verdict}
 use Rattle.teg_commands.specs.declared.outcome.Verdict.TheVariants.{Done as VerdictDone, Schedule as VerdictSchedule, TooLong as VerdictTooLong}
-
--- the text of what is told of a timetable
-abbrev pub timetable_text : NetLists → ToldTimetable → List ℕ
-timetable_text net told = written (told_lines net told)
 
 -- it is told why a file says no timetable; that is not want of memory, of which nothing is told
 abbrev pub TellsBadTable : NetLists → TableRefusal → Verdict → List ℕ → Type 0
@@ -29,7 +25,7 @@ SaysBadTable net bytes verdict text = (fault : TableRefusal) × (timetable_of ne
 -- of a timetable is said how its delays spread
 abbrev pub SaysSpread : ℕ → Option ℕ → NetLists → Timetable → Verdict → List ℕ → Type 0
 SaysSpread period limit net table verdict text =
-    (verdict ≡ VerdictDone) × ((spread : Spread) × IsSpread net period table limit spread × (text ≡ timetable_text net (spread_told spread)))
+    (verdict ≡ VerdictDone) × ((spread : Spread) × IsSpread net period table limit spread × (text ≡ written (told_lines net (spread_told spread))))
 
 -- how a command ends that does not say how delays spread; it does not end so for want of memory
 abbrev pub EndsUnspread : DelayRefusal → Verdict → Type 0

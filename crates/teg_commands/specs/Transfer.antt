@@ -7,12 +7,12 @@ use Rattle.teg_net.specs.declared.entries.Role.{Role}
 use Rattle.teg_net.specs.declared.entries.Role.TheVariants.{Internal, Input, Output}
 use Rattle.teg_net.specs.declared.entries.TransitionId.{TransitionId}
 use Rattle.teg_net.specs.Nets.{NetLists, IsInput}
-use Rattle.teg_report.specs.SettledTexts.{TimesFrom, TimesTo}
+use Rattle.teg_report.specs.SettledTexts.{AreTimesKept, TimesFrom, TimesTo, transfer_lines}
 use Rattle.teg_settle.specs.Transfers.{IsTransferOf, TransferSettlesPast}
 use Rattle.teg_commands.specs.declared.outcome.Verdict.{Verdict}
 use Rattle.teg_commands.specs.declared.outcome.Verdict.TheVariants.{Done as VerdictDone}
 use Rattle.teg_commands.specs.CommandDates.{SaysTooLong}
-use Rattle.teg_commands.specs.CommandTexts.{transfer_text}
+use Rattle.teg_report.specs.teg_text.Lines.{written}
 
 -- whether two roles are one
 abbrev pub is_same_role : Role → Role → Bool
@@ -59,5 +59,5 @@ TimesSettlePast net limit = (input : TransitionId) × IsInput net input.index ×
 -- of a live net the times from each input to each output are said, or that those of an input settle past the limit
 abbrev pub SaysTransfer : ℕ → NetLists → Verdict → List ℕ → Type 0
 SaysTransfer limit net verdict text =
-    ((verdict ≡ VerdictDone) × ((times : List TimesFrom) × AreTimesFrom net limit times × (text ≡ transfer_text net times)))
+    ((verdict ≡ VerdictDone) × ((times : List TimesFrom) × AreTimesFrom net limit times × All AreTimesKept times × (text ≡ written (transfer_lines net times))))
     ⊎ SaysTooLong (TimesSettlePast net) (Some limit) verdict text

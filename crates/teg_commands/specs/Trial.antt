@@ -1,5 +1,5 @@
 -- What is said of the line of machines.
-use Rattle.std.specs.Prelude.{ℕ, ◌-◌, ◌≡◌, List, sum_by}
+use Rattle.std.specs.Prelude.{ℕ, ◌-◌, ◌≡◌, List, sum_by, length}
 use Rattle.teg_report.specs.dioid.declared.dates.Date.{Date}
 use Rattle.teg_critical.specs.declared.slacks.Slack.{Slack}
 use Rattle.teg_critical.specs.declared.slacks.Slack.TheVariants.{NoCircuit, Critical, Rise}
@@ -10,7 +10,8 @@ use Rattle.trial_net.specs.Trials.{trial}
 use Rattle.teg_commands.specs.declared.outcome.Verdict.{Verdict}
 use Rattle.teg_commands.specs.declared.outcome.Verdict.TheVariants.{Done as VerdictDone}
 use Rattle.teg_commands.specs.Slack.{IsBestRatio}
-use Rattle.teg_commands.specs.CommandTexts.{trial_text}
+use Rattle.teg_report.specs.SlackLines.{trial_lines}
+use Rattle.teg_report.specs.teg_text.Lines.{written}
 
 -- 1 where a place is critical
 abbrev pub one_critical : Slack → ℕ
@@ -32,4 +33,4 @@ abbrev pub SaysTrial : ℕ → Verdict → List ℕ → Type 0
 SaysTrial machines verdict text =
     (verdict ≡ VerdictDone)
     × ((r : Fraction) × (slacks : List Slack) × (x : ℕ → ℕ → Date) × IsBestRatio (trial machines) r × AreSlacks (trial machines) r slacks
-    × IsLeastDating (trial machines) x × (text ≡ trial_text machines r (critical_count slacks) (x (machines - 1) trial_number)))
+    × IsLeastDating (trial machines) x × (text ≡ written (trial_lines machines (length (trial machines).places) r (critical_count slacks) (x (machines - 1) trial_number))))

@@ -5,19 +5,19 @@ ghost use Rattle.teg_commands.specs.Bound.{SaysBound};
 ghost use Rattle.teg_commands.specs.CommandOutcomes.{Tells, outcome_of};
 
 use crate::live_net::LiveNet;
-use crate::outcome::{Outcome, Verdict};
+use crate::outcome::{CommandOutcome, Verdict};
 use std::alloc::Global;
 use teg_bound::{BoundAnswer, bound_text, no_bound_text};
 use teg_net::OutOfMemory;
 
 // A bound, and from when on the dates are periodic.
-fn tell_number(alloc: Global, net: &LiveNet, number: u128) -> Result<Outcome, OutOfMemory>
+fn tell_number(alloc: Global, net: &LiveNet, number: u128) -> Result<CommandOutcome, OutOfMemory>
     requires { IsBoundOf net.now number }
     ensures { Tells (SaysBound net.now) (outcome_of result) }
 {
     let settled = net.settled_for_ever(alloc)?;
     let text = bound_text(alloc, number, settled.after(), settled.period())?;
-    Ok(Outcome::told(Verdict::Done, text))
+    Ok(CommandOutcome::told(Verdict::Done, text))
 }
 
 // Why there is no bound.
@@ -25,19 +25,19 @@ fn tell_no_number(
     alloc: Global,
     net: &LiveNet,
     answer: &BoundAnswer,
-) -> Result<Outcome, OutOfMemory>
+) -> Result<CommandOutcome, OutOfMemory>
     requires right { IsRightBound net.now answer.now }
     requires cause { IsCause answer.now }
     ensures { Tells (SaysBound net.now) (outcome_of result) }
 {
     let text = no_bound_text(alloc, answer)?;
-    Ok(Outcome::told(Verdict::Done, text))
+    Ok(CommandOutcome::told(Verdict::Done, text))
 }
 
 /// A number past which the dates of a live net are periodic, with the number and the period of its
 /// shortest settled form; or why there is no such bound. It takes the time of the cycle times and
 /// of the search for the settled form.
-pub fn tell_bound(alloc: Global, net: &LiveNet) -> Result<Outcome, OutOfMemory>
+pub fn tell_bound(alloc: Global, net: &LiveNet) -> Result<CommandOutcome, OutOfMemory>
     ensures { Tells (SaysBound net.now) (outcome_of result) }
 {
     let parts = net.parts(alloc)?;

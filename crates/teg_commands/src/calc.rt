@@ -1,11 +1,12 @@
 //! The values of expressions.
-ghost use Rattle.std.specs.Prelude.{◌≡◌, ◌≤◌, IfOk, length};
+ghost use Rattle.std.specs.Prelude.{◌≡◌, ◌≤◌, ◌∷◌, [], IfOk, length};
 ghost use Rattle.teg_calc.specs.ExpressionTrees.{HasShortNumbers, node_count, tree_of_expression};
 ghost use Rattle.teg_commands.specs.CommandLimits.{most_expression};
-ghost use Rattle.teg_commands.specs.CommandOutcomes.{Tells, outcome_of};
-ghost use Rattle.teg_commands.specs.Calc.{RefusesParse, RefusesSeries, SaysSeries, SaysCalc};
+ghost use Rattle.teg_commands.specs.CommandOutcomes.{Tells, TellsWhy, outcome_of};
+ghost use Rattle.teg_report.specs.Series.{parse_line, series_refused_line};
+ghost use Rattle.teg_commands.specs.Calc.{SaysSeries, SaysCalc};
 
-use crate::outcome::{Outcome, Verdict};
+use crate::outcome::{CommandOutcome, Verdict};
 use series_form::SeriesRefused;
 use std::alloc::Global;
 use std::marker::Model;
@@ -53,35 +54,35 @@ impl Expression {
 }
 
 // Why a text is no expression.
-fn refuse_text(alloc: Global, refusal: &ParseRefused) -> Result<Outcome, OutOfMemory>
-    ensures { Tells (RefusesParse refusal.now) (outcome_of result) }
+fn refuse_text(alloc: Global, refusal: &ParseRefused) -> Result<CommandOutcome, OutOfMemory>
+    ensures { Tells (TellsWhy (λ r. parse_line r ∷ []) ParseRefused.OutOfMemory Verdict.Calc refusal.now) (outcome_of result) }
 {
     match refusal {
         ParseRefused::OutOfMemory => Err(OutOfMemory),
         ParseRefused::Syntax { .. } | ParseRefused::TooDeep { .. } => {
             let text = report(alloc, None, &Answer::Parse { refusal })?;
             let verdict = Verdict::Calc;
-            Ok(Outcome { verdict, text })
+            Ok(CommandOutcome { verdict, text })
         }
     }
 }
 
 // Why an operation has no series.
-fn refuse_series(alloc: Global, refusal: &SeriesRefused) -> Result<Outcome, OutOfMemory>
-    ensures { Tells (RefusesSeries refusal.now) (outcome_of result) }
+fn refuse_series(alloc: Global, refusal: &SeriesRefused) -> Result<CommandOutcome, OutOfMemory>
+    ensures { Tells (TellsWhy (λ r. series_refused_line r ∷ []) SeriesRefused.OutOfMemory Verdict.Calc refusal.now) (outcome_of result) }
 {
     match refusal {
         SeriesRefused::OutOfMemory => Err(OutOfMemory),
         SeriesRefused::TooLong { .. } | SeriesRefused::TooGreat { .. } => {
             let text = report(alloc, None, &Answer::Series { refusal })?;
             let verdict = Verdict::Calc;
-            Ok(Outcome { verdict, text })
+            Ok(CommandOutcome { verdict, text })
         }
     }
 }
 
 // The value of an expression that was read.
-fn tell_series(alloc: Global, expr: &Expr) -> Result<Outcome, OutOfMemory>
+fn tell_series(alloc: Global, expr: &Expr) -> Result<CommandOutcome, OutOfMemory>
     requires nodes { node_count (tree_of_expression expr.now) ≤ 4096 }
     requires numbers { HasShortNumbers (tree_of_expression expr.now) }
     ensures { Tells (SaysSeries (tree_of_expression expr.now)) (outcome_of result) }
@@ -90,14 +91,14 @@ fn tell_series(alloc: Global, expr: &Expr) -> Result<Outcome, OutOfMemory>
         Ok(series) => {
             let text = report(alloc, None, &Answer::Calc { series: &series })?;
             let verdict = Verdict::Done;
-            Ok(Outcome { verdict, text })
+            Ok(CommandOutcome { verdict, text })
         }
         Err(refusal) => refuse_series(alloc, &refusal),
     }
 }
 
 /// The value of an expression, or its refusal.
-pub fn tell_calc(alloc: Global, expression: &Expression) -> Result<Outcome, OutOfMemory>
+pub fn tell_calc(alloc: Global, expression: &Expression) -> Result<CommandOutcome, OutOfMemory>
     ensures { Tells (SaysCalc expression.now) (outcome_of result) }
 {
     match parse(alloc, expression.as_str().as_bytes()) {

@@ -3,13 +3,13 @@ ghost use Rattle.teg_commands.specs.Check.{SaysCheck};
 ghost use Rattle.teg_commands.specs.CommandOutcomes.{Tells, outcome_of};
 
 use crate::live_net::LiveNet;
-use crate::outcome::{Outcome, Verdict};
+use crate::outcome::{CommandOutcome, Verdict};
 use std::alloc::Global;
 use teg_net::OutOfMemory;
 use teg_report::{Answer, report};
 
 /// The size of a live net.
-pub fn tell_check(alloc: Global, net: &LiveNet) -> Result<Outcome, OutOfMemory>
+pub fn tell_check(alloc: Global, net: &LiveNet) -> Result<CommandOutcome, OutOfMemory>
     ensures { Tells (SaysCheck net.now) (outcome_of result) }
 {
     let net = net.net();
@@ -19,5 +19,5 @@ pub fn tell_check(alloc: Global, net: &LiveNet) -> Result<Outcome, OutOfMemory>
     };
     let text = report(alloc, None, &answer)?;
     let verdict = Verdict::Done;
-    Ok(Outcome { verdict, text })
+    Ok(CommandOutcome { verdict, text })
 }

@@ -9,7 +9,7 @@ ghost use Rattle.teg_commands.specs.CommandOutcomes.{Tells, outcome_of};
 ghost use Rattle.teg_commands.specs.CommandTexts.{cycle_text};
 
 use crate::live_net::LiveNet;
-use crate::outcome::{Outcome, Verdict};
+use crate::outcome::{CommandOutcome, Verdict};
 use std::alloc::Global;
 use teg_net::{CycleAnswer, OutOfMemory, Round};
 use teg_report::{Answer, report};
@@ -34,23 +34,23 @@ fn text_of_times(
 }
 
 /// The cycle times of a live net and of its parts.
-pub fn tell_cycle(alloc: Global, net: &LiveNet) -> Result<Outcome, OutOfMemory>
+pub fn tell_cycle(alloc: Global, net: &LiveNet) -> Result<CommandOutcome, OutOfMemory>
     ensures { Tells (SaysCycle net.now) (outcome_of result) }
 {
     let parts = net.parts(alloc)?;
     let answer = net.cycle(alloc, &parts)?;
     let text = text_of_times(alloc, net, &answer, None)?;
     let verdict = Verdict::Done;
-    Ok(Outcome { verdict, text })
+    Ok(CommandOutcome { verdict, text })
 }
 
 /// The cycle times of a live net and of its parts, and the rounds of each part with a circuit.
-pub fn tell_rounds(alloc: Global, net: &LiveNet) -> Result<Outcome, OutOfMemory>
+pub fn tell_rounds(alloc: Global, net: &LiveNet) -> Result<CommandOutcome, OutOfMemory>
     ensures { Tells (SaysRounds net.now) (outcome_of result) }
 {
     let parts = net.parts(alloc)?;
     let (answer, runs) = net.cycle_with_runs(alloc, &parts)?;
     let text = text_of_times(alloc, net, &answer, Some(runs.as_slice()))?;
     let verdict = Verdict::Done;
-    Ok(Outcome { verdict, text })
+    Ok(CommandOutcome { verdict, text })
 }

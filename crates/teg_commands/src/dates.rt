@@ -8,7 +8,7 @@ ghost use Rattle.teg_settle.specs.LimitRefusals.{greatest_limit};
 
 use crate::live_net::LiveNet;
 use crate::numbers::{FiringNumber, Limit, most_of};
-use crate::outcome::{Outcome, Verdict};
+use crate::outcome::{CommandOutcome, Verdict};
 use settled_laws::forms_tell_dates;
 use std::alloc::Global;
 use teg_net::{Label, OutOfMemory, TransitionId};
@@ -21,7 +21,7 @@ fn tell_too_long(
     net: &LiveNet,
     limit: Option<u32>,
     refusal: SettleRefusal,
-) -> Result<Outcome, OutOfMemory>
+) -> Result<CommandOutcome, OutOfMemory>
     requires { FormExceedsLimit net.now limit refusal }
     ensures { Tells (SaysTooLong (NetSettlesPast net.now) limit) (outcome_of result) }
 {
@@ -29,7 +29,7 @@ fn tell_too_long(
         SettleRefusal::TooLong { limit } => {
             let text = report(alloc, None, &Answer::TooLong { limit })?;
             let verdict = Verdict::TooLong;
-            Ok(Outcome { verdict, text })
+            Ok(CommandOutcome { verdict, text })
         }
         SettleRefusal::OutOfMemory => Err(OutOfMemory),
     }
@@ -41,7 +41,7 @@ pub fn tell_dates(
     alloc: Global,
     net: &LiveNet,
     limit: Option<Limit>,
-) -> Result<Outcome, OutOfMemory>
+) -> Result<CommandOutcome, OutOfMemory>
     ensures { Tells (SaysDates limit net.now) (outcome_of result) }
 {
     let limit = most_of(limit);
@@ -50,7 +50,7 @@ pub fn tell_dates(
             let answer = Answer::Dates { settled: &settled };
             let text = report(alloc, Some(net.net()), &answer)?;
             let verdict = Verdict::Done;
-            Ok(Outcome { verdict, text })
+            Ok(CommandOutcome { verdict, text })
         }
         Err(refusal) => tell_too_long(alloc, net, limit, refusal),
     }
@@ -63,7 +63,7 @@ fn tell_date_of(
     transition: TransitionId,
     number: u64,
     limit: Option<u32>,
-) -> Result<Outcome, OutOfMemory>
+) -> Result<CommandOutcome, OutOfMemory>
     requires transition { transition.index < length net.now.transitions }
     requires first { 1 ≤ number }
     requires last { number ≤ greatest_firing_number }
@@ -80,20 +80,20 @@ fn tell_date_of(
             };
             let text = report(alloc, Some(net.net()), &answer)?;
             let verdict = Verdict::Done;
-            Ok(Outcome { verdict, text })
+            Ok(CommandOutcome { verdict, text })
         }
         Err(refusal) => tell_too_long(alloc, net, limit, refusal),
     }
 }
 
 // That no transition has the name that was asked for.
-fn tell_no_transition(alloc: Global, word: &str) -> Result<Outcome, OutOfMemory>
+fn tell_no_transition(alloc: Global, word: &str) -> Result<CommandOutcome, OutOfMemory>
     ensures { Tells (TellsNoTransition word.now) (outcome_of result) }
 {
     let word = Label::new(alloc, word)?;
     let text = report(alloc, None, &Answer::NoTransition { word: &word })?;
     let verdict = Verdict::Name;
-    Ok(Outcome { verdict, text })
+    Ok(CommandOutcome { verdict, text })
 }
 
 /// The date of one firing of a live net, by the name of its transition and its number; or that no
@@ -105,7 +105,7 @@ pub fn tell_date(
     word: &str,
     number: FiringNumber,
     limit: Option<Limit>,
-) -> Result<Outcome, OutOfMemory>
+) -> Result<CommandOutcome, OutOfMemory>
     ensures { Tells (SaysDate word.now number limit net.now) (outcome_of result) }
 {
     let number = number.get();

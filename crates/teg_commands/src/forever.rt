@@ -2,12 +2,13 @@
 ghost use Rattle.std.specs.Prelude.{◌≡◌, ◌≤◌, IfNone, IfSome, length};
 ghost use Rattle.teg_report.specs.csv_records.Records.{most_file_bytes};
 ghost use Rattle.teg_forever.specs.forever_laws.EndlessRows.{IsEndlessOf};
-ghost use Rattle.teg_commands.specs.Forever.{EndsUnreleased, SaysEndless, SaysForever, SaysUnreleased, TellsBadEndless};
-ghost use Rattle.teg_commands.specs.CommandOutcomes.{Tells, outcome_of};
+ghost use Rattle.teg_commands.specs.Forever.{EndsUnreleased, SaysEndless, SaysForever, SaysUnreleased};
+ghost use Rattle.teg_commands.specs.CommandOutcomes.{Tells, TellsWhy, outcome_of};
+ghost use Rattle.teg_forever.specs.EndlessTexts.{Faulty, answer_lines};
 ghost use Rattle.teg_forever.specs.LatestReleases.{ForeverRefused};
 
 use crate::live_net::LiveNet;
-use crate::outcome::{Outcome, Verdict};
+use crate::outcome::{CommandOutcome, Verdict};
 use std::alloc::Global;
 use teg_forever::{
     EndlessRefusal, EndlessRow, ForeverRefusal, endless_refusal_text, forever_refusal_text,
@@ -20,8 +21,8 @@ fn refuse_endless(
     alloc: Global,
     net: &LiveNet,
     fault: &EndlessRefusal,
-) -> Result<Outcome, OutOfMemory>
-    ensures { Tells (TellsBadEndless net.now fault.now) (outcome_of result) }
+) -> Result<CommandOutcome, OutOfMemory>
+    ensures { Tells (TellsWhy (λ f. answer_lines net.now (Faulty f)) EndlessRefusal.OutOfMemory Verdict.Schedule fault.now) (outcome_of result) }
 {
     match fault {
         EndlessRefusal::OutOfMemory => Err(OutOfMemory),
@@ -32,7 +33,7 @@ fn refuse_endless(
         | EndlessRefusal::OutOfRange { .. }
         | EndlessRefusal::Falls { .. } => {
             let text = endless_refusal_text(alloc, fault)?;
-            Ok(Outcome::told(Verdict::Schedule, text))
+            Ok(CommandOutcome::told(Verdict::Schedule, text))
         }
     }
 }
@@ -56,7 +57,7 @@ fn tell_unreleased(
     net: &LiveNet,
     rows: &[EndlessRow],
     refusal: &ForeverRefusal,
-) -> Result<Outcome, OutOfMemory>
+) -> Result<CommandOutcome, OutOfMemory>
     requires rows { IsEndlessOf net.now rows.now }
     requires refused { ForeverRefused net.now rows.now refusal.now }
     ensures { Tells (SaysUnreleased net.now rows.now) (outcome_of result) }
@@ -65,18 +66,22 @@ fn tell_unreleased(
         return Err(OutOfMemory);
     };
     let text = forever_refusal_text(alloc, net.net(), refusal)?;
-    Ok(Outcome::told(verdict, text))
+    Ok(CommandOutcome::told(verdict, text))
 }
 
 // The latest releases for endless due dates that were read, or why they are not told.
-fn tell_endless(alloc: Global, net: &LiveNet, rows: &[EndlessRow]) -> Result<Outcome, OutOfMemory>
+fn tell_endless(
+    alloc: Global,
+    net: &LiveNet,
+    rows: &[EndlessRow],
+) -> Result<CommandOutcome, OutOfMemory>
     requires { IsEndlessOf net.now rows.now }
     ensures { Tells (SaysEndless net.now rows.now) (outcome_of result) }
 {
     match net.releases(alloc, rows) {
         Ok(releases) => {
             let text = releases_text(alloc, net.net(), &releases)?;
-            Ok(Outcome::told(Verdict::Done, text))
+            Ok(CommandOutcome::told(Verdict::Done, text))
         }
         Err(refusal) => tell_unreleased(alloc, net, rows, &refusal),
     }
@@ -87,7 +92,11 @@ fn tell_endless(alloc: Global, net: &LiveNet, rows: &[EndlessRow]) -> Result<Out
 /// least late number; or the first input whose series are too long; or the first faulty row of the
 /// file. It takes the time of the search for the settled forms of the dates and of the times from
 /// each input.
-pub fn tell_forever(alloc: Global, net: &LiveNet, bytes: &[u8]) -> Result<Outcome, OutOfMemory>
+pub fn tell_forever(
+    alloc: Global,
+    net: &LiveNet,
+    bytes: &[u8],
+) -> Result<CommandOutcome, OutOfMemory>
     requires { length bytes.now ≤ most_file_bytes }
     ensures { Tells (SaysForever net.now bytes.now) (outcome_of result) }
 {

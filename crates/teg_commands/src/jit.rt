@@ -1,14 +1,15 @@
 //! The latest inputs of a live net by which due dates are met.
-ghost use Rattle.std.specs.Prelude.{◌≤◌, length};
+ghost use Rattle.std.specs.Prelude.{◌≤◌, ◌∷◌, [], length};
+ghost use Rattle.teg_report.specs.FileRows.{due_line};
 ghost use Rattle.teg_report.specs.csv_records.Records.{most_file_bytes};
-ghost use Rattle.teg_commands.specs.Jit.{SaysJit, SaysLate, SaysLatest, TellsBadDue};
-ghost use Rattle.teg_commands.specs.CommandOutcomes.{Tells, outcome_of};
+ghost use Rattle.teg_commands.specs.Jit.{SaysJit, SaysLate, SaysLatest};
+ghost use Rattle.teg_commands.specs.CommandOutcomes.{Tells, TellsWhy, outcome_of};
 ghost use Rattle.teg_due.specs.RowRules.{IsDueOf};
 ghost use Rattle.teg_jit.specs.LateRefusals.{LateIsRight};
 ghost use Rattle.teg_net.specs.Circuits.{IsLive};
 
 use crate::live_net::LiveNet;
-use crate::outcome::{Outcome, Verdict};
+use crate::outcome::{CommandOutcome, Verdict};
 use due_laws::zero_inputs_meet;
 use std::alloc::Global;
 use teg_due::{Due, DueRefusal, read_due};
@@ -17,8 +18,8 @@ use teg_net::OutOfMemory;
 use teg_report::{Answer, report};
 
 // Why a due file says no due dates.
-fn refuse_due(alloc: Global, refusal: &DueRefusal) -> Result<Outcome, OutOfMemory>
-    ensures { Tells (TellsBadDue refusal.now) (outcome_of result) }
+fn refuse_due(alloc: Global, refusal: &DueRefusal) -> Result<CommandOutcome, OutOfMemory>
+    ensures { Tells (TellsWhy (λ r. due_line r ∷ []) DueRefusal.OutOfMemory Verdict.Schedule refusal.now) (outcome_of result) }
 {
     match refusal {
         DueRefusal::OutOfMemory => Err(OutOfMemory),
@@ -29,7 +30,7 @@ fn refuse_due(alloc: Global, refusal: &DueRefusal) -> Result<Outcome, OutOfMemor
         | DueRefusal::OutOfRange { .. } => {
             let text = report(alloc, None, &Answer::Due { refusal })?;
             let verdict = Verdict::Schedule;
-            Ok(Outcome { verdict, text })
+            Ok(CommandOutcome { verdict, text })
         }
     }
 }
@@ -40,7 +41,7 @@ fn tell_late(
     net: &LiveNet,
     due: &Due,
     refusal: &JitRefusal,
-) -> Result<Outcome, OutOfMemory>
+) -> Result<CommandOutcome, OutOfMemory>
     requires due { IsDueOf net.now due.now.rows.items }
     requires live { IsLive net.now }
     requires late { LateIsRight net.now due.now.rows.items refusal.now }
@@ -55,13 +56,13 @@ fn tell_late(
             late_excludes_meet();
             let text = report(alloc, Some(net.net()), &Answer::Late { refusal })?;
             let verdict = Verdict::Late;
-            Ok(Outcome { verdict, text })
+            Ok(CommandOutcome { verdict, text })
         }
     }
 }
 
 // The latest dates for a due list that was read.
-fn tell_latest(alloc: Global, net: &LiveNet, due: &Due) -> Result<Outcome, OutOfMemory>
+fn tell_latest(alloc: Global, net: &LiveNet, due: &Due) -> Result<CommandOutcome, OutOfMemory>
     requires { IsDueOf net.now due.now.rows.items }
     ensures { Tells (SaysLatest net.now due.now.rows.items) (outcome_of result) }
 {
@@ -72,7 +73,7 @@ fn tell_latest(alloc: Global, net: &LiveNet, due: &Due) -> Result<Outcome, OutOf
             plans_lead();
             let text = report(alloc, Some(net.net()), &Answer::Jit { plan: &plan })?;
             let verdict = Verdict::Done;
-            Ok(Outcome { verdict, text })
+            Ok(CommandOutcome { verdict, text })
         }
         Err(refusal) => tell_late(alloc, net, due, &refusal),
     }
@@ -82,7 +83,7 @@ fn tell_latest(alloc: Global, net: &LiveNet, due: &Due) -> Result<Outcome, OutOf
 /// date of each firing; or the first row that comes late whatever the inputs are; or the first
 /// faulty row of the file. It takes time of order `N (n + p)` for numbers up to N, n transitions
 /// and p places, and `r log r` for r rows.
-pub fn tell_jit(alloc: Global, net: &LiveNet, bytes: &[u8]) -> Result<Outcome, OutOfMemory>
+pub fn tell_jit(alloc: Global, net: &LiveNet, bytes: &[u8]) -> Result<CommandOutcome, OutOfMemory>
     requires { length bytes.now ≤ most_file_bytes }
     ensures { Tells (SaysJit net.now bytes.now) (outcome_of result) }
 {

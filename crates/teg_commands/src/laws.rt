@@ -1,6 +1,7 @@
-//! The laws of what is told: of a net without a circuit, of the rounds behind the cycle times, and
-//! of files that give no bytes. Each is a function that does nothing when it runs: its contract is
+//! The laws of what is told: of a net without a circuit, of the rounds behind the cycle times, of
+//! files that give no bytes, and of the answers whose bytes are those of no other answer. Each is a function that does nothing when it runs: its contract is
 //! the law.
+ghost use Rattle.teg_commands.specs.ToldAnswers.{AnswersOfCommandsAreTold};
 ghost use Rattle.teg_commands.specs.SpecialCases.{NoCircuitIsTold, RoundsFollowTimes, UnreadFilesAreTold};
 
 use teg_howard::policy_runs_are_one;
@@ -23,4 +24,11 @@ pub fn rounds_follow_times()
 /// `texts_of_endless_differ` and `texts_of_timetables_differ` speak.
 pub fn unread_files_are_told()
     ensures { UnreadFilesAreTold }
+{}
+
+/// That the answers of `form`, `dates`, `date`, `slack`, `transfer` and `jit` are told, by what
+/// these commands say of them: so the law `answers_are_read` of `teg_report` holds of them, each is
+/// read back from the bytes that are written, and other answers about the net have other bytes.
+pub fn answers_of_commands_are_told()
+    ensures { AnswersOfCommandsAreTold }
 {}

@@ -43,14 +43,16 @@ pub use dates::{tell_date, tell_dates};
 pub use forever::tell_forever;
 pub use form::tell_form;
 pub use jit::tell_jit;
-pub use laws::{no_circuit_is_told, rounds_follow_times, unread_files_are_told};
+pub use laws::{
+    answers_of_commands_are_told, no_circuit_is_told, rounds_follow_times, unread_files_are_told,
+};
 pub use live_net::LiveNet;
 pub use migrate::tell_migrate;
 pub use numbers::{
     Count, FiringNumber, GREATEST_TARGET_TIME, Limit, MOST_TARGET_TOKENS, Machines, Period, Target,
     UpTo,
 };
-pub use outcome::{Outcome, Verdict};
+pub use outcome::{CommandOutcome, Verdict};
 pub use replay::tell_replay;
 pub use size::tell_size;
 pub use slack::tell_slack;

@@ -3,17 +3,17 @@ ghost use Rattle.teg_commands.specs.Migrate.{SaysMigrate};
 ghost use Rattle.teg_commands.specs.CommandOutcomes.{Tells, outcome_of};
 
 use crate::live_net::LiveNet;
-use crate::outcome::{Outcome, Verdict};
+use crate::outcome::{CommandOutcome, Verdict};
 use std::alloc::Global;
 use teg_net::OutOfMemory;
 use teg_reader::write_net;
 
 /// A live net as a file of the second version, without durations. It takes time of order of the
 /// size of the file that is written.
-pub fn tell_migrate(alloc: Global, net: &LiveNet) -> Result<Outcome, OutOfMemory>
+pub fn tell_migrate(alloc: Global, net: &LiveNet) -> Result<CommandOutcome, OutOfMemory>
     ensures { Tells (SaysMigrate net.now) (outcome_of result) }
 {
     let text = write_net(alloc, net.net())?;
     let verdict = Verdict::Done;
-    Ok(Outcome { verdict, text })
+    Ok(CommandOutcome { verdict, text })
 }

@@ -25,18 +25,18 @@ pub enum Verdict {
 
 /// What a command comes to on accepted files: how it ends, and its text.
 #[derive(Drop)]
-pub struct Outcome {
+pub struct CommandOutcome {
     pub verdict: Verdict,
     pub text: Vec<u8>,
 }
 
-impl Outcome {
+impl CommandOutcome {
     // What a command comes to that ends so, with this text.
-    pub(crate) fn told(verdict: Verdict, text: String) -> Outcome
+    pub(crate) fn told(verdict: Verdict, text: String) -> CommandOutcome
         ensures verdict { result.verdict ≡ verdict }
         ensures text { result.text.items ≡ string_bytes text }
     {
         let text = text.into_bytes();
-        Outcome { verdict, text }
+        CommandOutcome { verdict, text }
     }
 }

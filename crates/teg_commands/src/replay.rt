@@ -1,14 +1,14 @@
 //! Recorded runs: a log that is replayed, and the lines of the monitors.
 ghost use Rattle.std.specs.Prelude.{◌≡◌, ◌≤◌, ◌++◌, Some, ◌∷◌, [], All, IfOk, IfSome, is_ok, length, map, string_bytes};
 ghost use Rattle.teg_outside.specs.Monitors.{IsOneLine, lines_by};
-ghost use Rattle.teg_commands.specs.CommandOutcomes.{Tells, outcome_of};
+ghost use Rattle.teg_commands.specs.CommandOutcomes.{Tells, TellsWhy, outcome_of};
 ghost use Rattle.teg_report.specs.csv_records.Records.{most_file_bytes};
-ghost use Rattle.teg_commands.specs.Replay.{CanTellRefusal, IsToldAs, SaysEnd, SaysReplay, SaysRun, ShowsReplay, ShowsRun, TellsBadLog};
+ghost use Rattle.teg_commands.specs.Replay.{CanTellRefusal, IsToldAs, SaysEnd, SaysReplay, SaysRun, ShowsReplay, ShowsRun};
 ghost use Rattle.teg_due.specs.RowRules.{IsLogOf};
-ghost use Rattle.teg_report.specs.FileRows.{IsFailureIn};
+ghost use Rattle.teg_report.specs.FileRows.{IsFailureIn, log_line};
 
 use crate::live_net::LiveNet;
-use crate::outcome::{Outcome, Verdict};
+use crate::outcome::{CommandOutcome, Verdict};
 use std::alloc::Global;
 use teg_due::{LogRefusal, LogRow, read_log};
 use teg_net::OutOfMemory;
@@ -17,8 +17,8 @@ use teg_replay::{FireRefusal, Replayed, replay};
 use teg_report::{Answer, Failure, report};
 
 // Why a log says no firings.
-fn refuse_log(alloc: Global, refusal: &LogRefusal) -> Result<Outcome, OutOfMemory>
-    ensures { Tells (TellsBadLog refusal.now) (outcome_of result) }
+fn refuse_log(alloc: Global, refusal: &LogRefusal) -> Result<CommandOutcome, OutOfMemory>
+    ensures { Tells (TellsWhy (λ r. log_line r ∷ []) LogRefusal.OutOfMemory Verdict.Log refusal.now) (outcome_of result) }
 {
     match refusal {
         LogRefusal::OutOfMemory => Err(OutOfMemory),
@@ -27,7 +27,7 @@ fn refuse_log(alloc: Global, refusal: &LogRefusal) -> Result<Outcome, OutOfMemor
         | LogRefusal::OutOfRange { .. } => {
             let text = report(alloc, None, &Answer::Log { refusal })?;
             let verdict = Verdict::Log;
-            Ok(Outcome { verdict, text })
+            Ok(CommandOutcome { verdict, text })
         }
     }
 }
@@ -87,7 +87,7 @@ fn tell_end(
     net: &LiveNet,
     replayed: &Replayed,
     lines: &[String],
-) -> Result<Outcome, OutOfMemory>
+) -> Result<CommandOutcome, OutOfMemory>
     requires named { IfSome replayed.now.refused (λ refused. CanTellRefusal net.now refused.why) }
     requires one_line { All IsOneLine (map string_bytes lines.now) }
     ensures { Tells (SaysEnd net.now replayed.now.refused replayed.now.accepted
@@ -98,7 +98,7 @@ fn tell_end(
             let accepted = replayed.accepted;
             let text = report(alloc, None, &Answer::Replayed { accepted, lines })?;
             let verdict = Verdict::Done;
-            Ok(Outcome { verdict, text })
+            Ok(CommandOutcome { verdict, text })
         }
         Some(refused) => {
             let answer = Answer::Refused {
@@ -108,7 +108,7 @@ fn tell_end(
             };
             let text = report(alloc, Some(net.net()), &answer)?;
             let verdict = Verdict::Log;
-            Ok(Outcome { verdict, text })
+            Ok(CommandOutcome { verdict, text })
         }
     }
 }
@@ -119,7 +119,7 @@ fn tell_seen(
     net: &LiveNet,
     replayed: &Replayed,
     monitors: &[Box<dyn Monitor>],
-) -> Result<Outcome, OutOfMemory>
+) -> Result<CommandOutcome, OutOfMemory>
     requires { IfSome replayed.now.refused (λ refused. CanTellRefusal net.now refused.why) }
     ensures { Tells (SaysEnd net.now replayed.now.refused replayed.now.accepted
         (lines_by line_text monitors.now [])) (outcome_of result) }
@@ -134,7 +134,7 @@ fn tell_run(
     net: &LiveNet,
     rows: &[LogRow],
     mut monitors: Vec<Box<dyn Monitor>>,
-) -> (Result<Outcome, OutOfMemory>, Vec<Box<dyn Monitor>>)
+) -> (Result<CommandOutcome, OutOfMemory>, Vec<Box<dyn Monitor>>)
     requires few { length rows.now ≤ most_file_bytes }
     requires rows { IsLogOf net.now rows.now }
     ensures says { Tells (SaysRun (lines_by line_text monitors.items) net.now rows.now)
@@ -160,7 +160,7 @@ pub fn tell_replay(
     net: &LiveNet,
     bytes: &[u8],
     monitors: Vec<Box<dyn Monitor>>,
-) -> (Result<Outcome, OutOfMemory>, Vec<Box<dyn Monitor>>)
+) -> (Result<CommandOutcome, OutOfMemory>, Vec<Box<dyn Monitor>>)
     requires { length bytes.now ≤ most_file_bytes }
     ensures says { Tells (SaysReplay (lines_by line_text monitors.items) net.now bytes.now)
         (outcome_of result.0) }

@@ -6,7 +6,7 @@ ghost use Rattle.teg_sizing.specs.ValueRounds.{IsTarget};
 
 use crate::live_net::LiveNet;
 use crate::numbers::Target;
-use crate::outcome::{Outcome, Verdict};
+use crate::outcome::{CommandOutcome, Verdict};
 use std::alloc::Global;
 use teg_net::{OutOfMemory, PlaceId, Ratio};
 use teg_sizing::{no_place_text, sizing_text};
@@ -17,22 +17,22 @@ fn tell_size_of(
     net: &LiveNet,
     place: PlaceId,
     target: Ratio,
-) -> Result<Outcome, OutOfMemory>
+) -> Result<CommandOutcome, OutOfMemory>
     requires place { place.index < length net.now.places }
     requires target { IsTarget target }
     ensures { Tells (SaysSizeOf place target net.now) (outcome_of result) }
 {
     let sizing = net.sizing(alloc, place, &target)?;
     let text = sizing_text(alloc, net.net(), place, &target, &sizing)?;
-    Ok(Outcome::told(Verdict::Done, text))
+    Ok(CommandOutcome::told(Verdict::Done, text))
 }
 
 // That no place has the name that was asked for.
-fn tell_no_place(alloc: Global, word: &str) -> Result<Outcome, OutOfMemory>
+fn tell_no_place(alloc: Global, word: &str) -> Result<CommandOutcome, OutOfMemory>
     ensures { Tells (TellsNoPlace word.now) (outcome_of result) }
 {
     let text = no_place_text(alloc, word)?;
-    Ok(Outcome::told(Verdict::Name, text))
+    Ok(CommandOutcome::told(Verdict::Name, text))
 }
 
 /// The fewest further tokens of the place of this name with which no circuit of a live net has a
@@ -43,7 +43,7 @@ pub fn tell_size(
     net: &LiveNet,
     word: &str,
     target: Target,
-) -> Result<Outcome, OutOfMemory>
+) -> Result<CommandOutcome, OutOfMemory>
     ensures { Tells (SaysSize word.now target.0 target.1 net.now) (outcome_of result) }
 {
     let (time, tokens) = (target.time(), target.tokens());

@@ -7,7 +7,7 @@ ghost use Rattle.teg_net.specs.Certificates.{IsCertificate};
 ghost use Rattle.teg_net.specs.GreatestRatios.{HasNoCircuit, IsAnyPlace};
 
 use crate::live_net::LiveNet;
-use crate::outcome::{Outcome, Verdict};
+use crate::outcome::{CommandOutcome, Verdict};
 use std::alloc::Global;
 use teg_net::{CycleAnswer, OutOfMemory, Ratio};
 use teg_report::{Answer, report};
@@ -28,7 +28,7 @@ fn tell_slacks(
     net: &LiveNet,
     answer: &CycleAnswer,
     ratio: &Ratio,
-) -> Result<Outcome, OutOfMemory>
+) -> Result<CommandOutcome, OutOfMemory>
     requires certificate { IsCertificate net.now answer.now }
     requires best { IsBestRatio net.now ratio.now }
     ensures { Tells (SaysSlack net.now) (outcome_of result) }
@@ -40,12 +40,12 @@ fn tell_slacks(
     };
     let text = report(alloc, Some(net.net()), &answer)?;
     let verdict = Verdict::Done;
-    Ok(Outcome { verdict, text })
+    Ok(CommandOutcome { verdict, text })
 }
 
 /// The slack of each place of a live net, or that the net has no circuit. It takes time of order
 /// n p log p for n transitions and p places, and that of the cycle times.
-pub fn tell_slack(alloc: Global, net: &LiveNet) -> Result<Outcome, OutOfMemory>
+pub fn tell_slack(alloc: Global, net: &LiveNet) -> Result<CommandOutcome, OutOfMemory>
     ensures { Tells (SaysSlack net.now) (outcome_of result) }
 {
     let parts = net.parts(alloc)?;
@@ -55,7 +55,7 @@ pub fn tell_slack(alloc: Global, net: &LiveNet) -> Result<Outcome, OutOfMemory>
         None => {
             let text = report(alloc, None, &Answer::NoCircuit)?;
             let verdict = Verdict::Done;
-            Ok(Outcome { verdict, text })
+            Ok(CommandOutcome { verdict, text })
         }
     }
 }

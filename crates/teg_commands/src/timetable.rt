@@ -11,7 +11,7 @@ ghost use Rattle.teg_timetable.specs.TimetableFiles.{IsTableRefusalIn};
 
 use crate::live_net::LiveNet;
 use crate::numbers::{Limit, Period, most_of};
-use crate::outcome::{Outcome, Verdict};
+use crate::outcome::{CommandOutcome, Verdict};
 use std::alloc::Global;
 use teg_net::OutOfMemory;
 use teg_timetable::{
@@ -20,12 +20,16 @@ use teg_timetable::{
 };
 
 // Why a file says no timetable.
-fn refuse_table(alloc: Global, net: &LiveNet, fault: &TableRefusal) -> Result<Outcome, OutOfMemory>
+fn refuse_table(
+    alloc: Global,
+    net: &LiveNet,
+    fault: &TableRefusal,
+) -> Result<CommandOutcome, OutOfMemory>
     requires { IsTableRefusalIn net.now fault.now }
     ensures { Tells (TellsBadTable net.now fault.now) (outcome_of result) }
 {
     let text = table_refusal_text(alloc, net.net(), fault)?;
-    Ok(Outcome::told(Verdict::Schedule, text))
+    Ok(CommandOutcome::told(Verdict::Schedule, text))
 }
 
 // How a command ends that does not say how delays spread; none for want of memory.
@@ -49,7 +53,7 @@ fn tell_unspread(
     table: &Timetable,
     limit: Option<u32>,
     refusal: &DelayRefusal,
-) -> Result<Outcome, OutOfMemory>
+) -> Result<CommandOutcome, OutOfMemory>
     requires { IsDelayRefusal net.now period table.now limit refusal.now }
     ensures { Tells (SaysUnspread period limit net.now table.now) (outcome_of result) }
 {
@@ -57,7 +61,7 @@ fn tell_unspread(
         return Err(OutOfMemory);
     };
     let text = delay_refusal_text(alloc, net.net(), refusal)?;
-    Ok(Outcome::told(verdict, text))
+    Ok(CommandOutcome::told(verdict, text))
 }
 
 // How the delays of a timetable that was read spread, or why not.
@@ -67,7 +71,7 @@ fn tell_delays(
     period: u64,
     table: &Timetable,
     limit: Option<u32>,
-) -> Result<Outcome, OutOfMemory>
+) -> Result<CommandOutcome, OutOfMemory>
     requires some { 1 ≤ period }
     requires period { period ≤ greatest_period }
     requires table { IsTableOf net.now table.now }
@@ -77,7 +81,7 @@ fn tell_delays(
     match net.spread(alloc, period, table, limit) {
         Ok(delayed) => {
             let text = spread_text(alloc, net.net(), &delayed)?;
-            Ok(Outcome::told(Verdict::Done, text))
+            Ok(CommandOutcome::told(Verdict::Done, text))
         }
         Err(refusal) => tell_unspread(alloc, net, period, table, limit, &refusal),
     }
@@ -94,7 +98,7 @@ pub fn tell_timetable(
     period: Period,
     bytes: &[u8],
     limit: Option<Limit>,
-) -> Result<Outcome, OutOfMemory>
+) -> Result<CommandOutcome, OutOfMemory>
     requires { length bytes.now ≤ most_file_bytes }
     ensures { Tells (SaysTimetable period limit net.now bytes.now) (outcome_of result) }
 {

@@ -10,7 +10,7 @@ ghost use Rattle.teg_settle.specs.LimitRefusals.{IsRightSettleRefusal, greatest_
 
 use crate::live_net::LiveNet;
 use crate::numbers::Limit;
-use crate::outcome::{Outcome, Verdict};
+use crate::outcome::{CommandOutcome, Verdict};
 use std::alloc::{AllocError, Global};
 use teg_net::{Net, OutOfMemory, Role, TransitionId};
 use teg_report::{Answer, TransferFrom, TransferLine, report};
@@ -121,7 +121,7 @@ fn tell_too_long(
     net: &LiveNet,
     limit: u32,
     refusal: SettleRefusal,
-) -> Result<Outcome, OutOfMemory>
+) -> Result<CommandOutcome, OutOfMemory>
     requires { IsRightSettleRefusal (TimesSettlePast net.now limit) limit refusal }
     ensures { Tells (SaysTooLong (TimesSettlePast net.now) (Some limit)) (outcome_of result) }
 {
@@ -129,7 +129,7 @@ fn tell_too_long(
         SettleRefusal::TooLong { limit } => {
             let text = report(alloc, None, &Answer::TooLong { limit })?;
             let verdict = Verdict::TooLong;
-            Ok(Outcome { verdict, text })
+            Ok(CommandOutcome { verdict, text })
         }
         SettleRefusal::OutOfMemory => Err(OutOfMemory),
     }
@@ -138,7 +138,11 @@ fn tell_too_long(
 /// The greatest times of walks from the first firing of each input of a live net to the firings of
 /// each output, as the shortest settled form over all transitions; or that such a form is longer
 /// than the limit. It takes the time of the search for a form for each input.
-pub fn tell_transfer(alloc: Global, net: &LiveNet, limit: Limit) -> Result<Outcome, OutOfMemory>
+pub fn tell_transfer(
+    alloc: Global,
+    net: &LiveNet,
+    limit: Limit,
+) -> Result<CommandOutcome, OutOfMemory>
     ensures { Tells (SaysTransfer limit net.now) (outcome_of result) }
 {
     let limit = limit.get() as u32;
@@ -147,7 +151,7 @@ pub fn tell_transfer(alloc: Global, net: &LiveNet, limit: Limit) -> Result<Outco
             let inputs = times.as_slice();
             let text = report(alloc, Some(net.net()), &Answer::Transfer { inputs })?;
             let verdict = Verdict::Done;
-            Ok(Outcome { verdict, text })
+            Ok(CommandOutcome { verdict, text })
         }
         Err(refusal) => tell_too_long(alloc, net, limit, refusal),
     }

@@ -12,7 +12,7 @@ ghost use Rattle.teg_net.specs.Limits.{most_places};
 
 use crate::live_net::LiveNet;
 use crate::numbers::Machines;
-use crate::outcome::{Outcome, Verdict};
+use crate::outcome::{CommandOutcome, Verdict};
 use crate::slack::best_ratio;
 use std::alloc::Global;
 use teg_check::ranks_of;
@@ -55,7 +55,7 @@ fn tell_line(
     net: &LiveNet,
     ratio: &Ratio,
     slacks: &Slacks,
-) -> Result<Outcome, OutOfMemory>
+) -> Result<CommandOutcome, OutOfMemory>
     requires some { 1 ≤ machines }
     requires few { machines ≤ 400 }
     requires net { net.now ≡ trial machines }
@@ -78,7 +78,7 @@ fn tell_line(
     };
     let text = report(alloc, None, &answer)?;
     let verdict = Verdict::Done;
-    Ok(Outcome { verdict, text })
+    Ok(CommandOutcome { verdict, text })
 }
 
 // What is told of the line by the cycle times of its net.
@@ -87,7 +87,7 @@ fn tell_answer(
     machines: u32,
     net: &LiveNet,
     answer: &CycleAnswer,
-) -> Result<Outcome, OutOfMemory>
+) -> Result<CommandOutcome, OutOfMemory>
     requires some { 1 ≤ machines }
     requires few { machines ≤ 400 }
     requires net { net.now ≡ trial machines }
@@ -112,7 +112,7 @@ fn answer_of(alloc: Global, net: &LiveNet) -> Result<CycleAnswer, OutOfMemory>
 }
 
 // What is told of the line, by its net.
-fn tell_net(alloc: Global, machines: u32, net: &LiveNet) -> Result<Outcome, OutOfMemory>
+fn tell_net(alloc: Global, machines: u32, net: &LiveNet) -> Result<CommandOutcome, OutOfMemory>
     requires some { 1 ≤ machines }
     requires few { machines ≤ 400 }
     requires net { net.now ≡ trial machines }
@@ -124,7 +124,7 @@ fn tell_net(alloc: Global, machines: u32, net: &LiveNet) -> Result<Outcome, OutO
 
 /// The cycle time of the line of so many machines, how many of its places are critical, and the
 /// date of the 1,000th firing of its last machine.
-pub fn tell_trial(alloc: Global, machines: Machines) -> Result<Outcome, OutOfMemory>
+pub fn tell_trial(alloc: Global, machines: Machines) -> Result<CommandOutcome, OutOfMemory>
     ensures { Tells (SaysTrial machines) (outcome_of result) }
 {
     let machines = machines.get() as u32;

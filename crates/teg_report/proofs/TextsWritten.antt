@@ -1,7 +1,7 @@
 -- Lines of the usage, as their parts.
 use Rattle.std.proofs.Common.{◌≡◌, ℕ, ◌+◌, ◌-◌, ◌≤◌, List, [], ◌∷◌, ◌++◌, length, map, take, drop, get_or, sym, ap, ◌∙◌, append_assoc, arith, codes}
 use Rattle.std.proofs.lemmas.List.{take_all}
-use Rattle.teg_report.specs.ShortAnswers.{usage_from}
+use Rattle.teg_report.specs.UsageLines.{usage_from}
 use Rattle.teg_text.specs.Lines.{phrase, line_then, written}
 use Rattle.teg_text.proofs.Joining.{line_append}
 use Rattle.teg_report.proofs.FileRowsWritten.{phrase_line}

@@ -23,7 +23,8 @@ use Rattle.teg_text.specs.Lines.{written}
 use Rattle.teg_text.specs.WordsOfNames.{name_of_transition}
 use Rattle.teg_report.specs.DateLists.{list_lines}
 use Rattle.teg_report.specs.FileRefusalLines.{read_line}
-use Rattle.teg_report.specs.ShortAnswers.{usage_lines, live_lines, no_circuit_line, too_large_line, read_fault_line, token_free_line, no_transition_line, too_long_line, date_line}
+use Rattle.teg_report.specs.UsageLines.{usage_lines}
+use Rattle.teg_report.specs.ShortAnswers.{live_lines, no_circuit_line, too_large_line, read_fault_line, token_free_line, no_transition_line, too_long_line, date_line}
 
 -- the net whose names are told; no names where none is given
 abbrev pub names_from : Option NetLists → NetLists

@@ -6,25 +6,11 @@ use Rattle.teg_net.specs.declared.entries.PlaceId.{PlaceId}
 use Rattle.teg_net.specs.Nets.{NetLists}
 use Rattle.teg_report.specs.declared.answer.Which.{Which}
 use Rattle.teg_report.specs.declared.answer.Which.TheVariants.{Net as NetFile, Due as DueFile, Log as LogFile, Timetable as TimetableFile}
-use Rattle.teg_report.specs.declared.usage.TheConstants.{COMMANDS}
 use Rattle.teg_text.specs.Lines.{phrase}
 use Rattle.teg_text.specs.WordsOfNames.{name_of_place, transition_in}
 use Rattle.teg_text.specs.ValueWords.{date_word, label_word}
 use Rattle.teg_report.specs.AnswerValues.{Answer, Live, Date}
 use Rattle.teg_text.specs.WordReading.{line_at, word, number_in, date_of_word}
-
--- the commands, each as it is used: its name and what follows it, from the one table of them
-abbrev pub command_forms : List (List ℕ)
-command_forms = map (λ command. command.0.now ++ 32 ∷ command.1.now) COMMANDS
-
--- how these commands are used, one line each, of which the first begins with this word
-abbrev pub usage_from : List ℕ → List (List ℕ) → List (List (List ℕ))
-usage_from begin [] = []
-usage_from begin (form ∷ forms) = phrase (begin ++ (codes " teg " ++ form)) ∷ usage_from (codes "      ") forms
-
--- what is told where words are refused
-abbrev pub usage_lines : List (List (List ℕ))
-usage_lines = usage_from (codes "usage:") command_forms
 
 -- a first word, and a number
 abbrev pub word_and_number : List ℕ → ℕ → List (List ℕ)

@@ -1,6 +1,6 @@
 //! How the commands are used: one table, from which the usage is written.
 ghost use Rattle.std.specs.Prelude.{◌≡◌, ◌++◌, ◌∷◌, [], IfOk, codes, map, string_bytes};
-ghost use Rattle.teg_report.specs.ShortAnswers.{usage_from, usage_lines};
+ghost use Rattle.teg_report.specs.UsageLines.{commands, usage_from, usage_lines};
 ghost use Rattle.teg_text.specs.Lines.{line_then, phrase, written};
 
 use std::alloc::{AllocError, Global};
@@ -57,3 +57,9 @@ pub(crate) fn usage(alloc: Global) -> Result<Vec<u8>, OutOfMemory>
     push_uses(&mut text, &COMMANDS[1..])?;
     Ok(text.into_bytes())
 }
+
+/// The law that the table [`COMMANDS`] has just the commands of the usage, in its order: their
+/// names, and what follows each. It does nothing when it runs.
+pub fn commands_are_told()
+    ensures { map (λ command. (command.0.now, command.1.now)) COMMANDS ≡ commands }
+{}

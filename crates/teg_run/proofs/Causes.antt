@@ -21,7 +21,7 @@ use Rattle.teg_run.specs.declared.request.Request.{Request}
 use Rattle.teg_run.specs.declared.request.Request.TheVariants.{OfNet, OfFiles, ValueOf, TrialOf}
 use Rattle.teg_run.specs.Requests.{files_of, second_of}
 use Rattle.teg_run.specs.Says.{Says, SaysFile, SaysFiles, SaysNet, SaysOpening, SaysOutcome, SaysSecond}
-use Rattle.teg_run.specs.Statuses.{IsOwn}
+use Rattle.teg_run.proofs.Verdicts.{IsGiven}
 use Rattle.teg_run.proofs.Refusals.{told_file}
 
 -- ---- what is accepted
@@ -40,21 +40,21 @@ net_opened files old mid name (Err OutOfMemory) net told read opens = absurd ope
 
 -- ---- what is refused has no status of a command
 
-document_refused : (said : Result NetLists ReadRefusal) (status : Status) (text : List ℕ) → OpensDocument said (Refused status text) → IsOwn status → ⊥
-document_refused (Ok net) status text h own = subst IsOwn h.0 own
-document_refused (Err NotToml) status text h own = let e : status ≡ read_status NotToml = cc in subst IsOwn e own
-document_refused (Err refusal) status text h own = let e : status ≡ read_status refusal = cc in subst IsOwn e own
+document_refused : (said : Result NetLists ReadRefusal) (status : Status) (text : List ℕ) → OpensDocument said (Refused status text) → IsGiven status → ⊥
+document_refused (Ok net) status text h own = subst IsGiven h.0 own
+document_refused (Err NotToml) status text h own = let e : status ≡ read_status NotToml = cc in subst IsGiven e own
+document_refused (Err refusal) status text h own = let e : status ≡ read_status refusal = cc in subst IsGiven e own
 
-net_refused : (reply : Result (List ℕ) ShelfFault) (status : Status) (text : List ℕ) → OpensNet reply (Refused status text) → IsOwn status → ⊥
+net_refused : (reply : Result (List ℕ) ShelfFault) (status : Status) (text : List ℕ) → OpensNet reply (Refused status text) → IsGiven status → ⊥
 net_refused (Ok bytes) status text h own = document_refused (document bytes) status text h own
-net_refused (Err TooLarge) status text h own = let e : status ≡ Text = cc in subst IsOwn e own
-net_refused (Err Failed) status text h own = let e : status ≡ ReadFault = cc in subst IsOwn e own
+net_refused (Err TooLarge) status text h own = let e : status ≡ Text = cc in subst IsGiven e own
+net_refused (Err Failed) status text h own = let e : status ≡ ReadFault = cc in subst IsGiven e own
 net_refused (Err OutOfMemory) status text h own = h
 
-bytes_refused : (which : Which) (reply : Result (List ℕ) ShelfFault) (status : Status) (text : List ℕ) → OpensBytes which reply (Refused status text) → IsOwn status → ⊥
+bytes_refused : (which : Which) (reply : Result (List ℕ) ShelfFault) (status : Status) (text : List ℕ) → OpensBytes which reply (Refused status text) → IsGiven status → ⊥
 bytes_refused which (Ok bytes) status text h own = let bad : ⊥ = cc in bad
-bytes_refused which (Err TooLarge) status text h own = let e : status ≡ Text = cc in subst IsOwn e own
-bytes_refused which (Err Failed) status text h own = let e : status ≡ ReadFault = cc in subst IsOwn e own
+bytes_refused which (Err TooLarge) status text h own = let e : status ≡ Text = cc in subst IsGiven e own
+bytes_refused which (Err Failed) status text h own = let e : status ≡ ReadFault = cc in subst IsGiven e own
 bytes_refused which (Err OutOfMemory) status text h own = h
 
 bytes_held : (files : List (List ℕ × List ℕ)) (old mid : ShelfState) (which : Which) (name : List ℕ) (reply : Result (List ℕ) ShelfFault) (bytes : List ℕ) → old.files ≡ Some files →
@@ -76,16 +76,16 @@ GoesOnWith files new name named goes_on status text =
 
 net_goes_on_by : (files : List (List ℕ × List ℕ)) (old mid new : ShelfState) (name : List ℕ) (named : List (Which × List ℕ))
     (goes_on : NetLists → List (Result (List ℕ) ShelfFault) → Status → List ℕ → Type 0) (reply : Result (List ℕ) ShelfFault) (replies : List (Result (List ℕ) ShelfFault))
-    (status : Status) (text : List ℕ) (opening : Opening NetLists) → old.files ≡ Some files → IsOwn status → Reads old mid name most_file_bytes reply → ReadsAll mid new named replies →
+    (status : Status) (text : List ℕ) (opening : Opening NetLists) → old.files ≡ Some files → IsGiven status → Reads old mid name most_file_bytes reply → ReadsAll mid new named replies →
     OpensNet reply opening → SaysOpening goes_on opening replies status text → GoesOnWith files new name named goes_on status text
 net_goes_on_by files old mid new name named goes_on reply replies status text (Accepted net) told own read rest opens h =
     (net, net_opened files old mid name reply net told read opens, (mid, replies, read.files ∙ told, rest, h))
 net_goes_on_by files old mid new name named goes_on reply replies status text (Refused s t) told own read rest opens h =
-    absurd (net_refused reply s t opens (subst IsOwn h.1.0 own))
+    absurd (net_refused reply s t opens (subst IsGiven h.1.0 own))
 
 net_goes_on : (files : List (List ℕ × List ℕ)) (old new : ShelfState) (name : List ℕ) (named : List (Which × List ℕ))
     (goes_on : NetLists → List (Result (List ℕ) ShelfFault) → Status → List ℕ → Type 0) (replies : List (Result (List ℕ) ShelfFault)) (status : Status) (text : List ℕ) →
-    old.files ≡ Some files → IsOwn status → ReadsAll old new ((NetFile, name) ∷ named) replies → SaysFile OpensNet goes_on replies status text →
+    old.files ≡ Some files → IsGiven status → ReadsAll old new ((NetFile, name) ∷ named) replies → SaysFile OpensNet goes_on replies status text →
     GoesOnWith files new name named goes_on status text
 net_goes_on files old new name named goes_on [] status text told own reads h = absurd h
 net_goes_on files old new name named goes_on (reply ∷ replies) status text told own reads h =
@@ -98,16 +98,16 @@ GoesOnWithBytes files name goes_on status text =
 
 bytes_go_on_by : (files : List (List ℕ × List ℕ)) (old mid : ShelfState) (which : Which) (name : List ℕ)
     (goes_on : List ℕ → List (Result (List ℕ) ShelfFault) → Status → List ℕ → Type 0) (reply : Result (List ℕ) ShelfFault) (replies : List (Result (List ℕ) ShelfFault))
-    (status : Status) (text : List ℕ) (opening : Opening (List ℕ)) → old.files ≡ Some files → IsOwn status → Reads old mid name most_file_bytes reply →
+    (status : Status) (text : List ℕ) (opening : Opening (List ℕ)) → old.files ≡ Some files → IsGiven status → Reads old mid name most_file_bytes reply →
     OpensBytes which reply opening → SaysOpening goes_on opening replies status text → GoesOnWithBytes files name goes_on status text
 bytes_go_on_by files old mid which name goes_on reply replies status text (Accepted bytes) told own read opens h =
     (bytes, bytes_held files old mid which name reply bytes told read opens, (replies, h))
 bytes_go_on_by files old mid which name goes_on reply replies status text (Refused s t) told own read opens h =
-    absurd (bytes_refused which reply s t opens (subst IsOwn h.1.0 own))
+    absurd (bytes_refused which reply s t opens (subst IsGiven h.1.0 own))
 
 bytes_go_on : (files : List (List ℕ × List ℕ)) (old new : ShelfState) (which : Which) (name : List ℕ)
     (goes_on : List ℕ → List (Result (List ℕ) ShelfFault) → Status → List ℕ → Type 0) (replies : List (Result (List ℕ) ShelfFault)) (status : Status) (text : List ℕ) →
-    old.files ≡ Some files → IsOwn status → ReadsAll old new ((which, name) ∷ []) replies → SaysFile (OpensBytes which) goes_on replies status text →
+    old.files ≡ Some files → IsGiven status → ReadsAll old new ((which, name) ∷ []) replies → SaysFile (OpensBytes which) goes_on replies status text →
     GoesOnWithBytes files name goes_on status text
 bytes_go_on files old new which name goes_on [] status text told own reads h = absurd h
 bytes_go_on files old new which name goes_on (reply ∷ replies) status text told own reads h =
@@ -115,7 +115,7 @@ bytes_go_on files old new which name goes_on (reply ∷ replies) status text tol
 
 -- an answer with a status of a command is what is said of accepted files
 pub said_of : (files : List (List ℕ × List ℕ)) (request : Request) (lines : List Firing → List (List ℕ)) (old new : ShelfState) (replies : List (Result (List ℕ) ShelfFault))
-    (status : Status) (text : List ℕ) → old.files ≡ Some files → IsOwn status → ReadsAll old new (files_of request) replies → Says request lines replies status text →
+    (status : Status) (text : List ℕ) → old.files ≡ Some files → IsGiven status → ReadsAll old new (files_of request) replies → Says request lines replies status text →
     IsSaidOf files lines request status text
 said_of files (OfNet command name) lines old new replies status text told own reads h =
     let on = net_goes_on files old new name [] (λ net. SaysOutcome (SaysNet command net)) replies status text told own reads h in

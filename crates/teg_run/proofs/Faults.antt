@@ -10,16 +10,15 @@ use Rattle.teg_run.specs.declared.status.Status.TheVariants.{Text, Net, ReadFaul
 use Rattle.teg_run.specs.Calls.{Call}
 use Rattle.teg_run.specs.Headline.{IsAccepted, IsNoText, IsNoNet, CountsAsNoText, HasFault, as_told}
 use Rattle.teg_commands.specs.CommandTexts.{too_large_text, fault_text}
-use Rattle.teg_run.specs.Statuses.{IsOwn}
 use Rattle.teg_run.proofs.Refusals.{Refusal, told_file, accepted_told, accepted_not_refused, no_text_not_accepted, no_net_not_accepted, no_text_counted, no_text_told, no_net_told, no_text_gives, no_net_gives, refusal_is_said, overlong_told, fault_told}
-use Rattle.teg_run.proofs.Verdicts.{IsSaid, own_is_said}
+use Rattle.teg_run.proofs.Verdicts.{IsGiven, IsSaid, own_is_said}
 use Rattle.teg_run.proofs.Ways.{Taken, Way}
 
 -- ---- where files are told
 
 -- a fault of a file that leads to this status, and is told by it
 pub record IsFaultOf (wanted : Status) (fault : List (List ℕ × List ℕ) → Which → List ℕ → List ℕ → Type 0) : Type 0 where
-  pub not_own : IsOwn wanted → ⊥
+  pub not_own : IsGiven wanted → ⊥
   pub not_accepted : (files : List (List ℕ × List ℕ)) (which : Which) (name text : List ℕ) → IsAccepted files which name → fault files which name text → ⊥
   pub told : (files : List (List ℕ × List ℕ)) (old new : ShelfState) (which : Which) (name : List ℕ) (status : Status) (text : List ℕ) →
       old.files ≡ Some files → (status ≡ Text → Rested old.faults new.faults) → status ≡ wanted → Refusal old new which name status text → fault files which name text
@@ -45,7 +44,7 @@ taken_accepted files old mid which name told taken =
 pub comes_only : (wanted : Status) (fault : List (List ℕ × List ℕ) → Which → List ℕ → List ℕ → Type 0) → IsFaultOf wanted fault →
     (files : List (List ℕ × List ℕ)) (old new : ShelfState) (named : List (Which × List ℕ)) (status : Status) (text : List ℕ) → old.files ≡ Some files →
     (status ≡ Text → Rested old.faults new.faults) → status ≡ wanted → Way old new named status text → HasFault fault files named text
-comes_only wanted fault is files old new [] status text told calm e way = absurd (is.not_own (subst IsOwn e way))
+comes_only wanted fault is files old new [] status text told calm e way = absurd (is.not_own (subst IsGiven e way))
 comes_only wanted fault is files old new (file ∷ named) status text told calm e way =
     ⊎_elim (λ (refusal : _). inl (is.told files old new file.0 file.1 status text told calm e refusal))
     (λ (on : _). inr (
@@ -57,7 +56,7 @@ comes_only wanted fault is files old new (file ∷ named) status text told calm 
 pub counted_only : (files : List (List ℕ × List ℕ)) (call : Call) (old new : ShelfState) (named : List (Which × List ℕ)) (status : Status) (text : List ℕ) → old.files ≡ Some files →
     (Rose old.overlong new.overlong → Rose call.shelf_before.overlong call.shelf_after.overlong) → status ≡ Text → Way old new named status text →
     HasFault (CountsAsNoText call) files named text
-counted_only files call old new [] status text told rise e way = absurd (subst IsOwn e way)
+counted_only files call old new [] status text told rise e way = absurd (subst IsGiven e way)
 counted_only files call old new (file ∷ named) status text told rise e way =
     ⊎_elim
     (λ (refusal : _). inl (⊎_elim (λ (is : IsNoText files file.0 file.1 text). inl is) (λ (counted : _). inr (counted.0, rise counted.1))
@@ -96,7 +95,7 @@ way_is_said old new (file ∷ named) status text way =
 -- a text that says that a file is too long tells a count that rose
 pub overlong_way : (which : Which) (old new : ShelfState) (named : List (Which × List ℕ)) (status : Status) (text : List ℕ) → status ≡ Text → text ≡ too_large_text which →
     Way old new named status text → Rose old.overlong new.overlong
-overlong_way which old new [] status text e t way = absurd (subst IsOwn e way)
+overlong_way which old new [] status text e t way = absurd (subst IsGiven e way)
 overlong_way which old new (file ∷ named) status text e t way =
     ⊎_elim (λ (refusal : _). overlong_told old new file.0 which file.1 status text e t refusal)
     (λ (on : _). rose_then old.overlong on.0.overlong new.overlong on.1.read.overlong (overlong_way which on.0 new named status text e t on.2)) way
@@ -105,7 +104,7 @@ overlong_way which old new (file ∷ named) status text e t way =
 pub fault_way : (old new : ShelfState) (named : List (Which × List ℕ)) (status : Status) (text : List ℕ) → status ≡ ReadFault → Way old new named status text →
     Rose old.faults new.faults × ((before : List (Which × List ℕ)) × (file : Which × List ℕ) × (after : List (Which × List ℕ))
     × (named ≡ before ++ file ∷ after) × ReadsGrow old.reads new.reads (map as_told (before ++ file ∷ [])) × (text ≡ fault_text file.0))
-fault_way old new [] status text e way = absurd (subst IsOwn e way)
+fault_way old new [] status text e way = absurd (subst IsGiven e way)
 fault_way old new (file ∷ named) status text e way =
     ⊎_elim
     (λ (refusal : _). let fault = fault_told old new file.0 file.1 status text e refusal in

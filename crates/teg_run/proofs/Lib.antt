@@ -1,5 +1,6 @@
 pub mod Answering
 pub mod Causes
+pub mod CommandNames
 pub mod Faults
 pub mod Growing
 pub mod LiveNets

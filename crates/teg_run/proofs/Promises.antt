@@ -23,7 +23,8 @@ use Rattle.teg_run.specs.declared.request.Request.TheVariants.{OfNet, OfFiles, V
 use Rattle.teg_run.specs.Requests.{request_of, files_of, asked_files, second_of}
 use Rattle.teg_run.specs.WholeCalls.{Answered, CarriesOut, Finished, Runs}
 use Rattle.teg_run.specs.Says.{Asked, Says, SaysFiles, SaysNet, SaysOutcome, SaysSecond}
-use Rattle.teg_run.specs.Statuses.{IsOwn, status_of}
+use Rattle.teg_run.specs.Statuses.{status_of}
+use Rattle.teg_run.proofs.Verdicts.{IsGiven, given_of_own}
 use Rattle.teg_commands.specs.CommandTexts.{usage, too_large_text}
 use Rattle.teg_run.proofs.Causes.{said_of}
 use Rattle.teg_run.proofs.Faults.{IsFaultOf, text_is_fault, net_is_fault, comes_only, counted_only, follows, way_is_said, overlong_way, fault_way}
@@ -283,29 +284,28 @@ read_in_order call (Whole said text) h = reads_first call.shelf_before call.shel
 
 -- ---- statuses of commands
 
-own_with : (asked : Option Request) (call : Call) (files : List (List ℕ × List ℕ)) (ending : Ending) → request_of call.words ≡ asked → call.shelf_before.files ≡ Some files → IsOwn call.status →
+own_with : (asked : Option Request) (call : Call) (files : List (List ℕ × List ℕ)) (ending : Ending) → request_of call.words ≡ asked → call.shelf_before.files ≡ Some files → IsGiven call.status →
     Answered (Asked asked call.lines) (asked_files asked) call.shelf_before call.shelf_after ending → Finished call.sink_before call.sink_after ending call.status →
     (request : Request) × (text : List ℕ) × (request_of call.words ≡ Some request) × IsSaidOf files call.lines request call.status text
     × BytesGrow call.sink_before.bytes call.sink_after.bytes text
-own_with asked call files Lost asks told own h k = absurd (subst IsOwn k.0 own)
+own_with asked call files Lost asks told own h k = absurd (subst IsGiven k.0 own)
 own_with None call files (Whole said text) asks told own h k =
-    ⊎_elim (λ (whole : _). absurd (subst IsOwn (whole.0 ∙ h.2.1.0) own)) (λ (cut : _). absurd (subst IsOwn cut.0 own)) k
+    ⊎_elim (λ (whole : _). absurd (subst IsGiven (whole.0 ∙ h.2.1.0) own)) (λ (cut : _). absurd (subst IsGiven cut.0 own)) k
 own_with (Some request) call files (Whole said text) asks told own h k =
     ⊎_elim
     (λ (whole : _). let is = subst (λ (s : Status). IsSaidOf files call.lines request s text) (sym whole.0)
-    (said_of files request call.lines call.shelf_before call.shelf_after h.0 said text told (subst IsOwn whole.0 own) h.1 h.2) in
+    (said_of files request call.lines call.shelf_before call.shelf_after h.0 said text told (subst IsGiven whole.0 own) h.1 h.2) in
     (request, text, asks, is, whole.2))
-    (λ (cut : _). absurd (subst IsOwn cut.0 own)) k
+    (λ (cut : _). absurd (subst IsGiven cut.0 own)) k
 
 own_only : (call : Call) → Runs call → OwnOnly call
-own_only call runs files told own = own_with (request_of call.words) call files runs.0 refl told own runs.1 runs.2
+own_only call runs files told own = own_with (request_of call.words) call files runs.0 refl told (given_of_own call.status own) runs.1 runs.2
 
 -- ---- all of them
 
 pub keeps_promises : (call : Call) → Runs call → KeepsPromises call
 keeps_promises call runs =
     record {
-      run = runs;
       words = words_refused call runs;
       words_only = words_only_for (request_of call.words) call runs refl;
       text = fault_follows Text _ text_is_fault call runs;
@@ -330,5 +330,5 @@ keeps_promises call runs =
     }
 
 -- a call that found no memory before it began: nothing was read, and nothing written
-pub lost_keeps_promises : (call : Call) → call.shelf_after ≡ call.shelf_before → call.sink_after ≡ call.sink_before → call.status ≡ NoMemory → KeepsPromises call
-lost_keeps_promises call unread unwritten status = keeps_promises call (Lost, ([], unread), (status, unwritten))
+pub lost_runs : (call : Call) → call.shelf_after ≡ call.shelf_before → call.sink_after ≡ call.sink_before → call.status ≡ NoMemory → Runs call
+lost_runs call unread unwritten status = (Lost, ([], unread), (status, unwritten))

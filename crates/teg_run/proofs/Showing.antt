@@ -9,7 +9,7 @@ use Rattle.teg_outside.specs.declared.shelf.ShelfFault.TheVariants.{Failed, TooL
 use Rattle.teg_outside.specs.Shelves.{ShelfState, Reads}
 use Rattle.teg_outside.specs.Sinks.{SinkState}
 use Rattle.teg_commands.specs.csv_records.Records.{most_file_bytes}
-use Rattle.teg_commands.specs.declared.outcome.Outcome.{Outcome}
+use Rattle.teg_commands.specs.declared.outcome.CommandOutcome.{CommandOutcome}
 use Rattle.teg_commands.specs.declared.outcome.Verdict.{Verdict}
 use Rattle.teg_commands.specs.CommandOutcomes.{Tells, outcome_of}
 use Rattle.teg_commands.proofs.Replayed.{nothing_shown, replay_unshown}
@@ -88,19 +88,19 @@ second_refused which command net lines name old new goes_on status text h =
 
 -- what the outcome of a command says of the bytes that were read
 outcome_said : (opens : Result (List ℕ) ShelfFault → Opening (List ℕ) → Type 0) (says : List ℕ → Verdict → List ℕ → Type 0) (bytes : List ℕ) (reply : Result (List ℕ) ShelfFault)
-    (outcome : Result Outcome NoMemory) → opens reply (Accepted bytes) → Tells (says bytes) (outcome_of outcome) →
+    (outcome : Result CommandOutcome NoMemory) → opens reply (Accepted bytes) → Tells (says bytes) (outcome_of outcome) →
     EndsWith (SaysFile opens (λ b. SaysOutcome (says b)) (reply ∷ [])) (ending_of (outcome_of outcome))
 outcome_said opens says bytes reply (Ok outcome) is h = (Accepted bytes, is, (refl, (outcome.verdict, refl, h)))
 outcome_said opens says bytes reply (Err e) is h = tt
 
-outcome_shown : (command : FileCommand) (net : NetLists) (before now : List Firing → List (List ℕ)) (given bytes : List ℕ) (outcome : Result Outcome NoMemory) → given ≡ bytes →
+outcome_shown : (command : FileCommand) (net : NetLists) (before now : List Firing → List (List ℕ)) (given bytes : List ℕ) (outcome : Result CommandOutcome NoMemory) → given ≡ bytes →
     ShowsFiles command net bytes before now (is_ok outcome) → ShowsSecond command net before now (Ok given ∷ []) (is_whole (ending_of (outcome_of outcome)))
 outcome_shown command net before now given bytes (Ok outcome) same h = subst (λ (b : List ℕ). ShowsFiles command net b before now true) (sym same) h
 outcome_shown command net before now given bytes (Err e) same h = subst (λ (b : List ℕ). ShowsFiles command net b before now false) (sym same) h
 
 -- the second file is accepted, and nothing more is read
 second_accepted_by : (which : Which) (command : FileCommand) (net : NetLists) (before now : List Firing → List (List ℕ)) (name : List ℕ) (old new : ShelfState)
-    (says : List ℕ → Verdict → List ℕ → Type 0) (bytes : List ℕ) (reply : Result (List ℕ) ShelfFault) (outcome : Result Outcome NoMemory) →
+    (says : List ℕ → Verdict → List ℕ → Type 0) (bytes : List ℕ) (reply : Result (List ℕ) ShelfFault) (outcome : Result CommandOutcome NoMemory) →
     Reads old new name most_file_bytes reply → OpensBytes which reply (Accepted bytes) → Tells (says bytes) (outcome_of outcome) →
     ShowsFiles command net bytes before now (is_ok outcome) →
     AnsweredAndShown (SaysFile (OpensBytes which) (λ b. SaysOutcome (says b))) (ShowsSecond command net before now) ((which, name) ∷ []) old new (ending_of (outcome_of outcome))
@@ -112,7 +112,7 @@ second_accepted_by which command net before now name old new says bytes (Err Fai
 second_accepted_by which command net before now name old new says bytes (Err OutOfMemory) outcome read opens h shown = absurd opens
 
 pub second_accepted : (which : Which) (command : FileCommand) (net : NetLists) (before now : List Firing → List (List ℕ)) (name : List ℕ) (old new : ShelfState)
-    (says : List ℕ → Verdict → List ℕ → Type 0) (bytes : List ℕ) (outcome : Result Outcome NoMemory) (ending : Ending) → ending ≡ ending_of (outcome_of outcome) →
+    (says : List ℕ → Verdict → List ℕ → Type 0) (bytes : List ℕ) (outcome : Result CommandOutcome NoMemory) (ending : Ending) → ending ≡ ending_of (outcome_of outcome) →
     OpenedBy (OpensBytes which) name old new (Some (Accepted bytes)) → Tells (says bytes) (outcome_of outcome) → ShowsFiles command net bytes before now (is_ok outcome) →
     AnsweredAndShown (SaysFile (OpensBytes which) (λ b. SaysOutcome (says b))) (ShowsSecond command net before now) ((which, name) ∷ []) old new ending
 second_accepted which command net before now name old new says bytes outcome ending e h told shown =

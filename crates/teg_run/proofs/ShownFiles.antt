@@ -28,13 +28,12 @@ use Rattle.teg_run.specs.Requests.{asked_files, request_of, second_of}
 use Rattle.teg_run.specs.WholeCalls.{Finished}
 use Rattle.teg_run.specs.Says.{Asked, SaysFile, SaysFiles, SaysOpening, SaysOutcome, SaysSecond}
 use Rattle.teg_run.specs.ShownFirings.{AnsweredAndShown, ShowsAsked, ShowsBoth, ShowsFiles, ShowsFor, ShowsJust, ShowsSecond, ShowsTold}
-use Rattle.teg_run.specs.Statuses.{IsOwn}
 use Rattle.teg_run.proofs.Causes.{net_opened}
 use Rattle.teg_run.proofs.LiveNets.{live_reply}
 use Rattle.teg_run.proofs.Promises.{asked_is_said}
 use Rattle.teg_run.proofs.ReadOrder.{none_read}
 use Rattle.teg_run.proofs.Refusals.{told_file, told_long, not_long, same_document}
-use Rattle.teg_run.proofs.Verdicts.{verdict_is_own}
+use Rattle.teg_run.proofs.Verdicts.{IsGiven, own_of_given, verdict_is_own}
 
 -- what monitors would print by further firings
 abbrev Lines : Type 0
@@ -78,17 +77,17 @@ others_show (Some (TrialOf machines)) other before now replies is_told h = h
 
 -- what is said of the bytes of a second file has a command's own status
 own_of_bytes : (which : Which) (bytes : List ℕ) (opening : Opening (List ℕ)) (says : List ℕ → Verdict → List ℕ → Type 0) (status : Status) (text : List ℕ) →
-    OpensBytes which (Ok bytes) opening → SaysOpening (λ b. SaysOutcome (says b)) opening [] status text → IsOwn status
+    OpensBytes which (Ok bytes) opening → SaysOpening (λ b. SaysOutcome (says b)) opening [] status text → IsGiven status
 own_of_bytes which bytes opening says status text is h =
     let said = subst (λ (o : Opening (List ℕ)). SaysOpening (λ b. SaysOutcome (says b)) o [] status text) is h in
-    subst IsOwn (sym said.1.1) (verdict_is_own said.1.0)
+    subst IsGiven (sym said.1.1) (verdict_is_own said.1.0)
 
 own_of_both : (command : FileCommand) (lines : Lines) (bytes : List ℕ) (opening : Opening NetLists) (status : Status) (text : List ℕ) →
-    SaysOpening (SaysSecond command lines) opening (Ok bytes ∷ []) status text → IsOwn status
+    SaysOpening (SaysSecond command lines) opening (Ok bytes ∷ []) status text → IsGiven status
 own_of_both command lines bytes (Refused status' text') status text h = absurd (let none = h.0 in let bad : ⊥ = cc in bad)
 own_of_both command lines bytes (Accepted file) status text h = own_of_bytes (second_of command) bytes h.0 (SaysFiles command lines file) status text h.1 h.2
 
-fault_of_both : (command : FileCommand) (lines before now : Lines) (replies : List Reply) (status : Status) (text : List ℕ) → (IsOwn status → ⊥) →
+fault_of_both : (command : FileCommand) (lines before now : Lines) (replies : List Reply) (status : Status) (text : List ℕ) → (IsGiven status → ⊥) →
     SaysFile OpensNet (SaysSecond command lines) replies status text →
     ShowsBoth command before now replies true → ShowsNothing before now
 fault_of_both command lines before now [] status text other h k = k
@@ -97,7 +96,7 @@ fault_of_both command lines before now (reply ∷ Ok bytes ∷ []) status text o
 fault_of_both command lines before now (reply ∷ Ok bytes ∷ next ∷ replies) status text other h k = k.2
 fault_of_both command lines before now (reply ∷ Err fault ∷ replies) status text other h k = k.2
 
-fault_shows : (asked : Option Request) (lines before now : Lines) (replies : List Reply) (status : Status) (text : List ℕ) → (IsOwn status → ⊥) →
+fault_shows : (asked : Option Request) (lines before now : Lines) (replies : List Reply) (status : Status) (text : List ℕ) → (IsGiven status → ⊥) →
     Asked asked lines replies status text → ShowsAsked asked before now replies true → ShowsNothing before now
 fault_shows None lines before now replies status text other h k = k
 fault_shows (Some (OfNet command net)) lines before now replies status text other h k = k
@@ -224,10 +223,10 @@ lost_with call now net bytes is (Whole said text) h k e =
 
 fault_with : (asked : Option Request) (call : Call) (now : Lines) (ending : Ending) →
     AnsweredAndShown (Asked asked call.lines) (ShowsAsked asked call.lines now) (asked_files asked) call.shelf_before call.shelf_after ending →
-    Finished call.sink_before call.sink_after ending call.status → (IsOwn call.status → ⊥) → call.status ≢ WriteFault → call.status ≢ NoMemory → ShowsNothing call.lines now
+    Finished call.sink_before call.sink_after ending call.status → (IsGiven call.status → ⊥) → call.status ≢ WriteFault → call.status ≢ NoMemory → ShowsNothing call.lines now
 fault_with asked call now Lost h k other write memory = absurd (memory k.0)
 fault_with asked call now (Whole said text) h k other write memory =
-    ⊎_elim (λ (whole : _). fault_shows asked call.lines call.lines now h.0 said text (λ own. other (subst IsOwn (sym whole.0) own)) h.2 h.3)
+    ⊎_elim (λ (whole : _). fault_shows asked call.lines call.lines now h.0 said text (λ own. other (subst IsGiven (sym whole.0) own)) h.2 h.3)
     (λ (cut : _). absurd (write cut.0)) k
 
 -- what the call showed for these words
@@ -241,6 +240,6 @@ shows_told call now shown = record {
   of_refused = λ files name log asks told refused.
       let for = shown_for call now _ shown asks in
       refused_shows files call.shelf_before call.shelf_after name log call.lines now for.1.0 _ told refused for.1.1 for.1.3;
-  of_fault = λ other write memory. fault_with (request_of call.words) call now shown.0 shown.1 shown.2 other write memory;
+  of_fault = λ other write memory. fault_with (request_of call.words) call now shown.0 shown.1 shown.2 (λ given. other (own_of_given call.status given)) write memory;
   of_others = λ other. others_show (request_of call.words) other call.lines now shown.1.0 _ shown.1.3;
 }

@@ -24,10 +24,9 @@ use Rattle.teg_run.specs.Says.{Says, SaysFile, SaysFiles, SaysNet, SaysOpening, 
 use Rattle.teg_commands.specs.Trial.{SaysTrial}
 use Rattle.teg_commands.specs.Calc.{SaysCalc}
 use Rattle.teg_commands.specs.CommandTexts.{read_text}
-use Rattle.teg_run.specs.Statuses.{IsOwn}
 use Rattle.teg_run.proofs.ReadOrder.{none_left}
 use Rattle.teg_run.proofs.Refusals.{Accepts, Refusal, Unread, Overlong, NoToml, NoNet, NotLive}
-use Rattle.teg_run.proofs.Verdicts.{verdict_is_own}
+use Rattle.teg_run.proofs.Verdicts.{IsGiven, verdict_is_own}
 
 -- the bytes of a file that was read and accepted
 pub record Taken (old mid : ShelfState) (which : Which) (name : List ℕ) : Type 0 where
@@ -37,7 +36,7 @@ pub record Taken (old mid : ShelfState) (which : Which) (name : List ℕ) : Type
 
 -- one of these files is refused after those before it were accepted, or all are and the command has its own status
 abbrev pub Way : ShelfState → ShelfState → List (Which × List ℕ) → Status → List ℕ → Type 0
-Way old new [] status text = IsOwn status
+Way old new [] status text = IsGiven status
 Way old new (file ∷ files) status text =
     Refusal old new file.0 file.1 status text
     ⊎ ((mid : ShelfState) × Taken old mid file.0 file.1 × Way mid new files status text)
@@ -148,7 +147,7 @@ second_accepts (TimetableNet period limit) bytes = tt
 -- what a command comes to has its own status
 pub outcome_way : (old new : ShelfState) (says : Verdict → List ℕ → Type 0) (replies : List (Result (List ℕ) ShelfFault)) (status : Status) (text : List ℕ) →
     SaysOutcome says replies status text → Way old new [] status text
-outcome_way old new says replies status text h = subst IsOwn (sym h.1.1) (verdict_is_own h.1.0)
+outcome_way old new says replies status text h = subst IsGiven (sym h.1.1) (verdict_is_own h.1.0)
 
 -- each answer to a request comes in one of its ways
 pub way_of : (request : Request) (lines : List Firing → List (List ℕ)) (old new : ShelfState) (replies : List (Result (List ℕ) ShelfFault))

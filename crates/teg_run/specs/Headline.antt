@@ -1,4 +1,4 @@
--- What the whole call promises its caller, one promise at a time.
+-- What follows of every call of the workbench, one promise at a time.
 use Rattle.std.specs.Prelude.{ℕ, ◌≡◌, ◌≢◌, ◌≤◌, ◌<◌, ◌⊎◌, List, [], ◌∷◌, ◌++◌, length, take, map, Some, None, Ok, Err, Result, ⊤}
 use Rattle.teg_net.specs.declared.entries.PlaceId.{PlaceId}
 use Rattle.teg_net.specs.Nets.{NetLists}
@@ -11,7 +11,7 @@ use Rattle.teg_outside.specs.Causes.{Rose, Rested}
 use Rattle.teg_outside.specs.Shelves.{ShelfState, ReadsGrow, file_of}
 use Rattle.teg_outside.specs.Sinks.{BytesGrow, PrefixGrows}
 use Rattle.teg_report.specs.declared.answer.Which.{Which}
-use Rattle.teg_report.specs.declared.answer.Which.TheVariants.{Net as NetFile, Due as DueFile, Log as LogFile, Timetable as TimetableFile}
+use Rattle.teg_report.specs.declared.answer.Which.TheVariants.{Net as NetFile}
 use Rattle.teg_run.specs.declared.status.Status.{Status}
 use Rattle.teg_run.specs.declared.status.Status.TheVariants.{Words, Text, Net, ReadFault, WriteFault, NoMemory}
 use Rattle.teg_commands.specs.declared.outcome.Verdict.{Verdict}
@@ -78,10 +78,6 @@ NetIsRefused files name text =
     ⊎ ((bytes : List ℕ) × (net : NetLists) × (circuit : List PlaceId) × Holds files name bytes × (document bytes ≡ Ok net)
     × IsTokenFree net circuit × (text ≡ token_free_text net circuit))
 
--- a file that is not the net is too long, and this text says so
-abbrev pub SecondIsNoText : Which → List (List ℕ × List ℕ) → List ℕ → List ℕ → Type 0
-SecondIsNoText which files name text = IsFileTooLong files name × (text ≡ too_large_text which)
-
 -- the file of that name has bytes, at most as many as a file may have
 abbrev pub IsThere : List (List ℕ × List ℕ) → List ℕ → Type 0
 IsThere files name = (bytes : List ℕ) × Holds files name bytes
@@ -91,23 +87,17 @@ IsThere files name = (bytes : List ℕ) × Holds files name bytes
 -- the file is accepted as such a file
 abbrev pub IsAccepted : List (List ℕ × List ℕ) → Which → List ℕ → Type 0
 IsAccepted files NetFile name = (net : NetLists) × Opens files name net
-IsAccepted files DueFile name = IsThere files name
-IsAccepted files LogFile name = IsThere files name
-IsAccepted files TimetableFile name = IsThere files name
+IsAccepted files which name = IsThere files name
 
--- the file is no text of such a file, and this text says so
+-- the file is no text of such a file, and this text says so; a file that is not the net is one unless it is too long
 abbrev pub IsNoText : List (List ℕ × List ℕ) → Which → List ℕ → List ℕ → Type 0
 IsNoText files NetFile name text = NetIsNoText files name text
-IsNoText files DueFile name text = SecondIsNoText DueFile files name text
-IsNoText files LogFile name text = SecondIsNoText LogFile files name text
-IsNoText files TimetableFile name text = SecondIsNoText TimetableFile files name text
+IsNoText files which name text = IsFileTooLong files name × (text ≡ too_large_text which)
 
 -- the file is one that says no live net, and this text says so
 abbrev pub IsNoNet : List (List ℕ × List ℕ) → Which → List ℕ → List ℕ → Type 0
 IsNoNet files NetFile name text = NetIsRefused files name text
-IsNoNet files DueFile name text = ⊥
-IsNoNet files LogFile name text = ⊥
-IsNoNet files TimetableFile name text = ⊥
+IsNoNet files which name text = ⊥
 
 -- one of these files has this fault, which this text says, and those before it are accepted
 abbrev pub HasFault : (List (List ℕ × List ℕ) → Which → List ℕ → List ℕ → Type 0) → List (List ℕ × List ℕ) → List (Which × List ℕ) → List ℕ → Type 0
@@ -254,10 +244,8 @@ SaysOfWords call =
 
 -- ---- the promises
 
--- all that a call promises
+-- the promises of a call
 pub record KeepsPromises (call : Call) : Type 0 where
-  -- From the words by what the reads gave to what was written. The other promises follow from it.
-  pub run : Runs call
   -- Words that ask for nothing: no file is read, and the usage is written.
   pub words : request_of call.words ≡ None → (call.shelf_after ≡ call.shelf_before) × Ends call Words usage
   pub words_only : call.status ≡ Words → request_of call.words ≡ None
@@ -288,3 +276,7 @@ pub record KeepsPromises (call : Call) : Type 0 where
   pub write_fault : call.status ≡ WriteFault → Rose call.sink_before.faults call.sink_after.faults
   -- Accepted words and files, and no fault: no other ending than the command's own, or want of memory.
   pub complete : EndsAsSaid call
+
+-- a call that runs as the workbench does keeps all of them
+abbrev pub RunsKeepPromises : Type 0
+RunsKeepPromises = (call : Call) → Runs call → KeepsPromises call

@@ -1,4 +1,5 @@
 pub mod Calls
+pub mod CommandNames
 pub mod Endings
 pub mod Headline
 pub mod UsualLimits

@@ -11,7 +11,7 @@ use Rattle.teg_outside.specs.declared.shelf.ShelfFault.TheVariants.{Failed, TooL
 use Rattle.teg_run.specs.declared.status.Status.{Status}
 use Rattle.teg_run.specs.declared.status.Status.TheVariants.{Text, Net, ReadFault}
 use Rattle.teg_report.specs.declared.answer.Which.{Which}
-use Rattle.teg_report.specs.declared.answer.Which.TheVariants.{Net as NetFile, Due as DueFile, Log as LogFile, Timetable as TimetableFile}
+use Rattle.teg_report.specs.declared.answer.Which.TheVariants.{Net as NetFile}
 use Rattle.teg_commands.specs.CommandTexts.{read_text, token_free_text, too_large_text, fault_text}
 
 -- what the file says, or the status and the text of its refusal
@@ -57,6 +57,4 @@ OpensBytes which = OpensFile which (λ bytes opening. opening ≡ Accepted bytes
 -- what was read is accepted as such a file, so that more may be read; nothing is read after a second file
 abbrev pub IsTaken : Which → Result (List ℕ) ShelfFault → Type 0
 IsTaken NetFile reply = (net : NetLists) × OpensNet reply (Accepted net)
-IsTaken DueFile reply = ⊥
-IsTaken LogFile reply = ⊥
-IsTaken TimetableFile reply = ⊥
+IsTaken which reply = ⊥

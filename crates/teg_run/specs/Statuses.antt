@@ -1,5 +1,5 @@
 -- How a call ends, and the exit status of each ending.
-use Rattle.std.specs.Prelude.{ℕ}
+use Rattle.std.specs.Prelude.{ℕ, ◌≡◌}
 use Rattle.teg_run.specs.declared.status.Status.{Status}
 use Rattle.teg_run.specs.declared.status.Status.TheVariants.{Done, Words, Text, Net, Schedule, Late, TooLong, Log, Calc, Name, ReadFault, WriteFault, NoMemory}
 use Rattle.teg_commands.specs.declared.outcome.Verdict.{Verdict}
@@ -31,18 +31,6 @@ status_of VerdictLate = Late
 status_of VerdictLog = Log
 status_of VerdictCalc = Calc
 
--- a status that a command gives: none of Words, Text, Net, ReadFault, WriteFault and NoMemory
+-- a status that a command gives: that of some verdict
 abbrev pub IsOwn : Status → Type 0
-IsOwn Done = Unit {0}
-IsOwn Words = ⊥
-IsOwn Text = ⊥
-IsOwn Net = ⊥
-IsOwn Schedule = Unit {0}
-IsOwn Late = Unit {0}
-IsOwn TooLong = Unit {0}
-IsOwn Log = Unit {0}
-IsOwn Calc = Unit {0}
-IsOwn Name = Unit {0}
-IsOwn ReadFault = ⊥
-IsOwn WriteFault = ⊥
-IsOwn NoMemory = ⊥
+IsOwn status = (verdict : Verdict) × (status_of verdict ≡ status)

@@ -1,7 +1,7 @@
 //! The top call.
 ghost use Rattle.std.specs.Prelude.{map, string_bytes};
 ghost use Rattle.teg_run.specs.Endings.{EndsWith};
-ghost use Rattle.teg_run.specs.Headline.{KeepsPromises};
+ghost use Rattle.teg_run.specs.WholeCalls.{Runs};
 ghost use Rattle.teg_run.specs.CallMeanings.{ended};
 ghost use Rattle.teg_run.specs.Requests.{request_of, asked_files};
 ghost use Rattle.teg_run.specs.ShownFirings.{ServesAndShows, ShowsAsked, ShowsJust, ShowsTold};
@@ -56,7 +56,7 @@ fn serve_words<S: Shelf, W: Sink>(
 
 /// Does what [`workbench`] does, and hands the monitors back.
 ///
-/// It keeps the same promises; and the monitors were shown just the firings that a `replay`
+/// It promises the same; and the monitors were shown just the firings that a `replay`
 /// accepts, in their order, each once, by the same reads that its text tells: those of some first
 /// rows where no memory was found for the text, and none for every other command. Where the files
 /// are told and no read failed, these are the firings that the told log of the told net accepts
@@ -68,7 +68,7 @@ pub fn serve<S: Shelf, W: Sink>(
     out: &mut W,
     monitors: Vec<Box<dyn Monitor>>,
 ) -> (Status, Vec<Box<dyn Monitor>>)
-    ensures promises { KeepsPromises (record {
+    ensures runs { Runs (record {
       words = map string_bytes words.now;
       lines = lines_by line_text monitors.items;
       shelf_before = S.state shelf.old;
@@ -108,8 +108,11 @@ pub fn serve<S: Shelf, W: Sink>(
 /// made, in room that is found before. So nothing is written where no memory is found. `monitors`
 /// see the firings of a replay; they are dropped when the call returns.
 ///
-/// What it promises stands field by field in the record `KeepsPromises`, at the end of
-/// `specs/Headline.antt`.
+/// What it promises is `Runs`, at the end of `specs/WholeCalls.antt`: what the words ask for, what
+/// the reads gave and what answer they lead to, and how that answer was written. What follows of
+/// every such call the law [`runs_keep_promises`] says, promise by promise.
+///
+/// [`runs_keep_promises`]: crate::runs_keep_promises
 pub fn workbench<S: Shelf, W: Sink>(
     alloc: Global,
     words: &[String],
@@ -117,7 +120,7 @@ pub fn workbench<S: Shelf, W: Sink>(
     out: &mut W,
     monitors: Vec<Box<dyn Monitor>>,
 ) -> Status
-    ensures { KeepsPromises (record {
+    ensures { Runs (record {
       words = map string_bytes words.now;
       lines = lines_by line_text monitors.items;
       shelf_before = S.state shelf.old;

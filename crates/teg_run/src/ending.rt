@@ -5,7 +5,7 @@ ghost use Rattle.teg_commands.specs.CommandOutcomes.{outcome_of};
 ghost use Rattle.teg_run.specs.CallMeanings.{ended};
 
 use crate::status::{Status, status_of};
-use teg_commands::Outcome;
+use teg_commands::CommandOutcome;
 use teg_net::OutOfMemory;
 
 /// How the work on a request ends.
@@ -18,7 +18,7 @@ pub enum Ending {
 }
 
 /// The ending of a request whose command has this outcome.
-pub fn closed(outcome: Result<Outcome, OutOfMemory>) -> Ending
+pub fn closed(outcome: Result<CommandOutcome, OutOfMemory>) -> Ending
     ensures { ended result ≡ ending_of (outcome_of outcome) }
 {
     match outcome {

@@ -9,7 +9,7 @@ ghost use Rattle.teg_run.specs.ShownFirings.{ShowsFiles};
 use crate::request::FileCommand;
 use crate::second_file::FileBytes;
 use std::alloc::Global;
-use teg_commands::{LiveNet, Outcome, tell_forever, tell_jit, tell_replay, tell_timetable};
+use teg_commands::{CommandOutcome, LiveNet, tell_forever, tell_jit, tell_replay, tell_timetable};
 use teg_net::OutOfMemory;
 use teg_outside::Monitor;
 use teg_report::Which;
@@ -34,7 +34,7 @@ pub fn of_files(
     net: &LiveNet,
     file: &FileBytes,
     monitors: Vec<Box<dyn Monitor>>,
-) -> (Result<Outcome, OutOfMemory>, Vec<Box<dyn Monitor>>)
+) -> (Result<CommandOutcome, OutOfMemory>, Vec<Box<dyn Monitor>>)
     ensures says { Tells (SaysFiles command (lines_by line_text monitors.items) net.now file.now)
         (outcome_of result.0) }
     ensures shown { ShowsFiles command net.now file.now (lines_by line_text monitors.items)

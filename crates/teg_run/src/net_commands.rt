@@ -12,14 +12,14 @@ use crate::status::Status;
 use crate::writing::finish;
 use std::alloc::Global;
 use teg_commands::{
-    LiveNet, Outcome, tell_bound, tell_check, tell_cycle, tell_date, tell_dates, tell_form,
+    CommandOutcome, LiveNet, tell_bound, tell_check, tell_cycle, tell_date, tell_dates, tell_form,
     tell_migrate, tell_rounds, tell_size, tell_slack, tell_transfer,
 };
 use teg_net::OutOfMemory;
 use teg_outside::Sink;
 
 // What the command comes to on a live net, but for a list of dates.
-fn of_net(alloc: Global, command: NetCommand, net: &LiveNet) -> Result<Outcome, OutOfMemory>
+fn of_net(alloc: Global, command: NetCommand, net: &LiveNet) -> Result<CommandOutcome, OutOfMemory>
     requires { numbers_asked command ≡ None }
     ensures { Tells (SaysNet command net.now) (outcome_of result) }
 {

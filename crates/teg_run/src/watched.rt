@@ -2,7 +2,7 @@
 ghost use Rattle.std.specs.Prelude.{◌≡◌, ◌∷◌, ◌++◌, ◌^◌, ◌-◌, [], IfErr, IfOk, length, map, min, string_bytes};
 ghost use Rattle.std.specs.Process.{exit_status};
 ghost use Rattle.teg_outside.specs.MonitorLines.{firings_line, greatest_lateness, greatest_tokens, high_water_line, lateness_line};
-ghost use Rattle.teg_run.specs.Headline.{KeepsPromises};
+ghost use Rattle.teg_run.specs.WholeCalls.{Runs};
 ghost use Rattle.teg_run.specs.Statuses.{code_of};
 ghost use Rattle.teg_run.specs.declared.status.Status.{Status};
 
@@ -27,7 +27,7 @@ fn watched<S: Shelf, W: Sink>(
     shelf: &mut S,
     out: &mut W,
 ) -> Result<Status, AllocError>
-    ensures promises { IfOk result (λ status. KeepsPromises (record {
+    ensures runs { IfOk result (λ status. Runs (record {
       words = map string_bytes words.now;
       lines = λ firings. firings_line (min (length firings) (2 ^ 64 - 1))
           ∷ high_water_line (greatest_tokens firings)
@@ -53,7 +53,7 @@ fn watched<S: Shelf, W: Sink>(
 ///
 /// The lines of the monitors tell the number of firings, the greatest number of tokens and the
 /// greatest lateness, in this order. The exit status is the code of the status with which the call
-/// keeps its promises. Where the monitors find no memory, nothing is read and nothing written.
+/// runs. Where the monitors find no memory, nothing is read and nothing written.
 pub fn run_watched<S: Shelf, W: Sink>(
     alloc: Global,
     words: &[String],
@@ -61,7 +61,7 @@ pub fn run_watched<S: Shelf, W: Sink>(
     out: &mut W,
 ) -> ExitCode
     ensures { (status : Status)
-        × KeepsPromises (record {
+        × Runs (record {
           words = map string_bytes words.now;
           lines = λ firings. firings_line (min (length firings) (2 ^ 64 - 1))
               ∷ high_water_line (greatest_tokens firings)

@@ -1,8 +1,8 @@
 -- How the delays of a timetable spread: what is told of it (chapters 2 and 3).
 use Rattle.std.specs.Prelude.{ℕ, pos, ◌+◌, ◌-◌, ◌*◌, ◌<◌, ◌≤◌, ◌≡◌, List, length, slice_index}
 use Rattle.dioid.specs.declared.dates.Date.TheVariants.{At}
-use Rattle.delay_laws.specs.declared.table.DelayOutcome.{DelayOutcome}
-use Rattle.delay_laws.specs.declared.table.DelayOutcome.TheVariants.{Recovered, Kept}
+use Rattle.delay_laws.specs.declared.table.Outcome.{Outcome}
+use Rattle.delay_laws.specs.declared.table.Outcome.TheVariants.{Recovered, Kept}
 use Rattle.delay_laws.specs.SettlingLaws.{natural_of_date}
 use Rattle.delay_laws.specs.PlannedTimetables.{greatest_delay, greatest_departure}
 use Rattle.teg_settle.specs.settled_laws.SettledForms.{SettledForm, settled_length, settled_date}
@@ -19,7 +19,7 @@ pub data OutcomeTold : Type 0 where
   KeptTold : (circuit : List PlaceId) → OutcomeTold
 
 -- what becomes of delays, as it is told
-abbrev pub outcome_told : DelayOutcome → OutcomeTold
+abbrev pub outcome_told : Outcome → OutcomeTold
 outcome_told (Recovered after) = RecoveredTold after
 outcome_told (Kept circuit) = KeptTold circuit.places.items
 

@@ -6,7 +6,7 @@ ghost use Rattle.teg_net.specs.Limits.{greatest_firing_number, most_rows};
 ghost use Rattle.teg_timetable.specs.Spreads.{delay_by_spread, outcome_told};
 
 use crate::left::Left;
-use delay_laws::DelayOutcome;
+use delay_laws::Outcome;
 use std::marker::Model;
 use teg_net::TransitionId;
 
@@ -16,7 +16,7 @@ use teg_net::TransitionId;
 #[derive(Debug, Drop)]
 pub struct Delayed {
     left: Left,
-    outcome: DelayOutcome,
+    outcome: Outcome,
 }
 
 impl Model for Delayed {
@@ -34,7 +34,7 @@ impl Model for Delayed {
 
 impl Delayed {
     // These delays with this outcome.
-    pub(crate) fn new(left: Left, outcome: DelayOutcome) -> Delayed
+    pub(crate) fn new(left: Left, outcome: Outcome) -> Delayed
         ensures { result ≡ record {
           firsts = left.firsts;
           every = left.every;
@@ -81,7 +81,7 @@ impl Delayed {
     }
 
     /// What becomes of the delays.
-    pub fn outcome(&self) -> &DelayOutcome
+    pub fn outcome(&self) -> &Outcome
         ensures { outcome_told result.now ≡ self.now.outcome }
     {
         &self.outcome

@@ -30,7 +30,7 @@ mod tables;
 mod texts;
 mod workable;
 
-pub use delay_laws::{Delay, DelayOutcome, Timetable};
+pub use delay_laws::{Delay, Outcome, Timetable};
 pub use delayed::Delayed;
 pub use refusals::{DelayRefusal, TableRefusal};
 pub use spreading::spread;

@@ -10,7 +10,7 @@ ghost use Rattle.teg_timetable.specs.Spreads.{greatest_period, delay_left, outco
 use crate::circuits::{circuit_back, feeders};
 use crate::late::{highest, last_late, tops};
 use crate::left::Left;
-use delay_laws::{DelayOutcome, Timetable};
+use delay_laws::{Outcome, Timetable};
 use std::alloc::Global;
 use teg_net::{Net, OutOfMemory};
 
@@ -21,7 +21,7 @@ pub(crate) fn outcome(
     period: u64,
     table: &Timetable,
     left: &Left,
-) -> Result<DelayOutcome, OutOfMemory>
+) -> Result<Outcome, OutOfMemory>
     requires rules { IsNet net.now }
     requires live { IsLive net.now }
     requires some { 1 ≤ period }
@@ -38,11 +38,11 @@ pub(crate) fn outcome(
     let start = highest(&tops);
     let most = tops[start];
     if most == 0 {
-        return Ok(DelayOutcome::Recovered {
+        return Ok(Outcome::Recovered {
             after: last_late(left),
         });
     }
     let feeders = feeders(alloc, net, period, table, &tops, most)?;
     let circuit = circuit_back(alloc, net, period, table, &tops, most, &feeders, start)?;
-    Ok(DelayOutcome::Kept { circuit })
+    Ok(Outcome::Kept { circuit })
 }

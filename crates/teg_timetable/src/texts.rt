@@ -13,7 +13,7 @@ ghost use Rattle.teg_timetable.specs.TimetableTexts.{AreLeftDelaysShort, IsOutco
 
 use crate::delayed::Delayed;
 use crate::refusals::{DelayRefusal, TableRefusal};
-use delay_laws::DelayOutcome;
+use delay_laws::Outcome;
 use std::alloc::{AllocError, Global};
 use teg_net::{Circuit, Net, OutOfMemory, TransitionId};
 use teg_text::{push_circuit, row_fault};
@@ -107,18 +107,18 @@ fn push_kept(text: &mut String, net: &Net, circuit: &Circuit) -> Result<(), Allo
 }
 
 // Appends what becomes of the delays.
-fn push_outcome(text: &mut String, net: &Net, outcome: &DelayOutcome) -> Result<(), AllocError>
+fn push_outcome(text: &mut String, net: &Net, outcome: &Outcome) -> Result<(), AllocError>
     requires { IsOutcomeIn net.now (outcome_told outcome.now) }
     ensures text { IfOk result (λ _. string_bytes text.new ≡
         string_bytes text.old ++ written (outcome_lines net.now (outcome_told outcome.now))) }
     ensures told { IfOk result (λ _. IsOutcomeToldOf net.now (outcome_told outcome.now)) }
 {
     match outcome {
-        DelayOutcome::Recovered { after } => {
+        Outcome::Recovered { after } => {
             let after = *after;
             write!(text, "recovered after {after}\n")
         }
-        DelayOutcome::Kept { circuit } => push_kept(text, net, circuit),
+        Outcome::Kept { circuit } => push_kept(text, net, circuit),
     }
 }
 

@@ -1,5 +1,5 @@
 use Rattle.std.proofs.Common.{◌≡◌, ◌++◌, ◌∷◌, codes, length, map, string_bytes}
-use Rattle.teg_report.specs.ShortAnswers.{usage_from}
+use Rattle.teg_report.specs.UsageLines.{usage_from}
 use Rattle.teg_text.specs.Lines.{written}
 use Rattle.teg_report.proofs.usage.push_uses.Given as goal
 

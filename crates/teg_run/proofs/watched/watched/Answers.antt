@@ -2,7 +2,7 @@ use Rattle.std.proofs.Common.{◌≡◌, ◌++◌, ◌∙◌, ℕ, List, [], ◌
 use denote.Param.Object.{read_made}
 use Rattle.std.specs.Prelude.{string_bytes}
 use Rattle.teg_outside.specs.declared.monitor.Firing.{Firing}
-use Rattle.teg_run.specs.Headline.{KeepsPromises}
+use Rattle.teg_run.specs.WholeCalls.{Runs}
 use Rattle.teg_run.proofs.watched.watched.Goals as goal
 use Rattle.teg_run.proofs.watched.watched.OwnLists as own
 
@@ -19,10 +19,10 @@ three_added none one two three a b c n p q r =
 three_told : {A B : Type 0} (t : A → B) {items : List A} {a b c : A} {x y z : B} → items ≡ a ∷ b ∷ c ∷ [] → t a ≡ x → t b ≡ y → t c ≡ z → map t items ≡ x ∷ y ∷ z ∷ []
 three_told t e p q r = ap (map t) e ∙ (λ i. p i ∷ q i ∷ r i ∷ [])
 
-pub returns-clause-promises : goal.returns-clause-promises
-returns-clause-promises g c =
+pub returns-clause-runs : goal.returns-clause-runs
+returns-clause-runs g c =
     same_lines
-    (λ lines. KeepsPromises (record {
+    (λ lines. Runs (record {
       words = map string_bytes c.args.words.now;
       lines = lines;
       shelf_before = g.S.Shelf.state c.args.shelf.now;
