@@ -34,18 +34,21 @@ IsPaceOf net (Some pace) =
     × IsCircuit net pace.bottleneck.places.items
     × (time_of net pace.bottleneck.places.items * pace.ratio.tokens ≡ pace.ratio.time * tokens_of net pace.bottleneck.places.items)
 
--- refusals of the calls below as they are told: each as itself, but for want of memory
+-- why a file says no net, as it is told: want of memory as itself
 abbrev pub no_answer_of_read : ReadRefusal → NoAnswer
 no_answer_of_read refusal = if is_memory refusal then OutOfMemory else NoNet refusal
 
+-- why a net gets no ranks, as it is told: want of memory as itself
 abbrev pub no_answer_of_check : CheckRefusal → NoAnswer
 no_answer_of_check check_memory = OutOfMemory
 no_answer_of_check refusal = NotLive refusal
 
+-- why a file says no due dates, as it is told: want of memory as itself
 abbrev pub no_answer_of_due : DueRefusal → NoAnswer
 no_answer_of_due due_memory = OutOfMemory
 no_answer_of_due refusal = NoDue refusal
 
+-- why there is no plan, as it is told: want of memory as itself
 abbrev pub no_answer_of_jit : JitRefusal → NoAnswer
 no_answer_of_jit jit_memory = OutOfMemory
 no_answer_of_jit refusal = Late refusal
