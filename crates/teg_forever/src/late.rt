@@ -51,7 +51,7 @@ struct Soonest {
 }
 
 // The due date of a firing.
-fn due_at(row: &EndlessRow, number: u64) -> u128
+pub(crate) fn due_at(row: &EndlessRow, number: u64) -> u128
     requires row { IsGoingRow row.now }
     requires first { 1 ≤ number }
     requires last { number ≤ greatest_firing_number }
