@@ -1,5 +1,5 @@
 -- Where each place adds no more than what is told of its ends, no round on the way to a row's transition takes more time than the row gives.
-use Rattle.std.proofs.Common.{ℕ, ℤ, ◌+◌, ◌*◌, ◌≤◌, ◌≡◌, List, [], ◌∷◌, length, All, Option, Some, sym, ap, subst, ◌∙◌, arith, pos, ◌+ℤ◌, ◌-ℤ◌}
+use Rattle.std.proofs.Common.{ℕ, ℤ, ◌+◌, ◌*◌, ◌≡◌, List, [], ◌∷◌, All, Option, Some, sym, ap, subst, ◌∙◌, arith, pos, ◌+ℤ◌, ◌-ℤ◌}
 use Rattle.std.specs.Prelude.{◌≤ℤ◌}
 use Rattle.std.proofs.lemmas.Int.{ints}
 use Rattle.std.proofs.lemmas.List.Sums.{sum_by-cons}

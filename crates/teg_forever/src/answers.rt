@@ -22,7 +22,7 @@ use std::alloc::Global;
 use teg_check::{Live, ranked_nets_are_live};
 use teg_form::standard_form;
 use teg_net::{Net, OutOfMemory};
-use teg_settle::{SettleRefusal, Settled, settle, settle_within};
+use teg_settle::{SettleRefusal, SettledDates, settle_dates, settle_dates_within};
 
 // The longest settled form that is looked for before rows alone are asked.
 const SHORT_FORM: u32 = 20_000;
@@ -33,7 +33,7 @@ fn settled_at_zero(
     net: &Net,
     plain: &Net,
     live: &Live,
-) -> Result<Settled, OutOfMemory>
+) -> Result<SettledDates, OutOfMemory>
     requires rules { IsNet net.now }
     requires live { IsLive net.now }
     requires plain { plain.now ≡ without_inputs net.now }
@@ -44,7 +44,7 @@ fn settled_at_zero(
 {
     zero_inputs_are_no_lists();
     turns_tell_late();
-    let settled = settle(alloc, plain, live)?;
+    let settled = settle_dates(alloc, plain, live)?;
     settled.after();
     Ok(settled)
 }
@@ -55,7 +55,7 @@ fn short_at_zero(
     net: &Net,
     plain: &Net,
     live: &Live,
-) -> Result<Option<Settled>, OutOfMemory>
+) -> Result<Option<SettledDates>, OutOfMemory>
     requires rules { IsNet net.now }
     requires live { IsLive net.now }
     requires plain { plain.now ≡ without_inputs net.now }
@@ -67,7 +67,7 @@ fn short_at_zero(
 {
     zero_inputs_are_no_lists();
     turns_tell_late();
-    match settle_within(alloc, plain, live, SHORT_FORM) {
+    match settle_dates_within(alloc, plain, live, SHORT_FORM) {
         Ok(settled) => {
             settled.after();
             Ok(Some(settled))
@@ -90,7 +90,7 @@ fn refused_at(row: &EndlessRow, late: LateFiring) -> ForeverRefusal
 }
 
 // Refuses the first row that has a late number, with its least one.
-fn keep_rows(net: &Net, settled: &Settled, rows: &[EndlessRow]) -> Result<(), ForeverRefusal>
+fn keep_rows(net: &Net, settled: &SettledDates, rows: &[EndlessRow]) -> Result<(), ForeverRefusal>
     requires rules { IsNet net.now }
     requires live { IsLive net.now }
     requires form { IsZeroForm net.now settled.now }
@@ -197,11 +197,19 @@ fn keep_dues(
 /// settled form of at most 20,000 numbers, or for which a residual or a meet over the rows does not
 /// fit. `OutOfMemory` comes only where no memory is found.
 ///
-/// The order of the work, for n transitions and p places: first the least dating with all inputs at
-/// 0 is settled; for a settling length l it takes rows of order l, each in time of order `n + p`.
-/// Each due row is held against it as far as the dates of its transition take to repeat with it, at
-/// most in time of order `1,000 l + 10,000`; the divisors of the net's period are tried for the
-/// period of the transition's own, each mostly for a few numbers. Then for each input the walk
+/// The order of the work, for n transitions and p places: without rows nothing is asked of the
+/// net's dates. Else the least dating with all inputs at 0 is settled within 20,000 numbers, if its
+/// form is so short: for a settling length l this takes rows of order l, each in time of order `n +
+/// p`, and each due row is held against it as far as the dates of its transition take to repeat
+/// with it, at most in time of order `1,000 l + 10,000`; the divisors of the net's period are tried
+/// for the period of the transition's own, each mostly for a few numbers. Where it is longer, as
+/// for rates that nearly agree, the standard form is made, in time of order `n^3 + n p`, and for
+/// each due row the rows of the net are gone through once more, without keeping them: up to `d + e
+/// n m + m`, for a list of d dates that goes on after e, and places of at most m tokens. They tell
+/// all, where one of the firings is late or no circuit that leads to the due transition gains on
+/// the row, which is found in time of order `n p`; only where they do not, or would be more than
+/// some seconds take, the form is looked for without a limit, with eight bytes a date. Then for
+/// each input the walk
 /// times are settled likewise; for a settling length k each due row takes a residual of at most
 /// 20,000 values, each in time of order k, less the numbers at which no walk arrives yet. Rows that
 /// ask the same dates take one residual for all inputs that reach their transitions alike, as long

@@ -1,4 +1,4 @@
-use Rattle.std.proofs.Common.{ℕ, ◌≡◌, ◌+◌, ◌-◌, ◌<◌, ◌≤◌, arith, subst}
+use Rattle.std.proofs.Common.{ℕ, ◌≡◌, ◌+◌, ◌-◌, arith, subst}
 use Rattle.forever_laws.specs.Late.{NoneLateTo}
 use Rattle.teg_forever.specs.LateFirings.{InLeastAtZero}
 use Rattle.teg_forever.proofs.AloneRows.{found, none_so_far, comes_at}
