@@ -13,7 +13,7 @@ use Rattle.teg_net.proofs.PathLaws.{IsPathBetween-append}
 use Rattle.teg_settle.specs.teg_loops.Loops.{EndsBelow}
 use Rattle.teg_settle.proofs.teg_loops_proofs.Taking.{Keeps, closed_keeps, shortened}
 use Rattle.teg_settle.specs.teg_loops.ClosedPieces.{HasRound}
-use Rattle.teg_settle.proofs.teg_loops_proofs.Again.{round_in}
+use Rattle.teg_settle.proofs.teg_loops_proofs.Again.{round_in, round_sum}
 use Rattle.teg_settle.proofs.teg_loops_proofs.Visits.{rounds, rounds_lead, rounds_sum}
 
 -- z is reached by a walk that starts at a date, at one of the first `most` numbers, and any walk with this start comes no later
@@ -56,14 +56,6 @@ steep_bound T C span every last = 1 + T + (last + 1) * (every * C) + span * (1 +
 abbrev pub flat_bound : ℕ → ℕ → ℕ → ℕ → ℕ
 flat_bound C most every size = size + every * C + most
 
-round_sum : (f : PlaceId → ℕ) (net : NetLists) (a b m most : ℕ) (ps : List PlaceId) → (h : HasRound net a b m most ps) → sum_by f ps ≡ sum_by f (h.before ++ h.after) + sum_by f h.round
-round_sum f net a b m most ps h =
-    let one = sum_by-append f h.before (h.round ++ h.after) in
-    let two = sum_by-append f h.round h.after in
-    let three = sum_by-append f h.before h.after in
-    let e : sum_by f ps ≡ sum_by f (h.before ++ (h.round ++ h.after)) = ap (sum_by f) h.is in
-    omega arith
-
 due_back : (every gap size : ℕ) (d : ℕ → ℕ) → ((k : ℕ) → size < k + every → d (k + every) ≡ d k + gap) → (q j : ℕ) → size < j + every → d (j + q * every) ≡ d j + q * gap
 due_back every gap size d again zero j l = let e : j + 0 * every ≡ j = omega arith in let f : d j + 0 * gap ≡ d j = omega arith in ap d e ∙ sym f
 due_back every gap size d again (suc q) j l =
@@ -73,6 +65,32 @@ due_back every gap size d again (suc q) j l =
     let f : d (j + suc q * every) ≡ d (j + q * every + every) = ap d e in
     let g : suc q * gap ≡ q * gap + gap = omega arith in
     omega arith
+
+-- an earlier number is late
+abbrev pub IsLateBefore : (ℕ → ℕ) → (ℕ → ℕ) → ℕ → Type 0
+IsLateBefore z d k = (j : ℕ) × (1 ≤ j) × (j < k) × (d j < z j)
+
+-- a walk from which a round is taken out that gives no more time than the due dates do comes too late as well
+pub taken_out : (e : NetLists) (n most every gap size long : ℕ) (z : ℕ → ℕ → ℕ) (d : ℕ → ℕ) (t k : ℕ) → t < n → 1 ≤ every → ((j : ℕ) → size < j + every → d (j + every) ≡ d j + gap)
+    → (w : ReachedFrom e n most z t k) (r : HasRound e w.from t every long w.walk) → 1 ≤ tokens_of e r.round → size + tokens_of e r.round + most < k → time_of e r.round ≤ gap * r.times → d k < z t k → IsLateBefore (z t) d k
+taken_out e n most every gap size long z d t k lt some again w r own far flat late =
+    let f : PlaceId → ℕ = λ p. (place_at e p).tokens in
+    let g : PlaceId → ℕ = λ p. (place_at e p).hold in
+    let number = w.number_is in
+    let early = w.early in
+    let q : ℕ = r.times in
+    let q_is : tokens_of e r.round ≡ q * every = r.tokens in
+    let tokens : tokens_of e w.walk ≡ tokens_of e (r.before ++ r.after) + tokens_of e r.round = round_sum f e w.from t every long w.walk r in
+    let time : time_of e w.walk ≡ time_of e (r.before ++ r.after) + time_of e r.round = round_sum g e w.from t every long w.walk r in
+    let j : ℕ = k - q * every in
+    let back : k ≡ j + q * every = omega arith in
+    let due : d k ≡ d j + q * gap = ap d back ∙ due_back every gap size d again q j (omega arith) in
+    let turned : q * gap ≡ gap * q = grind arith in
+    let left : IsPathBetween e w.from (r.before ++ r.after) t = IsPathBetween-append e r.before r.after w.from r.at t r.first r.last in
+    let there : w.number + tokens_of e (r.before ++ r.after) ≡ j = omega arith in
+    let best : w.start + time_of e (r.before ++ r.after) ≤ z t j = subst (λ (x : ℕ). w.start + time_of e (r.before ++ r.after) ≤ z t x) there (w.greatest t (r.before ++ r.after) lt left) in
+    let date = w.date_is in
+    (j, omega arith, omega arith, omega arith)
 
 -- the walk that goes round often enough is late
 steep_late : (every last gap T t0 q time r w du total : ℕ) → 1 ≤ every → t0 ≤ T → gap * q < time → w * every ≤ gap * (1 + T + every) → gap * (1 + T + every) < w * every + every → r ≡ last + 1 + w
@@ -103,7 +121,7 @@ steep_within every last gap T C span t0 q time r w lt steep le low r_is few =
 
 -- a late number past the flat bound: an earlier one is late, or one up to the steep bound
 earlier : (e : NetLists) (n T C span most every last gap size : ℕ) (z : ℕ → ℕ → ℕ) (d : ℕ → ℕ) → LateSetting e n T C span most every last gap size z d → (t k : ℕ) → t < n
-    → flat_bound C most every size < k → d k < z t k → ((j : ℕ) × (1 ≤ j) × (j < k) × (d j < z t j)) ⊎ LateWithin (z t) d (steep_bound T C span every last)
+    → flat_bound C most every size < k → d k < z t k → IsLateBefore (z t) d k ⊎ LateWithin (z t) d (steep_bound T C span every last)
 earlier e n T C span most every last gap size z d s t k lt far late =
     let f : PlaceId → ℕ = λ p. (place_at e p).tokens in
     let g : PlaceId → ℕ = λ p. (place_at e p).hold in
@@ -148,16 +166,7 @@ earlier e n T C span most every last gap size z d s t k lt far late =
           (subst (λ (x : ℕ). every * d (1 + tokens_of e walk) ≤ every * last + gap * (x + every)) there (s.slow (1 + tokens_of e walk))) (omega arith);
     }))
     (λ (flat : time_of e r.round ≤ gap * q).
-    let j : ℕ = k - q * every in
-    let back : k ≡ j + q * every = omega arith in
-    let due : d k ≡ d j + q * gap = ap d back ∙ due_back every gap size d s.again q j (omega arith) in
-    let turned : q * gap ≡ gap * q = grind arith in
-    let left : IsPathBetween e w.from (r.before ++ r.after) t = IsPathBetween-append e r.before r.after w.from r.at t r.first r.last in
-    let there : w.number + tokens_of e (r.before ++ r.after) ≡ j = omega arith in
-    let best : w.start + time_of e (r.before ++ r.after) ≤ z t j = subst (λ (x : ℕ). w.start + time_of e (r.before ++ r.after) ≤ z t x) there (w.greatest t (r.before ++ r.after) lt left) in
-    let date = w.date_is in
-    let less : 1 ≤ q * every = (let x : 1 * every ≤ q * every = mul-le-mul_right {m = 1} {n = q} every q_some in let y = s.every_some in omega arith) in
-    inl (j, omega arith, omega arith, omega arith))
+    inl (taken_out e n most every gap size (n * every) z d t k lt s.every_some s.again w r own.some (omega arith) flat late))
     (cases_lt (gap * q) (time_of e r.round)) where
       at_below : (e : NetLists) (n a : ℕ) (ps : List PlaceId) → EndsBelow e n → IsPathBetween e a ps a → 0 < length ps → a < n
       at_below e n a [] ends h l = absurd (omega arith)

@@ -4,6 +4,7 @@ pub mod FirstLate
 pub mod Zeros
 pub mod Soon
 pub mod Turns
+pub mod Paced
 pub mod Inputs
 pub mod Meeting
 pub mod Series

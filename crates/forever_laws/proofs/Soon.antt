@@ -1,6 +1,6 @@
 -- The least late number of a row is not great: a late number is late soon, for the walks of a net.
 use Rattle.std.proofs.Common.{ℕ, zero, suc, ◌+◌, ◌*◌, ◌^◌, ◌<◌, ◌≤◌, ◌≡◌, List, length, sym, ap, arith, ⊎_elim, ◌⊎◌, inl, inr}
-use Rattle.std.specs.Prelude.{pos}
+use Rattle.std.specs.Prelude.{pos, All}
 use Rattle.std.proofs.lemmas.Bool.{cases_lt}
 use Rattle.std.proofs.lemmas.Int.{ints}
 use Rattle.std.proofs.Math.Nat.{mul-le-mul_right, mul-le-mul_left}
@@ -30,20 +30,24 @@ use Rattle.forever_laws.proofs.Zeros.{least_number, date_is, path_most, reached}
 
 -- ---- the setting of a net
 
-ends_in : (net : NetLists) → IsNet net → EndsBelow (unrolled net) (length net.transitions)
+pub ends_in : (net : NetLists) → IsNet net → EndsBelow (unrolled net) (length net.transitions)
 ends_in net ok = record {
   from_in = λ id l. all_extended_in net (λ p. p.from.index < length net.transitions) (λ i d m. (ok.each_place i d m).from_in) (λ t m. m) id.index no_place l;
   to_in = λ id l. all_extended_in net (λ p. p.to.index < length net.transitions) (λ i d m. (ok.each_place i d m).to_in) (λ t m. m) id.index no_place l;
 }
 
-marks_in : (net : NetLists) → IsNet net → (id : PlaceId) → id.index < length (extended_places net) → (place_at (unrolled net) id).tokens ≤ most_place_tokens
-marks_in net ok id l = all_extended_in net (λ p. p.tokens ≤ most_place_tokens) (λ i d m. (ok.each_place i d m).tokens_in) (λ t m. omega arith) id.index no_place l
+marks_in : (net : NetLists) (most : ℕ) → 1 ≤ most → All (λ p. p.tokens ≤ most) net.places → (id : PlaceId) → id.index < length (extended_places net) → (place_at (unrolled net) id).tokens ≤ most
+marks_in net most some all id l = all_extended_in net (λ p. p.tokens ≤ most) all (λ t m. some) id.index no_place l
+
+-- the limit of every net
+marks_low : (net : NetLists) → IsNet net → All (λ p. p.tokens ≤ most_place_tokens) net.places
+marks_low net ok i d l = (ok.each_place i d l).tokens_in
 
 holds_in : (net : NetLists) → IsNet net → (id : PlaceId) → id.index < length (extended_places net) → (place_at (unrolled net) id).hold ≤ greatest_hold
 holds_in net ok id l = all_extended_in net (λ p. p.hold ≤ greatest_hold) (λ i d m. (ok.each_place i d m).hold_in) (λ t m. omega arith) id.index no_place l
 
 -- with its implicit places the net is still live
-live_in : (net : NetLists) → IsLive net → (ps : List PlaceId) → IsCircuit (unrolled net) ps → 1 ≤ tokens_of (unrolled net) ps
+pub live_in : (net : NetLists) → IsLive net → (ps : List PlaceId) → IsCircuit (unrolled net) ps → 1 ≤ tokens_of (unrolled net) ps
 live_in net live ps c = ⊎_elim
     (λ own.
     let same : tokens_of (unrolled net) ps ≡ tokens_of net ps = same_sums net (λ p. p.tokens) ps own.0 in
@@ -52,10 +56,32 @@ live_in net live ps c = ⊎_elim
     (λ (w : IsWait net ps). let one = w.tokens in omega arith)
     (kinds net ps c)
 
-few_tokens : (net : NetLists) → IsNet net → (ps : List PlaceId) (s t m : ℕ) → IsPathBetween (unrolled net) s ps t → length ps ≤ m → tokens_of (unrolled net) ps ≤ m * most_place_tokens
-few_tokens net ok ps s t m h l =
-    let one = sum_most (λ p. (place_at (unrolled net) p).tokens) most_place_tokens (unrolled net) (marks_in net ok) ps s t h in
+-- a path of few places has few tokens
+few_tokens : (net : NetLists) (most : ℕ) → 1 ≤ most → All (λ p. p.tokens ≤ most) net.places → (ps : List PlaceId) (s t m : ℕ) → IsPathBetween (unrolled net) s ps t → length ps ≤ m → tokens_of (unrolled net) ps ≤ m * most
+few_tokens net most some all ps s t m h l =
+    let one = sum_most (λ p. (place_at (unrolled net) p).tokens) most (unrolled net) (marks_in net most some all) ps s t h in
+    let more : length ps * most ≤ m * most = mul-le-mul_right {m = length ps} {n = m} most l in
     omega arith
+
+-- a piece that goes round a number of times at most has few tokens
+pub few_in_round : (net : NetLists) (most every : ℕ) → 1 ≤ most → All (λ p. p.tokens ≤ most) net.places → (ps : List PlaceId) (s t : ℕ) → IsPathBetween (unrolled net) s ps t
+    → length ps ≤ length net.transitions * every → tokens_of (unrolled net) ps ≤ every * (length net.transitions * most)
+few_in_round net most every some all ps s t h l =
+    let few = few_tokens net most some all ps s t (length net.transitions * every) h l in
+    let turned : length net.transitions * every * most ≡ every * (length net.transitions * most) = grind arith in
+    omega arith
+
+-- and so a path of many tokens has many places
+pub many_places : (net : NetLists) (most every : ℕ) → 1 ≤ most → All (λ p. p.tokens ≤ most) net.places → (ps : List PlaceId) (s t : ℕ) → IsPathBetween (unrolled net) s ps t
+    → every * (length net.transitions * most) < tokens_of (unrolled net) ps → length net.transitions * every ≤ length ps
+many_places net most every some all ps s t h far =
+    let n : ℕ = length net.transitions in
+    ⊎_elim
+    (λ (less : length ps < n * every).
+    let few = few_in_round net most every some all ps s t h (omega arith) in
+    absurd (omega arith))
+    (λ (more : n * every ≤ length ps). more)
+    (cases_lt (length ps) (n * every))
 
 little_time : (net : NetLists) → IsNet net → (ps : List PlaceId) (s t m : ℕ) → IsPathBetween (unrolled net) s ps t → length ps ≤ m → time_of (unrolled net) ps ≤ m * greatest_hold
 little_time net ok ps s t m h l =
@@ -70,18 +96,12 @@ setting net ok live x least r row =
     record {
       ends = ends_in net ok;
       live = live_in net live;
-      short_tokens = λ ps s t h l. few_tokens net ok ps s t n h (omega arith);
-      piece_tokens = λ ps s t h l. (let few = few_tokens net ok ps s t (n * r.every) h l in let turned : n * r.every * most_place_tokens ≡ r.every * (n * most_place_tokens) = grind arith in omega arith);
+      short_tokens = λ ps s t h l. few_tokens net most_place_tokens (omega arith) (marks_low net ok) ps s t n h (omega arith);
+      piece_tokens = λ ps s t h l. few_in_round net most_place_tokens r.every (omega arith) (marks_low net ok) ps s t h l;
       piece_time = λ ps s t h l. little_time net ok ps s t (n * r.every) h l;
-      long = λ ps s t h far. ⊎_elim
-          (λ (less : length ps < n * r.every).
-          let few = few_tokens net ok ps s t (n * r.every) h (omega arith) in
-          let turned : n * r.every * most_place_tokens ≡ r.every * (n * most_place_tokens) = grind arith in
-          absurd (omega arith))
-          (λ (more : n * r.every ≤ length ps). more)
-          (cases_lt (length ps) (n * r.every));
+      long = λ ps s t h far. many_places net most_place_tokens r.every (omega arith) (marks_low net ok) ps s t h far;
       every_some = row.goes_on.some;
-      reached = reached net ok live x least;
+      reached = reached net ok live x least most_place_tokens (omega arith) (marks_low net ok);
       first = λ j t ps lj lt h. (let most = path_most net ok live x least t j 1 ps lt lj (omega arith) h in omega arith);
       again = due_again net r row;
       slow = due_slow net r row;

@@ -1,6 +1,6 @@
 -- With all inputs at 0 each least date is a number: that of a walk, its start and its time, whose number is not great where it starts late.
 use Rattle.std.proofs.Common.{ℕ, suc, ◌+◌, ◌-◌, ◌*◌, ◌<◌, ◌≤◌, ◌≡◌, List, [], ◌∷◌, ◌++◌, length, refl, sym, ap, subst, ◌∙◌, arith, ⊎_elim}
-use Rattle.std.specs.Prelude.{pos, Any}
+use Rattle.std.specs.Prelude.{pos, All, Any}
 use Rattle.std.proofs.lemmas.Bool.{cases_lt}
 use Rattle.std.proofs.lemmas.Int.{ints}
 use Rattle.std.proofs.lemmas.List.Sums.{sum_by-append}
@@ -10,7 +10,6 @@ use Rattle.teg_settle.specs.dioid.Dates.{IsAtMostDate, delayed, later_of}
 use Rattle.teg_settle.proofs.dioid_proofs.DateOrder.{later_is_left}
 use Rattle.teg_net.specs.declared.entries.PlaceId.{PlaceId}
 use Rattle.teg_net.specs.declared.entries.Place.{Place}
-use Rattle.teg_net.specs.Limits.{most_place_tokens}
 use Rattle.teg_net.specs.Nets.{NetLists, IsNet, IsInput}
 use Rattle.teg_net.specs.Circuits.{place_at, IsPathBetween, IsLive, time_of, tokens_of}
 use Rattle.teg_net.specs.Walks.{Walks, walk_time}
@@ -87,13 +86,13 @@ module _ (net : NetLists) (ok : IsNet net) (live : IsLive net) (x : ℕ → ℕ 
       omega arith
 
   -- a start above 0 is a ready date, so its number is no greater than the tokens of some place
-  late_start : (a s : ℕ) → 0 < start_date net a s → s ≤ most_place_tokens
-  late_start a s some =
+  late_start : (most : ℕ) → All (λ p. p.tokens ≤ most) net.places → (a s : ℕ) → 0 < start_date net a s → s ≤ most
+  late_start most all a s some =
       ⊎_elim
       (λ (none : start_date net a s ≡ 0). absurd (omega arith))
       (λ (one : Any (λ p. (p.to.index ≡ a) × (s ≤ p.tokens) × (ready_date p s ≡ start_date net a s)) net.places).
       let (i, p, l, r, (into, few, e)) = one in
-      let most : p.tokens ≤ most_place_tokens = subst (λ (q : Place). q.tokens ≤ most_place_tokens) r (ok.each_place i p l).tokens_in in
+      let low : p.tokens ≤ most = subst (λ (q : Place). q.tokens ≤ most) r (all i p l) in
       omega arith)
       (IsStartDate-start_date net a s).reached
 
@@ -104,8 +103,8 @@ module _ (net : NetLists) (ok : IsNet net) (live : IsLive net) (x : ℕ → ℕ 
       let two : time_of (unrolled net) (rounds m (wait.id ∷ [])) ≡ m * 0 = rounds_sum (λ p. (place_at (unrolled net) p).hold) (wait.id ∷ []) m ∙ ap (λ (z : ℕ). m * z) wait.time in
       (rounds m (wait.id ∷ []), rounds_lead (unrolled net) a (wait.id ∷ []) m wait.path, omega arith, omega arith)
 
-  pub reached : (t k : ℕ) → t < length net.transitions → 1 ≤ k → ReachedFrom (unrolled net) (length net.transitions) most_place_tokens least_number t k
-  reached t k l o =
+  pub reached : (most : ℕ) → 1 ≤ most → All (λ p. p.tokens ≤ most) net.places → (t k : ℕ) → t < length net.transitions → 1 ≤ k → ReachedFrom (unrolled net) (length net.transitions) most least_number t k
+  reached most some all t k l o =
       let w : IsDateOfWalk net inputs_at_zero t k (x t k) = (walks t k l o).reached in
       let path : Pathed net w.from t w.number k w.steps = pathed net ok w.steps w.from w.number t k w.from_in w.walk in
       let e : least_number t k ≡ start_date net w.from w.number + walk_time net w.steps = ap number_of (walk_is t k w) in
@@ -119,7 +118,7 @@ module _ (net : NetLists) (ok : IsNet net) (live : IsLive net) (x : ℕ → ℕ 
         start = start_date net w.from w.number;
         walk = path.places;
         from_in = w.from_in;
-        early = late_start w.from w.number late;
+        early = late_start most all w.from w.number late;
         leads = path.path;
         number_is = sym number;
         date_is = omega arith;
@@ -133,7 +132,7 @@ module _ (net : NetLists) (ok : IsNet net) (live : IsLive net) (x : ℕ → ℕ 
       let four : time_of (unrolled net) (before.0 ++ path.places) ≡ time_of (unrolled net) before.0 + time_of (unrolled net) path.places = sum_by-append g before.0 path.places in
       let five = before.2 in
       let six = before.3 in
-      let some = w.from_one in
+      let one = w.from_one in
       record {
         from = w.from;
         number = 1;

@@ -1,6 +1,7 @@
 pub mod EndlessRows
 pub mod Late
 pub mod LateSearches
+pub mod PacedRows
 pub mod SeriesColumns
 pub mod EndlessDues
 pub mod ColumnLaws

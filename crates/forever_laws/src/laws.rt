@@ -2,6 +2,7 @@
 //! is the law.
 ghost use Rattle.forever_laws.specs.ColumnLaws.{ColumnsAreOne, ColumnsExist, RowsFitAlike, TransfersHaveOneLength};
 ghost use Rattle.forever_laws.specs.EndlessDues.{DueSeriesFit, DuesAreSeries, FreeAtEachNumber, EndlessLateExcludesMeet, LateIsSoon, LateNumbersHaveLeast, LatestAtInputsAreLatest, LatestDatesFromZero, EndlessMeetOrLate, ResidualsAreFreeOrNumbers, ResidualsAreLatestDates, RowsGoOn, StepsAreFromZero, TransfersAreSeries, TurnsTellLate, WalkSeriesFit, ZeroInputsAreNoLists, ZeroMeetsWhereNoneLate};
+ghost use Rattle.forever_laws.specs.PacedRows.{NoRowsAreMet, PacedLateIsSoon};
 
 use teg_settle::walk_times_settle;
 
@@ -48,6 +49,19 @@ pub fn late_numbers_have_least()
 /// The least late number of a row is below 10^23, and its dates are below 10^35.
 pub fn late_is_soon()
     ensures { LateIsSoon }
+{}
+
+/// Where no circuit that leads to a row's transition has a greater ratio of time to tokens than the
+/// row of gap to firings, a late number of the row comes up to a bound of the net's own, if at all:
+/// the dates it lists, `every` times the tokens that so many places as transitions can have, and
+/// those of one place more (chapters 3 and 5).
+pub fn paced_late_is_soon()
+    ensures { PacedLateIsSoon }
+{}
+
+/// In a live net inputs at 0 meet due dates that no row asks.
+pub fn no_rows_are_met()
+    ensures { NoRowsAreMet }
 {}
 
 /// In a live net inputs at 0 meet endless due dates, or some row is the first with a late number,

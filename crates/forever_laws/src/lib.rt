@@ -17,7 +17,7 @@ mod rows;
 pub use laws::{
     columns_are_one, columns_exist, forms_are_series, free_at_each_number, late_is_soon,
     late_numbers_have_least, latest_at_inputs_are_latest, latest_dates_from_zero, meet_or_late,
-    residuals_are_latest_dates, rows_go_on, series_fit, turns_tell_late, zero_inputs_are_no_lists,
-    zero_meets_where_none_late,
+    no_rows_are_met, paced_late_is_soon, residuals_are_latest_dates, rows_go_on, series_fit,
+    turns_tell_late, zero_inputs_are_no_lists, zero_meets_where_none_late,
 };
 pub use rows::EndlessRow;

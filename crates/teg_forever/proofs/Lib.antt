@@ -1,8 +1,10 @@
+pub mod AloneRows
 pub mod Cycles
 pub mod Dividing
 pub mod Gathered
 pub mod InputLists
 pub mod Itself
+pub mod KeepingPace
 pub mod LateNumbers
 pub mod LateTurns
 pub mod ReadBack

@@ -1,5 +1,5 @@
 -- Working definitions of what the search for a late firing goes by.
-use Rattle.std.specs.Prelude.{ℕ, pos, ◌+◌, ◌*◌, ◌<◌, ◌≤◌, ◌≡◌, length}
+use Rattle.std.specs.Prelude.{ℕ, ⊤, pos, ◌+◌, ◌*◌, ◌<◌, ◌≤◌, ◌≡◌, length}
 use Rattle.dioid.specs.declared.dates.Date.{Date}
 use Rattle.dioid.specs.declared.dates.Date.TheVariants.{At}
 use Rattle.dioid.specs.Dates.{move}
@@ -10,10 +10,12 @@ use Rattle.forever_laws.specs.settled_laws.SettledForms.{SettledForm, StandsFor,
 use Rattle.forever_laws.specs.due_laws.MeetingDueDates.{inputs_at_zero}
 use Rattle.forever_laws.specs.declared.rows.EndlessRow.{EndlessRow}
 use Rattle.forever_laws.specs.EndlessRows.{IsEndlessRow}
-use Rattle.forever_laws.specs.Late.{IsLeastLate}
+use Rattle.forever_laws.specs.Late.{IsLeastLate, NoneLate}
 use Rattle.forever_laws.specs.EndlessDues.{late_date_bound, late_number_bound}
 use Rattle.teg_forever.specs.declared.late.Soonest.{Soonest}
 use Rattle.teg_forever.specs.declared.late.CommonPeriod.{CommonPeriod}
+use Rattle.teg_forever.specs.declared.alone.Told.{Told}
+use Rattle.teg_forever.specs.declared.alone.Told.TheVariants.{Late as IsLate, None as IsNone, Nothing}
 
 -- the form stands for the least dating of the net with all inputs at 0
 pub record IsZeroForm (net : NetLists) (f : SettledForm) : Type 0 where
@@ -51,3 +53,13 @@ pub record IsSoonLate (f : SettledForm) (r : EndlessRow) (k due least : ℕ) : T
 -- the number, so many turns on, is the least late number of the row
 abbrev pub IsLateAfter : SettledForm → EndlessRow → CommonPeriod → Soonest → Type 0
 IsLateAfter f r turn s = IsSoonLate f r (s.number + s.turns * turn.firings) (s.due + s.turns * turn.fall) (s.least + s.turns * turn.rise)
+
+-- it holds of the least dating of the net with all inputs at 0
+abbrev pub InLeastAtZero : NetLists → ((ℕ → ℕ → Date) → Type 0) → Type 0
+InLeastAtZero net P = (x : ℕ → ℕ → Date) → IsLeastUnder net inputs_at_zero x → P x
+
+-- what rows alone tell of a row holds
+abbrev pub IsTold : NetLists → EndlessRow → Told → Type 0
+IsTold net r (IsLate l) = InLeastAtZero net (λ x. IsLeastLate x r l.number l.due l.least)
+IsTold net r IsNone = InLeastAtZero net (λ x. NoneLate x r)
+IsTold net r Nothing = ⊤

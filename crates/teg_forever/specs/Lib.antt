@@ -6,5 +6,6 @@ pub mod Alike
 pub mod Divisions
 pub mod LateFirings
 pub mod EndlessTexts
+pub mod Paces
 pub mod Twins
 pub use Rattle.forever_laws.specs as forever_laws

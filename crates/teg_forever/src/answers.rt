@@ -1,31 +1,42 @@
 //! The latest releases of the inputs under endless due dates.
-ghost use Rattle.std.specs.Prelude.{◌<◌, ℕ, length, All, IfOk, IfErr};
+ghost use Rattle.std.specs.Prelude.{◌≡◌, ◌<◌, ℕ, length, All, IfOk, IfErr, IfSome, IsTrue};
 ghost use Rattle.forever_laws.specs.due_laws.MeetingDueDates.{InputsMeet, inputs_at_zero};
 ghost use Rattle.teg_check.specs.Ranks.{IsRanking};
 ghost use Rattle.teg_net.specs.Circuits.{IsLive};
-ghost use Rattle.teg_net.specs.Nets.{IsNet};
+ghost use Rattle.teg_net.specs.Nets.{IsNet, without_inputs};
 ghost use Rattle.forever_laws.specs.settled_laws.SettledForms.{settled_date};
 ghost use Rattle.forever_laws.specs.Late.{NoneLate};
 ghost use Rattle.forever_laws.specs.EndlessRows.{IsEndlessOf, due_on};
 ghost use Rattle.teg_forever.specs.LatestReleases.{AreEndlessReleases, ForeverRefused};
-ghost use Rattle.teg_forever.specs.LateFirings.{IsClimbing, IsZeroForm};
+ghost use Rattle.teg_forever.specs.LateFirings.{InLeastAtZero, IsClimbing, IsZeroForm};
 
+use crate::alone::{Told, told_alone};
 use crate::inputs::releases_of;
-use crate::late::late_in_row;
+use crate::late::{LateFiring, late_in_row};
 use crate::releases::{ForeverRefusal, Release};
 use forever_laws::{
-    EndlessRow, latest_at_inputs_are_latest, turns_tell_late, zero_inputs_are_no_lists,
-    zero_meets_where_none_late,
+    EndlessRow, late_is_soon, latest_at_inputs_are_latest, no_rows_are_met, turns_tell_late,
+    zero_inputs_are_no_lists, zero_meets_where_none_late,
 };
 use std::alloc::Global;
 use teg_check::{Live, ranked_nets_are_live};
+use teg_form::standard_form;
 use teg_net::{Net, OutOfMemory};
-use teg_settle::{Settled, settle};
+use teg_settle::{SettleRefusal, SettledDates, settle_dates, settle_dates_within};
 
-// The settled form of the least dating with all inputs at 0.
-fn settled_at_zero(alloc: Global, net: &Net, live: &Live) -> Result<Settled, OutOfMemory>
+// The longest settled form that is looked for before rows alone are asked.
+const SHORT_FORM: u32 = 20_000;
+
+// The settled form of the least dating with all inputs at 0, however long it is.
+fn settled_at_zero(
+    alloc: Global,
+    net: &Net,
+    plain: &Net,
+    live: &Live,
+) -> Result<SettledDates, OutOfMemory>
     requires rules { IsNet net.now }
     requires live { IsLive net.now }
+    requires plain { plain.now ≡ without_inputs net.now }
     requires stands { IsRanking net.now live.now }
     ensures form { IfOk result (IsZeroForm net.now) }
     ensures climbing { IfOk result (λ f. (t : ℕ) → t < length net.now.transitions
@@ -33,14 +44,53 @@ fn settled_at_zero(alloc: Global, net: &Net, live: &Live) -> Result<Settled, Out
 {
     zero_inputs_are_no_lists();
     turns_tell_late();
-    let plain = net.without_inputs(alloc)?;
-    let settled = settle(alloc, &plain, live)?;
+    let settled = settle_dates(alloc, plain, live)?;
     settled.after();
     Ok(settled)
 }
 
+// The same form where it is short.
+fn short_at_zero(
+    alloc: Global,
+    net: &Net,
+    plain: &Net,
+    live: &Live,
+) -> Result<Option<SettledDates>, OutOfMemory>
+    requires rules { IsNet net.now }
+    requires live { IsLive net.now }
+    requires plain { plain.now ≡ without_inputs net.now }
+    requires stands { IsRanking net.now live.now }
+    ensures form { IfOk result (λ settled. IfSome settled (IsZeroForm net.now)) }
+    ensures climbing { IfOk result (λ settled. IfSome settled (λ f. (t : ℕ)
+        → t < length net.now.transitions
+        → IsClimbing f t)) }
+{
+    zero_inputs_are_no_lists();
+    turns_tell_late();
+    match settle_dates_within(alloc, plain, live, SHORT_FORM) {
+        Ok(settled) => {
+            settled.after();
+            Ok(Some(settled))
+        }
+        Err(SettleRefusal::TooLong { .. }) => Ok(None),
+        Err(SettleRefusal::OutOfMemory) => Err(OutOfMemory),
+    }
+}
+
+// The refusal of a row at its least late number.
+fn refused_at(row: &EndlessRow, late: LateFiring) -> ForeverRefusal
+    ensures { result ≡ ForeverRefusal.Late row.now.transition late.number late.due late.least }
+{
+    ForeverRefusal::Late {
+        transition: row.transition,
+        number: late.number,
+        due: late.due,
+        least: late.least,
+    }
+}
+
 // Refuses the first row that has a late number, with its least one.
-fn keep_rows(net: &Net, settled: &Settled, rows: &[EndlessRow]) -> Result<(), ForeverRefusal>
+fn keep_rows(net: &Net, settled: &SettledDates, rows: &[EndlessRow]) -> Result<(), ForeverRefusal>
     requires rules { IsNet net.now }
     requires live { IsLive net.now }
     requires form { IsZeroForm net.now settled.now }
@@ -51,18 +101,70 @@ fn keep_rows(net: &Net, settled: &Settled, rows: &[EndlessRow]) -> Result<(), Fo
 {
     for row in rows {
         if let Some(late) = late_in_row(net, settled, row)? {
-            return Err(ForeverRefusal::Late {
-                transition: row.transition,
-                number: late.number,
-                due: late.due,
-                least: late.least,
-            });
+            return Err(refused_at(row, late));
         }
     }
     Ok(())
 }
 
-// Refuses due dates that inputs at 0 do not meet. The settled form is dropped here.
+// Refuses the first row that has a late number, as far as rows alone tell it. Whether they tell it
+// of all rows.
+fn keep_rows_alone(
+    alloc: Global,
+    net: &Net,
+    plain: &Net,
+    live: &Live,
+    rows: &[EndlessRow],
+) -> Result<bool, ForeverRefusal>
+    requires rules { IsNet net.now }
+    requires live { IsLive net.now }
+    requires plain { plain.now ≡ without_inputs net.now }
+    requires stands { IsRanking net.now live.now }
+    requires rows { IsEndlessOf net.now rows.now }
+    ensures kept { IfOk result (λ told. IsTrue told → InLeastAtZero net.now (λ x. All (NoneLate x)
+        rows.now)) }
+    ensures late { IfErr result (ForeverRefused net.now rows.now) }
+{
+    ranked_nets_are_live();
+    no_rows_are_met();
+    late_is_soon();
+    let form = standard_form(alloc, plain, live)?;
+    for row in rows {
+        match told_alone(alloc, net, plain, &form, row)? {
+            Told::Late(late) => return Err(refused_at(row, late)),
+            Told::None => {}
+            Told::Nothing => return Ok(false),
+        }
+    }
+    Ok(true)
+}
+
+// Refuses due dates of a net without a short form that inputs at 0 do not meet.
+fn keep_long_dues(
+    alloc: Global,
+    net: &Net,
+    plain: &Net,
+    live: &Live,
+    rows: &[EndlessRow],
+) -> Result<(), ForeverRefusal>
+    requires rules { IsNet net.now }
+    requires live { IsLive net.now }
+    requires plain { plain.now ≡ without_inputs net.now }
+    requires stands { IsRanking net.now live.now }
+    requires rows { IsEndlessOf net.now rows.now }
+    ensures meet { IfOk result (λ _. InputsMeet net.now (due_on rows.now) inputs_at_zero) }
+    ensures late { IfErr result (ForeverRefused net.now rows.now) }
+{
+    no_rows_are_met();
+    zero_meets_where_none_late();
+    if keep_rows_alone(alloc, net, plain, live, rows)? {
+        return Ok(());
+    }
+    let settled = settled_at_zero(alloc, net, plain, live)?;
+    keep_rows(net, &settled, rows)
+}
+
+// Refuses due dates that inputs at 0 do not meet. A settled form is dropped here.
 fn keep_dues(
     alloc: Global,
     net: &Net,
@@ -76,9 +178,16 @@ fn keep_dues(
     ensures meet { IfOk result (λ _. InputsMeet net.now (due_on rows.now) inputs_at_zero) }
     ensures late { IfErr result (ForeverRefused net.now rows.now) }
 {
+    no_rows_are_met();
     zero_meets_where_none_late();
-    let settled = settled_at_zero(alloc, net, live)?;
-    keep_rows(net, &settled, rows)
+    if rows.is_empty() {
+        return Ok(());
+    }
+    let plain = net.without_inputs(alloc)?;
+    match short_at_zero(alloc, net, &plain, live)? {
+        Some(settled) => keep_rows(net, &settled, rows),
+        None => keep_long_dues(alloc, net, &plain, live, rows),
+    }
 }
 
 /// The latest releases of the inputs of a live net, one for each input in order, with which no
@@ -88,11 +197,19 @@ fn keep_dues(
 /// settled form of at most 20,000 numbers, or for which a residual or a meet over the rows does not
 /// fit. `OutOfMemory` comes only where no memory is found.
 ///
-/// The order of the work, for n transitions and p places: first the least dating with all inputs at
-/// 0 is settled; for a settling length l it takes rows of order l, each in time of order `n + p`.
-/// Each due row is held against it as far as the dates of its transition take to repeat with it, at
-/// most in time of order `1,000 l + 10,000`; the divisors of the net's period are tried for the
-/// period of the transition's own, each mostly for a few numbers. Then for each input the walk
+/// The order of the work, for n transitions and p places: without rows nothing is asked of the
+/// net's dates. Else the least dating with all inputs at 0 is settled within 20,000 numbers, if its
+/// form is so short: for a settling length l this takes rows of order l, each in time of order `n +
+/// p`, and each due row is held against it as far as the dates of its transition take to repeat
+/// with it, at most in time of order `1,000 l + 10,000`; the divisors of the net's period are tried
+/// for the period of the transition's own, each mostly for a few numbers. Where it is longer, as
+/// for rates that nearly agree, the standard form is made, in time of order `n^3 + n p`, and for
+/// each due row the rows of the net are gone through once more, without keeping them: up to `d + e
+/// n m + m`, for a list of d dates that goes on after e, and places of at most m tokens. They tell
+/// all, where one of the firings is late or no circuit that leads to the due transition gains on
+/// the row, which is found in time of order `n p`; only where they do not, or would be more than
+/// some seconds take, the form is looked for without a limit, with eight bytes a date. Then for
+/// each input the walk
 /// times are settled likewise; for a settling length k each due row takes a residual of at most
 /// 20,000 values, each in time of order k, less the numbers at which no walk arrives yet. Rows that
 /// ask the same dates take one residual for all inputs that reach their transitions alike, as long

@@ -14,7 +14,7 @@ ghost use Rattle.teg_forever.specs.LateFirings.{GoesOnBySteps, IsClimbing, IsGoi
 use dioid::Date;
 use forever_laws::{EndlessRow, late_is_soon, turns_tell_late};
 use teg_net::{GREATEST_FIRING_NUMBER, Net, OutOfMemory, TransitionId};
-use teg_settle::Settled;
+use teg_settle::SettledDates;
 
 // A late firing of a row: its number, its due date, and its least date.
 #[derive(Clone, Copy)]
@@ -51,7 +51,7 @@ struct Soonest {
 }
 
 // The due date of a firing.
-fn due_at(row: &EndlessRow, number: u64) -> u128
+pub(crate) fn due_at(row: &EndlessRow, number: u64) -> u128
     requires row { IsGoingRow row.now }
     requires first { 1 ≤ number }
     requires last { number ≤ greatest_firing_number }
@@ -70,7 +70,7 @@ fn due_at(row: &EndlessRow, number: u64) -> u128
 }
 
 // The least date of a firing.
-fn least_at(settled: &Settled, transition: TransitionId, number: u64) -> u128
+fn least_at(settled: &SettledDates, transition: TransitionId, number: u64) -> u128
     requires climbing { IsClimbing settled.now transition.index }
     requires first { 1 ≤ number }
     requires last { number ≤ greatest_firing_number }
@@ -85,7 +85,7 @@ fn least_at(settled: &Settled, transition: TransitionId, number: u64) -> u128
 }
 
 // The first late number up to a last one.
-fn late_listed(settled: &Settled, row: &EndlessRow, last: u64) -> Option<LateFiring>
+fn late_listed(settled: &SettledDates, row: &EndlessRow, last: u64) -> Option<LateFiring>
     requires climbing { IsClimbing settled.now row.now.transition.index }
     requires row { IsGoingRow row.now }
     requires last { last ≤ greatest_firing_number }
@@ -108,7 +108,7 @@ fn late_listed(settled: &Settled, row: &EndlessRow, last: u64) -> Option<LateFir
 }
 
 // After how many turns, each of which gains so much, a firing is late.
-fn turns_at(settled: &Settled, row: &EndlessRow, number: u64, gain: u128) -> Soonest
+fn turns_at(settled: &SettledDates, row: &EndlessRow, number: u64, gain: u128) -> Soonest
     requires climbing { IsClimbing settled.now row.now.transition.index }
     requires row { IsGoingRow row.now }
     requires first { 1 ≤ number }
@@ -146,7 +146,13 @@ fn sooner(first: Soonest, next: Soonest) -> Soonest
 
 // Of the numbers past `past` up to `last`, of which none is late, that which is late after the
 // fewest turns.
-fn fewest_turns(settled: &Settled, row: &EndlessRow, past: u64, last: u64, gain: u128) -> Soonest
+fn fewest_turns(
+    settled: &SettledDates,
+    row: &EndlessRow,
+    past: u64,
+    last: u64,
+    gain: u128,
+) -> Soonest
     requires climbing { IsClimbing settled.now row.now.transition.index }
     requires row { IsGoingRow row.now }
     requires some { past < last }
@@ -167,7 +173,7 @@ fn fewest_turns(settled: &Settled, row: &EndlessRow, past: u64, last: u64, gain:
 
 // Whether past the settling number the least dates of a transition rise by so much in so many
 // firings.
-fn rises_in(settled: &Settled, transition: TransitionId, firings: u64, rise: u128) -> bool
+fn rises_in(settled: &SettledDates, transition: TransitionId, firings: u64, rise: u128) -> bool
     requires climbing { IsClimbing settled.now transition.index }
     requires steps { GoesOnBySteps settled.now transition.index }
     requires firings { firings ≤ most_rows }
@@ -195,7 +201,7 @@ fn part_of(step: u128, period: u64, firings: u64) -> u128
 
 // A period of a transition's own past the settling number, no longer than that of the form, which
 // all transitions keep together.
-fn own_cycle(settled: &Settled, transition: TransitionId) -> Cycle
+fn own_cycle(settled: &SettledDates, transition: TransitionId) -> Cycle
     requires climbing { IsClimbing settled.now transition.index }
     requires steps { GoesOnBySteps settled.now transition.index }
     ensures rises { RisesIn settled.now transition.index result.firings result.rise }
@@ -246,7 +252,7 @@ fn greater(first: u64, second: u64) -> u64
 
 // From which number on, and after how many firings, the dates of the row's transition and its due
 // dates repeat together.
-fn turn_of(settled: &Settled, row: &EndlessRow) -> CommonPeriod
+fn turn_of(settled: &SettledDates, row: &EndlessRow) -> CommonPeriod
     requires climbing { IsClimbing settled.now row.now.transition.index }
     requires steps { GoesOnBySteps settled.now row.now.transition.index }
     requires row { IsGoingRow row.now }
@@ -271,7 +277,7 @@ fn turn_of(settled: &Settled, row: &EndlessRow) -> CommonPeriod
 
 // Of the numbers past which dates repeat that which is late after the fewest turns, where each turn
 // gains on the due dates: so many turns on stands the least late number.
-fn soonest_late(net: &Net, settled: &Settled, row: &EndlessRow, turn: CommonPeriod) -> Soonest
+fn soonest_late(net: &Net, settled: &SettledDates, row: &EndlessRow, turn: CommonPeriod) -> Soonest
     requires rules { IsNet net.now }
     requires live { IsLive net.now }
     requires form { IsZeroForm net.now settled.now }
@@ -292,7 +298,12 @@ fn soonest_late(net: &Net, settled: &Settled, row: &EndlessRow, turn: CommonPeri
 }
 
 // The late number that the search by turns finds.
-fn late_by_turns(net: &Net, settled: &Settled, row: &EndlessRow, turn: CommonPeriod) -> LateFiring
+fn late_by_turns(
+    net: &Net,
+    settled: &SettledDates,
+    row: &EndlessRow,
+    turn: CommonPeriod,
+) -> LateFiring
     requires rules { IsNet net.now }
     requires live { IsLive net.now }
     requires form { IsZeroForm net.now settled.now }
@@ -318,7 +329,7 @@ fn late_by_turns(net: &Net, settled: &Settled, row: &EndlessRow, turn: CommonPer
 // only past the greatest number that it tells has more dates than any memory holds.
 pub(crate) fn late_in_row(
     net: &Net,
-    settled: &Settled,
+    settled: &SettledDates,
     row: &EndlessRow,
 ) -> Result<Option<LateFiring>, OutOfMemory>
     requires rules { IsNet net.now }

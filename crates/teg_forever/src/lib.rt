@@ -19,12 +19,14 @@
 #![tactic(auto)]
 
 mod alike;
+mod alone;
 mod answers;
 mod divisions;
 mod gains;
 mod inputs;
 mod late;
 mod numbers;
+mod pace;
 mod reading;
 mod releases;
 mod residuals;

@@ -1,4 +1,4 @@
-use Rattle.std.proofs.Common.{◌≤◌, Option, All, length, refl, subst}
+use Rattle.std.proofs.Common.{◌≤◌, Option, All, length, refl, subst, sym}
 use Rattle.std.specs.Prelude.{IfSome}
 use Rattle.std.proofs.lemmas.List.{take_all}
 use Rattle.forever_laws.specs.settled_laws.SettledForms.{settled_date}
@@ -6,6 +6,7 @@ use Rattle.teg_text.proofs.Listing.{all_items}
 use Rattle.forever_laws.specs.Late.{NoneLate}
 use Rattle.teg_forever.specs.declared.late.LateFiring.{LateFiring}
 use Rattle.teg_forever.specs.LateFirings.{IsSoonLate}
+use Rattle.teg_forever.specs.LatestReleases.{ForeverRefused}
 use Rattle.teg_forever.proofs.LateTurns.{late_answer}
 use Rattle.teg_forever.proofs.Residues.{none_of}
 use Rattle.teg_forever.proofs.Series.{got}
@@ -15,8 +16,9 @@ pub returns-in-Some-clause-late : goal.returns-in-Some-clause-late
 returns-in-Some-clause-late c =
     let late : IsSoonLate c.args.settled.now c.row-item.result c.in-Some.late.number c.in-Some.late.due c.in-Some.late.least =
     subst (λ (o : Option LateFiring). IfSome o (λ l. IsSoonLate c.args.settled.now c.row-item.result l.number l.due l.least)) c.in-Some.is c.in_ok-late.ensures.some in
-    late_answer c.args.net.now c.requires.rules c.requires.live c.args.settled.now c.requires.form c.args.rows.now c.requires.rows c.loop-row.row-index c.row-item.result
-    (got c.args.rows.now c.loop-row.row-index c.row-item.result c.loop-row-test.true c.row-item.is) c.loop-row.invariant c.in-Some.late.number c.in-Some.late.due c.in-Some.late.least late
+    subst (ForeverRefused c.args.net.now c.args.rows.now) (sym c.refused_at.ensures)
+    (late_answer c.args.net.now c.requires.rules c.requires.live c.args.settled.now c.requires.form c.args.rows.now c.requires.rows c.loop-row.row-index c.row-item.result
+    (got c.args.rows.now c.loop-row.row-index c.row-item.result c.loop-row-test.true c.row-item.is) c.loop-row.invariant c.in-Some.late.number c.in-Some.late.due c.in-Some.late.least late)
 
 pub loop-row-preserved : goal.loop-row-preserved
 loop-row-preserved c =

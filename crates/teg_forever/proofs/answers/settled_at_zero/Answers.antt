@@ -8,5 +8,5 @@ pub returns-clause-climbing : goal.returns-clause-climbing
 returns-clause-climbing c t lt =
     let net = c.args.net.now in
     let f = c.in_ok-settled.settled in
-    let form = zero_form net f c.zero_inputs_are_no_lists.ensures (subst (λ (n : NetLists). IsSettledFormOf n f) c.in_ok-plain.ensures c.in_ok-settled.ensures.form) in
+    let form = zero_form net f c.zero_inputs_are_no_lists.ensures (subst (λ (n : NetLists). IsSettledFormOf n f) c.requires.plain c.in_ok-settled.ensures.form) in
     climbing net c.requires.rules c.requires.live f form c.turns_tell_late.ensures.steps c.after.ensures.kept t lt

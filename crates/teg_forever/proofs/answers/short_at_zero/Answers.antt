@@ -1,0 +1,12 @@
+use Rattle.std.proofs.Common.{subst}
+use Rattle.teg_net.specs.Nets.{NetLists}
+use Rattle.forever_laws.specs.settled_laws.SettledForms.{IsSettledFormOf}
+use Rattle.teg_forever.proofs.LateTurns.{climbing, zero_form}
+use Rattle.teg_forever.proofs.answers.short_at_zero.Goals as goal
+
+pub returns-in-Ok-clause-climbing : goal.returns-in-Ok-clause-climbing
+returns-in-Ok-clause-climbing c t lt =
+    let net = c.args.net.now in
+    let f = c.in-Ok.settled in
+    let form = zero_form net f c.zero_inputs_are_no_lists.ensures (subst (λ (n : NetLists). IsSettledFormOf n f) c.requires.plain c.in-Ok.ensures.form) in
+    climbing net c.requires.rules c.requires.live f form c.turns_tell_late.ensures.steps c.after.ensures.kept t lt

@@ -1,0 +1,20 @@
+-- Working definitions of the greatest reduced times of walks to a row's transition, at the ratio of its gap to its firings.
+use Rattle.std.specs.Prelude.{ℕ, ℤ, ◌≡◌, ◌+ℤ◌, ◌≤ℤ◌, List, Option, Some, None, slice_index_or}
+use Rattle.teg_net.specs.declared.entries.Place.{Place}
+use Rattle.teg_net.specs.Ratios.{Fraction}
+use Rattle.teg_net.specs.ReducedTimes.{reduced_time_of_place}
+use Rattle.forever_laws.specs.declared.rows.EndlessRow.{EndlessRow}
+
+-- the gap of a row for so many firings
+abbrev pub row_ratio : EndlessRow → Fraction
+row_ratio r = record { time = r.gap; tokens = r.every }
+
+-- what is told of a transition
+abbrev pub time_told : List (Option ℤ) → ℕ → Option ℤ
+time_told times t = slice_index_or times t None
+
+-- where a time is told of the end of the place, one is of its start, which is no less than the place adds to it
+abbrev pub IsKept : EndlessRow → List (Option ℤ) → Place → Type 0
+IsKept r times p =
+    (y : ℤ) → time_told times p.to.index ≡ Some y
+    → (x : ℤ) × (time_told times p.from.index ≡ Some x) × ((reduced_time_of_place (row_ratio r) p +ℤ y) ≤ℤ x)

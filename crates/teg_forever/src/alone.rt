@@ -1,0 +1,206 @@
+//! Late numbers looked for in the rows of the least dating, one after another, of which only the
+//! last are kept: for nets whose dates settle late, or have a form that is too long.
+ghost use Rattle.std.specs.Prelude.{◌≡◌, ◌<◌, ◌≤◌, ◌+◌, All, ℕ, length, pos, IfErr, IfOk, IfNone, IfSome};
+ghost use Rattle.dioid.specs.declared.dates.Date.TheVariants.{At};
+ghost use Rattle.teg_net.specs.Circuits.{IsLive};
+ghost use Rattle.teg_net.specs.Limits.{greatest_firing_number, most_place_tokens};
+ghost use Rattle.teg_net.specs.Nets.{IsNet, without_inputs};
+ghost use Rattle.teg_dates.specs.Streams.{IsStreamOf, rows_given};
+ghost use Rattle.teg_form.specs.StandardForms.{IsStandardFormOf};
+ghost use Rattle.forever_laws.specs.EndlessRows.{IsEndlessRow};
+ghost use Rattle.forever_laws.specs.Late.{IsLeastLate, NoneLate, NoneLateTo};
+ghost use Rattle.forever_laws.specs.PacedRows.{paced_bound};
+ghost use Rattle.teg_forever.specs.LateFirings.{InLeastAtZero, IsTold};
+
+use crate::late::{LateFiring, due_at};
+use crate::pace::keeps_pace;
+use dioid::Date;
+use forever_laws::{EndlessRow, paced_late_is_soon, zero_inputs_are_no_lists};
+use std::alloc::Global;
+use teg_dates::Stream;
+use teg_form::Form;
+use teg_net::{Net, OutOfMemory, TransitionId};
+
+// The dates and places of the rows that are looked through, at most: some seconds.
+const MOST_STEPS: u64 = 400_000_000;
+
+// What rows alone tell of a row of due dates.
+pub(crate) enum Told {
+    // Its least late number.
+    Late(LateFiring),
+    // That no number of it is late.
+    None,
+    // Nothing yet.
+    Nothing,
+}
+
+// The number of a date that is one.
+fn number_of(date: Date) -> u128
+    requires { (m : ℕ) × (date ≡ At (pos m)) }
+    ensures { date ≡ At (pos result) }
+{
+    match date {
+        Date::At(number) => number as u128,
+        _ => 0,
+    }
+}
+
+// Writes the next row of the net without its inputs. The date of a transition in it.
+fn next_least(
+    net: &Net,
+    plain: &Net,
+    form: &Form,
+    stream: &mut Stream,
+    dates: &mut [Date],
+    transition: TransitionId,
+) -> u128
+    requires rules { IsNet net.now }
+    requires live { IsLive net.now }
+    requires plain { plain.now ≡ without_inputs net.now }
+    requires form { IsStandardFormOf plain.now form.now }
+    requires stands { IsStreamOf plain.now stream.old }
+    requires few { rows_given stream.old < greatest_firing_number }
+    requires full { length dates.old ≡ length net.now.transitions }
+    requires transition { transition.index < length net.now.transitions }
+    ensures least { InLeastAtZero net.now (λ x. x transition.index (rows_given stream.old + 1)
+        ≡ At (pos result)) }
+    ensures stands { IsStreamOf plain.now stream.new }
+    ensures given { rows_given stream.new ≡ rows_given stream.old + 1 }
+    ensures full { length dates.new ≡ length dates.old }
+{
+    zero_inputs_are_no_lists();
+    stream.next_row(plain, form, dates);
+    number_of(dates[transition.index as usize])
+}
+
+// The first late number up to a last one, by the rows of a stream from its start.
+fn late_in(
+    net: &Net,
+    plain: &Net,
+    form: &Form,
+    stream: &mut Stream,
+    dates: &mut [Date],
+    row: &EndlessRow,
+    last: u64,
+) -> Option<LateFiring>
+    requires rules { IsNet net.now }
+    requires live { IsLive net.now }
+    requires plain { plain.now ≡ without_inputs net.now }
+    requires form { IsStandardFormOf plain.now form.now }
+    requires stands { IsStreamOf plain.now stream.old }
+    requires start { rows_given stream.old ≡ 0 }
+    requires full { length dates.old ≡ length net.now.transitions }
+    requires row { IsEndlessRow net.now row.now }
+    requires last { last ≤ greatest_firing_number }
+    ensures none { IfNone result (InLeastAtZero net.now (λ x. NoneLateTo x row.now last)) }
+    ensures some { IfSome result (λ l. InLeastAtZero net.now (λ x. IsLeastLate x row.now l.number
+        l.due l.least)) }
+{
+    for number in 1..last + 1 {
+        let least = next_least(net, plain, form, stream, dates, row.transition);
+        let due = due_at(row, number);
+        if due < least {
+            return Some(LateFiring {
+                number: number as u128,
+                due,
+                least,
+            });
+        }
+    }
+    None
+}
+
+// The first late number up to a last one, by the rows of the net without its inputs.
+fn late_to(
+    alloc: Global,
+    net: &Net,
+    plain: &Net,
+    form: &Form,
+    row: &EndlessRow,
+    last: u64,
+) -> Result<Option<LateFiring>, OutOfMemory>
+    requires rules { IsNet net.now }
+    requires live { IsLive net.now }
+    requires plain { plain.now ≡ without_inputs net.now }
+    requires plain_live { IsLive plain.now }
+    requires form { IsStandardFormOf plain.now form.now }
+    requires row { IsEndlessRow net.now row.now }
+    requires last { last ≤ greatest_firing_number }
+    ensures none { IfOk result (λ late. IfNone late (InLeastAtZero net.now (λ x. NoneLateTo x
+        row.now last))) }
+    ensures some { IfOk result (λ late. IfSome late (λ l. InLeastAtZero net.now (λ x. IsLeastLate x
+        row.now l.number l.due l.least))) }
+{
+    let mut stream = Stream::new(alloc, plain, form)?;
+    let mut dates = vec![in alloc; Date::Early; net.transitions().len()]?;
+    Ok(late_in(
+        net,
+        plain,
+        form,
+        &mut stream,
+        dates.as_mut_slice(),
+        row,
+        last,
+    ))
+}
+
+// The greatest number of tokens in a place, at least 1.
+fn most_tokens(net: &Net) -> u64
+    ensures some { 1 ≤ result }
+    ensures few { result ≤ most_place_tokens }
+    ensures most { All (λ p. p.tokens ≤ result) net.now.places }
+{
+    let mut most = 1;
+    for place in net.places() {
+        most = most.max(u64::from(place.tokens));
+    }
+    most
+}
+
+// The number up to which a row that keeps pace has a late number, if it has one.
+fn last_to_see(net: &Net, most: u64, row: &EndlessRow) -> u64
+    requires row { IsEndlessRow net.now row.now }
+    requires most { most ≤ most_place_tokens }
+    ensures value { result ≡ paced_bound net.now most row.now }
+{
+    let listed = row.dates.as_slice().len() as u64;
+    let count = net.transitions().len() as u64;
+    listed + u64::from(row.every) * (count * most) + most
+}
+
+// As many rows as are looked through at most.
+fn most_rows(net: &Net) -> u64
+    ensures { result ≤ greatest_firing_number }
+{
+    let steps = net.transitions().len() as u64 + net.places().len() as u64;
+    MOST_STEPS / (steps + 1)
+}
+
+// What the rows of the net without its inputs tell of a row.
+pub(crate) fn told_alone(
+    alloc: Global,
+    net: &Net,
+    plain: &Net,
+    form: &Form,
+    row: &EndlessRow,
+) -> Result<Told, OutOfMemory>
+    requires rules { IsNet net.now }
+    requires live { IsLive net.now }
+    requires plain { plain.now ≡ without_inputs net.now }
+    requires plain_live { IsLive plain.now }
+    requires form { IsStandardFormOf plain.now form.now }
+    requires row { IsEndlessRow net.now row.now }
+    ensures told { IfOk result (IsTold net.now row.now) }
+{
+    paced_late_is_soon();
+    let last = last_to_see(net, most_tokens(net), row);
+    let seen = last.min(most_rows(net));
+    if let Some(late) = late_to(alloc, net, plain, form, row, seen)? {
+        return Ok(Told::Late(late));
+    }
+    if last == seen && keeps_pace(alloc, net, row)? {
+        Ok(Told::None)
+    } else {
+        Ok(Told::Nothing)
+    }
+}

@@ -1,0 +1,154 @@
+//! Whether the due dates of a row rise as fast as each circuit that leads to its transition (the
+//! algorithm of Bellman and Ford).
+ghost use Rattle.std.specs.Prelude.{◌≡◌, ◌<◌, ◌≤◌, All, length, IfOk, IsTrue};
+ghost use Rattle.teg_net.specs.Limits.{greatest_every, greatest_hold, greatest_input_date, most_place_tokens};
+ghost use Rattle.teg_net.specs.ReducedTimes.{reduced_time_of_place};
+ghost use Rattle.forever_laws.specs.EndlessRows.{IsEndlessRow};
+ghost use Rattle.forever_laws.specs.PacedRows.{KeepsPace};
+ghost use Rattle.teg_forever.specs.Paces.{IsKept, row_ratio};
+
+use forever_laws::EndlessRow;
+use std::alloc::{AllocError, Global};
+use teg_net::{Net, OutOfMemory, Place};
+
+// What a place adds to the reduced time of a walk: its holding time for each firing of a turn, less
+// the gap for each of its tokens.
+fn reduced_time(row: &EndlessRow, place: &Place) -> i128
+    requires every { row.now.every ≤ greatest_every }
+    requires gap { row.now.gap ≤ greatest_input_date }
+    requires hold { place.now.hold ≤ greatest_hold }
+    requires tokens { place.now.tokens ≤ most_place_tokens }
+    ensures { result ≡ reduced_time_of_place (row_ratio row.now) place.now }
+{
+    let time = i128::from(row.every) * i128::from(place.hold);
+    let given = i128::from(row.gap) * i128::from(place.tokens);
+    time - given
+}
+
+// The reduced time of the walk that goes on with the greatest one from the end of the place.
+fn with_place(row: &EndlessRow, place: &Place, times: &[Option<i128>]) -> Option<i128>
+    requires every { row.now.every ≤ greatest_every }
+    requires gap { row.now.gap ≤ greatest_input_date }
+    requires hold { place.now.hold ≤ greatest_hold }
+    requires tokens { place.now.tokens ≤ most_place_tokens }
+    requires to { place.now.to.index < length times.now }
+{
+    times[place.to.index as usize]?.checked_add(reduced_time(row, place))
+}
+
+// Takes over the time of the walk that begins with the place, where that is more. Whether it is.
+fn raise(row: &EndlessRow, place: &Place, times: &mut [Option<i128>]) -> bool
+    requires every { row.now.every ≤ greatest_every }
+    requires gap { row.now.gap ≤ greatest_input_date }
+    requires hold { place.now.hold ≤ greatest_hold }
+    requires tokens { place.now.tokens ≤ most_place_tokens }
+    requires from { place.now.from.index < length times.old }
+    requires to { place.now.to.index < length times.old }
+    ensures full { length times.new ≡ length times.old }
+{
+    let time = match with_place(row, place, times) {
+        Some(time) => time,
+        None => return false,
+    };
+    let from = place.from.index as usize;
+    let told = match times[from] {
+        Some(told) => told,
+        None => i128::MIN,
+    };
+    if time <= told {
+        return false;
+    }
+    times[from] = Some(time);
+    true
+}
+
+// The same with each place. Whether some time is more.
+fn raise_all(net: &Net, row: &EndlessRow, times: &mut [Option<i128>]) -> bool
+    requires row { IsEndlessRow net.now row.now }
+    requires full { length times.old ≡ length net.now.transitions }
+    ensures full { length times.new ≡ length times.old }
+{
+    let mut more = false;
+    for place in net.places() {
+        let raised = raise(row, place, times);
+        more = more || raised;
+    }
+    more
+}
+
+// The greatest reduced times of the walks to the row's transition that pass so many places, none
+// where there is no such walk.
+fn times_to(alloc: Global, net: &Net, row: &EndlessRow) -> Result<Vec<Option<i128>>, AllocError>
+    requires row { IsEndlessRow net.now row.now }
+    ensures full { IfOk result (λ times. length times.items ≡ length net.now.transitions) }
+{
+    let count = net.transitions().len();
+    let mut times = vec![in alloc; None; count]?;
+    times[row.transition.index as usize] = Some(0);
+    for _round in 0..count {
+        if !raise_all(net, row, times.as_mut_slice()) {
+            break;
+        }
+    }
+    Ok(times)
+}
+
+// Whether the walk that begins with the place takes no more than what is told of its start.
+fn is_kept(row: &EndlessRow, place: &Place, times: &[Option<i128>]) -> bool
+    requires every { row.now.every ≤ greatest_every }
+    requires gap { row.now.gap ≤ greatest_input_date }
+    requires hold { place.now.hold ≤ greatest_hold }
+    requires tokens { place.now.tokens ≤ most_place_tokens }
+    requires from { place.now.from.index < length times.now }
+    requires to { place.now.to.index < length times.now }
+    ensures { IsTrue result → IsKept row.now times.now place.now }
+{
+    let onward = match times[place.to.index as usize] {
+        Some(onward) => onward,
+        None => return true,
+    };
+    match onward.checked_add(reduced_time(row, place)) {
+        Some(time) => match times[place.from.index as usize] {
+            Some(told) => time <= told,
+            None => false,
+        },
+        None => false,
+    }
+}
+
+// Whether that holds of each place.
+fn are_kept(net: &Net, row: &EndlessRow, times: &[Option<i128>]) -> bool
+    requires row { IsEndlessRow net.now row.now }
+    requires full { length times.now ≡ length net.now.transitions }
+    ensures { IsTrue result → All (IsKept row.now times.now) net.now.places }
+{
+    for place in net.places() {
+        if !is_kept(row, place, times) {
+            return false;
+        }
+    }
+    true
+}
+
+// Whether the times show that the row keeps pace: then each walk to its transition has at most the
+// time that is told of its start.
+fn show_pace(net: &Net, row: &EndlessRow, times: &[Option<i128>]) -> bool
+    requires row { IsEndlessRow net.now row.now }
+    requires full { length times.now ≡ length net.now.transitions }
+    ensures { IsTrue result → KeepsPace net.now row.now }
+{
+    match times[row.transition.index as usize] {
+        Some(_) => are_kept(net, row, times),
+        None => false,
+    }
+}
+
+// Whether no circuit from which a walk leads to the row's transition has a greater ratio of time to
+// tokens than the row of gap to firings.
+pub(crate) fn keeps_pace(alloc: Global, net: &Net, row: &EndlessRow) -> Result<bool, OutOfMemory>
+    requires row { IsEndlessRow net.now row.now }
+    ensures { IfOk result (λ paced. IsTrue paced → KeepsPace net.now row.now) }
+{
+    let times = times_to(alloc, net, row)?;
+    Ok(show_pace(net, row, times.as_slice()))
+}
