@@ -1,22 +1,20 @@
 -- The dates of a strongly connected net repeat by each number that is common by its critical parts.
-use Rattle.std.proofs.Common.{ℕ, ℤ, zero, suc, pos, ◌+◌, ◌-◌, ◌*◌, ◌<◌, ◌≤◌, ◌≡◌, ◌⊎◌, inl, inr, List, [], ◌∷◌, length, get_or, refl, sym, ap, subst, ◌∙◌, arith, ⊎_elim, ◌+ℤ◌}
+use Rattle.std.proofs.Common.{ℕ, ℤ, zero, suc, pos, ◌+◌, ◌-◌, ◌*◌, ◌<◌, ◌≤◌, ◌≡◌, inl, inr, List, [], length, get_or, refl, sym, ap, subst, ◌∙◌, arith, ⊎_elim, ◌+ℤ◌}
 use Rattle.std.specs.Prelude.{Any}
-use Rattle.bound_laws.specs.teg_net.declared.entries.Place.{Place}
 use Rattle.std.specs.Int.{◌∣◌}
 use Rattle.std.proofs.lemmas.Bool.{cases_lt}
 use Rattle.std.proofs.lemmas.Int.{ints}
-use Rattle.std.proofs.lemmas.Nat.Gcd.{le_of_dvd}
-use Rattle.std.proofs.Math.Nat.{mul-le-mul_left, mul-le-mul_right}
+use Rattle.std.proofs.lemmas.Nat.Gcd.{le_of_dvd, dvd_trans}
+use Rattle.std.proofs.Math.Nat.{mul-le-mul_left, mul-le-mul_right, one-dvd}
 use Rattle.bound_laws.specs.dioid.declared.dates.Date.{Date}
 use Rattle.bound_laws.specs.dioid.declared.dates.Date.TheVariants.{Early, At}
 use Rattle.bound_laws.specs.dioid.Dates.{IsAtMostDate, later_of, delayed, move}
 use Rattle.bound_laws.specs.teg_net.declared.entries.PlaceId.{PlaceId}
-use Rattle.bound_laws.specs.teg_net.declared.entries.InputList.{InputList}
 use Rattle.bound_laws.specs.teg_net.Limits.{greatest_input_date}
 use Rattle.bound_laws.specs.teg_net.Nets.{NetLists, IsNet, IsInput}
-use Rattle.bound_laws.specs.teg_net.Circuits.{IsPathBetween, IsCircuit, IsLive, time_of, tokens_of}
+use Rattle.bound_laws.specs.teg_net.Circuits.{IsPathBetween, IsCircuit, time_of, tokens_of}
 use Rattle.bound_laws.specs.teg_net.ReadyDates.{ready_date, start_date}
-use Rattle.bound_laws.specs.teg_net.Walks.{Walks, walk_time}
+use Rattle.bound_laws.specs.teg_net.Walks.{walk_time}
 use Rattle.bound_laws.proofs.teg_net_proofs.InputDates.{date_le}
 use Rattle.bound_laws.proofs.teg_net_proofs.StartDates.{IsStartDate-start_date}
 use Rattle.bound_laws.specs.teg_model.Datings.{IsLeastDating, at_input, listed_releases}
@@ -28,7 +26,7 @@ use Rattle.growth_laws.proofs.teg_model_proofs.OfNet.{net_ends, input_or_not}
 use Rattle.growth_laws.proofs.teg_model_proofs.Tokens.{dates_climb}
 use Rattle.growth_laws.proofs.teg_model_proofs.WalkSteps.{Keeps}
 use Rattle.bound_laws.specs.settled_laws.SettledForms.{SettledForm, RepeatsAfter, IsShortestForm, step_of_form}
-use Rattle.periodic_laws.proofs.settled_laws_proofs.Repeating.{HasPeriod, HasCommon, gcd_period, lowered}
+use Rattle.periodic_laws.proofs.settled_laws_proofs.Repeating.{HasCommon, gcd_period, lowered}
 use Rattle.periodic_laws.specs.RepeatNumbers.{repeats_past, repeats_in}
 use Rattle.periodic_laws.specs.LinearSystem.{LeastDatingsRepeat}
 use Rattle.slope_laws.specs.Slopes.{IsSlope}
@@ -39,8 +37,8 @@ use Rattle.slope_laws.proofs.WalkPaths.{IsPathOf, walk_path, ends_below}
 use Rattle.growth_laws.proofs.number_laws_proofs.Numbers.{some_of}
 use Rattle.bound_laws.proofs.Onward.{start_in, PutIn, put_in}
 use Rattle.growth_laws.specs.Growth.{IsEndless}
-use Rattle.growth_laws.proofs.Growth.{cancel, bound, unit, is_number, on_by, on, near, slope_of, slopes_are_one}
-use Rattle.cyclicity_laws.specs.CriticalParts.{IsStronglyConnected, IsCommonByParts, PeriodsDivideByParts}
+use Rattle.growth_laws.proofs.Growth.{cancel, unit, is_number, on_by, on, near, slope_of, slopes_are_one, dates_grow}
+use Rattle.cyclicity_laws.specs.CriticalParts.{IsStronglyConnected, IsCommonByParts, PeriodsDivideByParts, DatesGrowByCycleTime}
 use Rattle.cyclicity_laws.proofs.Rounds.{IsRound, ComesRound, repeated, comes_round}
 use Rattle.cyclicity_laws.proofs.CriticalWalks.{MeetsCritical, LosesMuch, most_tokens, most_time, meets_or_loses}
 
@@ -187,6 +185,27 @@ module _ (repeat : LeastDatingsRepeat) (net : NetLists) (a b : ℕ) (s : IsStron
       let more = at_most_numbers (delayed (time_of net ps) (x c (j + nexts))) (x t ((j + nexts) + tokens_of net ps)) (v c (j + nexts) + time_of net ps) (v t ((j + nexts) + tokens_of net ps)) e (is_v t ((j + nexts) + tokens_of net ps) lt (omega (arith, one))) on in
       omega (arith, up, more)
 
+  -- where the greatest ratio is 0 no date rises past the number from which they repeat
+  still : a ≡ 0 → RepeatsAfter (length net.transitions) x K 1 (λ t. pos 0)
+  still none = record {
+    at_least_one = omega arith;
+    again = λ t k l past.
+        let one : 1 ≤ k = omega (arith, past) in
+        let u = units t l in
+        let nothing : u.0 ≡ 0 = (let e = u.1 in let f : a * P ≡ 0 = rw none (omega arith) in zero_factor u.0 b s.ratio.some (omega (arith, e, f))) in
+        let climbs : (j : ℕ) → 1 ≤ j → IsAtMostDate (x t j) (x t (j + 1)) = λ j o. dates_climb net (listed_releases net) x least.feasible t j l o in
+        let up = at_most_numbers (x t k) (x t (k + 1)) (v t k) (v t (k + 1)) (is_v t k l one) (is_v t (k + 1) l (omega arith)) (climbs k one) in
+        let end : k + 1 + (P - 1) ≡ k + P = (let e = some in omega (arith, e)) in
+        let on = at_most_numbers (x t (k + 1)) (x t (k + 1 + (P - 1))) (v t (k + 1)) (v t (k + 1 + (P - 1))) (is_v t (k + 1) l (omega arith)) (is_v t (k + 1 + (P - 1)) l (omega arith)) (climb_many x t climbs (k + 1) (P - 1) (omega arith)) in
+        let there : v t (k + 1 + (P - 1)) ≡ v t (k + P) = ap (v t) end in
+        let back = u.2 k past in
+        let same : v t (k + 1) ≡ v t k = omega (arith, up, on, there, back, nothing) in
+        let date : At (pos (v t (k + 1))) ≡ At (pos (v t k) +ℤ pos 0) = ap At (omega (arith, ints, same)) in
+        is_v t (k + 1) l (omega arith) ∙ date ∙ ap (move (pos 0)) (sym (is_v t k l one));
+  } where
+    zero_factor : (u b : ℕ) → 1 ≤ b → u * b ≡ 0 → u ≡ 0
+    zero_factor u b some e = (let l : u * 1 ≤ u * b = mul-le-mul_left {m = 1} {n = b} u some in omega (arith, l, e))
+
   -- ---- past this number each walk of a date meets a critical circuit
 
   abbrev Q : ℕ
@@ -195,7 +214,7 @@ module _ (repeat : LeastDatingsRepeat) (net : NetLists) (a b : ℕ) (s : IsStron
   abbrev far : ℕ
   far = (Q + (most_tokens net + most_tokens net * Q)) + K
 
-  module _ (L : ℕ) (one : 1 ≤ L) (common : IsCommonByParts net a b L) where
+  module _ (time_some : 1 ≤ a) (L : ℕ) (one : 1 ≤ L) (common : IsCommonByParts net a b L) where
     -- firings later by L and some periods, the date is later by the time of ways that have the ratio
     record IsLaterBy (t k : ℕ) : Type 0 where
       times : ℕ
@@ -241,7 +260,7 @@ module _ (repeat : LeastDatingsRepeat) (net : NetLists) (a b : ℕ) (s : IsStron
         })
         (λ (o : LosesMuch net a b ps).
         let low = floor t k l in
-        let few = short_walk a b greatest_input_date (most_time net) (a * (K + P)) Q (most_tokens net) (v t k) (start_date net c j) (time_of net ps) (tokens_of net ps) o.loops j path.nexts k s.time_some low value (start_low c j) number o.loss o.few refl in
+        let few = short_walk a b greatest_input_date (most_time net) (a * (K + P)) Q (most_tokens net) (v t k) (start_date net c j) (time_of net ps) (tokens_of net ps) o.loops j path.nexts k time_some low value (start_low c j) number o.loss o.few refl in
         absurd (omega (arith, few, past)))
         (meets_or_loses net a b ok greatest c t l ps path.path) where
           both_some : (m n : ℕ) → 1 ≤ m → 1 ≤ n → 1 ≤ m * n
@@ -331,5 +350,15 @@ least_divides n x f k q u h r =
     subst (λ z. z ∣ q) same g.is_gcd.0
 
 pub periods_divide : LeastDatingsRepeat → PeriodsDivideByParts
-periods_divide repeat net a b s x least f h L one common =
-    least_divides (length net.transitions) x f (far repeat net a b s x least) L (λ t. pos (step repeat net a b s x least L one common t)) h (repeats_by_parts repeat net a b s x least L one common)
+periods_divide repeat net a b s x least f h L one common = ⊎_elim
+    (λ (some : 0 < a).
+    least_divides (length net.transitions) x f (far repeat net a b s x least) L (λ t. pos (step repeat net a b s x least some L one common t)) h (repeats_by_parts repeat net a b s x least some L one common))
+    (λ (none : a ≤ 0).
+    let still_one : f.period ∣ 1 = least_divides (length net.transitions) x f (repeats_past net) 1 (λ t. pos 0) h (still repeat net a b s x least (omega (arith, none))) in
+    dvd_trans f.period still_one (one-dvd L))
+    (cases_lt 0 a)
+
+-- the slope of each transition is the greatest ratio
+pub grow_by_cycle_time : LeastDatingsRepeat → DatesGrowByCycleTime
+grow_by_cycle_time repeat net a b s x least t l =
+    dates_grow repeat net s.net_rules s.live x least t l (endless repeat net a b s x least t) a b s.ratio.some (slope repeat net a b s x least t l)

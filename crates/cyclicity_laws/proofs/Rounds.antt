@@ -1,5 +1,5 @@
 -- Ways round a critical transition: up to a multiple of a period their tokens are all multiples of a common divisor.
-use Rattle.std.proofs.Common.{ℕ, zero, suc, ◌+◌, ◌-◌, ◌*◌, ◌/◌, ◌<◌, ◌≤◌, ◌≡◌, List, [], ◌∷◌, ◌++◌, length, refl, sym, ap, subst, ◌∙◌, arith, ⊎_elim}
+use Rattle.std.proofs.Common.{ℕ, zero, suc, ◌+◌, ◌-◌, ◌*◌, ◌/◌, ◌<◌, ◌≤◌, ◌≡◌, List, [], ◌∷◌, ◌++◌, refl, sym, ap, subst, ◌∙◌, arith, ⊎_elim}
 use Rattle.std.specs.Prelude.{All}
 use Rattle.std.specs.Int.{◌∣◌}
 use Rattle.std.proofs.lemmas.Bool.{cases_lt}
@@ -12,7 +12,6 @@ use Rattle.bound_laws.specs.teg_net.declared.entries.PlaceId.{PlaceId}
 use Rattle.bound_laws.specs.teg_net.Nets.{NetLists}
 use Rattle.bound_laws.specs.teg_net.Circuits.{place_at, IsPathBetween, time_of, tokens_of}
 use Rattle.bound_laws.proofs.teg_net_proofs.PathLaws.{IsPathBetween-append}
-use Rattle.bound_laws.specs.Critical.{IsCommon}
 use Rattle.cyclicity_laws.specs.CriticalParts.{IsCircuitOfCriticalPart, IsMultipleOfGcd, CommonMultiplesAreByParts}
 
 -- a way from transition c round to it that has the ratio and so many tokens

@@ -9,16 +9,16 @@ use Rattle.bound_laws.specs.teg_net.Parts.{Reaches}
 use Rattle.bound_laws.specs.teg_net.GreatestRatios.{IsGreatestRatio, IsAnyPlace}
 use Rattle.bound_laws.specs.teg_model.Datings.{IsLeastDating}
 use Rattle.bound_laws.specs.settled_laws.SettledForms.{SettledForm, IsShortestForm}
+use Rattle.growth_laws.specs.Growth.{GrowBy}
 use Rattle.bound_laws.specs.Critical.{IsCriticalAt, IsCommon}
 
--- live, without inputs, each transition reaches each other, and the greatest ratio is a / b and above 0
+-- live, without inputs, each transition reaches each other, and the greatest ratio is a / b
 pub record IsStronglyConnected (net : NetLists) (a b : ℕ) : Type 0 where
   pub net_rules : IsNet net
   pub live : IsLive net
   pub no_input : (t : ℕ) → IsInput net t → ⊥
   pub reaches : (s t : ℕ) → s < length net.transitions → t < length net.transitions → Reaches net s t
   pub ratio : IsGreatestRatio net IsAnyPlace (record { time = a; tokens = b })
-  pub time_some : 1 ≤ a
 
 -- a circuit of the strong part of the critical graph in which transition c is: it has the ratio, and so has a way that
 -- leads from c to it and back
@@ -52,3 +52,8 @@ PeriodsDivideByParts =
 -- each common multiple of single critical circuits is such a number
 abbrev pub CommonMultiplesAreByParts : Type 0
 CommonMultiplesAreByParts = (net : NetLists) (a b L : ℕ) → IsCommon net a b L → IsCommonByParts net a b L
+
+-- the dates of each transition stay near a line that rises by the greatest ratio
+abbrev pub DatesGrowByCycleTime : Type 0
+DatesGrowByCycleTime =
+    (net : NetLists) (a b : ℕ) → IsStronglyConnected net a b → (x : ℕ → ℕ → Date) → IsLeastDating net x → (t : ℕ) → t < length net.transitions → GrowBy (x t) a b

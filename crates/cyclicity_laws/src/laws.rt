@@ -1,7 +1,20 @@
-//! The law of cyclicity. It is a function that does nothing when it runs: its contract is the law.
-ghost use Rattle.cyclicity_laws.specs.CriticalParts.{CommonMultiplesAreByParts, PeriodsDivideByParts};
+//! The laws of strongly connected nets. Each is a function that does nothing when it runs: its
+//! contract is the law.
+ghost use Rattle.cyclicity_laws.specs.CriticalParts.{CommonMultiplesAreByParts, DatesGrowByCycleTime, PeriodsDivideByParts};
 
 use periodic_laws::least_datings_repeat;
+
+/// The cycle time: the dates of every transition of a strongly connected live net without inputs
+/// grow by its greatest ratio `a / b`: `b x(t, k)` stays between `a k - c` and `a k + d` for two
+/// bounds `c` and `d`, so that `x(t, k) / k` tends to the ratio (chapter 3).
+///
+/// In a net that is not strongly connected a transition grows by the ratios of the circuits from
+/// which a path leads to it alone.
+pub fn dates_grow_by_cycle_time()
+    ensures { DatesGrowByCycleTime }
+{
+    least_datings_repeat();
+}
 
 /// Cyclicity: the period of the shortest settled form of a strongly connected live net without
 /// inputs divides every common multiple, over the strong parts of its critical graph, of the

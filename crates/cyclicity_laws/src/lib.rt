@@ -1,7 +1,7 @@
-//! The cyclicity of a strongly connected net (chapter 3): its period, by the strong parts of the
-//! critical graph.
+//! The cycle time and the cyclicity of a strongly connected net (chapter 3): how fast its dates
+//! grow, and their period, by the strong parts of the critical graph.
 //!
-//! Of each strong part take the greatest common divisor of the tokens of its circuits: the period
+//! Dates grow by the greatest ratio. Of each strong part of the critical graph take the greatest common divisor of the tokens of its circuits: the period
 //! of the dates divides each common multiple of these numbers. Each law is the contract of a
 //! function that does nothing when it runs. The crate stands on `growth_laws` for the growth of
 //! dates, on `bound_laws` for critical circuits and walks with rounds put in, and on
@@ -10,4 +10,4 @@
 
 mod laws;
 
-pub use laws::periods_divide_by_parts;
+pub use laws::{dates_grow_by_cycle_time, periods_divide_by_parts};

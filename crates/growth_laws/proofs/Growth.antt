@@ -1,14 +1,13 @@
 -- Dates that repeat by steps stay near a line, and the slope of a transition is one fraction.
-use Rattle.std.proofs.Common.{ℕ, ℤ, zero, suc, pos, negsuc, ◌+◌, ◌-◌, ◌*◌, ◌/◌, ◌%◌, ◌<◌, ◌≤◌, ◌≡◌, ◌≢◌, ◌⊎◌, List, length, refl, sym, ap, subst, ◌∙◌, arith, ⊎_elim}
-use Rattle.std.specs.Prelude.{◌+ℤ◌, ◌*ℤ◌, ◌≤ℤ◌, Contains, Some, Option}
+use Rattle.std.proofs.Common.{ℕ, zero, suc, pos, negsuc, ◌+◌, ◌-◌, ◌*◌, ◌/◌, ◌%◌, ◌<◌, ◌≤◌, ◌≡◌, ◌≢◌, List, length, refl, sym, ap, ◌∙◌, arith, ⊎_elim}
+use Rattle.std.specs.Prelude.{◌+ℤ◌, ◌*ℤ◌}
 use Rattle.std.proofs.lemmas.Bool.{cases_lt}
 use Rattle.std.proofs.lemmas.Int.{ints}
 use Rattle.std.proofs.lemmas.Nat.{mod_below, div-add-mod'}
 use Rattle.std.proofs.Math.Nat.{mul-le-mul_left, mul-le-mul_right}
 use Rattle.periodic_laws.specs.dioid.declared.dates.Date.{Date}
 use Rattle.periodic_laws.specs.dioid.declared.dates.Date.TheVariants.{Early, At, Never}
-use Rattle.periodic_laws.specs.dioid.Dates.{IsAtMostDate, move, delayed}
-use Rattle.periodic_laws.proofs.dioid_proofs.Moves.{delayed_is_move}
+use Rattle.periodic_laws.specs.dioid.Dates.{IsAtMostDate, move}
 use Rattle.periodic_laws.specs.teg_net.declared.entries.PlaceId.{PlaceId}
 use Rattle.periodic_laws.specs.teg_net.declared.entries.Again.{Again}
 use Rattle.periodic_laws.specs.teg_net.declared.entries.InputList.{InputList}
@@ -16,7 +15,6 @@ use Rattle.periodic_laws.specs.teg_net.Nets.{NetLists, IsNet}
 use Rattle.periodic_laws.specs.teg_net.Circuits.{IsLive, time_of, tokens_of}
 use Rattle.periodic_laws.specs.teg_model.Datings.{IsLeastDating, listed_releases}
 use Rattle.periodic_laws.proofs.teg_model_proofs.Tokens.{not_before_zero}
-use Rattle.periodic_laws.specs.settled_laws.SettledForms.{IsTail}
 use Rattle.periodic_laws.specs.RepeatNumbers.{repeats_past, repeats_in, repeats_by}
 use Rattle.periodic_laws.specs.LinearSystem.{LeastDatingsRepeat}
 use Rattle.slope_laws.specs.teg_loops.Loops.{IsCircuitTowards}

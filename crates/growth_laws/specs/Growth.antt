@@ -1,5 +1,5 @@
 -- How the dates of a transition grow: along a line of its slope (chapter 3, cycle time as growth rate).
-use Rattle.std.specs.Prelude.{ℕ, ℤ, pos, ◌+◌, ◌*◌, ◌<◌, ◌≤◌, ◌≡◌, ◌+ℤ◌, ◌*ℤ◌, ◌≤ℤ◌, length}
+use Rattle.std.specs.Prelude.{ℕ, pos, ◌+◌, ◌*◌, ◌<◌, ◌≤◌, ◌≡◌, ◌+ℤ◌, ◌*ℤ◌, ◌≤ℤ◌, length}
 use Rattle.periodic_laws.specs.dioid.declared.dates.Date.{Date}
 use Rattle.periodic_laws.specs.dioid.declared.dates.Date.TheVariants.{Early, At, Never}
 use Rattle.periodic_laws.specs.teg_net.declared.entries.InputList.{InputList}

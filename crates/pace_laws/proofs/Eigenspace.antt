@@ -1,17 +1,16 @@
 -- The eigenspace of a part: closed under moves and greater ones, and spanned from critical transitions.
-use Rattle.std.proofs.Common.{ℕ, zero, suc, ◌+◌, ◌*◌, ◌<◌, ◌≤◌, ◌≡◌, ◌⊎◌, List, [], ◌∷◌, ◌++◌, length, get_or, refl, sym, ap, subst, ◌∙◌, arith, ⊎_elim}
+use Rattle.std.proofs.Common.{ℕ, ◌*◌, ◌≡◌, List, ◌++◌, get_or, refl, sym, ap, arith, ⊎_elim}
 use Rattle.std.specs.Prelude.{ℤ, pos, ◌+ℤ◌, ◌-ℤ◌, ◌≤ℤ◌, All}
 use Rattle.std.proofs.lemmas.Int.{ints}
 use Rattle.std.proofs.lemmas.List.Elements.{All-append}
 use Rattle.teg_net.specs.declared.entries.PlaceId.{PlaceId}
-use Rattle.teg_net.specs.Nets.{NetLists, IsNet}
-use Rattle.teg_net.specs.Ratios.{Fraction}
-use Rattle.teg_net.specs.Circuits.{from_of, IsPathBetween, IsCircuit, time_of, tokens_of}
+use Rattle.teg_net.specs.Nets.{NetLists}
+use Rattle.teg_net.specs.Circuits.{from_of, IsPathBetween, time_of, tokens_of}
 use Rattle.teg_net.specs.Parts.{to_of, IsMember, IsPlaceOfPart}
-use Rattle.teg_net.specs.ReducedTimes.{reduced_time, reduced_time_of, IsGreatestPathTime}
+use Rattle.teg_net.specs.ReducedTimes.{reduced_time_of, IsGreatestPathTime}
 use Rattle.teg_net.proofs.PathLaws.{IsPathBetween-append}
 use Rattle.pace_laws.specs.TightPotentials.{offered, IsTightInto, AreTightPotentials, IsCriticalIn}
-use Rattle.pace_laws.specs.Eigenspaces.{IsCriticalRound, IsCriticalTransition, AreInOneCriticalPart, IsGreaterOf, AreBegunAt, MovedPotentialsAreTight, GreaterPotentialsAreTight, BegunPotentialsAreTight, BegunPotentialsExist, IsSpannedAt, PotentialsAreSpanned, CriticalPartsMoveAsOne, OneBeginsForEachPart, OneCriticalPartTellsAll}
+use Rattle.pace_laws.specs.Eigenspaces.{IsCriticalRound, IsCriticalTransition, AreInOneCriticalPart, IsGreaterOf, AreBegunAt, MovedPotentialsAreTight, GreaterPotentialsAreTight, BegunPotentialsAreTight, BegunPotentialsExist, PotentialsAreSpanned, CriticalPartsMoveAsOne, OneBeginsForEachPart, OneCriticalPartTellsAll}
 use Rattle.pace_laws.proofs.Sums.{weight_is, weight-append, above_along, all_left, all_right}
 use Rattle.pace_laws.proofs.Tight.{greatest_are_tight, IsFromCritical, from_critical, tight_sum, nowhere_below}
 use Rattle.pace_laws.proofs.Existing.{begun_from}

@@ -1,6 +1,6 @@
 -- As many rounds as there are transitions cannot all keep their circuit.
-use Rattle.std.proofs.Common.{ℕ, zero, suc, ◌+◌, ◌-◌, ◌<◌, ◌≤◌, ◌≡◌, List, [], ◌∷◌, length, get_or, refl, sym, ap, subst, ◌∙◌, arith, ⊎_elim}
-use Rattle.std.specs.Prelude.{ℤ, pos, ◌+ℤ◌, ◌≤ℤ◌, All}
+use Rattle.std.proofs.Common.{ℕ, zero, suc, ◌+◌, ◌-◌, ◌<◌, ◌≤◌, ◌≡◌, List, [], ◌∷◌, length, refl, sym, ap, subst, ◌∙◌, arith}
+use Rattle.std.specs.Prelude.{pos, ◌+ℤ◌, ◌≤ℤ◌, All}
 use Rattle.std.proofs.lemmas.Int.{ints}
 use Rattle.std.proofs.lemmas.List.Elements.{All-tail}
 use Rattle.teg_net.specs.declared.entries.PlaceId.{PlaceId}
@@ -9,10 +9,10 @@ use Rattle.teg_net.specs.Nets.{NetLists, IsNet, IsPlaceOf}
 use Rattle.teg_net.specs.Ratios.{Fraction}
 use Rattle.teg_net.specs.Circuits.{no_place, place_at, from_of, IsPathBetween}
 use Rattle.teg_net.specs.Parts.{to_of, IsMember, IsPlaceOfPart}
-use Rattle.teg_net.specs.ReducedTimes.{reduced_time, reduced_time_of}
+use Rattle.teg_net.specs.ReducedTimes.{reduced_time_of}
 use Rattle.teg_net.specs.PartAnswers.{first_transition_of}
-use Rattle.teg_howard.specs.Policies.{Enters, offer_of}
-use Rattle.teg_howard.specs.PolicyRounds.{chosen, potential, IsRound}
+use Rattle.teg_howard.specs.Policies.{Enters}
+use Rattle.teg_howard.specs.PolicyRounds.{potential, IsRound}
 use Rattle.teg_loops.specs.Loops.{EndsBelow}
 use Rattle.policy_laws.proofs.OneRound.{Gains, LeadsHome, IsShortPath, short_path}
 

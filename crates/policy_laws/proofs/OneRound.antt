@@ -1,21 +1,21 @@
 -- What a round that keeps its circuit gains: no potential falls, and each reaches what places offered it.
-use Rattle.std.proofs.Common.{ℕ, ◌+◌, ◌*◌, ◌<◌, ◌≤◌, ◌≡◌, ◌≢◌, List, [], ◌∷◌, ◌++◌, length, get_or, refl, sym, ap, subst, ◌∙◌, arith, ⊎_elim}
+use Rattle.std.proofs.Common.{ℕ, ◌<◌, ◌≡◌, List, [], ◌∷◌, ◌++◌, length, get_or, refl, ap, subst, ◌∙◌, arith, ⊎_elim}
 use Rattle.std.specs.Prelude.{ℤ, pos, ◌+ℤ◌, ◌≤ℤ◌, ◌<ℤ◌, All}
 use Rattle.std.proofs.lemmas.Int.{ints, by_lt_z}
 use Rattle.std.proofs.lemmas.List.Elements.{All-nil, All-cons, All-tail, All-append}
 use Rattle.teg_net.specs.declared.entries.PlaceId.{PlaceId}
 use Rattle.teg_net.specs.declared.rounds.Round.{Round}
-use Rattle.teg_net.specs.Nets.{NetLists, IsNet}
+use Rattle.teg_net.specs.Nets.{NetLists}
 use Rattle.teg_net.specs.Ratios.{Fraction}
-use Rattle.teg_net.specs.Circuits.{from_of, IsPathBetween, time_of, tokens_of}
+use Rattle.teg_net.specs.Circuits.{from_of, IsPathBetween}
 use Rattle.teg_net.specs.Parts.{to_of, IsMember, IsPlaceOfPart}
 use Rattle.teg_net.specs.ReducedTimes.{reduced_time, reduced_time_of}
 use Rattle.teg_net.specs.PartAnswers.{first_transition_of}
-use Rattle.teg_howard.specs.Policies.{Policy, IsPolicy, Enters, LeadsBack, AreSums, Improves, IsImprovement, step_back, offer_of}
+use Rattle.teg_howard.specs.Policies.{Enters, LeadsBack, AreSums, Improves, offer_of}
 use Rattle.teg_howard.specs.PolicyRounds.{chosen, potential, IsRound, KeepsCircuit, FollowsRound}
 use Rattle.teg_howard.proofs.Turns.{cases_improves, everywhere, better_is_policy, offers, rises}
 use Rattle.teg_howard.proofs.Back.{trail, trail_leads, trail_inside, trail_own}
-use Rattle.teg_loops.specs.Loops.{EndsBelow, HasLoop}
+use Rattle.teg_loops.specs.Loops.{EndsBelow}
 use Rattle.teg_loops.proofs.Taking.{by_loops}
 
 -- both rounds have the ratio and the circuit, no potential of the first falls, and each of the second is at least what a

@@ -1,0 +1,10 @@
+//! Realization (chapters 5 and 6): the causal periodic series are the transfers of live nets.
+//!
+//! Each law is the contract of a function that does nothing when it runs. The crate stands on
+//! `teg_settle` for transfers and, below it, for datings, nets and dates, and on `teg_check` for
+//! ranks; no crate of the program stands on it.
+#![tactic(auto)]
+
+mod laws;
+
+pub use laws::{series_are_realized, transfers_are_periodic};
