@@ -10,6 +10,8 @@ use crate::elimination::check;
 use crate::live::{Live, holds_keep_rankings, ranked_nets_are_live};
 use crate::refusal::CheckRefusal;
 use std::alloc::Global;
+use std::error::Error;
+use std::fmt;
 use std::marker::Model;
 use teg_net::{Net, PlaceId};
 
@@ -32,12 +34,21 @@ impl Model for LiveNet {
     ghost invariant = { λ a. IsRanking a.net a.live };
 }
 
-/// Why a net is not held as a live one: the refusal, and the net as it was handed in.
+/// Why a net is not held as a live one: the refusal, and the net as it was handed in. Its line is
+/// that of the refusal.
 #[derive(Debug, Drop)]
 pub struct NotHeld {
     pub net: Net,
     pub refusal: CheckRefusal,
 }
+
+impl fmt::Display for NotHeld {
+    fn fmt<W: fmt::Write>(&self, f: &mut fmt::Formatter<W>) -> fmt::Result {
+        self.refusal.fmt(f)
+    }
+}
+
+impl Error for NotHeld {}
 
 impl LiveNet {
     /// The net with its ranks.

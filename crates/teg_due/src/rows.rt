@@ -3,6 +3,8 @@ ghost use Rattle.std.specs.Prelude.{◌≡◌};
 ghost use Rattle.teg_due.specs.declared.rows.DueRefusal.TheVariants.{OutOfMemory as NoDueMemory};
 ghost use Rattle.teg_due.specs.declared.rows.LogRefusal.TheVariants.{OutOfMemory as NoLogMemory};
 
+use std::error::Error;
+use std::fmt;
 use teg_net::{OutOfMemory, TransitionId};
 
 /// A date by which a firing is due.
@@ -63,6 +65,34 @@ pub enum LogRefusal {
     /// No memory was found.
     OutOfMemory,
 }
+
+impl fmt::Display for DueRefusal {
+    fn fmt<W: fmt::Write>(&self, f: &mut fmt::Formatter<W>) -> fmt::Result {
+        match self {
+            DueRefusal::BadRow { row } => write!(f, "due row {row} is not a due date"),
+            DueRefusal::UnknownTransition { row } => write!(f, "due row {row} unknown transition"),
+            DueRefusal::NotDue { row } => write!(f, "due row {row} input transition"),
+            DueRefusal::RepeatedDue { row } => write!(f, "due row {row} repeated"),
+            DueRefusal::OutOfRange { row } => write!(f, "due row {row} out of range"),
+            DueRefusal::OutOfMemory => f.write_str("out of memory"),
+        }
+    }
+}
+
+impl Error for DueRefusal {}
+
+impl fmt::Display for LogRefusal {
+    fn fmt<W: fmt::Write>(&self, f: &mut fmt::Formatter<W>) -> fmt::Result {
+        match self {
+            LogRefusal::BadRow { row } => write!(f, "log row {row} is not a firing"),
+            LogRefusal::UnknownTransition { row } => write!(f, "log row {row} unknown transition"),
+            LogRefusal::OutOfRange { row } => write!(f, "log row {row} out of range"),
+            LogRefusal::OutOfMemory => f.write_str("out of memory"),
+        }
+    }
+}
+
+impl Error for LogRefusal {}
 
 impl From<OutOfMemory> for DueRefusal {
     ghost from_gives = { λ _ e. e ≡ NoDueMemory };

@@ -3,6 +3,8 @@ ghost use Rattle.std.specs.Prelude.{◌≡◌};
 ghost use Rattle.teg_jit.specs.declared.answers.JitRefusal.TheVariants.{OutOfMemory};
 
 use std::alloc::AllocError;
+use std::error::Error;
+use std::fmt;
 use teg_net::{OutOfMemory, PlaceId, TransitionId, Walk};
 
 /// The first step of a walk by which a latest date is attained.
@@ -25,7 +27,7 @@ pub enum LatestDate {
     At { date: u64, onward: Onward },
 }
 
-/// Why there is no plan.
+/// Why there is no plan. Its line tells a transition by its number, counted from 0.
 #[derive(Debug, Drop)]
 pub enum JitRefusal {
     /// With all inputs at 0 the firing comes later than it is due.
@@ -45,6 +47,26 @@ pub enum JitRefusal {
     /// No memory was found.
     OutOfMemory,
 }
+
+impl fmt::Display for JitRefusal {
+    fn fmt<W: fmt::Write>(&self, f: &mut fmt::Formatter<W>) -> fmt::Result {
+        match self {
+            JitRefusal::Late {
+                transition,
+                number,
+                due,
+                least,
+                ..
+            } => {
+                write!(f, "late transition {} firing {number}", transition.index)?;
+                write!(f, " due {due} least {least}")
+            }
+            JitRefusal::OutOfMemory => f.write_str("out of memory"),
+        }
+    }
+}
+
+impl Error for JitRefusal {}
 
 impl From<AllocError> for JitRefusal {
     ghost from_gives = { λ _ e. e ≡ OutOfMemory };

@@ -4,6 +4,8 @@ ghost use Rattle.teg_reader.specs.declared.refusals.ReadRefusal.TheVariants.{Out
 
 use crate::keys::Key;
 use std::alloc::{AllocError, AllocFailed};
+use std::error::Error;
+use std::fmt;
 use teg_net::{Label, Name, OutOfMemory};
 
 /// A part of a net file.
@@ -97,6 +99,75 @@ pub enum ReadRefusal {
     /// No memory was found.
     OutOfMemory,
 }
+
+impl fmt::Display for Spot {
+    fn fmt<W: fmt::Write>(&self, f: &mut fmt::Formatter<W>) -> fmt::Result {
+        let position = self.position;
+        match self.section {
+            Section::Top => f.write_str("top"),
+            Section::Transition => write!(f, "transition {position}"),
+            Section::Place => write!(f, "place {position}"),
+            Section::Input => write!(f, "input {position}"),
+        }
+    }
+}
+
+impl fmt::Display for ReadRefusal {
+    fn fmt<W: fmt::Write>(&self, f: &mut fmt::Formatter<W>) -> fmt::Result {
+        match self {
+            ReadRefusal::NotToml => f.write_str("not TOML"),
+            ReadRefusal::UnknownKey { spot, key } => {
+                write!(f, "{spot} unknown key {:?}", key.as_str())
+            }
+            ReadRefusal::WrongKind { spot, key } => write!(f, "{spot} wrong kind {}", key.text()),
+            ReadRefusal::MissingKey { spot, key } => write!(f, "{spot} missing {}", key.text()),
+            ReadRefusal::BadName { spot } => write!(f, "{spot} bad name"),
+            ReadRefusal::Repeated { spot } => write!(f, "{spot} repeated"),
+            ReadRefusal::OutOfRange { spot, key } => {
+                write!(f, "{spot} out of range {}", key.text())
+            }
+            ReadRefusal::NoTransitions => f.write_str("no transitions"),
+            ReadRefusal::UnknownTransition { spot, name } => {
+                write!(f, "{spot} unknown transition {:?}", name.as_str())
+            }
+            ReadRefusal::NotEventGraph {
+                place,
+                producers,
+                consumers,
+            } => {
+                let place = place.as_str();
+                write!(
+                    f,
+                    "place {place} has {producers} producers and {consumers} consumers"
+                )
+            }
+            ReadRefusal::InputHasUpstream { place } => {
+                write!(f, "place {} enters an input", place.as_str())
+            }
+            ReadRefusal::BadInput {
+                transition,
+                position,
+            } => write!(f, "input of {} bad at {position}", transition.as_str()),
+            ReadRefusal::BadReady {
+                place,
+                given,
+                tokens,
+            } => {
+                let place = place.as_str();
+                write!(
+                    f,
+                    "place {place} has {given} ready dates for {tokens} tokens"
+                )
+            }
+            ReadRefusal::TooSlow { place } => {
+                write!(f, "place {} hold exceeds 1000000000", place.as_str())
+            }
+            ReadRefusal::OutOfMemory => f.write_str("out of memory"),
+        }
+    }
+}
+
+impl Error for ReadRefusal {}
 
 impl From<AllocError> for ReadRefusal {
     ghost from_gives = { λ _ e. e ≡ OutOfMemory };

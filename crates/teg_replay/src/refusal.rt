@@ -3,10 +3,12 @@ ghost use Rattle.std.specs.Prelude.{◌≡◌};
 ghost use Rattle.teg_replay.specs.declared.refusal.FireRefusal.TheVariants.{OutOfMemory};
 
 use std::alloc::AllocError;
+use std::error::Error;
+use std::fmt;
 use teg_net::PlaceId;
 
 /// Why a firing is refused: the first of three ways to fail, or want of memory. Dates are in the
-/// user's unit of time.
+/// user's unit of time. Its line tells a place by its number, counted from 0.
 #[derive(Clone, Copy, Debug, PartialEq, Eq)]
 pub enum FireRefusal {
     /// This place, the lowest numbered of those into the transition, has not its token by the date:
@@ -19,6 +21,28 @@ pub enum FireRefusal {
     /// No memory was found.
     OutOfMemory,
 }
+
+impl fmt::Display for FireRefusal {
+    fn fmt<W: fmt::Write>(&self, f: &mut fmt::Formatter<W>) -> fmt::Result {
+        match self {
+            FireRefusal::Illegal {
+                place,
+                ready: Some(ready),
+            } => write!(f, "illegal place {} ready at {ready}", place.index),
+            FireRefusal::Illegal { place, ready: None } => {
+                write!(f, "illegal place {} never ready", place.index)
+            }
+            FireRefusal::BackInTime { last } => write!(f, "back in time behind {last}"),
+            FireRefusal::BeforeRelease {
+                release: Some(release),
+            } => write!(f, "before release at {release}"),
+            FireRefusal::BeforeRelease { release: None } => f.write_str("never released"),
+            FireRefusal::OutOfMemory => f.write_str("out of memory"),
+        }
+    }
+}
+
+impl Error for FireRefusal {}
 
 impl From<AllocError> for FireRefusal {
     ghost from_gives = { λ _ e. e ≡ OutOfMemory };
