@@ -29,7 +29,8 @@ step_up x y l = omega (arith, ints)
 pub ranks_live : RisingRanksShowLive
 ranks_live net rank rises ps c free =
     let there = IsPathBetween-in_range net ps c.closed.0 c.closed.0 c.closed.1 in
-    let low = weights_bounded net (λ p. pos 1) (λ t. pos (rank t)) ps c (λ i d l. let p = get_or ps i d in step_up (rank (from_of net p)) (rank (to_of net p)) (rises p (there i d l) (no_tokens net ps free i d l))) in
+    let low = weights_bounded net (λ p. pos 1) (λ t. pos (rank t)) ps c
+    (λ i d l. let p = get_or ps i d in step_up (rank (from_of net p)) (rank (to_of net p)) (rises p (there i d l) (no_tokens net ps free i d l))) in
     let count = ones ps in
     let some = c.not_empty in
     absurd (omega (arith, ints))

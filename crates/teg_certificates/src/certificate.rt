@@ -2,7 +2,6 @@
 ghost use Rattle.std.specs.Prelude.{◌≡◌, ◌↔◌, ◌<◌, ◌≤◌, ◌*◌, All, IsTrue, length, slice_index};
 ghost use Rattle.teg_net.specs.Ratios.{IsLowestTerms, IsRatioWithin};
 ghost use Rattle.teg_net.specs.Circuits.{IsCircuit, time_of, tokens_of};
-ghost use Rattle.teg_net.specs.GreatestRatios.{IsFirstGreatest};
 ghost use Rattle.teg_net.specs.Certificates.{IsPartCertificate, IsCertificate};
 ghost use Rattle.teg_net.specs.Limits.{greatest_circuit_time, most_circuit_tokens};
 ghost use Rattle.teg_certificates.specs.Checks.{AreNumbersOf, HasRatio, FitsBest, ArePartCertificates, FitsLists};

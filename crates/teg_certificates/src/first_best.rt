@@ -1,6 +1,6 @@
 //! Whether a part is the first of greatest ratio among the answers of parts.
-ghost use Rattle.std.specs.Prelude.{◌≡◌, ◌↔◌, All, IsTrue, Some, None, take};
-ghost use Rattle.teg_net.specs.GreatestRatios.{ratio_in, IsFirstGreatest, IsFirstGreatestAt};
+ghost use Rattle.std.specs.Prelude.{◌≡◌, ◌↔◌, All, IsTrue, Some, None};
+ghost use Rattle.teg_net.specs.GreatestRatios.{ratio_in, IsFirstGreatest};
 ghost use Rattle.teg_certificates.specs.Checks.{IsNotAbove, IsBelow};
 
 use crate::best_ratios::ratio_of;

@@ -1,5 +1,5 @@
-//! What certificates, potentials, ranks and circuits show, as laws. Each is a function that does nothing
-//! when it runs: its contract is the law.
+//! What certificates, potentials, ranks and circuits show, as laws. Each is a function that does
+//! nothing when it runs: its contract is the law.
 ghost use Rattle.teg_certificates.specs.Weights.{PotentialsBoundWeights};
 ghost use Rattle.teg_certificates.specs.CircuitsInParts.{CircuitsLieInOnePart};
 ghost use Rattle.teg_certificates.specs.CertifiedNets.{CertificatesTellOfNets, CertificatesTellOfParts, PotentialsBoundRatios};

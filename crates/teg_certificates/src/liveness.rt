@@ -1,5 +1,5 @@
 //! What shows that a net is live, and what shows that it is not (chapter 2).
-ghost use Rattle.std.specs.Prelude.{◌≡◌, ◌↔◌, ◌<◌, ℕ, All, IsTrue, length, slice_index};
+ghost use Rattle.std.specs.Prelude.{◌≡◌, ◌↔◌, ◌<◌, All, IsTrue, length, slice_index};
 ghost use Rattle.teg_net.specs.Circuits.{IsCircuit, tokens_of};
 ghost use Rattle.teg_certificates.specs.RisingRanks.{AreRisingRanks};
 

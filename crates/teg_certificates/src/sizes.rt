@@ -1,6 +1,6 @@
 //! What shows that so many further tokens of a place are enough for a target ratio, or too few, or
 //! that no number is enough (chapters 2 and 3).
-ghost use Rattle.std.specs.Prelude.{◌≡◌, ◌↔◌, ◌<◌, ◌≤◌, ◌+◌, ◌*◌, ◌+ℤ◌, ◌-ℤ◌, ◌≤ℤ◌, ℤ, pos, All, Contains, IsTrue, length, slice_index_or};
+ghost use Rattle.std.specs.Prelude.{◌≡◌, ◌↔◌, ◌<◌, ◌≤◌, ◌+◌, ◌*◌, All, Contains, IsTrue, length};
 ghost use Rattle.teg_net.specs.declared.entries.PlaceId.{PlaceId};
 ghost use Rattle.teg_net.specs.Limits.{greatest_circuit_time, most_circuit_tokens, greatest_hold, most_place_tokens, greatest_checked_potential};
 ghost use Rattle.teg_net.specs.Ratios.{IsRatioWithin};

@@ -29,7 +29,7 @@ low_alone net r ps h =
     let one : time_of net ps * r.tokens ≡ r.tokens * time_of net ps = grind arith in
     omega (arith, ints)
 
-value_from : (net : NetLists) (r : Fraction) (ps : List PlaceId) (n : ℕ) → time_of net ps * r.tokens ≤ r.time * (tokens_of net ps + n) → reduced_time_of_path net r ps ≤ℤ pos (r.time * n)
+pub value_from : (net : NetLists) (r : Fraction) (ps : List PlaceId) (n : ℕ) → time_of net ps * r.tokens ≤ r.time * (tokens_of net ps + n) → reduced_time_of_path net r ps ≤ℤ pos (r.time * n)
 value_from net r ps n h =
     let one : time_of net ps * r.tokens ≡ r.tokens * time_of net ps = grind arith in
     let two : r.time * (tokens_of net ps + n) ≡ r.time * tokens_of net ps + r.time * n = grind arith in

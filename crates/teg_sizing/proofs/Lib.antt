@@ -6,4 +6,7 @@ pub mod Stopping
 pub mod Looping
 pub mod Straightening
 pub mod Enough
+pub mod Settled
+pub mod RoundsSettled
+pub mod EnoughPotentials
 pub mod Reading

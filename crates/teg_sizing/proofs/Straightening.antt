@@ -25,7 +25,7 @@ use Rattle.teg_sizing.proofs.Values.{same_some, none_some, at_least_some, weight
 use Rattle.teg_sizing.proofs.Going.{complete, next_round}
 use Rattle.teg_sizing.proofs.Traces.{IsTraced, traced, trace_same}
 
-ends_below : (net : NetLists) → IsNet net → EndsBelow net (length net.transitions)
+pub ends_below : (net : NetLists) → IsNet net → EndsBelow net (length net.transitions)
 ends_below net ok = record {
   from_in = λ id l. (ok.each_place id.index no_place l).from_in;
   to_in = λ id l. (ok.each_place id.index no_place l).to_in;

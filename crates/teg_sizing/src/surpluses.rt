@@ -44,7 +44,7 @@ fn only_at(alloc: Global, count: usize, start: TransitionId) -> Result<ValueRoun
 }
 
 // The rounds from everywhere, by all places but this one.
-fn rounds_apart(
+pub(crate) fn rounds_apart(
     alloc: Global,
     net: &Net,
     target: Ratio,
@@ -101,7 +101,7 @@ pub(crate) fn above_apart(
 }
 
 // The rounds from the end of the place, by all places but this one.
-fn rounds_back(
+pub(crate) fn rounds_back(
     alloc: Global,
     net: &Net,
     target: Ratio,

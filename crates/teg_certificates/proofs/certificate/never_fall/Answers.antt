@@ -15,7 +15,7 @@ loop-place-preserved c =
     let own_in = c.loop-place-test.true in
     let item : c.place-item.result ≡ place_at net p = rw c.places-place-items.ensures.value at (get_or_read c.places-place-items.result.now i c.place-item.result own_in c.place-item.is no_place) in
     let here : get_or part_of (from_of net p) 0 ≤ get_or part_of (to_of net p) 0 = rw item at (c.rises_along.ensures.0 c.if-not-rises_along.false) in
-    below_more (λ k. get_or part_of (from_of net (record { index = k })) 0 ≤ get_or part_of (to_of net (record { index = k })) 0) i c.loop-place.invariant here
+    below_more _ _ c.loop-place.invariant here
 
 pub returns : goal.returns
 returns c =

@@ -12,7 +12,7 @@ loop-index-preserved c =
     let within : i < length answers = c.loop-index-test.true in
     let read : c.index-answers-index.result ≡ get_or answers i NoCircuit = get_or_read answers i c.index-answers-index.result within c.index-answers-index.is NoCircuit in
     let here : IsPartCertificate c.args.net.now c.args.part_of.now i (get_or answers i NoCircuit) = rw read at (c.part_fits.ensures.0 c.if-not-part_fits.false) in
-    below_more (λ k. IsPartCertificate c.args.net.now c.args.part_of.now k (get_or answers k NoCircuit)) i c.loop-index.invariant here
+    below_more _ _ c.loop-index.invariant here
 
 pub returns-then-not-part_fits : goal.returns-then-not-part_fits
 returns-then-not-part_fits c =

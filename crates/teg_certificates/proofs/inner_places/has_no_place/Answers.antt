@@ -27,7 +27,7 @@ loop-place-preserved c =
     let p : PlaceId = record { index = i } in
     let own_in = c.loop-place-test.true in
     let item : c.place-item.result ≡ place_at net p = rw c.places-place-items.ensures.value at (get_or_read c.places-place-items.result.now i c.place-item.result own_in c.place-item.is no_place) in
-    below_more (λ k. IsPlaceOfPart net part_of c.args.part (record { index = k }) → ⊥) i c.loop-place.invariant
+    below_more _ _ c.loop-place.invariant
     (λ q. iff_false c.is_inner.ensures c.if-is_inner.false (rw item (q.from_member, q.to_member)))
 
 pub returns : goal.returns

@@ -15,11 +15,12 @@ loop-place-preserved c =
     let own_in = c.loop-place-test.true in
     let item : c.place-item.result ≡ place_at net p = rw c.places-place-items.ensures.value at (get_or_read c.places-place-items.result.now i c.place-item.result own_in c.place-item.is no_place) in
     let here : (place_at net p).tokens ≡ 0 → get_or ranks (from_of net p) 0 < get_or ranks (to_of net p) 0 = rw item at (c.rises_along.ensures.0 c.if-not-rises_along.false) in
-    below_more (λ k. (place_at net (record { index = k })).tokens ≡ 0 → get_or ranks (from_of net (record { index = k })) 0 < get_or ranks (to_of net (record { index = k })) 0) i c.loop-place.invariant here
+    below_more _ _ c.loop-place.invariant here
 
 pub returns : goal.returns
 returns c =
     let ranks = c.args.ranks.now in (
-      λ t. each_place_of (λ p. p.tokens ≡ 0 → get_or ranks p.from.index 0 < get_or ranks p.to.index 0) c.args.net.now c.loop-place.place-index (rw c.places-place-items.ensures.value at c.loop-place-test.false) c.loop-place.invariant,
+      λ t. each_place_of (λ p. p.tokens ≡ 0 → get_or ranks p.from.index 0 < get_or ranks p.to.index 0)
+          c.args.net.now c.loop-place.place-index (rw c.places-place-items.ensures.value at c.loop-place-test.false) c.loop-place.invariant,
       λ h. refl,
     )

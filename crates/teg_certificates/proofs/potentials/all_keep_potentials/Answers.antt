@@ -16,7 +16,7 @@ loop-place-preserved c =
     let own_in = c.loop-place-test.true in
     let item : c.place-item.result ≡ place_at net p = rw c.places-place-items.ensures.value at (get_or_read c.places-place-items.result.now i c.place-item.result own_in c.place-item.is no_place) in
     let here : KeepsPotential part_of c.args.part c.args.ratio c.args.potentials.now (place_at net p) = rw item at (c.keeps_potential.ensures.0 c.if-not-keeps_potential.false) in
-    below_more (λ k. KeepsPotential part_of c.args.part c.args.ratio c.args.potentials.now (place_at net (record { index = k }))) i c.loop-place.invariant here
+    below_more _ _ c.loop-place.invariant here
 
 pub returns-then-not-keeps_potential : goal.returns-then-not-keeps_potential
 returns-then-not-keeps_potential c =

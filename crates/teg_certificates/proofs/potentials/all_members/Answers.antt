@@ -1,12 +1,10 @@
 use Rattle.std.proofs.Common.{◌≡◌, true, false, refl, arith, below_more}
 use Rattle.std.proofs.lemmas.Bool.{false≢true, iff_false}
-use Rattle.teg_net.specs.Parts.{IsMember}
-use Rattle.teg_certificates.specs.Checks.{HasPotentialTold}
 use Rattle.teg_certificates.proofs.potentials.all_members.Goals as goal
 
 pub loop-transition-preserved : goal.loop-transition-preserved
 loop-transition-preserved c =
-    below_more (λ k. IsMember c.args.part_of.now c.args.part k → HasPotentialTold c.args.potentials.now k) c.loop-transition.transition c.loop-transition.invariant
+    below_more _ _ c.loop-transition.invariant
     (c.is_told_member.ensures.0 c.if-not-is_told_member.false)
 
 pub returns-then-not-is_told_member : goal.returns-then-not-is_told_member

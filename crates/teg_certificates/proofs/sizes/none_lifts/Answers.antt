@@ -25,4 +25,4 @@ loop-number-preserved c =
     let own_in : p.index < length net.places = rw c.places-own-items.ensures.value at c.loop-number-test.true in
     let item : c.own-item.result ≡ place_at net p = read_place net c.places-own-items.result.now p c.own-item.result c.places-own-items.ensures.value own_in c.own-item.is in
     let here : LiftsNone r vs (extra_at c.args.place c.args.extra p) (place_at net p) = rw (c.extra_at.ensures, item) at (c.lifts_none.ensures.0 c.if-not-lifts_none.false) in
-    below_more (λ k. LiftsNone r vs (extra_at c.args.place c.args.extra (record { index = k })) (place_at net (record { index = k }))) c.loop-number.number c.loop-number.invariant here
+    below_more _ _ c.loop-number.invariant here
