@@ -66,7 +66,8 @@ pub fn earliest_runs_are_first()
 
 /// Least dates by the game: in a live net a least date that is a number is the earliest date of its
 /// firing in legal runs, and one is `Never` just where no legal run fires the transition so often
-/// (chapter 2).
+/// (chapter 2). Around a circuit without tokens and without hold the least dates are 0, and no run
+/// fires.
 pub fn legal_runs_reach_least_dates()
     ensures dates { LeastDatesAreEarliest }
     ensures never { NeverIsInNoRun }

@@ -7,7 +7,7 @@ ghost use Rattle.io_laws.specs.InputOutput.{DatesAreOutputs, DatesAreOutputsOfTr
 /// to k, of the release and the transfer time over k - j further numbers, from the first firing of
 /// the input on; and the transfer of the input, a settled form, tells these times (chapters 2 and
 /// 5). Firings of an input with a later number count for nothing: a walk never goes back in number.
-/// Liveness gives each date a walk that makes it.
+/// Liveness is asked for by the proof alone, which makes each date by a walk.
 pub fn dates_are_outputs()
     ensures walks { DatesAreOutputs }
     ensures transfers { DatesAreOutputsOfTransfers }

@@ -4,7 +4,7 @@ ghost use Rattle.latest_laws.specs.BackwardEquations.{LatestDatesAreGreatestInTi
 ghost use Rattle.latest_laws.specs.BackwardSolutions.{LatestDatesAreOne, LatestDatesExist, SolutionsAreLatestDates};
 ghost use Rattle.latest_laws.specs.Floats.{InputsMeetByFloats, LatestDatesAreFeasible, LatestDatesAreGreatest};
 ghost use Rattle.latest_laws.specs.JointInputs.{EarlierInputsMeet, InputsMeetUpToLatest, LaterInputsAreInputs, LaterInputsMeet};
-ghost use Rattle.latest_laws.specs.ShiftedDues.{LaterDuesLaterLatest, ShiftedDuesShiftLatest};
+ghost use Rattle.latest_laws.specs.ShiftedDues.{LateDuesAreMet, LaterDuesLaterLatest, ShiftedDuesShiftLatest};
 ghost use Rattle.latest_laws.specs.ShownByWalks.{LateWalksRefuse, TightWalksBound};
 
 /// A tight walk bounds: no feasible dating that keeps the due dates comes to the first firing of a
@@ -79,4 +79,11 @@ pub fn inputs_meet_up_to_latest()
 pub fn latest_dates_move_with_dues()
     ensures later { LaterDuesLaterLatest }
     ensures shifted { ShiftedDuesShiftLatest }
+{}
+
+/// Late due dates are met: due dates of a live net up to some number, each moved by the same far
+/// enough, are met by inputs at 0 (chapter 5). Due dates without an end need not be, however late:
+/// where each firing on a circuit of hold 1 and one token is due at one date, most are late.
+pub fn late_due_dates_are_met()
+    ensures { LateDuesAreMet }
 {}

@@ -1,5 +1,5 @@
 -- Dates that are all 0 repeat at once.
-use Rattle.std.proofs.Common.{ℕ, zero, suc, ◌+◌, ◌*◌, ◌<◌, ◌≤◌, ◌≡◌, ◌≢◌, List, length, refl, arith, ⊎_elim}
+use Rattle.std.proofs.Common.{ℕ, zero, suc, ◌+◌, ◌*◌, ◌<◌, ◌≤◌, ◌≡◌, ◌≢◌, List, length, refl, ◌∙◌, arith, ⊎_elim}
 use Rattle.std.specs.Prelude.{pos}
 use Rattle.std.proofs.lemmas.Bool.{cases_eq}
 use Rattle.bound_laws.specs.dioid.declared.dates.Date.{Date}
@@ -8,7 +8,7 @@ use Rattle.bound_laws.specs.teg_net.declared.entries.PlaceId.{PlaceId}
 use Rattle.bound_laws.specs.teg_net.Circuits.{time_of, tokens_of}
 use Rattle.bound_laws.specs.settled_laws.SettledForms.{RepeatsAfter}
 use Rattle.bound_laws.proofs.Bounded.{still_nets_stay_at_zero_by}
-use Rattle.still_laws.specs.StillNets.{StillByRatio, StillNetsSettleAtOnce}
+use Rattle.still_laws.specs.StillNets.{StillByRatio, StillNetsSettleAtOnce, OthersAreStrong}
 
 no_factor : (a b : ℕ) → 1 ≤ b → a * b ≤ 0 → a ≡ 0
 no_factor zero b o l = refl
@@ -43,3 +43,25 @@ settle_at_once net ok live no_input reaches still ready f h =
     let after = h.2.least_after 0 1 (λ t. pos 0) zeros in
     let one = h.2.stands.sizes.at_least_one in
     (omega (arith, after), omega (arith, period, one))
+
+pub others_strong : OthersAreStrong
+others_strong net ok live no_input reaches ready r g some =
+    let ps : List PlaceId = g.attained.0 in
+    let c = g.attained.1 in
+    let turned : (qs : List PlaceId) → r.tokens * time_of net qs ≡ time_of net qs * r.tokens = λ qs. grind arith in
+    record {
+      net_rules = ok;
+      live = live;
+      no_input = no_input;
+      reaches = reaches;
+      center = c.closed.0;
+      core = ps;
+      attained = record { circuit = c; at = c.closed.1; critical = turned ps ∙ g.attained.3 };
+      greatest = λ qs d. rw (turned qs) (g.greatest qs d (λ i e l. tt));
+      time_some = some;
+      tokens_some = g.some;
+      holds = λ i d l. (ok.each_place i d l).hold_in;
+      marks = λ i d l. (ok.each_place i d l).tokens_in;
+      one = omega arith;
+      ready_at_zero = ready;
+    }

@@ -1,12 +1,13 @@
 -- Nets whose circuits take no time (chapter 3, cyclicity of ratio 0).
-use Rattle.std.specs.Prelude.{ℕ, ◌<◌, ◌≡◌, ◌↔◌, List, length}
+use Rattle.std.specs.Prelude.{ℕ, ◌<◌, ◌≤◌, ◌≡◌, ◌↔◌, List, length}
 use Rattle.bound_laws.specs.teg_net.declared.entries.PlaceId.{PlaceId}
 use Rattle.bound_laws.specs.teg_net.Nets.{NetLists, IsNet, IsInput}
 use Rattle.bound_laws.specs.teg_net.Circuits.{IsPathBetween, IsCircuit, IsLive, time_of}
 use Rattle.bound_laws.specs.teg_net.GreatestRatios.{IsGreatestRatio, IsAnyPlace}
 use Rattle.bound_laws.specs.teg_net.Ratios.{Fraction}
 use Rattle.bound_laws.specs.settled_laws.SettledForms.{SettledForm, IsSettledFormOf}
-use Rattle.bound_laws.specs.Critical.{AllReadyAtZero}
+use Rattle.bound_laws.specs.teg_net.Limits.{greatest_hold, most_place_tokens}
+use Rattle.bound_laws.specs.Critical.{AllReadyAtZero, IsStrong}
 
 -- no circuit takes time
 abbrev pub IsStill : NetLists → Type 0
@@ -23,3 +24,10 @@ StillNetsSettleAtOnce = (net : NetLists) → IsNet net → IsLive net → ((t : 
     → ((s t : ℕ) → s < length net.transitions → t < length net.transitions → (ps : List PlaceId) × IsPathBetween net s ps t)
     → IsStill net → AllReadyAtZero net
     → (f : SettledForm) → IsSettledFormOf net f → (f.after ≡ 0) × (f.period ≡ 1)
+
+-- and each other such net is strong in the sense of the bound, at its greatest ratio, within the limits of all nets
+abbrev pub OthersAreStrong : Type 0
+OthersAreStrong = (net : NetLists) → IsNet net → IsLive net → ((t : ℕ) → IsInput net t → ⊥)
+    → ((s t : ℕ) → s < length net.transitions → t < length net.transitions → (ps : List PlaceId) × IsPathBetween net s ps t)
+    → AllReadyAtZero net
+    → (r : Fraction) → IsGreatestRatio net IsAnyPlace r → 1 ≤ r.time → IsStrong net greatest_hold most_place_tokens r.time r.tokens

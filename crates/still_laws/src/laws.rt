@@ -1,5 +1,6 @@
-//! The law of still nets. It is a function that does nothing when it runs: its contract is the law.
-ghost use Rattle.still_laws.specs.StillNets.{StillByRatio, StillNetsSettleAtOnce};
+//! The laws of still nets. Each is a function that does nothing when it runs: its contract is the
+//! law.
+ghost use Rattle.still_laws.specs.StillNets.{OthersAreStrong, StillByRatio, StillNetsSettleAtOnce};
 
 /// The greatest ratio of a live net is 0 just where no circuit takes time; and then the settled form
 /// of a strongly connected one without inputs, whose tokens are all ready at 0, begins after 0 and
@@ -10,4 +11,11 @@ ghost use Rattle.still_laws.specs.StillNets.{StillByRatio, StillNetsSettleAtOnce
 pub fn still_nets_settle_at_once()
     ensures ratio { StillByRatio }
     ensures settled { StillNetsSettleAtOnce }
+{}
+
+/// A strongly connected live net without inputs, whose tokens are all ready at 0, keeps the settling
+/// bound where its greatest ratio is above 0: it is strong at this ratio, with the greatest hold and
+/// number of tokens that a net may have (chapter 3).
+pub fn other_nets_are_strong()
+    ensures { OthersAreStrong }
 {}
