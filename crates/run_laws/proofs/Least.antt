@@ -217,10 +217,8 @@ dated_or : (net : NetLists) (x : Dating) (run : List Fired) (t : ℕ) → t < le
 dated_or net x run t l dated low = from_zero (x t (next_number run t)) (last_listed_date (dates_of_transition run t)) (rw (own_available net x run t l dated (dates_of_transition run t) refl) at low)
 
 pub earliest_least : EarliestIsLeast
-earliest_least net x run f date ok live h legal dated g e =
-    let t : ℕ = f.transition.index in
+earliest_least net x run t date ok live h dated l e =
     let k : ℕ = next_number run t in
-    let l = g.transition_in in
     let upper = open_least net x run t k date ok live h (dated_early net x run dated) l (omega arith) e.enough in
     let own = implicit_is net t l in
     let f1 : IsFeasibleUnder net (listed_releases net) x = h.feasible in

@@ -26,12 +26,12 @@ LegalRunsAreNotEarly =
     (net : NetLists) (x : ℕ → ℕ → Date) (run : List Fired) → IsNet net → IsLive net
     → IsLeastDating net x → IsLegalRun net run → IsNotEarly net x run
 
--- where all firings so far came at their least dates, the earliest date of one that may follow is its least date
+-- where all firings so far came at their least dates, the earliest date of the next firing of a transition is its least date
 abbrev pub EarliestIsLeast : Type 0
 EarliestIsLeast =
-    (net : NetLists) (x : ℕ → ℕ → Date) (run : List Fired) (f : Fired) (date : ℕ) → IsNet net → IsLive net
-    → IsLeastDating net x → IsLegalRun net run → IsDatedBy net x run → IsLegalAfter net run f
-    → IsEarliest net run f.transition.index (next_number run f.transition.index) date → x f.transition.index (next_number run f.transition.index) ≡ At (pos date)
+    (net : NetLists) (x : ℕ → ℕ → Date) (run : List Fired) (t date : ℕ) → IsNet net → IsLive net
+    → IsLeastDating net x → IsDatedBy net x run → t < length net.transitions
+    → IsEarliest net run t (next_number run t) date → x t (next_number run t) ≡ At (pos date)
 
 -- a firing that fails in one of the three ways may not follow the run
 pub record FailuresAreNotLegal : Type 0 where

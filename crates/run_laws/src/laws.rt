@@ -8,8 +8,8 @@ pub fn legal_runs_are_not_early()
     ensures { LegalRunsAreNotEarly }
 {}
 
-/// In a live net, where all firings of a legal run came at their least dates, the earliest date of
-/// one that may follow is its least date.
+/// In a live net, where all firings of a run came at their least dates, the earliest date of the next
+/// firing of a transition is its least date.
 pub fn earliest_is_least()
     ensures { EarliestIsLeast }
 {}

@@ -26,8 +26,8 @@ pub fn unread_files_are_told()
     ensures { UnreadFilesAreTold }
 {}
 
-/// That the answers of `form`, `dates`, `date`, `slack`, `transfer` and `jit` are told, by what
-/// these commands say of them: so the law `answers_are_read` of `teg_report` holds of them, each is
+/// That the answers of `list`, `form`, `dates`, `date`, `slack`, `transfer` and `jit` are told, by
+/// what these commands say of them: so the law `answers_are_read` of `teg_report` holds of them, each is
 /// read back from the bytes that are written, and other answers about the net have other bytes.
 pub fn answers_of_commands_are_told()
     ensures { AnswersOfCommandsAreTold }

@@ -30,7 +30,7 @@ pub stands_to_least : (net : NetLists) (run : List Fired) (f : Fired) (firing : 
 stands_to_least net run f firing ok legal g told live x h = record {
   not_early = rw (told.transition, told.number, told.date)
       (open_least net x run f.transition.index (next_number run f.transition.index) f.date ok live h (not_early net x run ok live h legal) g.transition_in (omega arith) (legal_open net run f legal g));
-  earliest = λ dated. rw (told.transition, told.number) (earliest_least net x run f firing.earliest ok live h legal dated g told.earliest);
+  earliest = λ dated. rw (told.transition, told.number) (earliest_least net x run f.transition.index firing.earliest ok live h dated g.transition_in told.earliest);
 }
 
 mapped : (rows : List LogRow) (n : ℕ) (d : LogRow) (e : Fired) → n < length rows → get_or (run_of rows) n e ≡ fired_of (get_or rows n d)
