@@ -193,12 +193,14 @@ pub(crate) fn told_alone(
     ensures told { IfOk result (IsTold net.now row.now) }
 {
     paced_late_is_soon();
+    let paced = keeps_pace(alloc, net, row)?;
     let last = last_to_see(net, most_tokens(net), row);
-    let seen = last.min(most_rows(net));
+    let most = most_rows(net);
+    let seen = if paced { last.min(most) } else { most };
     if let Some(late) = late_to(alloc, net, plain, form, row, seen)? {
         return Ok(Told::Late(late));
     }
-    if last == seen && keeps_pace(alloc, net, row)? {
+    if paced && last == seen {
         Ok(Told::None)
     } else {
         Ok(Told::Nothing)
