@@ -1,2 +1,3 @@
 pub mod Solving
 pub mod Counting
+pub mod CountedRuns

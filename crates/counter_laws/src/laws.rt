@@ -1,4 +1,5 @@
 //! The laws of counters. Each is a function that does nothing when it runs: its contract is the law.
+ghost use Rattle.counter_laws.specs.CountedRuns.{CountersCountFirings};
 ghost use Rattle.counter_laws.specs.CounterEquations.{CountersAreGreatest, CountersAreLeastOfTokens, CountersAreOne, CountersExist};
 
 /// The min-plus equations: of a live net whose initial tokens are ready at 0, under any releases,
@@ -6,7 +7,8 @@ ghost use Rattle.counter_laws.specs.CounterEquations.{CountersAreGreatest, Count
 /// has had up to then, its initial ones and the firings before it up to a hold earlier, and of the
 /// releases of an input; and no counts within that least are greater (chapter 5). The equations
 /// alone do not tell the counters: around a circuit without tokens and without hold each count
-/// solves them, so liveness is asked for. With ready dates a place would have had fewer tokens.
+/// solves them, so liveness is asked for. And they count each initial token from 0 on: behind a
+/// token that is ready at 5 no firing comes up to 0.
 pub fn counters_solve_min_plus_equations()
     ensures equations { CountersAreLeastOfTokens }
     ensures greatest { CountersAreGreatest }
@@ -18,4 +20,11 @@ pub fn counters_solve_min_plus_equations()
 pub fn counters_exist()
     ensures exist { CountersExist }
     ensures one { CountersAreOne }
+{}
+
+/// Counters count the token game: a count of firings up to a date is that of the firings of an
+/// earliest run up to the date, where the run goes on so far (chapters 2 and 5). A run up to fewer
+/// firings of each transition has no more.
+pub fn counters_count_firings()
+    ensures { CountersCountFirings }
 {}
