@@ -13,7 +13,7 @@ use Rattle.teg_howard.specs.PolicyRounds.{chosen, potential, IsRound, IsRoundOf,
 use Rattle.teg_howard.proofs.Turns.{greater_ratio}
 use Rattle.teg_howard.proofs.Optimum.{some_token}
 use Rattle.teg_howard.proofs.RoundStates.{ratio_less}
-use Rattle.teg_howard.proofs.Ratios.{ratio_trans_less}
+use Rattle.teg_howard.proofs.teg_certificates_proofs.Ratios.{ratio_trans_less}
 use Rattle.teg_howard.proofs.Measure.{level, level_rises, level_bound}
 use Rattle.teg_howard.proofs.OneRun.{runs_agree}
 use Rattle.teg_loops.proofs.Straight.{loop_short}

@@ -1,5 +1,5 @@
 -- A net of three transitions that realizes a causal periodic series.
-use Rattle.std.proofs.Common.{ℕ, zero, suc, pos, negsuc, ◌+◌, ◌-◌, ◌*◌, ◌/◌, ◌%◌, ◌<◌, ◌≤◌, ◌≡◌, ◌⊎◌, inl, inr, List, [], ◌∷◌, length, get_or, refl, sym, ap, subst, ◌∙◌, arith, ⊎_elim, ◌+ℤ◌}
+use Rattle.std.proofs.Common.{ℕ, zero, suc, pos, negsuc, ◌+◌, ◌-◌, ◌*◌, ◌/◌, ◌%◌, ◌<◌, ◌≤◌, ◌≡◌, inl, inr, List, [], ◌∷◌, refl, sym, ap, subst, ◌∙◌, arith, ⊎_elim}
 use Rattle.std.specs.Prelude.{All, Contains, slice_index}
 use Rattle.std.proofs.lemmas.Bool.{cases_lt, cases_eq}
 use Rattle.std.proofs.lemmas.Int.{ints}
@@ -18,7 +18,7 @@ use Rattle.teg_settle.specs.teg_net.declared.entries.Transition.{Transition}
 use Rattle.teg_settle.specs.teg_net.declared.walks.Step.{Step}
 use Rattle.teg_settle.specs.teg_net.declared.walks.Step.TheVariants.{By, Next}
 use Rattle.teg_settle.specs.teg_net.Nets.{NetLists}
-use Rattle.teg_settle.specs.teg_net.Circuits.{no_place, place_at, from_of}
+use Rattle.teg_settle.specs.teg_net.Circuits.{no_place, place_at}
 use Rattle.teg_settle.specs.teg_net.Walks.{Walks, step_time, walk_time}
 use Rattle.teg_settle.proofs.teg_model_proofs.Delays.{delayed_twice, delayed_not}
 use Rattle.teg_settle.specs.teg_model.LiveRanks.{HasEndsInRange}
