@@ -1,11 +1,10 @@
 -- The firings of a transition in an earliest run up to a date are the first so many.
-use Rattle.std.proofs.Common.{ℕ, zero, suc, ◌+◌, ◌-◌, ◌<◌, ◌≤◌, ◌≡◌, ◌≢◌, List, [], ◌∷◌, Bool, Option, Some, true, false, cond, length, get_or, ap, arith, ⊎_elim}
+use Rattle.std.proofs.Common.{ℕ, zero, suc, ◌+◌, ◌-◌, ◌<◌, ◌≤◌, ◌≡◌, ◌≢◌, List, [], ◌∷◌, Bool, Some, true, false, cond, length, get_or, ap, arith, ⊎_elim}
 use Rattle.std.specs.Prelude.{pos, nat_le, count_by}
 use Rattle.std.proofs.lemmas.Bool.{cases_eq, cases_lt}
 use Rattle.std.proofs.lemmas.Bool.Decides.{nat_tests}
 use Rattle.std.proofs.lemmas.Int.{ints}
 use Rattle.std.proofs.lemmas.List.Sums.{sum_by-cons}
-use Rattle.teg_model.specs.dioid.declared.dates.Date.{Date}
 use Rattle.teg_model.specs.dioid.declared.dates.Date.TheVariants.{At, Never}
 use Rattle.teg_model.specs.dioid.Dates.{IsAtMostDate}
 use Rattle.run_laws.specs.Runs.{dates_of_transition, firing_date}
