@@ -15,7 +15,7 @@ use Rattle.forever_laws.specs.EndlessDues.{late_date_bound, late_number_bound}
 use Rattle.teg_forever.specs.declared.late.Soonest.{Soonest}
 use Rattle.teg_forever.specs.declared.late.CommonPeriod.{CommonPeriod}
 use Rattle.teg_forever.specs.declared.alone.Told.{Told}
-use Rattle.teg_forever.specs.declared.alone.Told.TheVariants.{Late as IsLate, None as IsNone, Nothing}
+use Rattle.teg_forever.specs.declared.alone.Told.TheVariants.{Late as ToldLate, None as ToldNone, Nothing}
 
 -- the form stands for the least dating of the net with all inputs at 0
 pub record IsZeroForm (net : NetLists) (f : SettledForm) : Type 0 where
@@ -60,6 +60,6 @@ InLeastAtZero net P = (x : ℕ → ℕ → Date) → IsLeastUnder net inputs_at_
 
 -- what rows alone tell of a row holds
 abbrev pub IsTold : NetLists → EndlessRow → Told → Type 0
-IsTold net r (IsLate l) = InLeastAtZero net (λ x. IsLeastLate x r l.number l.due l.least)
-IsTold net r IsNone = InLeastAtZero net (λ x. NoneLate x r)
+IsTold net r (ToldLate l) = InLeastAtZero net (λ x. IsLeastLate x r l.number l.due l.least)
+IsTold net r ToldNone = InLeastAtZero net (λ x. NoneLate x r)
 IsTold net r Nothing = ⊤
