@@ -20,7 +20,7 @@ It reads by text, not by the grammar of Rattle: what it tells is to be looked at
 import re
 import sys
 
-from common import TOP
+from common import TOP, crates_in
 
 WORD = re.compile(r"[^\W\d][\w'\-]*")
 DEFINED = re.compile(r"^ *(?:pub )?(abbrev|unfoldable|record|data) (?:pub )?([^\W\d][\w'\-]*)(.*)$")
@@ -28,6 +28,12 @@ MUTUAL = re.compile(r"^(?:abbrev |unfoldable )?mutual$")
 IN_MUTUAL = re.compile(r"^  (pub )([^\W\d][\w'\-]*)( :.*)$")
 TYPE = re.compile(r"^pub (?:struct|enum|trait|const) (\w+).*?(?:;$|^\};?$|\};?$|^\];$)", re.M | re.S)
 LAW = re.compile(r"^ {0,2}(?:pub )?([^\W\d][\w'\-]*) :(.*)$")
+
+
+def sources(pattern):
+    """The files of this pattern of the crates, but for crates of one's own."""
+    shared = set(crates_in(TOP))
+    return [path for path in sorted(TOP.glob(f"crates/*/{pattern}")) if path.relative_to(TOP).parts[1] in shared]
 
 
 def direct(text):
@@ -67,7 +73,7 @@ class Types:
 
     def __init__(self):
         self.lines, self.places, self.named = {}, {}, {}
-        for path in sorted(TOP.glob("crates/*/src/**/*.rt")):
+        for path in sources("src/**/*.rt"):
             self.read(path.relative_to(TOP), path.read_text())
 
     def read(self, path, text):
@@ -95,7 +101,7 @@ class Specs:
 
     def __init__(self):
         self.words, self.body, self.imports, self.made_by, self.lines, self.declared = {}, {}, {}, {}, {}, {}
-        for path in sorted(TOP.glob("crates/*/specs/*.antt")):
+        for path in sources("specs/*.antt"):
             self.read(path.parts[-3], path.stem, path.read_text())
 
     def read(self, crate, file, text):
@@ -206,7 +212,7 @@ def definitions_named(specs, name):
 def public_definitions(specs):
     """The definitions that public contracts name."""
     roots = set()
-    for path in sorted(TOP.glob("crates/*/src/**/*.rt")):
+    for path in sources("src/**/*.rt"):
         crate = path.relative_to(TOP).parts[1]
         for text, imports in public_text(crate, path.read_text()):
             roots |= specs.named(text, imports)

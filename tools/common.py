@@ -1,8 +1,17 @@
-"""What the tools share: the top of the repository, the exit statuses of the program, and small nets to try it with."""
+"""What the tools share: the top of the repository, its crates, the exit statuses of the program, and small nets to try
+it with."""
 from enum import IntEnum
 from pathlib import Path
 
 TOP = Path(__file__).resolve().parent.parent
+# The line of crates.txt behind which crates of one's own stand, which the pages do not tell.
+OWN = "# Crates of one's own"
+
+
+def crates_in(top):
+    """The crates of crates.txt, in its order, but for those of one's own."""
+    lines = (top / "crates.txt").read_text().partition(OWN)[0].splitlines()
+    return [line.partition(":")[0].strip() for line in lines if line.strip() and not line.startswith("#")]
 
 
 class Status(IntEnum):

@@ -16,6 +16,8 @@ these lines and ends with the line `<!-- end -->`:
 - `<!-- laws CRATE::NAME CRATE::NAME .. -->`: a table of these laws, each with the first paragraph of its docstring;
   `<!-- laws of CRATE -->` of all of a crate, and `<!-- all other laws -->` of those that no such block before it names
   (docs/LAWS.md).
+- `<!-- code CRATE/src/FILE.rt NAME NAME .. -->`: these functions, types and constants as they stand in that file, each
+  with the comment above it (docs/LIBRARY.md).
 - `<!-- costs -->`: the sentences in which docstrings of public calls speak of their time, but for those of commands
   (docs/COSTS.md).
 - `<!-- to read NAME NAME .. -->`: how much each of these definitions rests on, as tools/check_definitions.py --below
@@ -33,7 +35,7 @@ from functools import cache
 from itertools import groupby, takewhile
 
 from check_definitions import Specs, Types, definitions_named, exported
-from common import TOP
+from common import TOP, crates_in
 from page_links import leads_nowhere
 
 NOTHING = re.compile(r" (It does|They do|which does) nothing when (it|they) runs?\.")
@@ -42,15 +44,14 @@ STANDS = re.compile(r" ?\b(The crate|It) stands on (?!`[A-Z]).*?\.(?= |$)| ?\bIt
 TIME = re.compile(r"time of (the )?order|time in proportion|time linear|takes (the )?time of")
 KINDS = (
     r"head of (\w+)|heads of all others|definitions ([\w .]+)|costs|to read ([\w .]+)|edits((?: \w+/\w+)*)"
-    r"|laws((?: \w+::\w+)+)|laws of (\w+)|all other laws"
+    r"|laws((?: \w+::\w+)+)|laws of (\w+)|all other laws|code ([\w/.]+)((?: \w+)+)"
 )
 BLOCK = re.compile(rf"^<!-- ({KINDS}) -->\n.*?^<!-- end -->\n", re.M | re.S)
 
 
 def crates():
-    """The crates of crates.txt, in its order."""
-    lines = (TOP / "crates.txt").read_text().splitlines()
-    return [line.partition(":")[0].strip() for line in lines if line.strip() and not line.startswith("#")]
+    """The crates of crates.txt, in its order, but for those of one's own."""
+    return crates_in(TOP)
 
 
 def cell(text):
@@ -202,6 +203,14 @@ def laws(names):
     return "\n".join(rows) + "\n"
 
 
+def item_of(text, name):
+    """The function, type or constant of this name in the text of a source file, with the comment above it; nothing where
+    there is none."""
+    above = r"(?:^(?://|#\[)[^\n]*\n)*^(?:pub )?"
+    found = re.search(rf"{above}(?:(?:fn|struct|enum) {name}\b.*?^\}}|const {name}\b.*?;)\n", text, re.M | re.S)
+    return found[0] if found else ""
+
+
 def costs():
     """What docstrings say of time and memory, crate by crate."""
     rows = ["| Crate | Call | What it takes |", "|---|---|---|"]
@@ -265,6 +274,13 @@ class Pages:
         self.laws.update(names)
         return laws(names)
 
+    def code(self, file, names):
+        """These items of a source file, one below the other."""
+        path = TOP / "crates" / file
+        text = path.read_text() if path.is_file() else ""
+        self.told += [f"{name} of {file} is to be shown, and is not there" for name in names if not item_of(text, name)]
+        return "```rust\n" + "\n".join(item_of(text, name) for name in names) + "```\n"
+
     def block(self, found):
         if found[2]:
             self.heads.add(found[2])
@@ -285,6 +301,8 @@ class Pages:
             if found[7] not in crates():
                 self.told.append(f"the laws of {found[7]} are to be told, and it is no crate")
             body = self.table_of_laws([it for it in all_laws() if it.startswith(f"{found[7]}::")])
+        elif found[8]:
+            body = self.code(found[8], found[9].split())
         elif found[1] == "all other laws":
             body = laws([it for it in all_laws() if it not in self.laws])
         else:

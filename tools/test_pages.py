@@ -181,6 +181,25 @@ IsKind k = IsFew k.part
         self.assertIn("Laws, which [LAWS](LAWS.md) tells: `counts_are_few`.\n", page)
         self.assertNotIn("Counts are few", page)
 
+    def test_code_is_shown_as_it_stands(self):
+        self.write("docs/MORE.md", "<!-- code low/src/kept.rt FEW kept -->\n<!-- end -->\n")
+        self.write("crates/low/src/kept.rt", "use low::count;\n\nconst FEW: &[u8] = b\"one\ntwo\";\n\n// Whether it is kept.\n#[test]\nfn kept() {\n    count(FEW);\n}\n\nfn kept_too() {}\n")
+        self.assertEqual(printed(make_pages.main, False), ("", 0))
+        page = (self.top / "docs/MORE.md").read_text()
+        shown = "const FEW: &[u8] = b\"one\ntwo\";\n\n// Whether it is kept.\n#[test]\nfn kept() {\n    count(FEW);\n}\n"
+        self.assertIn(f"```rust\n{shown}```\n<!-- end -->\n", page)
+        self.write("docs/MORE.md", "<!-- code low/src/kept.rt lost -->\n<!-- end -->\n")
+        self.assertIn("lost of low/src/kept.rt is to be shown, and is not there\n", printed(make_pages.main, False)[0])
+
+    def test_crates_of_ones_own_are_passed_over(self):
+        printed(make_pages.main, False)
+        self.write("crates.txt", f"{FILES['crates.txt']}{common.OWN}, and more words\nmine: low\n")
+        self.write("crates/mine/src/lib.rt", "pub use crate::own::own;\n")
+        self.write("crates/mine/src/own.rt", "ghost use Rattle.mine.specs.Own.{IsOwn};\n\npub fn own()\n    ensures { IsOwn }\n{}\n")
+        self.write("crates/mine/specs/Own.antt", "abbrev pub IsOwn : Type 0\nIsOwn = IsFew 1\n")
+        self.assertEqual(printed(make_pages.main, True), ("", 0))
+        self.assertEqual(printed(check_definitions.main)[1], 0)
+
     def test_what_is_missing_is_told(self):
         self.write("crates.txt", "low:\nhigh: low\nmiddle: low\n")
         self.write("docs/MORE.md", "<!-- edits low/none -->\n<!-- end -->\n\n<!-- to read IsMany -->\n<!-- end -->\n")

@@ -1,6 +1,9 @@
 //! Dates, and the calls on them that take no memory.
 ghost use Rattle.dioid.specs.DateOrder.{IsOrderOfDates};
 
+use std::error::Error;
+use std::fmt;
+
 /// A date in the user's unit of time: before every number, a whole number, or never.
 ///
 /// Dates are the complete max-plus dioid (chapters 3 and 4): the sum of two is the later one, their
@@ -23,6 +26,14 @@ pub struct Misfit {
     /// The date that the call was given.
     pub right: Date,
 }
+
+impl fmt::Display for Misfit {
+    fn fmt<W: fmt::Write>(&self, f: &mut fmt::Formatter<W>) -> fmt::Result {
+        f.write_str("the sum or the difference of two dates is out of range")
+    }
+}
+
+impl Error for Misfit {}
 
 impl Date {
     ghost use Rattle.std.specs.Prelude.{◌≡◌};

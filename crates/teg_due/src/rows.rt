@@ -68,14 +68,15 @@ pub enum LogRefusal {
 
 impl fmt::Display for DueRefusal {
     fn fmt<W: fmt::Write>(&self, f: &mut fmt::Formatter<W>) -> fmt::Result {
-        match self {
-            DueRefusal::BadRow { row } => write!(f, "due row {row} is not a due date"),
-            DueRefusal::UnknownTransition { row } => write!(f, "due row {row} unknown transition"),
-            DueRefusal::NotDue { row } => write!(f, "due row {row} input transition"),
-            DueRefusal::RepeatedDue { row } => write!(f, "due row {row} repeated"),
-            DueRefusal::OutOfRange { row } => write!(f, "due row {row} out of range"),
-            DueRefusal::OutOfMemory => f.write_str("out of memory"),
-        }
+        let (row, fault) = match self {
+            DueRefusal::BadRow { row } => (row, "is not a due date"),
+            DueRefusal::UnknownTransition { row } => (row, "unknown transition"),
+            DueRefusal::NotDue { row } => (row, "input transition"),
+            DueRefusal::RepeatedDue { row } => (row, "repeated"),
+            DueRefusal::OutOfRange { row } => (row, "out of range"),
+            DueRefusal::OutOfMemory => return f.write_str("out of memory"),
+        };
+        write!(f, "due row {row} {fault}")
     }
 }
 
@@ -83,12 +84,13 @@ impl Error for DueRefusal {}
 
 impl fmt::Display for LogRefusal {
     fn fmt<W: fmt::Write>(&self, f: &mut fmt::Formatter<W>) -> fmt::Result {
-        match self {
-            LogRefusal::BadRow { row } => write!(f, "log row {row} is not a firing"),
-            LogRefusal::UnknownTransition { row } => write!(f, "log row {row} unknown transition"),
-            LogRefusal::OutOfRange { row } => write!(f, "log row {row} out of range"),
-            LogRefusal::OutOfMemory => f.write_str("out of memory"),
-        }
+        let (row, fault) = match self {
+            LogRefusal::BadRow { row } => (row, "is not a firing"),
+            LogRefusal::UnknownTransition { row } => (row, "unknown transition"),
+            LogRefusal::OutOfRange { row } => (row, "out of range"),
+            LogRefusal::OutOfMemory => return f.write_str("out of memory"),
+        };
+        write!(f, "log row {row} {fault}")
     }
 }
 
