@@ -65,6 +65,17 @@ def machines(count):
     return Net([f"m{k}" for k in range(count)], places)
 
 
+def near_rates(count, room):
+    """A line of machines of 3,600 s with room for so many parts, behind an input; the last takes a second more. Its
+    dates settle after some 3,600 times the room, which is past what is looked through for an input."""
+    names = [f"m{k}" for k in range(count)]
+    places = [("feed", "feed", "m0", 0, 0)]
+    places += [(f"s{k}", name, name, 3_601 if name == names[-1] else 3_600, 1) for k, name in enumerate(names)]
+    for k in range(count - 1):
+        places += [(f"f{k}", f"m{k}", f"m{k + 1}", 3_600, 0), (f"r{k}", f"m{k + 1}", f"m{k}", 0, room)]
+    return Net(["feed"] + names, places, ["feed"])
+
+
 def steady_inputs(count, jump, length=100_000):
     """Inputs whose lists are zeros for ever, and one whose dates are 1 behind the jump: a list says nothing before."""
     steady = [f"z{k}" for k in range(count)]
@@ -442,6 +453,11 @@ def rows_cases():
     ]:
         yield (f"forever: own places of 997 and 991 tokens, {label}", ["forever", "net", "rows"],
                {"net": loops, "rows": f"a0,{every},{gap},{','.join(map(str, dates))}\n"}, status, text)
+    for room in (10, 1_000):
+        yield (f"forever: rates that nearly agree, room for {room:,} parts", ["forever", "net", "rows"],
+               {"net": near_rates(20, room).text(), "rows": "m19,1,3601,10000000\n"}, TOO_LONG, "too long: input feed\n")
+    yield ("forever: no rows, own places of 997 and 991 tokens", ["forever", "net", "rows"],
+           {"net": own_places(400, (997, 991)).text(), "rows": ""}, DONE, "latest inputs forever\n")
     yield ("forever: an input and 10 rows of 10,000 dates behind a long chain", ["forever", "net", "rows"],
            {"net": long_chain(1, 10).text(), "rows": chain_rows(10)}, DONE, partial(chain_text, 1))
     yield ("forever: 100 inputs with equal places and 209 rows of 10,000 dates behind a long chain", ["forever", "net", "rows"],

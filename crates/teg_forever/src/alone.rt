@@ -24,6 +24,9 @@ use teg_net::{Net, OutOfMemory, TransitionId};
 // The dates and places of the rows that are looked through, at most: some seconds.
 const MOST_STEPS: u64 = 400_000_000;
 
+// As how many of them a row counts beside its own, so that a small net has few rows.
+const STEPS_OF_ROW: u64 = 200;
+
 // What rows alone tell of a row of due dates.
 pub(crate) enum Told {
     // Its least late number.
@@ -173,7 +176,7 @@ fn most_rows(net: &Net) -> u64
     ensures { result ≤ greatest_firing_number }
 {
     let steps = net.transitions().len() as u64 + net.places().len() as u64;
-    MOST_STEPS / (steps + 1)
+    MOST_STEPS / (steps + STEPS_OF_ROW)
 }
 
 // What the rows of the net without its inputs tell of a row.
