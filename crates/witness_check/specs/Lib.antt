@@ -1,0 +1,4 @@
+pub mod Witnesses
+pub mod Liveness
+pub mod ShownSizes
+pub mod ShownWalks

@@ -1,0 +1,44 @@
+-- What a line of latest dates shows, and what a walk shows that comes late.
+use Rattle.std.specs.Prelude.{ℕ, pos, ◌≡◌, ◌++◌, ◌∷◌, [], List, Some, Option, codes}
+use Rattle.std.specs.Fmt.{decimal}
+use Rattle.teg_model.specs.dioid.declared.dates.Date.{Date}
+use Rattle.teg_model.specs.dioid.declared.dates.Date.TheVariants.{At}
+use Rattle.teg_model.specs.dioid.Dates.{IsAtMostDate}
+use Rattle.teg_model.specs.teg_net.declared.entries.TransitionId.{TransitionId}
+use Rattle.teg_model.specs.teg_net.Nets.{NetLists}
+use Rattle.teg_model.specs.Datings.{IsFeasibleUnder}
+use Rattle.teg_text.specs.WordsOfNames.{name_of_transition}
+use Rattle.due_laws.specs.MeetingDueDates.{KeepsDues, InputsMeet}
+use Rattle.teg_due.specs.declared.rows.DueRow.{DueRow}
+use Rattle.witness_check.specs.declared.latest.ShownLatest.{ShownLatest}
+use Rattle.witness_check.specs.declared.late.ShownLate.{ShownLate}
+use Rattle.witness_check.specs.Witnesses.{BeginsWith, BeginsWithLine}
+
+-- how the line of a latest date begins: a word, the transition, the number and the date, each before a blank
+abbrev pub latest_beginning : NetLists → List ℕ → TransitionId → ℕ → ℕ → List ℕ
+latest_beginning net word t k date = word ++ 32 ∷ name_of_transition net t ++ 32 ∷ decimal k ++ 32 ∷ decimal date ++ 32 ∷ []
+
+-- the line tells the date of this firing behind its first word
+abbrev pub TellsLatest : NetLists → List ℕ → ShownLatest → Type 0
+TellsLatest net line shown = (word : List ℕ) × BeginsWith line (latest_beginning net word shown.transition shown.number shown.date)
+
+-- no feasible dating that keeps the due date of the row, and whatever else is due, has the firing after the date
+abbrev pub BoundsByRow : NetLists → DueRow → ℕ → ℕ → ℕ → Type 0
+BoundsByRow net row t k date = (due : ℕ → ℕ → Option ℕ) → due row.transition.index row.number ≡ Some row.date
+    → (u x : ℕ → ℕ → Date) → IsFeasibleUnder net u x → KeepsDues net due x → IsAtMostDate (x t k) (At (pos date))
+
+-- the line tells the date, and the firing may come no later
+abbrev pub IsShownLatest : NetLists → DueRow → List ℕ → ShownLatest → Type 0
+IsShownLatest net row line shown = TellsLatest net line shown × BoundsByRow net row shown.transition.index shown.number shown.date
+
+-- the words of a firing that is late
+abbrev pub late_words : NetLists → ShownLate → List (List ℕ)
+late_words net shown = codes "late" ∷ name_of_transition net shown.transition ∷ decimal shown.number ∷ codes "due" ∷ decimal shown.due ∷ codes "least" ∷ decimal shown.least ∷ []
+
+-- no inputs meet what is due, where the firing is due by this date
+abbrev pub MeetsNoInputs : NetLists → ℕ → ℕ → ℕ → Type 0
+MeetsNoInputs net t k date = (due : ℕ → ℕ → Option ℕ) → due t k ≡ Some date → (v : ℕ → ℕ → Date) → InputsMeet net due v → ⊥
+
+-- the text begins with the line of the firing, which comes after its due date whatever the inputs do
+abbrev pub IsShownLate : NetLists → List ℕ → ShownLate → Type 0
+IsShownLate net text shown = BeginsWithLine text (late_words net shown) × MeetsNoInputs net shown.transition.index shown.number shown.due

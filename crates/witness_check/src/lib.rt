@@ -1,0 +1,38 @@
+//! Checks of printed answers: what the text of an answer shows, by the net and the text alone.
+//!
+//! | Answer | What is read | Call |
+//! |---|---|---|
+//! | `check`: live | the counts; ranks are searched for | [`shows_live`] |
+//! | `check`: refused | the circuit | [`shows_deadlock`] |
+//! | `cycle` | the circuits and potentials of the parts | [`shown_pace`] |
+//! | `size` | the circuit; potentials are searched for | [`shown_size`] |
+//! | `jit`: a line | the steps of the lines that it leads to | [`shown_latest`] |
+//! | `jit`: late | the walk | [`shown_late`] |
+//!
+//! Each call reads a text without a promise, lets a checker of `teg_certificates` or of `teg_net`
+//! look at what was read, prints the line anew and compares. So what it tells rests on the checker,
+//! on its law and on the words of the line, and neither on the parser nor on whatever found the
+//! answer. The crate stands on `teg_net` for nets and walks, on `teg_text` for words, on
+//! `teg_certificates` for checkers, and on `latest_laws` for what walks show; no crate of the
+//! program's search is below it. Its examples stand in `library_examples`.
+#![tactic(auto)]
+
+mod beginnings;
+mod deadlock;
+mod late;
+mod latest;
+mod live;
+mod names;
+mod pace;
+mod potentials;
+mod reading;
+mod size_reading;
+mod sizes;
+mod walk_reading;
+
+pub use deadlock::shows_deadlock;
+pub use late::{ShownLate, shown_late};
+pub use latest::{ShownLatest, shown_latest};
+pub use live::shows_live;
+pub use pace::shown_pace;
+pub use sizes::{ShownSize, shown_size};
