@@ -34,6 +34,8 @@ mod plans;
 #[cfg(test)]
 mod records;
 #[cfg(test)]
+mod refusal_lines;
+#[cfg(test)]
 mod streams;
 #[cfg(test)]
 mod texts;

@@ -1,0 +1,78 @@
+//! The lines of refusals, as a program prints them.
+use std::alloc::Global;
+use std::fmt::Display;
+use std::test::Fail;
+use teg_check::LiveNet;
+use teg_due::{read_due, read_log};
+use teg_reader::read_net;
+
+const LOOP: &[u8] =
+    b"transition = [{name = 'a'}]\nplace = [{name = 'p', from = 'a', to = 'a', hold = 1}]\n";
+
+// Whether this is the line of the refusal.
+fn says<T: Drop, E: Display + Drop>(alloc: Global, answer: Result<T, E>, line: &str) -> bool {
+    match answer {
+        Ok(_) => false,
+        Err(refusal) => match format!(in alloc; "{refusal}") {
+            Ok(text) => text.as_str() == line,
+            Err(_) => false,
+        },
+    }
+}
+
+#[test]
+fn refusals_have_lines(rt: HostRuntime) -> Result<(), Fail> {
+    let alloc = rt.alloc();
+    let file = b"transition = [{name = 'a', hold = 1}]\n";
+    assert!(rt;
+        says(
+            alloc,
+            read_net(alloc, file),
+            "transition 1 unknown key \"hold\""
+        )
+    );
+    let net = read_net(alloc, LOOP)?;
+    assert!(rt;
+        says(
+            alloc,
+            read_due(alloc, &net, b"b,1,10\n"),
+            "due row 1 unknown transition"
+        )
+    );
+    assert!(rt;
+        says(
+            alloc,
+            read_log(alloc, &net, b"a,x\n"),
+            "log row 1 is not a firing"
+        )
+    );
+    assert!(rt;
+        says(
+            alloc,
+            LiveNet::new(alloc, net),
+            "token-free circuit of places 0"
+        )
+    );
+    Ok(())
+}
+
+// How many places the file has.
+fn places_of(alloc: Global, file: &[u8]) -> anyhow::Result<usize> {
+    let net = read_net(alloc, file)?;
+    let held = LiveNet::new(alloc, net)?;
+    Ok(held.net().places().len())
+}
+
+#[test]
+fn refusals_pass_up(rt: HostRuntime) {
+    let Err(error) = places_of(rt.alloc(), LOOP) else {
+        panic!(rt; "the net is not live");
+    };
+    assert!(rt;
+        says(
+            rt.alloc(),
+            Err::<u8, anyhow::Error>(error),
+            "token-free circuit of places 0"
+        )
+    );
+}
