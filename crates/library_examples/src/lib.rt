@@ -42,4 +42,6 @@ mod texts;
 #[cfg(test)]
 mod usage;
 #[cfg(test)]
+mod witnesses;
+#[cfg(test)]
 mod words;

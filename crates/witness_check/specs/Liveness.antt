@@ -16,9 +16,9 @@ abbrev pub TellsDeadlock : NetLists → List ℕ → Type 0
 TellsDeadlock net text = (ps : List PlaceId) × IsCircuit net ps × (tokens_of net ps ≡ 0) × (text ≡ deadlock_text net ps)
 
 -- the lines of a live net of so many transitions and places
-abbrev pub live_lines : ℕ → ℕ → List (List (List ℕ))
-live_lines transitions places = (codes "live" ∷ []) ∷ (codes "transitions" ∷ decimal transitions ∷ []) ∷ (codes "places" ∷ decimal places ∷ []) ∷ []
+abbrev pub live_words : ℕ → ℕ → List (List (List ℕ))
+live_words transitions places = (codes "live" ∷ []) ∷ (codes "transitions" ∷ decimal transitions ∷ []) ∷ (codes "places" ∷ decimal places ∷ []) ∷ []
 
 -- the text tells that the net is live, and how many transitions and places it has
 abbrev pub TellsLive : NetLists → List ℕ → Type 0
-TellsLive net text = text ≡ written (live_lines (length net.transitions) (length net.places))
+TellsLive net text = text ≡ written (live_words (length net.transitions) (length net.places))

@@ -2,7 +2,7 @@
 ghost use Rattle.std.specs.Prelude.{◌≡◌, IfOk, IsTrue, string_bytes};
 ghost use Rattle.teg_net.specs.Circuits.{IsLive};
 ghost use Rattle.teg_text.specs.Lines.{written};
-ghost use Rattle.witness_check.specs.Liveness.{TellsLive, live_lines};
+ghost use Rattle.witness_check.specs.Liveness.{TellsLive, live_words};
 
 use std::alloc::{AllocError, Global};
 use teg_certificates::{is_ranking, rising_ranks_show_live};
@@ -36,7 +36,7 @@ fn ranks_of(alloc: Global, net: &Net) -> Result<Vec<u32>, AllocError> {
 
 // The lines of a live net of so many transitions and places.
 fn told(alloc: Global, transitions: usize, places: usize) -> Result<String, AllocError>
-    ensures { IfOk result (λ text. string_bytes text ≡ written (live_lines transitions places)) }
+    ensures { IfOk result (λ text. string_bytes text ≡ written (live_words transitions places)) }
 {
     format!(in alloc; "live\ntransitions {transitions}\nplaces {places}\n")
 }
