@@ -1,18 +1,15 @@
 #!/usr/bin/env python3
-"""Tells whether the public calls and types of docs/SIGNATURES.md stand in the sources as that page has them.
+"""Tells whether the public calls and types of tools/signatures.txt stand in the sources as that file has them.
 
     tools/check_signatures.py
 
-A section of the page is of the crate in its heading, and its blocks hold the items, each of which begins with `pub` or
-`impl`: a struct that ends in `{ .. }` has private fields alone, `pub fn TYPE::NAME` is a call on a value of that type,
-and `impl TRAIT for TYPE` has no parameters. What the page says that it leaves out is left out of the sources too. An item stands in a crate where the crate's root file
-hands it on, be it of the crate itself or of another one.
+The head of the file says how it is read. An item of it begins with `pub` or `impl`. What the file leaves out is left out
+of the sources too. An item stands in a crate where the crate's root file hands it on, be it of the crate itself or of
+another one.
 
-The last section of the page has a table of items that were described otherwise at first: its first column names an
-item of the page, its last the entry of docs/DECISIONS.md that says why.
-
-There is a line for each item that is lacking or that reads otherwise, and for each row whose item or entry is lacking;
-the last line tells how many items and faults there are, and the exit status is 0 where there is no fault.
+There is a line for each item that is lacking or that reads otherwise, and for each line of items that were described
+otherwise at first whose item, or whose entry of docs/DECISIONS.md, is lacking; the last line tells how many items and
+faults there are, and the exit status is 0 where there is no fault.
 """
 import re
 import sys
@@ -29,7 +26,7 @@ def bare(text):
 
 
 def plain(text):
-    """An item without what the page leaves out, and without spaces."""
+    """An item without what the file leaves out, and without spaces."""
     text = re.sub(r"'\w+,?\s*", "", re.sub(r"\b_?alloc: Global,?", "", text))
     text = re.sub(r"\s+|;$", "", re.sub(r"\b_(?=\w+:)", "", text).strip())
     return re.sub(r",(?=[)\]}>])|<>|;(?=\})", "", text)
@@ -85,40 +82,52 @@ class Sources:
         return self.items.get((crate, name), []) if origin else []
 
 
-def listed(page):
-    """The items of the page, each with its crate and name."""
-    for section in re.split(r"^## ", page, flags=re.M)[1:]:
-        crate = section.partition("\n")[0].strip("`")
-        for block in re.findall(r"^```\n(.*?)^```", section, re.M | re.S):
-            for item in re.split(r"^(?=pub |impl )", block, flags=re.M):
-                if item.strip():
-                    yield crate, ITEM.match(item)[1], item
+def sections(text):
+    """What stands below each line in brackets, with its name."""
+    kept = re.sub(r"^#.*\n", "", text, flags=re.M)
+    return re.findall(r"^\[(\w+)\]\n(.*?)(?=^\[\w+\]$|\Z)", kept, re.M | re.S)
 
 
-def faults_of(page, decisions):
-    """What of the page does not stand in the sources, and which rows name no item or no entry."""
+def listed(text):
+    """The items of the file, each with its crate and name."""
+    for crate, body in sections(text):
+        for item in re.split(r"^(?=pub |impl )", body, flags=re.M):
+            if ITEM.match(item):
+                yield crate, ITEM.match(item)[1], item
+
+
+def otherwise(text):
+    """The items that were described otherwise, each with its entry."""
+    for name, body in sections(text):
+        if name == "otherwise":
+            for item, _, entry in re.findall(r"^(\S+) \| (.*) \| (.*)$", body, re.M):
+                yield item, entry
+
+
+def faults_of(text, decisions):
+    """What of the file does not stand in the sources, and which lines name no item or no entry."""
     sources, names = Sources(), set()
-    for crate, name, item in listed(page):
+    for crate, name, item in listed(text):
         names.add(f"{crate}::{name}")
         found = sources.found(crate, name)
         if not found:
             yield f"{crate} hands on no {name}"
         elif plain(item) not in map(plain, found):
             yield f"{crate}: {name} reads otherwise: {' '.join(found[0].split())}"
-    entries = set(re.findall(r"^- \*\*(.*?)\*\*", decisions, re.M))
-    for item, _, entry in re.findall(r"^\| `([\w:]+)` \| (.*) \| (.*?) \|$", page, re.M):
+    entries = {it.rstrip(".") for it in re.findall(r"^- \*\*(.*?)\*\*", decisions, re.M)}
+    for item, entry in otherwise(text):
         if item not in names:
             yield f"{item} is told to be described otherwise, and no item"
-        if entry.rstrip(".") not in {it.rstrip(".") for it in entries}:
+        if entry.rstrip(".") not in entries:
             yield f"docs/DECISIONS.md has no entry {entry}"
 
 
 def main():
-    page = (TOP / "docs/SIGNATURES.md").read_text()
-    told = list(faults_of(page, (TOP / "docs/DECISIONS.md").read_text()))
+    text = (TOP / "tools/signatures.txt").read_text()
+    told = list(faults_of(text, (TOP / "docs/DECISIONS.md").read_text()))
     for line in told:
         print(line)
-    print(f"{len(list(listed(page)))} items, {len(told)} faults")
+    print(f"{len(list(listed(text)))} items, {len(told)} faults")
     return 1 if told else 0
 
 

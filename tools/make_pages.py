@@ -6,8 +6,9 @@
 A page has paragraphs written by hand, and between them blocks that this script writes. A block begins with one of
 these lines and ends with the line `<!-- end -->`:
 
-- `<!-- head of CRATE -->`: the comment at the head of the crate's root file, but for what it stands on and where its
-  tests are, then its public calls with the names of their clauses, and its laws with what they say (docs/PROVED.md).
+- `<!-- head of CRATE -->`: the comment at the head of the crate's root file, but for what it stands on, where its tests
+  are and what the page says of all laws, then its public calls with the names of their clauses, and its laws
+  (docs/PROVED.md), with what they say where docs/LAWS.md does not.
 - `<!-- heads of all others -->`: those of the crates that have no such block, in the order of crates.txt.
 - `<!-- definitions NAME NAME .. -->`: of each of these definitions its name, its crate and file of specs/, and the
   comment above it (docs/DEFINITIONS.md).
@@ -38,7 +39,9 @@ from check_definitions import Specs, Types, definitions_named, exported
 from common import TOP, crates_in
 from page_links import leads_nowhere
 
+# What the page says once of all laws.
 NOTHING = re.compile(r" (It does|They do|which does) nothing when (it|they) runs?\.")
+EACH_LAW = re.compile(r" ?\bEach law is the contract of a function that does nothing when it runs\.")
 # What crates.txt says too, and where tests stand.
 STANDS = re.compile(r" ?\b(The crate|It) stands on (?!`[A-Z]).*?\.(?= |$)| ?\bIts examples stand in .*?\.(?= |$)")
 TIME = re.compile(r"time of (the )?order|time in proportion|time linear|takes (the )?time of")
@@ -75,7 +78,7 @@ def head_of(crate):
         lines.append(line[3:].strip())
     paragraphs = " ".join("\n" + line if line.startswith(("|", "- ")) else line or "\n\n" for line in lines)
     paragraphs = re.sub(r" +\n", "\n", paragraphs)
-    texts = [re.sub(STANDS, "", link_free(it.strip())).strip() for it in paragraphs.split("\n\n")]
+    texts = [re.sub(EACH_LAW, "", re.sub(STANDS, "", link_free(it.strip()))).strip() for it in paragraphs.split("\n\n")]
     return "\n\n".join([it for it in texts if it] + told_calls(crate)) + "\n"
 
 
