@@ -185,7 +185,7 @@ def told_calls(crate):
     laws = [call for call in calls if call.law]
     elsewhere = [f"`{call.name}`" for call in laws if call.name in laws_told()]
     here = [f"- `{call.name}`: {re.sub(NOTHING, '', call.doc)}" for call in laws if call.name not in laws_told()]
-    lines += [f"Laws, which [LAWS](LAWS.md) tells: {', '.join(elsewhere)}."] if elsewhere else []
+    lines += [f"[Laws](LAWS.md): {', '.join(elsewhere)}."] if elsewhere else []
     return lines + (["Laws:\n\n" + "\n".join(here)] if here else [])
 
 

@@ -178,7 +178,7 @@ IsKind k = IsFew k.part
         self.write("docs/LAWS.md", "# Laws\n\n- `counts_are_few`\n")
         printed(make_pages.main, False)
         page = (self.top / "docs/PAGE.md").read_text()
-        self.assertIn("Laws, which [LAWS](LAWS.md) tells: `counts_are_few`.\n", page)
+        self.assertIn("[Laws](LAWS.md): `counts_are_few`.\n", page)
         self.assertNotIn("Counts are few", page)
 
     def test_code_is_shown_as_it_stands(self):
