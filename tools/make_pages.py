@@ -7,8 +7,9 @@ A page has paragraphs written by hand, and between them blocks that this script 
 these lines and ends with the line `<!-- end -->`:
 
 - `<!-- head of CRATE -->`: the comment at the head of the crate's root file, but for what it stands on, where its tests
-  are and what the page says of all laws, then its public calls with the names of their clauses, and its laws
-  (docs/PROVED.md), with what they say where docs/LAWS.md does not.
+  are and what the page says of all laws (of a crate of laws alone that docs/LAWS.md tells its first paragraph), then its
+  public calls with the names of their clauses, and its laws, with what they say where docs/LAWS.md does not
+  (docs/PROVED.md).
 - `<!-- heads of all others -->`: those of the crates that have no such block, in the order of crates.txt.
 - `<!-- definitions NAME NAME .. -->`: of each of these definitions its name, its crate and file of specs/, and the
   comment above it (docs/DEFINITIONS.md).
@@ -69,7 +70,7 @@ def link_free(text):
 
 def head_of(crate):
     """The comment at the head of a crate's root file, as paragraphs of one line each but for tables and lists, and then its
-    public calls."""
+    public calls; of a crate of laws alone that docs/LAWS.md tells the first paragraph."""
     root = next((path for path in (TOP / f"crates/{crate}/src/{name}.rt" for name in ("lib", "main")) if path.is_file()), None)
     lines = []
     for line in root.read_text().splitlines() if root else []:
@@ -79,7 +80,9 @@ def head_of(crate):
     paragraphs = " ".join("\n" + line if line.startswith(("|", "- ")) else line or "\n\n" for line in lines)
     paragraphs = re.sub(r" +\n", "\n", paragraphs)
     texts = [re.sub(EACH_LAW, "", re.sub(STANDS, "", link_free(it.strip()))).strip() for it in paragraphs.split("\n\n")]
-    return "\n\n".join([it for it in texts if it] + told_calls(crate)) + "\n"
+    calls = calls_of(crate)
+    is_told = calls and all(call.law and call.name in laws_told() for call in calls)
+    return "\n\n".join([it for it in texts if it][: 1 if is_told else None] + told_calls(crate)) + "\n"
 
 
 def number_of(body):
