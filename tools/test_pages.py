@@ -1,6 +1,6 @@
 #!/usr/bin/env python3
-"""Tests of check_definitions.py, make_pages.py and page_links.py over a small repository that is made for them, of what
-run_guide.py finds in a page, and of common.py against the sources.
+"""Tests of check_definitions.py, check_signatures.py, make_pages.py and page_links.py over a small repository that is made
+for them, of what run_guide.py finds in a page, and of common.py against the sources.
 
     tools/test_pages.py
 
@@ -15,6 +15,7 @@ import unittest
 from pathlib import Path
 
 import check_definitions
+import check_signatures
 import common
 import make_pages
 import page_links
@@ -90,7 +91,7 @@ class Pages(unittest.TestCase):
         self.top = Path(room.name)
         for name, text in FILES.items():
             self.write(name, text)
-        for module in (check_definitions, make_pages):
+        for module in (check_definitions, check_signatures, make_pages):
             self.addCleanup(setattr, module, "TOP", module.TOP)
             module.TOP = self.top
 
@@ -180,6 +181,27 @@ IsKind k = IsFew k.part
         page = (self.top / "docs/PAGE.md").read_text()
         self.assertIn("[Laws](LAWS.md): `counts_are_few`.\n", page)
         self.assertNotIn("Counts are few", page)
+
+    def test_a_crate_of_told_laws_has_its_first_paragraph(self):
+        self.write("docs/LAWS.md", "# Laws\n\n- `counts_are_few`\n")
+        path = "crates/low/src/lib.rt"
+        laws = FILES[path].replace("One call.", "Counts are so. Each law is the contract of a function that does nothing when it runs.")
+        self.write(path, laws)
+        printed(make_pages.main, False)
+        self.assertIn("Counts things.\n\nCounts are so.\n\n| A", (self.top / "docs/PAGE.md").read_text())
+        self.write(path, laws.replace("{count, counts_are_few}", "counts_are_few"))
+        printed(make_pages.main, False)
+        self.assertIn("Counts things.\n\n[Laws](LAWS.md): `counts_are_few`.\n", (self.top / "docs/PAGE.md").read_text())
+
+    def test_signatures_are_compared(self):
+        text = "# A remark.\n\n[low]\npub fn count(things: &[u8]) -> usize\n\n[otherwise]\nlow::count | no such call | Counting\n"
+        decided = "- **Counting** is done here.\n"
+        self.assertEqual(list(check_signatures.faults_of(text, decided)), [])
+        self.assertEqual(list(check_signatures.faults_of(text, "")), ["docs/DECISIONS.md has no entry Counting"])
+        changed = list(check_signatures.faults_of(text.replace("usize", "u64").replace("low::count |", "low::sum |"), decided))
+        self.assertEqual(changed[0], "low: count reads otherwise: pub fn count(things: &[u8]) -> usize")
+        self.assertEqual(changed[1], "low::sum is told to be described otherwise, and no item")
+        self.assertEqual(list(check_signatures.faults_of("[low]\npub fn sum() -> u8\n", "")), ["low hands on no sum"])
 
     def test_code_is_shown_as_it_stands(self):
         self.write("docs/MORE.md", "<!-- code low/src/kept.rt FEW kept -->\n<!-- end -->\n")
