@@ -10,8 +10,9 @@ fn a_line_is_a_series(rt: HostRuntime) -> Result<(), Fail> {
     let machine = star(alloc, &Series::monomial(alloc, 1, 3)?)?;
     let line = product(alloc, &Series::monomial(alloc, 0, 2)?, &machine)?;
     assert!(rt; line.at(4) == Date::At(14));
-    let due = Series::from_list(alloc, &[Date::At(10), Date::At(11)], 1, 3)?;
+    let orders = star(alloc, &Series::monomial(alloc, 1, 4)?)?;
+    let due = product(alloc, &Series::monomial(alloc, 0, 10)?, &orders)?;
     let releases = left(alloc, &line, &due)?;
-    assert!(rt; releases.at(0) == Date::At(6));
+    assert!(rt; releases.at(1) == Date::At(12));
     Ok(())
 }
