@@ -1,1 +1,3 @@
 pub mod FirstRows
+pub mod RowWaits
+pub mod WholeRows
