@@ -66,7 +66,7 @@ abbrev cut_system : NetLists → Dating → ℕ → System
 cut_system net u last = record { places = extended_places net; initial = initial_date; release = cut (length net.transitions) last (λ t k. at_input net t (u t k) Early) }
 
 -- both ends of each place are in the net
-both_in : (net : NetLists) → HasEndsInRange net → All (λ p. (p.from.index < length net.transitions) × (p.to.index < length net.transitions)) (extended_places net)
+pub both_in : (net : NetLists) → HasEndsInRange net → All (λ p. (p.from.index < length net.transitions) × (p.to.index < length net.transitions)) (extended_places net)
 both_in net ends = all_extended_in net (λ p. (p.from.index < length net.transitions) × (p.to.index < length net.transitions)) ends (λ t l. (l, l))
 
 -- what is cut off is feasible for the places

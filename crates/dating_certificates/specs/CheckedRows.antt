@@ -1,5 +1,5 @@
 -- Lists of dates that are told row after row, and what it means that these rows are tight (chapter 2).
-use Rattle.std.specs.Prelude.{ℕ, ◌+◌, ◌-◌, ◌*◌, ◌<◌, ◌≤◌, ◌≡◌, List, length, All, slice_index_or}
+use Rattle.std.specs.Prelude.{ℕ, ◌+◌, ◌-◌, ◌*◌, ◌<◌, ◌≤◌, ◌≡◌, ◌↔◌, List, length, All, slice_index_or}
 use Rattle.dioid.specs.declared.dates.Date.{Date}
 use Rattle.dioid.specs.declared.dates.Date.TheVariants.{Early}
 use Rattle.teg_net.specs.Limits.{greatest_firing_number}
@@ -25,8 +25,13 @@ pub record AreTightRows (net : NetLists) (dates : List Date) : Type 0 where
   pub within : All (IsDateWithin greatest_least_date) dates
   pub tight : AreTightUpTo net (listed_releases net) (date_in_rows (length net.transitions) dates) rows
 
--- tight rows of a live net are the first rows of its least dating
+-- the dates are the first rows of the least dating of the net
+pub record AreFirstRows (net : NetLists) (dates : List Date) : Type 0 where
+  pub rows : ℕ
+  pub whole : AreRowsOf net dates rows
+  pub same : (x : ℕ → ℕ → Date) → IsLeastDating net x
+      → (t k : ℕ) → t < length net.transitions → 1 ≤ k → k ≤ rows → date_in_rows (length net.transitions) dates t k ≡ x t k
+
+-- tight rows of a live net are the first rows of its least dating, and no others are
 abbrev pub TightRowsAreFirstRows : Type 0
-TightRowsAreFirstRows = (net : NetLists) → IsNet net → IsLive net → (dates : List Date) (h : AreTightRows net dates)
-    → (x : ℕ → ℕ → Date) → IsLeastDating net x
-    → (t k : ℕ) → t < length net.transitions → 1 ≤ k → k ≤ h.rows → date_in_rows (length net.transitions) dates t k ≡ x t k
+TightRowsAreFirstRows = (net : NetLists) → IsNet net → IsLive net → (dates : List Date) → AreTightRows net dates ↔ AreFirstRows net dates

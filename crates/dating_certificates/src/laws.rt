@@ -11,8 +11,9 @@ pub fn first_rows_are_least()
     ensures { FirstRowsAreLeast }
 {}
 
-/// In a live net, rows of dates that `check_rows` accepts are the first rows of the least dating
-/// (chapter 2). It does nothing when it runs.
+/// In a live net, whole rows of dates of which each is the latest of what its firing waits for are
+/// the first rows of the least dating, by the input lists of the net, and no other rows are (chapter
+/// 2). It does nothing when it runs.
 pub fn tight_rows_are_first_rows()
     ensures { TightRowsAreFirstRows }
 {}

@@ -1,10 +1,11 @@
 //! Whether rows of dates are each the latest of what its firing waits for (chapter 2).
 ghost use Rattle.std.specs.Prelude.{ℕ, ◌*◌, ◌<◌, ◌≤◌, ◌≡◌, ◌↔◌, All, IfNone, IfOk, IfSome, IsTrue, length, slice_index_or};
 ghost use Rattle.dioid.specs.declared.dates.Date.TheVariants.{Early};
+ghost use Rattle.teg_net.specs.Circuits.{IsLive};
 ghost use Rattle.teg_net.specs.Limits.{greatest_firing_number};
 ghost use Rattle.teg_model.specs.DateBounds.{IsDateWithin, greatest_least_date};
 ghost use Rattle.teg_model.specs.Datings.{listed_releases};
-ghost use Rattle.dating_certificates.specs.CheckedRows.{date_in_rows, AreRowsOf, AreTightRows};
+ghost use Rattle.dating_certificates.specs.CheckedRows.{date_in_rows, AreFirstRows, AreRowsOf, AreTightRows};
 ghost use Rattle.dating_certificates.specs.TightRows.{AreTightUpTo, IsLatestOfWaits};
 ghost use Rattle.dating_certificates.specs.Waits.{AreLatestWaits, HasBegun};
 
@@ -133,25 +134,27 @@ fn rows_of(net: &Net, dates: &[Date]) -> Option<u64>
     }
 }
 
-/// Whether the dates, in the user's unit, are the first rows of the net: row after row from number
-/// 1, each with one date for each transition in order, and each date the latest of what its firing
-/// waits for (chapter 2): the firing before it, the tokens of the places into its transition, and
-/// at an input the release.
+/// Whether the dates, in the user's unit, are whole rows of the net, of which each date is the
+/// latest of what its firing waits for (chapter 2): the firing before it, the tokens of the places
+/// into its transition, and at an input the release. The rows stand one after another from number 1
+/// on, each with one date for each transition in order; no date at all is no row.
 ///
-/// Where it says yes and the net is live, they are the first rows of the least dating, by the law
-/// `tight_rows_are_first_rows`. It says no where the dates are no whole rows, where a number is
-/// before 0 or above 2 10^30, which no least date is, and where a date is not the latest of its
-/// waits. It takes memory for one row, and time of order `n + p` a row for n transitions and p
-/// places.
+/// In a live net it says yes just where they are the first rows of the least dating (`first`). It
+/// says no where the dates are no whole rows, where a number is before 0 or above 2 times 10^30,
+/// which no least date is, and where a date is not the latest of what its firing waits for. It takes
+/// memory for one row, and time of order `n + p` a row for n transitions and p places.
 pub fn check_rows(alloc: Global, net: &Net, dates: &[Date]) -> Result<bool, OutOfMemory>
-    ensures { IfOk result (λ yes. IsTrue yes ↔ AreTightRows net.now dates.now) }
+    ensures tight { IfOk result (λ yes. IsTrue yes ↔ AreTightRows net.now dates.now) }
+    ensures first { IsLive net.now → IfOk result (λ yes. IsTrue yes ↔ AreFirstRows net.now
+        dates.now) }
 {
+    let width = net.transitions().len();
     let Some(rows) = rows_of(net, dates) else {
         return Ok(false);
     };
     if !all_within(dates) {
         return Ok(false);
     }
-    let mut row = vec![in alloc; Date::Early; net.transitions().len()]?;
+    let mut row = vec![in alloc; Date::Early; width]?;
     Ok(are_tight(net, dates, &mut row, rows))
 }
