@@ -45,9 +45,7 @@ fn begin_row(net: &Net, dates: &[Date], row: &mut [Date], number: u64)
 {
     let width = net.transitions().len();
     for index in 0..width {
-        let id = TransitionId {
-            index: index as u32,
-        };
+        let id = TransitionId::new(index as u32);
         row[index] = date_before(net, dates, id, number).later(release(net, id, number));
     }
 }
@@ -62,12 +60,9 @@ fn raise_row(net: &Net, dates: &[Date], row: &mut [Date], number: u64)
     ensures { AreLatestWaits net.now (listed_releases net.now)
         (date_in_rows (length net.now.transitions) dates.now) number row.new }
 {
-    let places = net.places();
-    for index in 0..places.len() {
-        let id = PlaceId {
-            index: index as u32,
-        };
-        let to = places[index].to.index as usize;
+    for (index, place) in net.places().iter().enumerate() {
+        let id = PlaceId::new(index as u32);
+        let to = place.to.index();
         row[to] = row[to].later(available(net, dates, id, number));
     }
 }
@@ -79,8 +74,8 @@ fn is_row(dates: &[Date], row: &[Date], number: u64) -> bool
     ensures { IsTrue result ↔ ((t : ℕ) → t < length row.now → slice_index_or row.now t Early
         ≡ date_in_rows (length row.now) dates.now t number) }
 {
-    for index in 0..row.len() {
-        if row[index] != date_in_rows(dates, row.len(), index, number) {
+    for (index, date) in row.iter().enumerate() {
+        if *date != date_in_rows(dates, row.len(), index, number) {
             return false;
         }
     }

@@ -43,10 +43,10 @@ pub(crate) fn available(net: &Net, dates: &[Date], place: PlaceId, number: u64) 
         (place_at net.now place) number }
 {
     let width = net.transitions().len();
-    let own = &net.places()[place.index as usize];
+    let own = &net.places()[place.index()];
     let tokens = u64::from(own.tokens);
     if tokens < number {
-        let upstream = date_in_rows(dates, width, own.from.index as usize, number - tokens);
+        let upstream = date_in_rows(dates, width, own.from.index(), number - tokens);
         delayed(upstream, own.hold)
     } else {
         Date::At(i128::from(net.ready(place, number as u32)))
@@ -67,7 +67,7 @@ pub(crate) fn date_before(net: &Net, dates: &[Date], transition: TransitionId, n
         date_in_rows(
             dates,
             net.transitions().len(),
-            transition.index as usize,
+            transition.index(),
             number - 1,
         )
     }
@@ -81,7 +81,7 @@ pub(crate) fn release(net: &Net, transition: TransitionId, number: u64) -> Date
     ensures { result ≡ at_input net.now transition.index
         (listed_releases net.now transition.index number) Early }
 {
-    match net.transitions()[transition.index as usize].role {
+    match net.transitions()[transition.index()].role {
         Role::Internal | Role::Output => Date::Early,
         Role::Input => match net.input_date(transition, number) {
             Some(date) => Date::At(date as i128),
