@@ -1,24 +1,23 @@
 -- Dates cut off behind a number: Never stands there, and the system of the cut dates releases nothing there.
-use Rattle.std.proofs.Common.{ℕ, ◌<◌, ◌≤◌, ◌≡◌, ◌-◌, true, false, ltb, leb, length, get_or, refl, sym, arith, inl, inr, ⊎_elim}
+use Rattle.std.proofs.Common.{ℕ, ◌<◌, ◌≤◌, ◌≡◌, ◌-◌, true, false, ltb, leb, length, get_or, refl, arith, inl, inr, ⊎_elim}
 use Rattle.std.specs.Prelude.{All, ◌⊎◌, nat_lt, nat_le, if◌then◌else◌}
 use Rattle.std.proofs.lemmas.Bool.{cases_lt}
 use Rattle.std.proofs.lemmas.Bool.Decides.{nat_tests}
-use Rattle.teg_model.specs.dioid.declared.dates.Date.{Date}
-use Rattle.teg_model.specs.dioid.declared.dates.Date.TheVariants.{Early, Never}
-use Rattle.teg_model.specs.dioid.Dates.{IsAtMostDate}
-use Rattle.teg_model.proofs.dioid_proofs.DateOrder.{never_last, same_by_at_most, at_most_refl}
-use Rattle.teg_model.specs.teg_net.declared.entries.Place.{Place}
-use Rattle.teg_model.specs.teg_net.Nets.{NetLists, IsInput}
-use Rattle.teg_model.specs.teg_net.Circuits.{IsLive, no_place}
-use Rattle.teg_model.specs.Systems.{System, available_in, IsFeasibleIn, IsLeastIn, IsTightIn}
-use Rattle.teg_model.specs.LiveRanks.{AreRanks, HasEndsInRange}
-use Rattle.teg_model.specs.Datings.{IsFeasibleUnder, IsLeastUnder, extended_places, available_at, initial_date, implicit_place, at_input}
+use Rattle.dioid.specs.declared.dates.Date.TheVariants.{Early, Never}
+use Rattle.dioid.specs.Dates.{IsAtMostDate}
+use Rattle.dioid.proofs.DateOrder.{never_last, same_by_at_most, at_most_refl}
+use Rattle.teg_net.specs.declared.entries.Place.{Place}
+use Rattle.teg_net.specs.Nets.{NetLists}
+use Rattle.teg_net.specs.Circuits.{IsLive}
+use Rattle.teg_model.specs.Systems.{System, IsFeasibleIn, IsLeastIn, IsTightIn}
+use Rattle.teg_model.specs.LiveRanks.{HasEndsInRange}
+use Rattle.teg_model.specs.Datings.{IsFeasibleUnder, IsLeastUnder, extended_places, available_at, initial_date, at_input}
 use Rattle.teg_model.proofs.DateFunctions.{Dating}
 use Rattle.teg_model.proofs.LiveRanks.{live_is_ranked}
 use Rattle.teg_model.proofs.OfNet.{all_extended_in, ranks_extended, release_below, at_input_is}
 use Rattle.teg_model.proofs.TightLeast.{tight_is_least_in}
 use Rattle.teg_model.proofs.Tokens.{available_after, available_first}
-use Rattle.dating_certificates.specs.TightRows.{AreThereBy, IsLatestOfWaits, AreTightUpTo}
+use Rattle.dating_certificates.specs.TightRows.{AreThereBy, AreTightUpTo}
 
 -- the dates of the first so many transitions up to a number, and Never elsewhere
 abbrev cut : ℕ → ℕ → Dating → Dating
@@ -67,7 +66,7 @@ abbrev cut_system : NetLists → Dating → ℕ → System
 cut_system net u last = record { places = extended_places net; initial = initial_date; release = cut (length net.transitions) last (λ t k. at_input net t (u t k) Early) }
 
 -- both ends of each place are in the net
-both_in : (net : NetLists) → HasEndsInRange net → All (λ p. (p.from.index < length net.transitions) × (p.to.index < length net.transitions)) (extended_places net)
+pub both_in : (net : NetLists) → HasEndsInRange net → All (λ p. (p.from.index < length net.transitions) × (p.to.index < length net.transitions)) (extended_places net)
 both_in net ends = all_extended_in net (λ p. (p.from.index < length net.transitions) × (p.to.index < length net.transitions)) ends (λ t l. (l, l))
 
 -- what is cut off is feasible for the places

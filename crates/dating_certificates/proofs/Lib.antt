@@ -1,1 +1,4 @@
 pub mod FirstRows
+pub mod RowWaits
+pub mod WholeRows
+pub mod LeastRows

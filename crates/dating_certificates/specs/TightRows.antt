@@ -1,9 +1,9 @@
 -- Rows of dates of which each is the latest of what its firing waits for, and that these are the first of the least dating (chapter 2).
 use Rattle.std.specs.Prelude.{ℕ, ◌<◌, ◌≤◌, ◌≡◌, length, All}
-use Rattle.teg_model.specs.dioid.declared.dates.Date.{Date}
-use Rattle.teg_model.specs.dioid.Dates.{IsAtMostDate}
-use Rattle.teg_model.specs.teg_net.Nets.{NetLists, IsInput}
-use Rattle.teg_model.specs.teg_net.Circuits.{IsLive}
+use Rattle.dioid.specs.declared.dates.Date.{Date}
+use Rattle.dioid.specs.Dates.{IsAtMostDate}
+use Rattle.teg_net.specs.Nets.{NetLists, IsInput}
+use Rattle.teg_net.specs.Circuits.{IsLive}
 use Rattle.teg_model.specs.LiveRanks.{HasEndsInRange}
 use Rattle.teg_model.specs.Datings.{IsLeastUnder, extended_places, available_at}
 
@@ -12,10 +12,14 @@ pub record AreThereBy (net : NetLists) (u x : ℕ → ℕ → Date) (t k : ℕ) 
   pub tokens : All (λ p. p.to.index ≡ t → IsAtMostDate (available_at x p k) z) (extended_places net)
   pub release : IsInput net t → IsAtMostDate (u t k) z
 
+-- d is the latest of what firing k of transition t waits for
+pub record IsLatestWait (net : NetLists) (u x : ℕ → ℕ → Date) (t k : ℕ) (d : Date) : Type 0 where
+  pub there : AreThereBy net u x t k d
+  pub least : (z : Date) → AreThereBy net u x t k z → IsAtMostDate d z
+
 -- the date of firing k of transition t is the latest of what it waits for
-pub record IsLatestOfWaits (net : NetLists) (u x : ℕ → ℕ → Date) (t k : ℕ) : Type 0 where
-  pub there : AreThereBy net u x t k (x t k)
-  pub least : (z : Date) → AreThereBy net u x t k z → IsAtMostDate (x t k) z
+abbrev pub IsLatestOfWaits : NetLists → (ℕ → ℕ → Date) → (ℕ → ℕ → Date) → ℕ → ℕ → Type 0
+IsLatestOfWaits net u x t k = IsLatestWait net u x t k (x t k)
 
 -- so is each date up to this number
 abbrev pub AreTightUpTo : NetLists → (ℕ → ℕ → Date) → (ℕ → ℕ → Date) → ℕ → Type 0

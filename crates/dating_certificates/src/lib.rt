@@ -1,10 +1,15 @@
 //! Checks of dates that are told: by the net alone, without a search (chapter 2).
 //!
-//! The law [`first_rows_are_least`]: rows of which each date is the latest of what its firing waits
-//! for are the first rows of the least dating. The crate stands on `teg_model` for what a least
-//! dating is.
+//! [`check_rows`] tells whether rows of dates are each the latest of what its firing waits for. The
+//! law [`tight_rows_are_first_rows`]: such rows of a live net are the first rows of its least
+//! dating. It is [`first_rows_are_least`] for the releases of the net's own input lists. The crate
+//! stands on `teg_model` for what a least dating is.
+//! Its examples stand in `library_examples`.
 #![tactic(auto)]
 
 mod laws;
+mod rows;
+mod waits;
 
-pub use laws::first_rows_are_least;
+pub use laws::{first_rows_are_least, tight_rows_are_first_rows};
+pub use rows::check_rows;
