@@ -1,4 +1,6 @@
 //! Nets that are copied, held, changed and asked again, and the checkers of what answers show.
+use dating_certificates::check_rows;
+use dioid::Date;
 use scheduler_loop::Scheduler;
 use std::alloc::Global;
 use std::test::Fail;
@@ -64,6 +66,16 @@ fn ranks_and_a_deadlock_are_checked(rt: HostRuntime) -> Result<(), Fail> {
     assert!(rt; is_ranking(&net, &[0, 1]));
     assert!(rt; !is_ranking(&net, &[1, 0]));
     assert!(rt; !shows_deadlock(&net, &[PlaceId::new(0), PlaceId::new(1)]));
+    Ok(())
+}
+
+#[test]
+fn rows_are_checked(rt: HostRuntime) -> Result<(), Fail> {
+    let net = read_net(rt.alloc(), RING)?;
+    let rows = [Date::At(0), Date::At(3), Date::At(5), Date::At(8)];
+    assert!(rt; check_rows(rt.alloc(), &net, &rows)?);
+    let others = [Date::At(0), Date::At(3), Date::At(5), Date::At(9)];
+    assert!(rt; !check_rows(rt.alloc(), &net, &others)?);
     Ok(())
 }
 
