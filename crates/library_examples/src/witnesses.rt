@@ -143,18 +143,21 @@ fn latest_dates_are_shown(rt: HostRuntime) {
     let Ok(due) = read_due(rt.alloc(), &net, b"ship,2,40\ndrill,3,36\n") else {
         panic!(rt; "these are due dates");
     };
+    let [shipped, drilled] = due.rows.as_slice() else {
+        panic!(rt; "there are two");
+    };
     let material = "input material 1 15 by feed\n";
-    let Ok(Some(shown)) = shown_latest(rt.alloc(), &net, &due.rows[1], material, PLAN) else {
+    let Ok(Some(shown)) = shown_latest(rt.alloc(), &net, drilled, material, PLAN) else {
         panic!(rt; "it is shown");
     };
     assert!(rt; shown.number == 1 && shown.date == 15);
     let early = "input material 1 14 by feed\n";
-    let answer = shown_latest(rt.alloc(), &net, &due.rows[1], early, PLAN);
+    let answer = shown_latest(rt.alloc(), &net, drilled, early, PLAN);
     assert!(rt; matches!(answer, Ok(None)));
-    let other = shown_latest(rt.alloc(), &net, &due.rows[0], material, PLAN);
+    let other = shown_latest(rt.alloc(), &net, shipped, material, PLAN);
     assert!(rt; matches!(other, Ok(None)));
     let ship = "latest ship 1 40 next\n";
-    let next = shown_latest(rt.alloc(), &net, &due.rows[0], ship, PLAN);
+    let next = shown_latest(rt.alloc(), &net, shipped, ship, PLAN);
     assert!(rt; matches!(next, Ok(Some(_))));
 }
 
