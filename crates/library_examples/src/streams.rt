@@ -2,7 +2,7 @@
 ghost use Rattle.std.specs.Prelude.{◌≡◌, ◌+◌, ◌<◌, length};
 ghost use Rattle.teg_net.specs.Limits.{greatest_firing_number};
 ghost use Rattle.teg_form.specs.StandardForms.{IsStandardFormOf};
-ghost use Rattle.teg_dates.specs.Streams.{IsStreamOf};
+ghost use Rattle.teg_dates.specs.Streams.{IsStreamOf, rows_given};
 
 use crate::nets::{LOOP, MANY_TOKENS};
 use dioid::Date;
@@ -19,9 +19,9 @@ fn next_of(stream: &mut Stream, net: &Net, form: &Form) -> (Date, Date)
     requires two { length net.now.transitions ≡ 2 }
     requires stands { IsStreamOf net.now stream.old }
     requires form { IsStandardFormOf net.now form.now }
-    requires few { stream.old.last.number < greatest_firing_number }
+    requires few { rows_given stream.old < greatest_firing_number }
     ensures stands { IsStreamOf net.now stream.new }
-    ensures number { stream.new.last.number ≡ stream.old.last.number + 1 }
+    ensures number { rows_given stream.new ≡ rows_given stream.old + 1 }
 {
     let mut row = [Date::Early; 2];
     stream.next_row(net, form, &mut row);
