@@ -1,4 +1,5 @@
 -- What is told of the circuits of a net, from what is known of them.
+use Rattle.std.specs.Prelude.{All, IfOk, IfSome, Result, Ok, Err}
 use Rattle.std.proofs.Common.{◌≡◌, ℕ, suc, ◌+◌, ◌<◌, List, [], ◌∷◌, ◌++◌, Option, Some, None, map, length, take, get_or, slice_index_or, refl, sym, subst, ap, arith}
 use Rattle.std.proofs.lemmas.List.{get_or-map, length-map, length-take-le}
 use Rattle.std.proofs.lemmas.List.Elements.{All-cons, All-map}
@@ -12,7 +13,8 @@ use Rattle.teg_net.specs.declared.entries.PlaceId.{PlaceId}
 use Rattle.teg_net.specs.declared.rounds.Choice.{Choice}
 use Rattle.teg_net.specs.declared.rounds.Round.{Round}
 use Rattle.teg_net.specs.declared.circuits.Circuit.{Circuit}
-use Rattle.teg_net.specs.GreatestRatios.{IsAnyPlace, IsCycleTime, IsFirstGreatest, HasNoCircuit}
+use Rattle.teg_howard.specs.PolicyRuns.{KeepsLimits}
+use Rattle.teg_net.specs.GreatestRatios.{IsAnyPlace, IsCycleTime, IsFirstGreatest, HasNoCircuit, ratio_at}
 use Rattle.teg_net.specs.Nets.{NetLists, IsNet}
 use Rattle.teg_net.specs.Parts.{IsMember}
 use Rattle.teg_net.specs.PartAnswers.{ArePartAnswers, IsPartAnswer}
@@ -21,7 +23,7 @@ use Rattle.teg_cycle.specs.LastRounds.{AreRunsFrom, rounds_of_runs}
 use Rattle.teg_net.specs.Ratios.{Fraction}
 use Rattle.teg_howard.specs.PolicyRounds.{IsRound, IsPolicyRun, choice_of_member, chosen_place}
 use Rattle.teg_report.specs.AnswerMeanings.{cycle_lists, part_lists, round_lists, runs_lists}
-use Rattle.teg_report.specs.RoundLines.{RoundLists, IsRoundIn, IsRunIn, AreRunsTold}
+use Rattle.teg_report.specs.RoundLines.{RoundLists, IsRoundIn, IsRunIn, IsRunKept, AreRoundsTold, AreRunsTold, circuits_in}
 use Rattle.teg_report.specs.teg_text.Lines.{written}
 use Rattle.teg_commands.specs.Cycle.{IsCycleAnswer}
 use Rattle.teg_commands.specs.CommandTexts.{cycle_text, no_circuit_text, times_lines}
@@ -41,10 +43,11 @@ no_circuit_said net answer runs h none =
 
 -- the cycle times of a net, from what is proved of them for its parts
 pub cycle_answer : (net : NetLists) (parts : PartLists) (answer : CycleAnswer) → AreParts net parts → answer.part_of.items ≡ parts.part_of → length answer.parts.items ≡ length parts.inner →
-    ArePartAnswers net parts.part_of answer.parts.items → IsFirstGreatest answer.parts.items answer.best → IsCycleTime net answer.parts.items answer.best → IsCycleAnswer net answer
-cycle_answer net parts answer strong same count answers first of_net = record {
+    ArePartAnswers net parts.part_of answer.parts.items → All KeepsLimits answer.parts.items → IsFirstGreatest answer.parts.items answer.best → IsCycleTime net answer.parts.items answer.best → IsCycleAnswer net answer
+cycle_answer net parts answer strong same count answers limits first of_net = record {
   strong = (parts.inner, subst (λ (ps : List ℕ). AreParts net (record { part_of = ps; inner = parts.inner })) (sym same) strong, count);
   parts = subst (λ (ps : List ℕ). ArePartAnswers net ps answer.parts.items) (sym same) answers;
+  limits = limits;
   first = first;
   of_net = of_net;
 }
@@ -73,7 +76,7 @@ run_told net part_of part rounds full h = record {
   each = All-map (IsRoundIn net) round_lists rounds (λ k d l. round_told net part_of part (get_or rounds k d) full (each_round net part_of part rounds h.run k d l));
 }
 
-told_from : (net : NetLists) (part_of : List ℕ) (k : ℕ) (answers : List PartAnswer) (runs : List (List Round)) → length part_of ≡ length net.transitions → AreRunsFrom net part_of k answers runs →
+pub told_from : (net : NetLists) (part_of : List ℕ) (k : ℕ) (answers : List PartAnswer) (runs : List (List Round)) → length part_of ≡ length net.transitions → AreRunsFrom net part_of k answers runs →
     AreRunsTold net (map part_lists answers) (map (map round_lists) runs)
 told_from net part_of k [] runs full h = subst (λ (l : List (List Round)). AreRunsTold net [] (map (map round_lists) l)) (sym h) (record { full = refl; each = λ i d l. absurd (omega (arith, l)) })
 told_from net part_of k (NoCircuit ∷ answers) runs full h = let rest = told_from net part_of (k + 1) answers runs full h in record { full = rest.full; each = rest.each }
@@ -92,3 +95,20 @@ lists_of runs = map-map (map round_lists) (λ run. run.items) runs
 pub runs_told : (net : NetLists) (part_of : List ℕ) (answers : List PartAnswer) (runs : List (Vec Round)) → length part_of ≡ length net.transitions → AreRunsFrom net part_of 0 answers (rounds_of_runs runs) →
     AreRunsTold net (map part_lists answers) (runs_lists runs)
 runs_told net part_of answers runs full h = subst (AreRunsTold net (map part_lists answers)) (lists_of runs) (told_from net part_of 0 answers (rounds_of_runs runs) full h)
+
+-- no rounds are told where no part is the best
+
+no_circuits : (parts : List PartAnswer) → ((j : ℕ) → ratio_at parts j ≡ None) → circuits_in (map part_lists parts) ≡ 0
+no_circuits [] none = refl
+no_circuits (NoCircuit ∷ parts) none = no_circuits parts (λ j. none (suc j))
+no_circuits (Best ratio circuit potentials ∷ parts) none = let no : Some ratio ≡ None = none 0 in let f : ⊥ = cc in absurd f
+
+pub no_rounds_kept : (net : NetLists) (parts : List PartAnswer) (rounds : Option (List (List RoundLists))) → IsFirstGreatest parts None → AreRoundsTold net (map part_lists parts) rounds →
+    IfSome rounds (λ runs. All IsRunKept runs)
+no_rounds_kept net parts None none told = tt
+no_rounds_kept net parts (Some runs) none told = λ i d l. absurd (omega (arith, l, told.full, no_circuits parts none))
+
+-- what holds holds of each result
+pub of_each_result : {T E : Type 0} (P : Type 0) (result : Result T E) → P → IfOk result (λ _. P)
+of_each_result P (Ok x) h = h
+of_each_result P (Err e) h = tt

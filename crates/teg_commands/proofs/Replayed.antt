@@ -23,7 +23,7 @@ use Rattle.teg_commands.specs.CommandOutcomes.{Tells, outcome_of, TellsWhy}
 use Rattle.teg_commands.specs.Replay.{CanTellRefusal, SaysEnd, SaysReplay, SaysRun, ShowsLog, ShowsNothing, ShowsReplay, ShowsRun}
 use Rattle.teg_commands.proofs.Telling.{tells_weaker}
 use Rattle.teg_commands.specs.declared.outcome.Verdict.TheVariants.{Log as VerdictLog}
-use Rattle.teg_report.specs.FileRows.{log_line}
+use Rattle.teg_report.specs.FileRows.{IsLogKept, log_line}
 
 failure_told : (net : NetLists) (run : List Fired) (f : Fired) (why : FireRefusal) → Fails net run f why → CanTellRefusal net why
 failure_told net run f (Illegal place date) h = h.in_range
@@ -59,9 +59,9 @@ log_said lines net other bytes rows given outcome e is same h =
 
 -- what is said of a log that was refused
 pub fault_said : (lines : List Firing → List (List ℕ)) (net other : NetLists) (bytes : List ℕ) (refusal : LogRefusal) (outcome : Option (Verdict × List ℕ)) →
-    other ≡ net → (refusal ≢ NoRoom → log_of other bytes ≡ Err refusal) → Tells (TellsWhy (λ r. log_line r ∷ []) NoRoom VerdictLog refusal) outcome → Tells (SaysReplay lines net bytes) outcome
+    other ≡ net → (refusal ≢ NoRoom → log_of other bytes ≡ Err refusal) → Tells (TellsWhy (λ r. log_line r ∷ []) IsLogKept NoRoom VerdictLog refusal) outcome → Tells (SaysReplay lines net bytes) outcome
 fault_said lines net other bytes refusal outcome e is h =
-    tells_weaker (TellsWhy (λ r. log_line r ∷ []) NoRoom VerdictLog refusal) (SaysReplay lines net bytes) outcome
+    tells_weaker (TellsWhy (λ r. log_line r ∷ []) IsLogKept NoRoom VerdictLog refusal) (SaysReplay lines net bytes) outcome
     (λ verdict text k. inl (refusal, subst (λ (n : NetLists). log_of n bytes ≡ Err refusal) e (is k.1), k)) h
 
 -- what was written back into a list of so many
@@ -106,7 +106,7 @@ log_shown before now net other bytes rows given is_told e is same h =
 
 -- of a log that was refused nothing is shown
 pub fault_shown : (lines : List Firing → List (List ℕ)) (net other : NetLists) (bytes : List ℕ) (refusal : LogRefusal) (outcome : Result CommandOutcome NoMemory) →
-    other ≡ net → (refusal ≢ NoRoom → log_of other bytes ≡ Err refusal) → Tells (TellsWhy (λ r. log_line r ∷ []) NoRoom VerdictLog refusal) (outcome_of outcome) → ShowsReplay net bytes lines lines (is_ok outcome)
+    other ≡ net → (refusal ≢ NoRoom → log_of other bytes ≡ Err refusal) → Tells (TellsWhy (λ r. log_line r ∷ []) IsLogKept NoRoom VerdictLog refusal) (outcome_of outcome) → ShowsReplay net bytes lines lines (is_ok outcome)
 fault_shown lines net other bytes refusal (Err e) same is h = none_shown lines lines net (log_of net bytes) (nothing_shown lines)
 fault_shown lines net other bytes refusal (Ok outcome) same is h =
     subst (λ (said : Result (List LogRow) LogRefusal). ShowsLog said net lines lines true)

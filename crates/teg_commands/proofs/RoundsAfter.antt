@@ -136,4 +136,4 @@ rounds_said one_parts one_runs net one other times text kept live says told =
     let all : cycle_lists a ≡ cycle_lists b = cc (part_of, lists, best) in
     let after = then_rounds net b.best (cycle_lists b) (map (map round_lists) t.1) in
     let first : times ≡ cycle_text net b None = s.3 ∙ same_times net a b best all in
-    (after.0, t.4 ∙ (after.1 ∙ ap (λ (text : List ℕ). text ++ after.0) (sym first)))
+    (after.0, t.5 ∙ (after.1 ∙ ap (λ (text : List ℕ). text ++ after.0) (sym first)))

@@ -1,7 +1,12 @@
--- The answers of the commands on a live net are told.
-use Rattle.std.proofs.Common.{ℕ, zero, suc, ◌+◌, ◌*◌, ◌≡◌, ◌≤◌, ◌<◌, ◌^◌, List, ◌∷◌, Option, length, map, decimal, refl, ap, ap₂, sym, subst, pos, negsuc, arith}
+-- The answers of the commands are told.
+use Rattle.std.proofs.Common.{ℕ, zero, suc, ◌+◌, ◌*◌, ◌≡◌, ◌≢◌, ◌≤◌, ◌<◌, ◌^◌, List, [], ◌∷◌, All, Option, Some, None, Ok, Err, length, map, slice_index_or, decimal, refl, ap, ap₂, sym, subst, ◌∙◌, ⊎_elim, pos, negsuc, arith}
+use Rattle.std.specs.Prelude.{IfSome, IsSomeAnd, slice_get}
 use Rattle.std.specs.List.{range_with_len}
+use Rattle.std.proofs.lemmas.Bool.{cases_lt}
 use Rattle.std.proofs.lemmas.Int.{ints}
+use Rattle.std.proofs.lemmas.List.Elements.{All-cons, All-nil}
+use Rattle.std.proofs.lemmas.Option.{slice_get_past}
+use Rattle.due_laws.proofs.LatestDates.{walk_ends_in}
 use Rattle.settled_laws.proofs.teg_model_proofs.LiveRanks.{live_ranks}
 use Rattle.settled_laws.proofs.teg_model_proofs.NetBound.{least_keeps_bound}
 use Rattle.settled_laws.proofs.teg_model_proofs.OfNet.{net_ends}
@@ -22,9 +27,73 @@ use Rattle.teg_report.specs.teg_model.Datings.{IsLeastDating}
 use Rattle.teg_report.specs.teg_text.Lines.{written}
 use Rattle.teg_report.specs.teg_text.ValueWords.{IsDate, date_word}
 use Rattle.teg_commands.proofs.teg_text_proofs.LineBlocks.{cells_all}
-use Rattle.teg_report.specs.PlanLines.{IsLatestIn, IsPlanIn}
+use Rattle.teg_report.specs.PlanLines.{IsLateKept, IsLatePlanTold, IsLatestIn, IsPlanIn}
 use Rattle.teg_commands.specs.CommandTexts.{list_text}
+use Rattle.teg_bound.specs.declared.bound.BoundAnswer.{BoundAnswer}
+use Rattle.teg_bound.specs.declared.bound.BoundAnswer.TheVariants.{Bound, HasInputs, NoPlace, NotStrong, ReadyDates}
+use Rattle.teg_bound.specs.BoundTexts.{ToldBound, BoundTold, AreNumbersIn, IsCause, bound_lines, told_bound}
+use Rattle.teg_cycle.proofs.Gathering.{certified}
+use Rattle.teg_cycle.proofs.Telling.{answer_certifies}
+use Rattle.teg_cycle.proofs.teg_certificates_proofs.Inside.{circuit_in_part}
+use Rattle.teg_forever.specs.forever_laws.declared.rows.EndlessRow.{EndlessRow}
+use Rattle.teg_forever.specs.forever_laws.EndlessRows.{IsEndlessOf}
+use Rattle.teg_forever.specs.EndlessFiles.{endless_of}
+use Rattle.teg_forever.specs.declared.releases.Release.{Release}
+use Rattle.teg_forever.specs.declared.releases.Release.TheVariants.{Free as FreeRelease, Latest}
+use Rattle.teg_forever.specs.EndlessTexts.{EndlessAnswer, Answered, Faulty, IsEndlessTold, IsReleaseTold, answer_lines}
+use Rattle.teg_forever.specs.LatestReleases.{AreBeside, IsReleaseOf, inputs_of}
+use Rattle.teg_howard.specs.PolicyRuns.{KeepsLimits}
+use Rattle.teg_jit.specs.declared.answers.JitRefusal.{JitRefusal}
+use Rattle.teg_jit.specs.declared.answers.JitRefusal.TheVariants.{Late, OutOfMemory as NoPlanRoom}
+use Rattle.teg_jit.specs.LateRefusals.{LateIsRight}
+use Rattle.teg_due.specs.declared.rows.DueRow.{DueRow}
+use Rattle.teg_due.specs.declared.rows.LogRow.{LogRow}
+use Rattle.teg_net.specs.declared.answers.CycleAnswer.{CycleAnswer}
+use Rattle.teg_net.specs.declared.answers.PartAnswer.{PartAnswer}
+use Rattle.teg_net.specs.declared.answers.PartAnswer.TheVariants.{NoCircuit, Best}
+use Rattle.teg_net.specs.declared.entries.Place.{Place}
+use Rattle.teg_net.specs.declared.entries.PlaceId.{PlaceId}
+use Rattle.teg_net.specs.declared.rounds.Round.{Round}
+use Rattle.teg_net.specs.Certificates.{IsCertificate, IsPartCertificate}
+use Rattle.teg_net.specs.Circuits.{from_of}
+use Rattle.teg_net.specs.GreatestRatios.{HasNoCircuit}
+use Rattle.teg_net.specs.PartAnswers.{IsPartAnswer}
+use Rattle.teg_net.specs.Parts.{to_of, IsPlaceOfPart}
+use Rattle.teg_net.specs.Ratios.{Fraction, IsRatioOf}
+use Rattle.teg_outside.specs.declared.monitor.Firing.{Firing}
+use Rattle.teg_outside.specs.Monitors.{IsOneLine}
+use Rattle.teg_parts.specs.Partitions.{PartLists, AreParts}
+use Rattle.teg_replay.specs.declared.refusal.FireRefusal.{FireRefusal}
+use Rattle.teg_replay.specs.declared.refusal.FireRefusal.TheVariants.{Illegal, BackInTime, BeforeRelease, OutOfMemory as NoRunRoom}
+use Rattle.teg_replay.specs.declared.replayed.Refused.{Refused as RefusedRow}
+use Rattle.teg_replay.specs.declared.replayed.Replayed.{Replayed as Replay}
+use Rattle.teg_replay.specs.Replays.{IsReplayOf}
+use Rattle.teg_report.specs.declared.answer.Failure.{Failure}
+use Rattle.teg_report.specs.AnswerMeanings.{cycle_lists, late_lists, round_lists}
+use Rattle.teg_report.specs.AnswerValues.{Cycle, Refused}
+use Rattle.teg_report.specs.FileRows.{IsDueKept, IsFailureIn, IsLogKept}
+use Rattle.teg_report.specs.KeptAnswers.{IsAnswerTold}
+use Rattle.teg_report.specs.RoundLines.{IsRunKept}
+use Rattle.teg_report.specs.Series.{IsParseKept, IsSeriesRefusalKept}
+use Rattle.teg_report.specs.Widths.{IsWord32}
+use Rattle.teg_report.proofs.Certified.{certificate_told}
+use Rattle.teg_settle.proofs.teg_loops_proofs.Through.{pass_back}
+use Rattle.teg_sizing.specs.SizingTexts.{SaidSizing, SizingSaid, NoPlaceSaid, IsSizingSaid, IsSizingTold, said_lines, told_sizing}
+use Rattle.teg_sizing.proofs.Reading.{circuit_in_net}
+use Rattle.teg_timetable.specs.delay_laws.declared.table.Timetable.{Timetable}
+use Rattle.teg_timetable.specs.delay_laws.PlannedTimetables.{IsTableOf}
+use Rattle.teg_timetable.specs.TimetableFiles.{lists_of_table, timetable_of}
+use Rattle.teg_timetable.specs.TimetableTexts.{ToldTimetable, IsTimetableText, IsTimetableTold, delay_told, spread_told, table_told, told_lines}
+use Rattle.teg_commands.specs.declared.outcome.Verdict.{Verdict}
+use Rattle.teg_commands.specs.Bound.{SaysNoNumber, SaysNumber}
+use Rattle.teg_commands.specs.Cycle.{AreRuns, IsCycleAnswer}
+use Rattle.teg_commands.specs.Forever.{SaysBadEndless, SaysEndless, SaysReleases, SaysUnreleased}
+use Rattle.teg_commands.specs.Replay.{CanTellRefusal, IsToldAs}
+use Rattle.teg_commands.specs.Size.{HasPlaceName, SaysSizeOf, TellsNoPlace}
+use Rattle.teg_commands.specs.Timetable.{SaysBadTable, SaysDelays, SaysSpread, SaysUnspread}
 use Rattle.teg_commands.specs.ToldAnswers.{AnswersOfCommandsAreTold, IsListTold}
+use Rattle.teg_commands.proofs.CycleTold.{told_from}
+use Rattle.teg_commands.proofs.Replayed.{end_told}
 use Rattle.teg_commands.proofs.Formed.{form_within}
 use Rattle.teg_commands.proofs.Transferred.{times_told}
 
@@ -85,6 +154,164 @@ list_told net x table ok live least limits width has =
       text = same_list net (date_at table) x table.count has;
     }
 
+-- ---- cycle times
+
+-- a strong part in which no circuit lies has no place
+none_inside : (net : NetLists) → IsNet net → (parts : PartLists) → AreParts net parts → (k : ℕ) → HasNoCircuit net (IsPlaceOfPart net parts.part_of k) →
+    (p : PlaceId) → IsPlaceOfPart net parts.part_of k p → ⊥
+none_inside net ok parts strong k none p inside =
+    let from = inside.from_member in
+    let to = inside.to_member in
+    let back = ((strong.strong.strong (to_of net p) (from_of net p) to.in_range from.in_range).0 (to.here ∙ sym from.here)).0 in
+    let round = (pass_back net p inside.in_range).1 back in
+    let lies = circuit_in_part net ok parts.part_of strong.strong.count strong.rises round.0 round.1 in
+    let here : IsPlaceOfPart net parts.part_of lies.0 p = subst (IsPlaceOfPart net parts.part_of lies.0) round.2.2 (lies.1 round.2.0 p round.2.1) in
+    let same : lies.0 ≡ k = sym here.from_member.here ∙ from.here in
+    none round.0 round.1 (subst (λ (m : ℕ). All (IsPlaceOfPart net parts.part_of m) round.0) same lies.1)
+
+part_certified : (net : NetLists) → IsNet net → (parts : PartLists) → AreParts net parts → (k : ℕ) (answer : PartAnswer) → IsPartAnswer net parts.part_of k answer → KeepsLimits answer →
+    IsPartCertificate net parts.part_of k answer
+part_certified net ok parts strong k NoCircuit is keeps = none_inside net ok parts strong k is
+part_certified net ok parts strong k (Best ratio circuit potentials) is keeps = answer_certifies net parts.part_of k (Best ratio circuit potentials) is keeps (λ e. cc)
+
+-- cycle times are a certificate
+is_certificate : (net : NetLists) (answer : CycleAnswer) → IsNet net → IsCycleAnswer net answer → IsCertificate net answer
+is_certificate net answer ok h =
+    let parts : PartLists = record { part_of = answer.part_of.items; inner = h.strong.0 } in
+    certified net parts answer h.strong.1 refl h.strong.2
+    (λ k l. part_certified net ok parts h.strong.1 k (slice_index_or answer.parts.items k NoCircuit) (h.parts k l) (h.limits k NoCircuit l)) h.first
+
+times_are_told : (net : NetLists) (answer : CycleAnswer) (best : ℕ) → IsNet net → IsCycleAnswer net answer → answer.best ≡ Some best → IsAnswerTold (Some net) (Cycle (cycle_lists answer) None)
+times_are_told net answer best ok is e =
+    record { keeps_rules = ok; about = (certificate_told net answer best (is_certificate net answer ok is) e, tt); kept = tt }
+
+rounds_are_told : (net : NetLists) (answer : CycleAnswer) (runs : List (List Round)) (best : ℕ) → IsNet net → IsCycleAnswer net answer → AreRuns net answer runs →
+    All IsRunKept (map (map round_lists) runs) → answer.best ≡ Some best → IsAnswerTold (Some net) (Cycle (cycle_lists answer) (Some (map (map round_lists) runs)))
+rounds_are_told net answer runs best ok is run kept e =
+    let cert = is_certificate net answer ok is in
+    record {
+      keeps_rules = ok;
+      about = (certificate_told net answer best cert e, told_from net answer.part_of.items 0 answer.parts.items runs cert.count run);
+      kept = kept;
+    }
+
+-- ---- late rows, and replays
+
+late_within : (net : NetLists) (rows : List DueRow) (refusal : JitRefusal) → IsNet net → LateIsRight net rows refusal → IsLateKept (late_lists refusal) → IsLatePlanTold net (late_lists refusal)
+late_within net rows (Late t number due least start walk) ok right kept =
+    let is = right.1.is_walk in
+    record {
+      transition = (walk_ends_in net (net_ends net ok) walk.steps.items walk.start.index walk.number t.index number is.start_in is.number_in right.1.ends).0;
+      path = record { inside = is.start_in; walks = is.steps; numbers = is.numbers };
+    }
+late_within net rows NoPlanRoom ok right kept = absurd kept
+
+failure_within : (net : NetLists) (why : FireRefusal) (failure : Failure) → CanTellRefusal net why → IsToldAs why failure → IsFailureIn (Some net) failure
+failure_within net (Illegal place ready) failure can e = subst (IsFailureIn (Some net)) (sym e) can
+failure_within net (BackInTime last) failure can e = subst (IsFailureIn (Some net)) (sym e) tt
+failure_within net (BeforeRelease release) failure can e = subst (IsFailureIn (Some net)) (sym e) tt
+failure_within net NoRunRoom failure can e = absurd can
+
+refused_told : (net : NetLists) (rows : List LogRow) (firings : List Firing) (replay : Replay) (refused : RefusedRow) (failure : Failure) (lines : List (List ℕ)) → IsNet net →
+    IsReplayOf net rows firings replay → replay.refused ≡ Some refused → IsToldAs refused.why failure → IsWord32 refused.row → All IsOneLine lines →
+    IsAnswerTold (Some net) (Refused refused.row failure lines)
+refused_told net rows firings replay refused failure lines ok of e named row one_line =
+    let can = subst (λ (o : Option RefusedRow). IfSome o (λ r. CanTellRefusal net r.why)) e (end_told net rows (length firings) replay.refused of.ends) in
+    record { keeps_rules = ok; about = (failure_within net refused.why failure can named, one_line); kept = row }
+
+-- ---- sizes
+
+named_within : (places : List Place) (i : ℕ) (P : Place → Type 0) → IsSomeAnd (slice_get places i) P → i < length places
+named_within places i P h =
+    ⊎_elim (λ (l : i < length places). l) (λ (l : length places ≤ i). absurd (subst (λ (o : Option Place). IsSomeAnd o P) (slice_get_past places i l) h)) (cases_lt i (length places))
+
+abbrev IsSizeSaid : NetLists → List ℕ → Type 0
+IsSizeSaid net text = (said : SaidSizing) × IsSizingSaid net said × (text ≡ written (said_lines net said))
+
+no_place_said : (net : NetLists) (word : List ℕ) (verdict : Verdict) (text : List ℕ) → All (λ p. p.name ≢ word) net.places × TellsNoPlace word verdict text → IsSizeSaid net text
+no_place_said net word verdict text h = (NoPlaceSaid word, h.1.1, h.1.2)
+
+size_said : (net : NetLists) (word : List ℕ) (time tokens : ℕ) (verdict : Verdict) (text : List ℕ) →
+    (p : PlaceId) × (r : Fraction) × HasPlaceName net p word × IsRatioOf time tokens r × SaysSizeOf p r net verdict text → IsSizeSaid net text
+size_said net word time tokens verdict text h =
+    let s = h.4.1 in
+    let told : IsSizingTold net h.0 h.1 (told_sizing s.0) = record {
+      place = named_within net.places h.0.index (λ place. place.name ≡ word) h.2;
+      time = s.2.0;
+      tokens = s.2.1;
+      circuit = circuit_in_net net h.1 h.0 s.0 s.1;
+      number = s.3;
+    } in
+    (SizingSaid h.0 h.1 (told_sizing s.0), told, s.4)
+
+-- ---- due dates without end
+
+abbrev IsEndlessSaid : NetLists → List ℕ → Type 0
+IsEndlessSaid net text = (said : EndlessAnswer) × IsEndlessTold net said × (text ≡ written (answer_lines net said))
+
+release_told : (net : NetLists) (rows : List EndlessRow) (u : ℕ) (release : Release) → IsReleaseOf net rows u release → IsReleaseTold release
+release_told net rows u FreeRelease h = tt
+release_told net rows u (Latest series) h = h.0
+
+releases_told : (net : NetLists) (rows : List EndlessRow) (inputs : List ℕ) (releases : List Release) → AreBeside (IsReleaseOf net rows) inputs releases → All IsReleaseTold releases
+releases_told net rows [] [] h = All-nil IsReleaseTold
+releases_told net rows [] (r ∷ releases) h = absurd h
+releases_told net rows (u ∷ inputs) [] h = absurd h
+releases_told net rows (u ∷ inputs) (r ∷ releases) h = All-cons IsReleaseTold r releases (release_told net rows u r h.0) (releases_told net rows inputs releases h.1)
+
+faulty_said : (net : NetLists) (bytes : List ℕ) (verdict : Verdict) (text : List ℕ) → SaysBadEndless net bytes verdict text → IsEndlessSaid net text
+faulty_said net bytes verdict text h = (Faulty h.0, h.2.2, h.2.3)
+
+releases_said : (net : NetLists) (rows : List EndlessRow) (verdict : Verdict) (text : List ℕ) → SaysReleases net rows verdict text → IsEndlessSaid net text
+releases_said net rows verdict text h = let s = h.1 in (Answered (Ok s.0), (s.1.each_input, releases_told net rows (inputs_of net) s.0 s.1.right), s.2)
+
+unreleased_said : (net : NetLists) (rows : List EndlessRow) (verdict : Verdict) (text : List ℕ) → SaysUnreleased net rows verdict text → IsEndlessSaid net text
+unreleased_said net rows verdict text h = (Answered (Err h.0), h.3, h.4)
+
+endless_said : (net : NetLists) (bytes : List ℕ) (verdict : Verdict) (text : List ℕ) →
+    (rows : List EndlessRow) × (endless_of net bytes ≡ Ok rows) × IsEndlessOf net rows × SaysEndless net rows verdict text → IsEndlessSaid net text
+endless_said net bytes verdict text h = ⊎_elim (releases_said net h.0 verdict text) (unreleased_said net h.0 verdict text) h.3
+
+-- ---- timetables
+
+abbrev IsTimetableSaid : NetLists → List ℕ → Type 0
+IsTimetableSaid net text = (told : ToldTimetable) × IsTimetableTold net told × (text ≡ written (told_lines net told))
+
+some_said : (net : NetLists) (told : Option ToldTimetable) (text : List ℕ) → IfSome told (IsTimetableTold net) → IsTimetableText net told text → IsTimetableSaid net text
+some_said net None text kept h = absurd h
+some_said net (Some told) text kept h = (told, kept, h)
+
+bad_table_said : (net : NetLists) (bytes : List ℕ) (verdict : Verdict) (text : List ℕ) → SaysBadTable net bytes verdict text → IsTimetableSaid net text
+bad_table_said net bytes verdict text h = some_said net (table_told h.0) text h.2.1 h.2.2
+
+spread_said : (period : ℕ) (limit : Option ℕ) (net : NetLists) (table : Timetable) (verdict : Verdict) (text : List ℕ) → SaysSpread period limit net table verdict text → IsTimetableSaid net text
+spread_said period limit net table verdict text h = let s = h.1 in (spread_told s.0, s.2, s.3)
+
+unspread_said : (period : ℕ) (limit : Option ℕ) (net : NetLists) (table : Timetable) (verdict : Verdict) (text : List ℕ) → SaysUnspread period limit net table verdict text → IsTimetableSaid net text
+unspread_said period limit net table verdict text h = some_said net (delay_told h.0) text h.3 h.4
+
+delays_said : (period : ℕ) (limit : Option ℕ) (net : NetLists) (bytes : List ℕ) (verdict : Verdict) (text : List ℕ) →
+    (table : Timetable) × (timetable_of net bytes ≡ Ok (lists_of_table table)) × IsTableOf net table × SaysDelays period limit net table verdict text → IsTimetableSaid net text
+delays_said period limit net bytes verdict text h = ⊎_elim (spread_said period limit net h.0 verdict text) (unspread_said period limit net h.0 verdict text) h.3
+
+-- ---- bounds
+
+abbrev IsBoundSaid : List ℕ → Type 0
+IsBoundSaid text = (told : ToldBound) × AreNumbersIn told × (text ≡ written (bound_lines told))
+
+cause_in : (answer : BoundAnswer) → IsCause answer → AreNumbersIn (told_bound answer 0 0)
+cause_in (Bound number) h = absurd h
+cause_in HasInputs h = tt
+cause_in NoPlace h = tt
+cause_in NotStrong h = tt
+cause_in ReadyDates h = tt
+
+number_said : (net : NetLists) (text : List ℕ) → SaysNumber net text → IsBoundSaid text
+number_said net text h = (BoundTold h.0 h.1.after h.1.period, h.5, h.6)
+
+cause_said : (net : NetLists) (text : List ℕ) → SaysNoNumber net text → IsBoundSaid text
+cause_said net text h = (told_bound h.0 0 0, cause_in h.0 h.1, h.3)
+
 pub answers_told : AnswersOfCommandsAreTold
 answers_told = record {
   list = list_told;
@@ -94,4 +321,19 @@ answers_told = record {
   slack = λ net r slacks ok stands ratio kept. record { keeps_rules = ok; about = stands.each; kept = (ratio, kept) };
   transfer = λ net limit times ok stands kept. record { keeps_rules = ok; about = times_told net limit times stands; kept = kept };
   plan = λ net rows plan ok stands kept. record { keeps_rules = ok; about = plan_within net (due_in rows) plan stands.plan_for; kept = kept };
+  cycle = times_are_told;
+  rounds = rounds_are_told;
+  late = λ net rows refusal ok right kept. record { keeps_rules = ok; about = late_within net rows refusal ok right kept; kept = kept };
+  replayed = λ net accepted lines ok number one_line. record { keeps_rules = ok; about = one_line; kept = number };
+  refused = refused_told;
+  trial = λ machines places r critical last kept. record { keeps_rules = tt; about = tt; kept = kept };
+  no_transition = λ word bytes. record { keeps_rules = tt; about = tt; kept = bytes };
+  due = λ refusal kept. record { keeps_rules = tt; about = λ e. subst IsDueKept e kept; kept = kept };
+  log = λ refusal kept. record { keeps_rules = tt; about = λ e. subst IsLogKept e kept; kept = kept };
+  parse = λ refusal kept. record { keeps_rules = tt; about = λ e. subst IsParseKept e kept; kept = kept };
+  series = λ refusal kept. record { keeps_rules = tt; about = λ e. subst IsSeriesRefusalKept e kept; kept = kept };
+  size = λ net word time tokens verdict text says. ⊎_elim (no_place_said net word verdict text) (size_said net word time tokens verdict text) says;
+  forever = λ net bytes verdict text says. ⊎_elim (faulty_said net bytes verdict text) (endless_said net bytes verdict text) says;
+  timetable = λ period limit net bytes verdict text says. ⊎_elim (bad_table_said net bytes verdict text) (delays_said period limit net bytes verdict text) says;
+  bound = λ net verdict text says. ⊎_elim (number_said net text) (cause_said net text) says.1;
 }

@@ -16,6 +16,7 @@ use Rattle.teg_net.specs.Nets.{NetLists}
 use Rattle.teg_net.specs.Ratios.{Fraction}
 use Rattle.teg_report.specs.AnswerValues.{Trial}
 use Rattle.teg_report.specs.Reports.{text_of}
+use Rattle.teg_report.specs.SlackLines.{IsTrialKept}
 use Rattle.trial_net.specs.Trials.{trial}
 use Rattle.trial_net.proofs.TrialNets.{each_place, width}
 use Rattle.teg_commands.specs.declared.outcome.Verdict.TheVariants.{Done as VerdictDone}
@@ -59,13 +60,14 @@ trial_has_circuit machines some none = none first_place (own_circuit machines so
 pub trial_said : (machines : ℕ) (net : NetLists) (r : Fraction) (slacks : List Slack) (table : TableDates) (places critical : ℕ) (last : Date) (text : List ℕ) → 1 ≤ machines → net ≡ trial machines →
     IsBestRatio net r → AreSlacks net r slacks → HasLeastDates net table → table.count ≡ trial_number →
     places ≡ length net.places → critical ≡ critical_count slacks → last ≡ date_at table (machines - 1) trial_number →
-    text ≡ text_of None (Trial machines places r critical last) → SaysTrial machines VerdictDone text
-trial_said machines net r slacks table places critical last text some e best each least count p q d t =
+    IsTrialKept machines places r critical last → text ≡ text_of None (Trial machines places r critical last) → SaysTrial machines VerdictDone text
+trial_said machines net r slacks table places critical last text some e best each least count p q d kept t =
     let least_here = subst (λ (n : NetLists). HasLeastDates n table) e least in
     let dated : date_at table (machines - 1) trial_number ≡ least_here.0 (machines - 1) trial_number =
     least_here.2 (machines - 1) trial_number (omega (arith, some, width machines)) (omega arith) (omega (arith, count)) in
+    let all_places = p ∙ ap (λ (n : NetLists). length n.places) e in
     let told = t
-    ∙ (ap (λ (n : ℕ). text_of None (Trial machines n r critical last)) (p ∙ ap (λ (n : NetLists). length n.places) e)
+    ∙ (ap (λ (n : ℕ). text_of None (Trial machines n r critical last)) all_places
     ∙ (ap (λ (n : ℕ). text_of None (Trial machines (length (trial machines).places) r n last)) q
     ∙ ap (λ (x : Date). text_of None (Trial machines (length (trial machines).places) r (critical_count slacks) x)) (d ∙ dated))) in (
       refl,
@@ -76,6 +78,8 @@ trial_said machines net r slacks table places critical last text some e best eac
         subst (λ (n : NetLists). IsBestRatio n r) e best,
         subst (λ (n : NetLists). AreSlacks n r slacks) e each,
         least_here.1,
+        subst (λ (x : Date). IsTrialKept machines (length (trial machines).places) r (critical_count slacks) x) (d ∙ dated)
+            (subst (λ (n : ℕ). IsTrialKept machines (length (trial machines).places) r n last) q (subst (λ (n : ℕ). IsTrialKept machines n r critical last) all_places kept)),
         told,
       ),
     )

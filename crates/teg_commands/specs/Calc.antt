@@ -12,7 +12,7 @@ use Rattle.teg_calc.specs.ExpressionTrees.{Tree}
 use Rattle.teg_commands.specs.declared.outcome.Verdict.{Verdict}
 use Rattle.teg_commands.specs.declared.outcome.Verdict.TheVariants.{Done as VerdictDone, Calc as VerdictCalc}
 use Rattle.teg_commands.specs.CommandOutcomes.{TellsWhy}
-use Rattle.teg_report.specs.Series.{parse_line, series_refused_line}
+use Rattle.teg_report.specs.Series.{IsParseKept, IsSeriesRefusalKept, parse_line, series_refused_line}
 use Rattle.teg_calc.specs.Printing.{series_line}
 use Rattle.teg_report.specs.teg_text.Lines.{written}
 
@@ -28,7 +28,7 @@ TellsSeries tree verdict told = (verdict ≡ VerdictDone) × ((form : Form) × I
 
 -- of a tree the first refusal of its operations is told
 abbrev pub TellsRefusal : Tree → Verdict → List ℕ → Type 0
-TellsRefusal tree verdict told = (refusal : SeriesRefused) × Evaluates tree (Err refusal) × TellsWhy (λ r. series_refused_line r ∷ []) NoRoom VerdictCalc refusal verdict told
+TellsRefusal tree verdict told = (refusal : SeriesRefused) × Evaluates tree (Err refusal) × TellsWhy (λ r. series_refused_line r ∷ []) IsSeriesRefusalKept NoRoom VerdictCalc refusal verdict told
 
 -- of a tree its series is told, or the first refusal of its operations
 abbrev pub SaysSeries : Tree → Verdict → List ℕ → Type 0
@@ -36,7 +36,7 @@ SaysSeries tree verdict told = TellsSeries tree verdict told ⊎ TellsRefusal tr
 
 -- it is told where the text is no expression, or too deep
 abbrev pub TellsFault : List ℕ → Verdict → List ℕ → Type 0
-TellsFault text verdict told = (refusal : ParseRefused) × IsParseOf text (Err refusal) × TellsWhy (λ r. parse_line r ∷ []) NoMemory VerdictCalc refusal verdict told
+TellsFault text verdict told = (refusal : ParseRefused) × IsParseOf text (Err refusal) × TellsWhy (λ r. parse_line r ∷ []) IsParseKept NoMemory VerdictCalc refusal verdict told
 
 -- what the tree of the text says, or why there is none
 abbrev pub SaysCalc : List ℕ → Verdict → List ℕ → Type 0

@@ -14,7 +14,7 @@ use Rattle.teg_report.specs.SettledTexts.{IsSettledKept, settled_lines}
 use Rattle.teg_report.specs.ShortAnswers.{date_line, no_transition_line}
 use Rattle.teg_report.specs.teg_text.WordsOfNames.{name_of_transition}
 use Rattle.teg_report.specs.teg_text.Lines.{written}
-use Rattle.teg_report.specs.teg_text.ValueWords.{IsDate}
+use Rattle.teg_report.specs.teg_text.ValueWords.{AreBytes, IsDate}
 
 -- the form is within the limit, where there is one
 abbrev pub IsFormWithinLimit : Option ℕ → SettledForm → Type 0
@@ -54,7 +54,7 @@ SaysDateOf t number limit net verdict text =
 
 -- that no transition has this name is said
 abbrev pub TellsNoTransition : List ℕ → Verdict → List ℕ → Type 0
-TellsNoTransition word verdict text = (verdict ≡ VerdictName) × (text ≡ written (no_transition_line word ∷ []))
+TellsNoTransition word verdict text = (verdict ≡ VerdictName) × AreBytes word × (text ≡ written (no_transition_line word ∷ []))
 
 -- of a live net the least date of one firing is said, or that no transition has the name
 abbrev pub SaysDate : List ℕ → ℕ → Option ℕ → NetLists → Verdict → List ℕ → Type 0

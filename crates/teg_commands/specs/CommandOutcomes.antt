@@ -15,6 +15,6 @@ abbrev pub Tells : (Verdict → List ℕ → Type 0) → Option (Verdict × List
 Tells says None = Unit {0}
 Tells says (Some outcome) = says outcome.0 outcome.1
 
--- it is told why, by the lines of a refusal: the command ends so, and not for want of memory
-abbrev pub TellsWhy : {R : Type 0} → (R → List (List (List ℕ))) → (memory : R) → (wanted : Verdict) → R → Verdict → List ℕ → Type 0
-TellsWhy lines memory wanted refusal verdict text = (verdict ≡ wanted) × (refusal ≢ memory) × (text ≡ written (lines refusal))
+-- it is told why, by the lines of a refusal that keeps this: the command ends so, and not for want of memory
+abbrev pub TellsWhy : {R : Type 0} → (R → List (List (List ℕ))) → (R → Type 0) → (memory : R) → (wanted : Verdict) → R → Verdict → List ℕ → Type 0
+TellsWhy lines Keeps memory wanted refusal verdict text = (verdict ≡ wanted) × (refusal ≢ memory) × Keeps refusal × (text ≡ written (lines refusal))

@@ -1,6 +1,7 @@
 -- What is said of the circuits of a net: its parts, the greatest ratio of each and of the net, and the rounds that led to them.
-use Rattle.std.specs.Prelude.{ℕ, ◌≡◌, Bool, List, None, length, Some, map}
+use Rattle.std.specs.Prelude.{ℕ, ◌≡◌, Bool, List, All, None, length, Some, map}
 use Rattle.teg_cycle.specs.LastRounds.{AreLastOfRuns, AreRunsFrom}
+use Rattle.teg_howard.specs.PolicyRuns.{KeepsLimits}
 use Rattle.teg_net.specs.declared.answers.CycleAnswer.{CycleAnswer}
 use Rattle.teg_net.specs.declared.rounds.Round.{Round}
 use Rattle.teg_net.specs.GreatestRatios.{IsCycleTime, IsFirstGreatest}
@@ -11,6 +12,7 @@ use Rattle.teg_commands.specs.declared.outcome.Verdict.{Verdict}
 use Rattle.teg_commands.specs.declared.outcome.Verdict.TheVariants.{Done as VerdictDone}
 use Rattle.teg_commands.specs.CommandTexts.{cycle_text}
 use Rattle.teg_report.specs.AnswerMeanings.{round_lists}
+use Rattle.teg_report.specs.RoundLines.{IsRunKept}
 
 -- the numbers are those of the strong parts of the net in their order, with an answer for each
 abbrev pub HasStrongParts : NetLists → CycleAnswer → Type 0
@@ -18,10 +20,12 @@ HasStrongParts net answer =
     (inner : List Bool) × AreParts net (record { part_of = answer.part_of.items; inner = inner }) × (length answer.parts.items ≡ length inner)
 
 -- the cycle times of a net: of each of its strong parts the greatest ratio, a circuit that has it and the greatest reduced times of paths
--- as potentials, or that no circuit lies in it; the first part of greatest ratio, which is the greatest of the net, or none where the net has no circuit
+-- as potentials, within the limits of circuits, or that no circuit lies in it; the first part of greatest ratio, which is the greatest of the
+-- net, or none where the net has no circuit
 pub record IsCycleAnswer (net : NetLists) (answer : CycleAnswer) : Type 0 where
   pub strong : HasStrongParts net answer
   pub parts : ArePartAnswers net answer.part_of.items answer.parts.items
+  pub limits : All KeepsLimits answer.parts.items
   pub first : IsFirstGreatest answer.parts.items answer.best
   pub of_net : IsCycleTime net answer.parts.items answer.best
 
@@ -43,4 +47,5 @@ SaysCycle net verdict text =
 abbrev pub SaysRounds : NetLists → Verdict → List ℕ → Type 0
 SaysRounds net verdict text =
     (verdict ≡ VerdictDone)
-    × ((answer : CycleAnswer) × (runs : List (List Round)) × IsCycleAnswer net answer × AreRuns net answer runs × (text ≡ cycle_text net answer (Some (map (map round_lists) runs))))
+    × ((answer : CycleAnswer) × (runs : List (List Round)) × IsCycleAnswer net answer × AreRuns net answer runs × All IsRunKept (map (map round_lists) runs)
+    × (text ≡ cycle_text net answer (Some (map (map round_lists) runs))))

@@ -9,7 +9,7 @@ use Rattle.teg_forever.specs.declared.rows.EndlessRefusal.{EndlessRefusal}
 use Rattle.teg_forever.specs.declared.rows.EndlessRefusal.TheVariants.{OutOfMemory as NoRoom}
 use Rattle.teg_forever.specs.LatestReleases.{AreEndlessReleases, ForeverRefused}
 use Rattle.teg_forever.specs.EndlessFiles.{endless_of}
-use Rattle.teg_forever.specs.EndlessTexts.{Answered, Faulty, answer_lines}
+use Rattle.teg_forever.specs.EndlessTexts.{Answered, Faulty, IsFaultTold, IsRefusalTold, answer_lines}
 use Rattle.teg_net.specs.Nets.{NetLists}
 use Rattle.teg_report.specs.teg_text.Lines.{written}
 use Rattle.teg_commands.specs.declared.outcome.Verdict.{Verdict}
@@ -18,7 +18,7 @@ use Rattle.teg_commands.specs.CommandOutcomes.{TellsWhy}
 
 -- the first fault of the file is said
 abbrev pub SaysBadEndless : NetLists → List ℕ → Verdict → List ℕ → Type 0
-SaysBadEndless net bytes verdict text = (fault : EndlessRefusal) × (endless_of net bytes ≡ Err fault) × TellsWhy (λ f. answer_lines net (Faulty f)) NoRoom VerdictSchedule fault verdict text
+SaysBadEndless net bytes verdict text = (fault : EndlessRefusal) × (endless_of net bytes ≡ Err fault) × TellsWhy (λ f. answer_lines net (Faulty f)) IsFaultTold NoRoom VerdictSchedule fault verdict text
 
 -- of endless due dates the latest releases of the inputs are said
 abbrev pub SaysReleases : NetLists → List EndlessRow → Verdict → List ℕ → Type 0
@@ -35,7 +35,8 @@ EndsUnreleased OutOfMemory verdict = ⊥
 -- of endless due dates is said why the releases are not told: a late firing, or an input whose series are too long
 abbrev pub SaysUnreleased : NetLists → List EndlessRow → Verdict → List ℕ → Type 0
 SaysUnreleased net rows verdict text =
-    (refusal : ForeverRefusal) × EndsUnreleased refusal verdict × ForeverRefused net rows refusal × (text ≡ written (answer_lines net (Answered (Err refusal))))
+    (refusal : ForeverRefusal) × EndsUnreleased refusal verdict × ForeverRefused net rows refusal × IsRefusalTold net refusal
+    × (text ≡ written (answer_lines net (Answered (Err refusal))))
 
 -- of endless due dates the latest releases are said, or why they are not told
 abbrev pub SaysEndless : NetLists → List EndlessRow → Verdict → List ℕ → Type 0

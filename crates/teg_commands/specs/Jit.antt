@@ -21,14 +21,14 @@ use Rattle.teg_net.specs.Walks.{Walks, walk_time}
 use Rattle.teg_commands.specs.declared.outcome.Verdict.{Verdict}
 use Rattle.teg_commands.specs.declared.outcome.Verdict.TheVariants.{Done as VerdictDone, Schedule as VerdictSchedule, Late as VerdictLate}
 use Rattle.teg_commands.specs.CommandOutcomes.{TellsWhy}
-use Rattle.teg_report.specs.FileRows.{due_line}
-use Rattle.teg_report.specs.PlanLines.{AreLatestKept, late_lines, plan_lines}
+use Rattle.teg_report.specs.FileRows.{IsDueKept, due_line}
+use Rattle.teg_report.specs.PlanLines.{AreLatestKept, IsLateKept, late_lines, plan_lines}
 use Rattle.teg_report.specs.AnswerMeanings.{late_lists}
 use Rattle.teg_report.specs.teg_text.Lines.{written}
 
 -- the first fault of the due file is said
 abbrev pub SaysBadDue : NetLists → List ℕ → Verdict → List ℕ → Type 0
-SaysBadDue net bytes verdict text = (refusal : DueRefusal) × (due_of net bytes ≡ Err refusal) × TellsWhy (λ r. due_line r ∷ []) NoRoom VerdictSchedule refusal verdict text
+SaysBadDue net bytes verdict text = (refusal : DueRefusal) × (due_of net bytes ≡ Err refusal) × TellsWhy (λ r. due_line r ∷ []) IsDueKept NoRoom VerdictSchedule refusal verdict text
 
 -- from each firing that is not free the steps of the plan lead to one that is due, and their walk is tight
 abbrev pub StepsLead : NetLists → (ℕ → ℕ → Option ℕ) → PlanDates → Type 0
@@ -57,7 +57,8 @@ SaysPlan net rows verdict text = (verdict ≡ VerdictDone) × ((plan : PlanDates
 abbrev pub SaysLate : NetLists → List DueRow → Verdict → List ℕ → Type 0
 SaysLate net rows verdict text =
     (verdict ≡ VerdictLate)
-    × ((refusal : JitRefusal) × (refusal ≢ OutOfMemory) × LateIsRight net rows refusal × NoInputsMeet net (due_in rows) × (text ≡ written (late_lines net (late_lists refusal))))
+    × ((refusal : JitRefusal) × (refusal ≢ OutOfMemory) × LateIsRight net rows refusal × NoInputsMeet net (due_in rows) × IsLateKept (late_lists refusal)
+    × (text ≡ written (late_lines net (late_lists refusal))))
 
 -- of a due list the plan is said, or the first row that comes late
 abbrev pub SaysLatest : NetLists → List DueRow → Verdict → List ℕ → Type 0

@@ -1,11 +1,12 @@
 -- What is said of a recorded run of a live net.
-use Rattle.std.specs.Prelude.{ℕ, Bool, true, false, ◌<◌, ◌≡◌, ◌⊎◌, List, length, Option, Some, None, Result, Ok, Err, ◌∷◌, ⊤, []}
+use Rattle.std.specs.Prelude.{All, ℕ, Bool, true, false, ◌<◌, ◌≡◌, ◌⊎◌, List, length, Option, Some, None, Result, Ok, Err, ◌∷◌, ⊤, []}
 use Rattle.teg_due.specs.declared.rows.LogRefusal.{LogRefusal}
 use Rattle.teg_due.specs.declared.rows.LogRefusal.TheVariants.{OutOfMemory as NoRoom}
 use Rattle.teg_due.specs.declared.rows.LogRow.{LogRow}
 use Rattle.teg_due.specs.Logs.{log_of}
 use Rattle.teg_net.specs.Nets.{NetLists}
 use Rattle.teg_outside.specs.declared.monitor.Firing.{Firing}
+use Rattle.teg_outside.specs.Monitors.{IsOneLine}
 use Rattle.teg_replay.specs.declared.refusal.FireRefusal.{FireRefusal}
 use Rattle.teg_replay.specs.declared.refusal.FireRefusal.TheVariants.{Illegal, BackInTime, BeforeRelease, OutOfMemory}
 use Rattle.teg_replay.specs.declared.replayed.Replayed.{Replayed}
@@ -16,12 +17,13 @@ use Rattle.teg_report.specs.declared.answer.Failure.TheVariants.{Illegal as Told
 use Rattle.teg_commands.specs.declared.outcome.Verdict.{Verdict}
 use Rattle.teg_commands.specs.declared.outcome.Verdict.TheVariants.{Done as VerdictDone, Log as VerdictLog}
 use Rattle.teg_commands.specs.CommandOutcomes.{TellsWhy}
-use Rattle.teg_report.specs.FileRows.{log_line, refused_lines, replayed_lines}
+use Rattle.teg_report.specs.FileRows.{IsLogKept, log_line, refused_lines, replayed_lines}
 use Rattle.teg_report.specs.teg_text.Lines.{written}
+use Rattle.teg_report.specs.Widths.{IsWord32, IsWord64}
 
 -- the first fault of the log is said
 abbrev pub SaysBadLog : NetLists → List ℕ → Verdict → List ℕ → Type 0
-SaysBadLog net bytes verdict text = (refusal : LogRefusal) × (log_of net bytes ≡ Err refusal) × TellsWhy (λ r. log_line r ∷ []) NoRoom VerdictLog refusal verdict text
+SaysBadLog net bytes verdict text = (refusal : LogRefusal) × (log_of net bytes ≡ Err refusal) × TellsWhy (λ r. log_line r ∷ []) IsLogKept NoRoom VerdictLog refusal verdict text
 
 -- why a firing is refused, as it is told; want of memory refuses none
 abbrev pub IsToldAs : FireRefusal → Failure → Type 0
@@ -39,9 +41,10 @@ CanTellRefusal net OutOfMemory = ⊥
 
 -- how many firings were accepted is said where none was refused, and otherwise the first refused row and why; then a line of each monitor
 abbrev pub SaysEnd : NetLists → Option Refused → ℕ → List (List ℕ) → Verdict → List ℕ → Type 0
-SaysEnd net None accepted lines verdict text = (verdict ≡ VerdictDone) × (text ≡ written (replayed_lines accepted lines))
+SaysEnd net None accepted lines verdict text = (verdict ≡ VerdictDone) × IsWord64 accepted × All IsOneLine lines × (text ≡ written (replayed_lines accepted lines))
 SaysEnd net (Some refused) accepted lines verdict text =
-    (verdict ≡ VerdictLog) × ((failure : Failure) × IsToldAs refused.why failure × (text ≡ written (refused_lines net refused.row failure lines)))
+    (verdict ≡ VerdictLog)
+    × ((failure : Failure) × IsToldAs refused.why failure × IsWord32 refused.row × All IsOneLine lines × (text ≡ written (refused_lines net refused.row failure lines)))
 
 -- of the rows of a log is said how they were replayed, with the lines of the monitors after just the accepted firings
 abbrev pub SaysRun : (List Firing → List (List ℕ)) → NetLists → List LogRow → Verdict → List ℕ → Type 0

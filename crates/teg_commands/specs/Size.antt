@@ -5,8 +5,10 @@ use Rattle.teg_net.specs.Nets.{NetLists}
 use Rattle.teg_net.specs.Ratios.{Fraction, IsRatioOf}
 use Rattle.teg_sizing.specs.declared.sizing.Sizing.{Sizing}
 use Rattle.teg_sizing.specs.Sizings.{IsSizing}
-use Rattle.teg_sizing.specs.SizingTexts.{no_place_lines, sizing_lines, told_sizing}
+use Rattle.teg_sizing.specs.SizingTexts.{HasNumberIn, no_place_lines, sizing_lines, told_sizing}
+use Rattle.teg_report.specs.SlackLines.{IsRatioKept}
 use Rattle.teg_report.specs.teg_text.Lines.{written}
+use Rattle.teg_report.specs.teg_text.ValueWords.{AreBytes}
 use Rattle.teg_commands.specs.declared.outcome.Verdict.{Verdict}
 use Rattle.teg_commands.specs.declared.outcome.Verdict.TheVariants.{Done as VerdictDone, Name as VerdictName}
 
@@ -16,11 +18,13 @@ HasPlaceName net p word = IsSomeAnd (slice_get net.places p.index) (λ place. pl
 
 -- what is right to tell of the place and the target is said
 abbrev pub SaysSizeOf : PlaceId → Fraction → NetLists → Verdict → List ℕ → Type 0
-SaysSizeOf p r net verdict text = (verdict ≡ VerdictDone) × ((sizing : Sizing) × IsSizing net r p sizing × (text ≡ written (sizing_lines net p r (told_sizing sizing))))
+SaysSizeOf p r net verdict text =
+    (verdict ≡ VerdictDone)
+    × ((sizing : Sizing) × IsSizing net r p sizing × IsRatioKept r × HasNumberIn (told_sizing sizing) × (text ≡ written (sizing_lines net p r (told_sizing sizing))))
 
 -- that no place has this name is said
 abbrev pub TellsNoPlace : List ℕ → Verdict → List ℕ → Type 0
-TellsNoPlace word verdict text = (verdict ≡ VerdictName) × (text ≡ written (no_place_lines word))
+TellsNoPlace word verdict text = (verdict ≡ VerdictName) × AreBytes word × (text ≡ written (no_place_lines word))
 
 -- of a live net the fewest further tokens of the place of this name are said, for the ratio of this time to these tokens; or that no
 -- place has the name

@@ -1,5 +1,5 @@
 -- What is said of a timetable of a live net and its delays.
-use Rattle.std.specs.Prelude.{ℕ, ◌≡◌, ◌⊎◌, List, Option, Ok, Err}
+use Rattle.std.specs.Prelude.{ℕ, ◌≡◌, ◌⊎◌, List, Option, Ok, Err, IfSome}
 use Rattle.teg_timetable.specs.delay_laws.declared.table.Timetable.{Timetable}
 use Rattle.teg_timetable.specs.delay_laws.PlannedTimetables.{IsTableOf}
 use Rattle.teg_net.specs.Nets.{NetLists}
@@ -10,13 +10,13 @@ use Rattle.teg_timetable.specs.declared.refusals.TableRefusal.{TableRefusal}
 use Rattle.teg_timetable.specs.DelayAnswers.{IsDelayRefusal, IsSpread}
 use Rattle.teg_timetable.specs.Spreads.{Spread}
 use Rattle.teg_timetable.specs.TimetableFiles.{lists_of_table, timetable_of}
-use Rattle.teg_timetable.specs.TimetableTexts.{IsTimetableText, delay_told, spread_told, table_told, told_lines}
+use Rattle.teg_timetable.specs.TimetableTexts.{IsTimetableText, IsTimetableTold, delay_told, spread_told, table_told, told_lines}
 use Rattle.teg_commands.specs.declared.outcome.Verdict.{Verdict}
 use Rattle.teg_commands.specs.declared.outcome.Verdict.TheVariants.{Done as VerdictDone, Schedule as VerdictSchedule, TooLong as VerdictTooLong}
 
 -- it is told why a file says no timetable; that is not want of memory, of which nothing is told
 abbrev pub TellsBadTable : NetLists → TableRefusal → Verdict → List ℕ → Type 0
-TellsBadTable net fault verdict text = (verdict ≡ VerdictSchedule) × IsTimetableText net (table_told fault) text
+TellsBadTable net fault verdict text = (verdict ≡ VerdictSchedule) × IfSome (table_told fault) (IsTimetableTold net) × IsTimetableText net (table_told fault) text
 
 -- the first fault of the file is said
 abbrev pub SaysBadTable : NetLists → List ℕ → Verdict → List ℕ → Type 0
@@ -25,7 +25,8 @@ SaysBadTable net bytes verdict text = (fault : TableRefusal) × (timetable_of ne
 -- of a timetable is said how its delays spread
 abbrev pub SaysSpread : ℕ → Option ℕ → NetLists → Timetable → Verdict → List ℕ → Type 0
 SaysSpread period limit net table verdict text =
-    (verdict ≡ VerdictDone) × ((spread : Spread) × IsSpread net period table limit spread × (text ≡ written (told_lines net (spread_told spread))))
+    (verdict ≡ VerdictDone)
+    × ((spread : Spread) × IsSpread net period table limit spread × IsTimetableTold net (spread_told spread) × (text ≡ written (told_lines net (spread_told spread))))
 
 -- how a command ends that does not say how delays spread; it does not end so for want of memory
 abbrev pub EndsUnspread : DelayRefusal → Verdict → Type 0
@@ -37,7 +38,8 @@ EndsUnspread OutOfMemory verdict = ⊥
 -- of a timetable is said why it is not told how its delays spread
 abbrev pub SaysUnspread : ℕ → Option ℕ → NetLists → Timetable → Verdict → List ℕ → Type 0
 SaysUnspread period limit net table verdict text =
-    (refusal : DelayRefusal) × EndsUnspread refusal verdict × IsDelayRefusal net period table limit refusal × IsTimetableText net (delay_told refusal) text
+    (refusal : DelayRefusal) × EndsUnspread refusal verdict × IsDelayRefusal net period table limit refusal × IfSome (delay_told refusal) (IsTimetableTold net)
+    × IsTimetableText net (delay_told refusal) text
 
 -- of a timetable is said how its delays spread, or why not
 abbrev pub SaysDelays : ℕ → Option ℕ → NetLists → Timetable → Verdict → List ℕ → Type 0

@@ -10,7 +10,7 @@ use Rattle.trial_net.specs.Trials.{trial}
 use Rattle.teg_commands.specs.declared.outcome.Verdict.{Verdict}
 use Rattle.teg_commands.specs.declared.outcome.Verdict.TheVariants.{Done as VerdictDone}
 use Rattle.teg_commands.specs.Slack.{IsBestRatio}
-use Rattle.teg_report.specs.SlackLines.{trial_lines}
+use Rattle.teg_report.specs.SlackLines.{IsTrialKept, trial_lines}
 use Rattle.teg_report.specs.teg_text.Lines.{written}
 
 -- 1 where a place is critical
@@ -33,4 +33,5 @@ abbrev pub SaysTrial : ℕ → Verdict → List ℕ → Type 0
 SaysTrial machines verdict text =
     (verdict ≡ VerdictDone)
     × ((r : Fraction) × (slacks : List Slack) × (x : ℕ → ℕ → Date) × IsBestRatio (trial machines) r × AreSlacks (trial machines) r slacks
-    × IsLeastDating (trial machines) x × (text ≡ written (trial_lines machines (length (trial machines).places) r (critical_count slacks) (x (machines - 1) trial_number))))
+    × IsLeastDating (trial machines) x × IsTrialKept machines (length (trial machines).places) r (critical_count slacks) (x (machines - 1) trial_number)
+    × (text ≡ written (trial_lines machines (length (trial machines).places) r (critical_count slacks) (x (machines - 1) trial_number))))

@@ -3,7 +3,7 @@ ghost use Rattle.std.specs.Prelude.{◌≡◌, ◌≤◌, ◌∷◌, [], IfOk, l
 ghost use Rattle.teg_calc.specs.ExpressionTrees.{HasShortNumbers, node_count, tree_of_expression};
 ghost use Rattle.teg_commands.specs.CommandLimits.{most_expression};
 ghost use Rattle.teg_commands.specs.CommandOutcomes.{Tells, TellsWhy, outcome_of};
-ghost use Rattle.teg_report.specs.Series.{parse_line, series_refused_line};
+ghost use Rattle.teg_report.specs.Series.{IsParseKept, IsSeriesRefusalKept, parse_line, series_refused_line};
 ghost use Rattle.teg_commands.specs.Calc.{SaysSeries, SaysCalc};
 
 use crate::outcome::{CommandOutcome, Verdict};
@@ -55,7 +55,7 @@ impl Expression {
 
 // Why a text is no expression.
 fn refuse_text(alloc: Global, refusal: &ParseRefused) -> Result<CommandOutcome, OutOfMemory>
-    ensures { Tells (TellsWhy (λ r. parse_line r ∷ []) ParseRefused.OutOfMemory Verdict.Calc refusal.now) (outcome_of result) }
+    ensures { Tells (TellsWhy (λ r. parse_line r ∷ []) IsParseKept ParseRefused.OutOfMemory Verdict.Calc refusal.now) (outcome_of result) }
 {
     match refusal {
         ParseRefused::OutOfMemory => Err(OutOfMemory),
@@ -69,7 +69,7 @@ fn refuse_text(alloc: Global, refusal: &ParseRefused) -> Result<CommandOutcome, 
 
 // Why an operation has no series.
 fn refuse_series(alloc: Global, refusal: &SeriesRefused) -> Result<CommandOutcome, OutOfMemory>
-    ensures { Tells (TellsWhy (λ r. series_refused_line r ∷ []) SeriesRefused.OutOfMemory Verdict.Calc refusal.now) (outcome_of result) }
+    ensures { Tells (TellsWhy (λ r. series_refused_line r ∷ []) IsSeriesRefusalKept SeriesRefused.OutOfMemory Verdict.Calc refusal.now) (outcome_of result) }
 {
     match refusal {
         SeriesRefused::OutOfMemory => Err(OutOfMemory),

@@ -1,9 +1,9 @@
 //! The cycle times of a live net, and the rounds of policy iteration that led to them.
-ghost use Rattle.std.specs.Prelude.{◌≡◌, IfOk};
+ghost use Rattle.std.specs.Prelude.{◌≡◌, All, IfOk, IfSome};
 ghost use Rattle.std.specs.Option.{option_copied, option_map};
 ghost use Rattle.teg_net.specs.Certificates.{IsCertificate};
 ghost use Rattle.teg_report.specs.AnswerMeanings.{cycle_lists, runs_lists};
-ghost use Rattle.teg_report.specs.RoundLines.{AreRoundsTold};
+ghost use Rattle.teg_report.specs.RoundLines.{AreRoundsTold, IsRunKept};
 ghost use Rattle.teg_commands.specs.Cycle.{SaysCycle, SaysRounds};
 ghost use Rattle.teg_commands.specs.CommandOutcomes.{Tells, outcome_of};
 ghost use Rattle.teg_commands.specs.CommandTexts.{cycle_text};
@@ -24,8 +24,10 @@ fn text_of_times(
     requires certificate { IsCertificate net.now answer.now }
     requires rounds { AreRoundsTold net.now (cycle_lists answer.now).parts
         (option_map runs_lists (option_copied rounds)) }
-    ensures { IfOk result (λ text. text.items ≡ cycle_text net.now answer.now
+    ensures text { IfOk result (λ text. text.items ≡ cycle_text net.now answer.now
         (option_map runs_lists (option_copied rounds.entry))) }
+    ensures kept { IfOk result (λ _. IfSome (option_map runs_lists (option_copied rounds.entry))
+        (λ runs. All IsRunKept runs)) }
 {
     match answer.best {
         None => report(alloc, Some(net.net()), &Answer::NoCircuit),

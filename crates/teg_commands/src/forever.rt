@@ -4,7 +4,7 @@ ghost use Rattle.teg_report.specs.csv_records.Records.{most_file_bytes};
 ghost use Rattle.teg_forever.specs.forever_laws.EndlessRows.{IsEndlessOf};
 ghost use Rattle.teg_commands.specs.Forever.{EndsUnreleased, SaysEndless, SaysForever, SaysUnreleased};
 ghost use Rattle.teg_commands.specs.CommandOutcomes.{Tells, TellsWhy, outcome_of};
-ghost use Rattle.teg_forever.specs.EndlessTexts.{Faulty, answer_lines};
+ghost use Rattle.teg_forever.specs.EndlessTexts.{Faulty, IsFaultTold, answer_lines};
 ghost use Rattle.teg_forever.specs.LatestReleases.{ForeverRefused};
 
 use crate::live_net::LiveNet;
@@ -22,7 +22,7 @@ fn refuse_endless(
     net: &LiveNet,
     fault: &EndlessRefusal,
 ) -> Result<CommandOutcome, OutOfMemory>
-    ensures { Tells (TellsWhy (λ f. answer_lines net.now (Faulty f)) EndlessRefusal.OutOfMemory Verdict.Schedule fault.now) (outcome_of result) }
+    ensures { Tells (TellsWhy (λ f. answer_lines net.now (Faulty f)) IsFaultTold EndlessRefusal.OutOfMemory Verdict.Schedule fault.now) (outcome_of result) }
 {
     match fault {
         EndlessRefusal::OutOfMemory => Err(OutOfMemory),

@@ -1,6 +1,6 @@
 //! The latest inputs of a live net by which due dates are met.
 ghost use Rattle.std.specs.Prelude.{◌≤◌, ◌∷◌, [], length};
-ghost use Rattle.teg_report.specs.FileRows.{due_line};
+ghost use Rattle.teg_report.specs.FileRows.{IsDueKept, due_line};
 ghost use Rattle.teg_report.specs.csv_records.Records.{most_file_bytes};
 ghost use Rattle.teg_commands.specs.Jit.{SaysJit, SaysLate, SaysLatest};
 ghost use Rattle.teg_commands.specs.CommandOutcomes.{Tells, TellsWhy, outcome_of};
@@ -19,7 +19,7 @@ use teg_report::{Answer, report};
 
 // Why a due file says no due dates.
 fn refuse_due(alloc: Global, refusal: &DueRefusal) -> Result<CommandOutcome, OutOfMemory>
-    ensures { Tells (TellsWhy (λ r. due_line r ∷ []) DueRefusal.OutOfMemory Verdict.Schedule refusal.now) (outcome_of result) }
+    ensures { Tells (TellsWhy (λ r. due_line r ∷ []) IsDueKept DueRefusal.OutOfMemory Verdict.Schedule refusal.now) (outcome_of result) }
 {
     match refusal {
         DueRefusal::OutOfMemory => Err(OutOfMemory),

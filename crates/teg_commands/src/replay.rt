@@ -5,7 +5,7 @@ ghost use Rattle.teg_commands.specs.CommandOutcomes.{Tells, TellsWhy, outcome_of
 ghost use Rattle.teg_report.specs.csv_records.Records.{most_file_bytes};
 ghost use Rattle.teg_commands.specs.Replay.{CanTellRefusal, IsToldAs, SaysEnd, SaysReplay, SaysRun, ShowsReplay, ShowsRun};
 ghost use Rattle.teg_due.specs.RowRules.{IsLogOf};
-ghost use Rattle.teg_report.specs.FileRows.{IsFailureIn, log_line};
+ghost use Rattle.teg_report.specs.FileRows.{IsFailureIn, IsLogKept, log_line};
 
 use crate::live_net::LiveNet;
 use crate::outcome::{CommandOutcome, Verdict};
@@ -18,7 +18,7 @@ use teg_report::{Answer, Failure, report};
 
 // Why a log says no firings.
 fn refuse_log(alloc: Global, refusal: &LogRefusal) -> Result<CommandOutcome, OutOfMemory>
-    ensures { Tells (TellsWhy (λ r. log_line r ∷ []) LogRefusal.OutOfMemory Verdict.Log refusal.now) (outcome_of result) }
+    ensures { Tells (TellsWhy (λ r. log_line r ∷ []) IsLogKept LogRefusal.OutOfMemory Verdict.Log refusal.now) (outcome_of result) }
 {
     match refusal {
         LogRefusal::OutOfMemory => Err(OutOfMemory),
