@@ -8,9 +8,10 @@ import heapq
 import math
 from functools import partial
 
+from common import Status
 from random_net import random_places
 
-DONE, NET, LATE, TOO_LONG, CALC = 0, 4, 6, 7, 9
+DONE, NET, LATE, TOO_LONG, CALC = Status.DONE, Status.NET, Status.LATE, Status.TOO_LONG, Status.CALC
 TOO_LONG_TEXT = "too long: no settled form within {}\n"
 
 

@@ -30,11 +30,13 @@ import time
 from pathlib import Path
 
 from built_program import BUILT, is_there, summed_up
+from common import Status
 from dear_cases import answered_cases, dear_cases
 
 MOST = 4_194_304
-DONE, WORDS, TEXT, NET, SCHEDULE, LATE, LOG, CALC, NAME = 0, 2, 3, 4, 5, 6, 8, 9, 10
-READ_FAULT, WRITE_FAULT = 64, 65
+DONE, WORDS, TEXT, NET, SCHEDULE = Status.DONE, Status.WORDS, Status.TEXT, Status.NET, Status.SCHEDULE
+LATE, LOG, CALC, NAME = Status.LATE, Status.LOG, Status.CALC, Status.NAME
+READ_FAULT, WRITE_FAULT = Status.READ_FAULT, Status.WRITE_FAULT
 
 SOLE = '[[transition]]\nname = "a"\n'
 LOOP = SOLE + """

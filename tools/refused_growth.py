@@ -25,8 +25,9 @@ import tempfile
 from pathlib import Path
 
 from built_program import BUILT, is_there, summed_up
+from common import Status
 
-WORDS, NO_MEMORY = 2, 70
+WORDS, NO_MEMORY = Status.WORDS, Status.NO_MEMORY
 GROWING = (b"malloc", b"realloc", b"calloc", b"aligned_alloc")
 
 LOOP = """[[transition]]
